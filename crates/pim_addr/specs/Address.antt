@@ -1,0 +1,34 @@
+-- Addresses as lists of bytes (RFC 7761, 4.9.1).
+use Rattle.std.specs.Prelude.{ℕ, Bool, List, slice_index, nat_lt, nat_le, ◌&&◌, ◌==◌, not}
+use Rattle.std.specs.List.{list_all}
+use Rattle.pim_addr.specs.declared.family.AddressFamily.{AddressFamily}
+use Rattle.pim_addr.specs.declared.family.AddressFamily.TheVariants.{Ipv4, Ipv6}
+
+-- how many bytes an address has
+abbrev pub address_length : AddressFamily → ℕ
+address_length Ipv4 = 4
+address_length Ipv6 = 16
+
+-- the mask length of a whole address, in bits
+abbrev pub mask_length : AddressFamily → ℕ
+mask_length Ipv4 = 32
+mask_length Ipv6 = 128
+
+-- the family byte of an encoded address
+abbrev pub family_byte : AddressFamily → ℕ
+family_byte Ipv4 = 1
+family_byte Ipv6 = 2
+
+-- a multicast group: 224.0.0.0/4 or ff00::/8
+abbrev pub is_group : AddressFamily → List ℕ → Bool
+is_group Ipv4 address = nat_le 224 (slice_index address 0) && nat_lt (slice_index address 0) 240
+is_group Ipv6 address = slice_index address 0 == 255
+
+-- all bytes are 0
+abbrev pub is_unspecified : List ℕ → Bool
+is_unspecified address = list_all (λ b. b == 0) address
+
+-- a valid source: above 0.0.0.0 and below 224.0.0.0, or neither :: nor in ff00::/8
+abbrev pub is_source : AddressFamily → List ℕ → Bool
+is_source Ipv4 address = nat_lt (slice_index address 0) 224 && not (is_unspecified address)
+is_source Ipv6 address = not (slice_index address 0 == 255) && not (is_unspecified address)

@@ -1,0 +1,6 @@
+-- Two byte lists compare equal exactly where they are equal.
+use Rattle.std.specs.Prelude.{◌≡◌, ◌↔◌, ℕ, List, IsTrue, nat_eq}
+use Rattle.std.specs.Cmp.Lexicographic.{pointwise, bytes_decides}
+
+pub bytes_equal : (xs ys : List ℕ) → IsTrue (pointwise nat_eq xs ys) ↔ (xs ≡ ys)
+bytes_equal = bytes_decides

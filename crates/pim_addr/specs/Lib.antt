@@ -1,0 +1,5 @@
+pub mod Address
+pub mod Equality
+pub mod Faults
+pub mod Encoded
+pub mod Seen

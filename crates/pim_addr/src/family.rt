@@ -1,0 +1,233 @@
+//! The two address families, and what each knows of its addresses.
+
+ghost use Rattle.std.specs.Prelude.{◌≡◌, ◌≤◌, ◌↔◌, ℕ, List, length, take, IsTrue};
+ghost use Rattle.std.specs.Ordering.{nat_cmp};
+ghost use Rattle.std.specs.Cmp.Lexicographic.{slice_cmp};
+ghost use Rattle.pim_addr.specs.Address.{address_length, mask_length, family_byte, is_group, is_source, is_unspecified};
+
+use std::fmt::Debug;
+
+/// The address families of PIM messages (RFC 7761, 4.9.1).
+#[derive(Clone, Copy, Debug, PartialEq, Eq)]
+pub enum AddressFamily {
+    /// IPv4: addresses of 4 bytes, family byte 1.
+    Ipv4,
+    /// IPv6: addresses of 16 bytes, family byte 2.
+    Ipv6,
+}
+
+/// An address family, with the type of its addresses.
+///
+/// Contracts see an address as its list of bytes, `bytes_of`, and no definition above this trait is
+/// generic: it takes the family and lists of bytes.
+pub trait Family {
+    /// An address. Its order is the order of its bytes.
+    type Addr: Copy + Ord + Debug;
+
+    ghost use Rattle.pim_addr.specs.declared.family.AddressFamily.{AddressFamily};
+
+    ghost family: { AddressFamily };
+
+    ghost bytes_of: { Self.Addr → List ℕ };
+
+    ghost address_of: { List ℕ → Self.Addr };
+
+    ghost LEN: { ℕ };
+
+    ghost FULL: { ℕ };
+
+    ghost AFI: { ℕ };
+
+    /// How many bytes an address has: 4 or 16.
+    const LEN: usize;
+
+    /// The mask length of one address alone, in bits: 32 or 128.
+    const FULL: u8;
+
+    /// The family byte of an encoded address (RFC 7761, 4.9.1): 1 or 2.
+    const AFI: u8;
+
+    /// Which of the two families this is.
+    fn family() -> AddressFamily
+        ensures { result ≡ family };
+
+    /// The address that stands in the first `LEN` of these bytes.
+    fn take(bytes: &[u8]) -> Self::Addr
+        requires { address_length family ≤ length bytes.now }
+        ensures bytes { bytes_of result ≡ take (address_length family) bytes.now }
+        ensures address { result ≡ address_of (take (address_length family) bytes.now) };
+
+    /// Writes the address into a slice of `LEN` bytes.
+    fn put(address: Self::Addr, bytes: &mut [u8])
+        requires { length bytes.old ≡ address_length family }
+        ensures { bytes.new ≡ bytes_of address };
+
+    /// Whether it is a multicast group: 224.0.0.0/4 or ff00::/8.
+    fn is_group(address: Self::Addr) -> bool
+        ensures { result ≡ is_group family (bytes_of address) };
+
+    /// Whether it is a valid source: above 0.0.0.0 and below 224.0.0.0, or neither :: nor in ff00::/8.
+    fn is_source(address: Self::Addr) -> bool
+        ensures { result ≡ is_source family (bytes_of address) };
+
+    ghost length_of_family: { LEN ≡ address_length family };
+
+    ghost length_is_small: { LEN ≤ 16 };
+
+    ghost mask_of_family: { FULL ≡ mask_length family };
+
+    ghost byte_of_family: { AFI ≡ family_byte family };
+
+    ghost take_of_put: { (a : Self.Addr) → address_of (bytes_of a) ≡ a };
+
+    ghost put_of_take: { (b : List ℕ) → bytes_of (address_of b) ≡ b };
+
+    ghost order_of_bytes: { (a b : Self.Addr) → Self.Addr.cmp a b ≡ slice_cmp nat_cmp (bytes_of a) (bytes_of b) };
+
+    ghost equality_of_bytes: { (a b : Self.Addr) → IsTrue (Self.Addr.eq a b) ↔ (bytes_of a ≡ bytes_of b) };
+}
+
+/// IPv4.
+#[derive(Clone, Copy, Debug, PartialEq, Eq)]
+pub struct V4;
+
+/// IPv6.
+#[derive(Clone, Copy, Debug, PartialEq, Eq)]
+pub struct V6;
+
+/// Whether all bytes are 0.
+fn is_unspecified(bytes: &[u8]) -> bool
+    ensures { result ≡ is_unspecified bytes.now }
+{
+    bytes.iter().all(|byte| *byte == 0)
+}
+
+impl Family for V4 {
+    type Addr = [u8; 4];
+
+    ghost use Rattle.std.specs.Prelude.{refl};
+    ghost use Rattle.std.proofs.Common.{lit≤};
+    ghost use Rattle.pim_addr.specs.declared.family.AddressFamily.TheVariants.{Ipv4};
+    ghost use Rattle.pim_addr.specs.Equality.{bytes_equal};
+
+    ghost family = { Ipv4 };
+
+    ghost bytes_of = { λ a. a };
+
+    ghost address_of = { λ b. b };
+
+    ghost LEN = { 4 };
+
+    ghost FULL = { 32 };
+
+    ghost AFI = { 1 };
+
+    const LEN: usize = 4;
+
+    const FULL: u8 = 32;
+
+    const AFI: u8 = 1;
+
+    fn family() -> AddressFamily {
+        AddressFamily::Ipv4
+    }
+
+    fn take(bytes: &[u8]) -> [u8; 4] {
+        let mut address = [0; 4];
+        address.copy_from_slice(&bytes[..4]);
+        address
+    }
+
+    fn put(address: [u8; 4], bytes: &mut [u8]) {
+        bytes.copy_from_slice(&address);
+    }
+
+    fn is_group(address: [u8; 4]) -> bool {
+        address[0] >= 224 && address[0] < 240
+    }
+
+    fn is_source(address: [u8; 4]) -> bool {
+        address[0] < 224 && !is_unspecified(&address)
+    }
+
+    ghost length_of_family = { refl };
+
+    ghost length_is_small = { lit≤ tt };
+
+    ghost mask_of_family = { refl };
+
+    ghost byte_of_family = { refl };
+
+    ghost take_of_put = { λ a. refl };
+
+    ghost put_of_take = { λ b. refl };
+
+    ghost order_of_bytes = { λ a b. refl };
+
+    ghost equality_of_bytes = { bytes_equal };
+}
+
+impl Family for V6 {
+    type Addr = [u8; 16];
+
+    ghost use Rattle.std.specs.Prelude.{refl};
+    ghost use Rattle.std.proofs.Common.{lit≤};
+    ghost use Rattle.pim_addr.specs.declared.family.AddressFamily.TheVariants.{Ipv6};
+    ghost use Rattle.pim_addr.specs.Equality.{bytes_equal};
+
+    ghost family = { Ipv6 };
+
+    ghost bytes_of = { λ a. a };
+
+    ghost address_of = { λ b. b };
+
+    ghost LEN = { 16 };
+
+    ghost FULL = { 128 };
+
+    ghost AFI = { 2 };
+
+    const LEN: usize = 16;
+
+    const FULL: u8 = 128;
+
+    const AFI: u8 = 2;
+
+    fn family() -> AddressFamily {
+        AddressFamily::Ipv6
+    }
+
+    fn take(bytes: &[u8]) -> [u8; 16] {
+        let mut address = [0; 16];
+        address.copy_from_slice(&bytes[..16]);
+        address
+    }
+
+    fn put(address: [u8; 16], bytes: &mut [u8]) {
+        bytes.copy_from_slice(&address);
+    }
+
+    fn is_group(address: [u8; 16]) -> bool {
+        address[0] == 255
+    }
+
+    fn is_source(address: [u8; 16]) -> bool {
+        address[0] != 255 && !is_unspecified(&address)
+    }
+
+    ghost length_of_family = { refl };
+
+    ghost length_is_small = { lit≤ tt };
+
+    ghost mask_of_family = { refl };
+
+    ghost byte_of_family = { refl };
+
+    ghost take_of_put = { λ a. refl };
+
+    ghost put_of_take = { λ b. refl };
+
+    ghost order_of_bytes = { λ a b. refl };
+
+    ghost equality_of_bytes = { bytes_equal };
+}
