@@ -1,0 +1,4 @@
+pub mod Message
+pub mod Spelling
+pub mod Parts
+pub mod Faults

@@ -1,0 +1,58 @@
+-- A body is cut into parts by the number of sets and their counts alone; the cut ends at the first part that
+-- isn't whole.
+use Rattle.std.specs.Prelude.{ℕ, zero, suc, ◌+◌, Bool, ◌&&◌, not, List, [], ◌∷◌, ◌++◌, length, drop, slice_index, nat_lt, if◌then◌else◌}
+use Rattle.byteorder.specs.Endian.{big_number}
+use Rattle.pim_addr.specs.declared.family.AddressFamily.{AddressFamily}
+use Rattle.pim_addr.specs.Encoded.{SourceValue, unicast_length, group_length, source_length, source_value}
+use Rattle.pim_jp.specs.declared.entry.Entry.{Entry}
+use Rattle.pim_jp.specs.Message.{entry_of}
+
+-- what a part is; of an entry also which entries of its set stand before it, and which of these in the other list
+pub data Shape : Type 0 where
+  upstream : Shape
+  head : Shape
+  group : Shape
+  counts : Shape
+  entry : List (Entry (List ℕ)) → List (Entry (List ℕ)) → Shape
+  rest : Shape
+
+-- a part with its offset, and the bytes from its first on
+pub record Part : Type 0 where
+  pub shape : Shape
+  pub at : ℕ
+  pub bytes : List ℕ
+
+-- a part of this length, and if it is whole those behind it
+abbrev pub part_then : Shape → ℕ → ℕ → List ℕ → (ℕ → List ℕ → List Part) → List Part
+part_then shape size at bytes next =
+    record { shape = shape; at = at; bytes = bytes } ∷ (if nat_lt (length bytes) size then [] else next (at + size) (drop size bytes))
+
+-- W without R: of no kind
+abbrev pub is_kindless : SourceValue → Bool
+is_kindless source = source.wildcard && not source.rpt
+
+-- the entry, if it is of a kind
+abbrev pub kind_of : SourceValue → List (Entry (List ℕ))
+kind_of source = if is_kindless source then [] else entry_of source ∷ []
+
+-- so many entries of one list; `next` is given the set's entries up to there
+unfoldable pub entry_parts : AddressFamily → ℕ → List (Entry (List ℕ)) → List (Entry (List ℕ)) → ℕ → List ℕ → (List (Entry (List ℕ)) → ℕ → List ℕ → List Part) → List Part
+entry_parts family zero earlier other at bytes next = next earlier at bytes
+entry_parts family (suc count) earlier other at bytes next =
+    part_then (entry earlier other) (source_length family) at bytes
+    (λ at bytes'. entry_parts family count (earlier ++ kind_of (source_value family bytes)) other at bytes' next)
+
+unfoldable pub set_parts : AddressFamily → ℕ → ℕ → List ℕ → List Part
+set_parts family zero at bytes = record { shape = rest; at = at; bytes = bytes } ∷ []
+set_parts family (suc count) at bytes =
+    part_then group (group_length family) at bytes (λ at bytes.
+    part_then counts 4 at bytes (λ at entries.
+    entry_parts family (big_number 2 bytes) [] [] at entries (λ joined at entries.
+    entry_parts family (big_number 2 (drop 2 bytes)) joined joined at entries (λ _ at bytes.
+    set_parts family count at bytes))))
+
+abbrev pub body_parts : AddressFamily → List ℕ → List Part
+body_parts family body =
+    part_then upstream (unicast_length family) 0 body (λ at bytes.
+    part_then head 4 at bytes (λ at sets.
+    set_parts family (slice_index bytes 1) at sets))
