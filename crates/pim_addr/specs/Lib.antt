@@ -3,3 +3,5 @@ pub mod Equality
 pub mod Faults
 pub mod Encoded
 pub mod Seen
+pub mod Text
+pub mod Device

@@ -2,3 +2,8 @@ pub mod Message
 pub mod Spelling
 pub mod Parts
 pub mod Faults
+pub mod Laws
+pub mod Canonical
+pub mod Seen
+pub mod Whole
+pub mod Reading

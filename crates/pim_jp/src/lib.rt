@@ -1,8 +1,20 @@
 //! Join/Prune messages of PIM sparse mode (RFC 7761, 4.9.5), read in place.
 #![tactic(auto)]
 
+mod entries;
 mod entry;
 mod fault;
+mod laws;
+mod reading;
+mod sets;
+mod view;
 
+pub use entries::Entries;
 pub use entry::Entry;
 pub use fault::{JpFault, JpKind};
+pub use laws::{
+    canonical_is_read, canonical_is_spelled, first_fault_is_least, legal_is_spelled,
+    spelled_by_one_value, spelled_is_legal, spelled_is_message,
+};
+pub use sets::{SetView, Sets};
+pub use view::JpView;

@@ -1,0 +1,10 @@
+use Rattle.std.proofs.Common.{◌*◌, ◌≤◌, take, map, decimal}
+use Rattle.std.specs.List.{join_with_byte}
+use Rattle.pim_addr.specs.Text.{Wrote}
+use Rattle.pim_addr.proofs.text.write_dotted.Given as goal
+
+abbrev pub invariant-loop-index : goal.invariant-loop-index
+invariant-loop-index l = record {
+  written : Wrote (join_with_byte 46 (map decimal (take l.index l.bytes))) 0 l.initial.text l.end l.text;
+  short : l.end ≤ 4 * l.index
+}

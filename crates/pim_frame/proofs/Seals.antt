@@ -1,0 +1,104 @@
+-- The checksum that makes a message sum rightly, and that there is one at most.
+use Rattle.std.proofs.Common.{◌≡◌, ℕ, zero, suc, ◌+◌, ◌*◌, ◌/◌, ◌%◌, ◌<◌, ◌⊎◌, ◌&&◌, IsTrue, nat_lt, nat_eq, List, [], ◌∷◌, ◌++◌, length, drop, sym, ap, subst, ◌∙◌, arith, inl, inr}
+use Rattle.std.proofs.lemmas.Bool.Decides.{nat_tests}
+use Rattle.pim_addr.specs.declared.family.AddressFamily.{AddressFamily}
+use Rattle.pim_frame.specs.Folded.{folded}
+use Rattle.pim_frame.specs.Seal.{first_byte, checksum, framed, IsSealed}
+use Rattle.pim_frame.specs.Sum.{words_sum, pseudo_header}
+use Rattle.pim_frame.specs.declared.frame.Kind.{Kind}
+use Rattle.pim_frame.specs.declared.frame.Kind.TheVariants.{Hello, JoinPrune}
+use Rattle.pim_frame.proofs.Sums.{words_sum-more, words_sum-append}
+
+-- ---- the checksum that makes a message sum rightly
+
+abbrev is_right : ℕ → Type 0
+is_right total = IsTrue (nat_lt 0 total && nat_eq (total % 65535) 0)
+
+-- what a sum above 0 lacks of 65,535 once it is folded is below 65,535, and with it the sum is right
+folded-complement : (total sum : ℕ) → 0 < total → folded total + sum ≡ 65535 → (sum < 65535) × is_right (total + sum)
+unfolding folded
+folded-complement zero sum h e = absurd (omega arith)
+folded-complement (suc n) sum h e =
+    let above : 0 < suc n + sum = omega arith in
+    let divides : (suc n + sum) % 65535 ≡ 0 = omega arith in
+    (omega arith, grind (arith, nat_tests))
+
+complement_seals : (header : List ℕ) (first sum : ℕ) (body : List ℕ) → length header % 2 ≡ 0 → 0 < first
+    → folded (words_sum (header ++ first ∷ 0 ∷ 0 ∷ 0 ∷ body)) + sum ≡ 65535
+    → (sum < 65535) × is_right (words_sum (header ++ first ∷ 0 ∷ sum / 256 % 256 ∷ sum % 256 ∷ body))
+complement_seals header first sum body even above e =
+    let total : ℕ = words_sum header + 256 * first + words_sum body in
+    let unsealed : words_sum (header ++ first ∷ 0 ∷ 0 ∷ 0 ∷ body) ≡ total =
+    words_sum-append header _ even ∙ ap (λ n. words_sum header + n) (words_sum-more first 0 _ ∙ ap (λ n. 256 * first + 0 + n) (words_sum-more 0 0 body)) ∙ omega arith in
+    let seals = folded-complement total sum (omega arith) (rw unsealed at e) in
+    let below : sum < 65535 = seals.0 in
+    let sealed : words_sum (header ++ first ∷ 0 ∷ sum / 256 % 256 ∷ sum % 256 ∷ body) ≡ total + sum =
+    words_sum-append header _ even
+    ∙ ap (λ n. words_sum header + n) (words_sum-more first 0 _ ∙ ap (λ n. 256 * first + 0 + n) (words_sum-more (sum / 256 % 256) (sum % 256) body))
+    ∙ omega arith in
+    (below, subst is_right (sym sealed) seals.1)
+
+checksum_framed : (kind : Kind) (sum : ℕ) (body : List ℕ) → sum < 65535 → checksum (framed kind sum body) ≡ sum
+checksum_framed kind sum body h = omega arith
+
+first_byte_above : (kind : Kind) → 0 < first_byte kind
+first_byte_above Hello = omega arith
+first_byte_above JoinPrune = omega arith
+
+-- a header with checksum 0 was written first, and then one with the complement
+pub complement_IsSealed : (family : AddressFamily) (source destination : List ℕ) (kind : Kind) (sum : ℕ) (body unsealed message : List ℕ)
+    → unsealed ≡ framed kind 0 body → message ≡ framed kind sum (drop 4 unsealed)
+    → length (pseudo_header family source destination (length unsealed)) % 2 ≡ 0
+    → folded (words_sum (pseudo_header family source destination (length unsealed) ++ unsealed)) + sum ≡ 65535
+    → IsSealed family source destination kind body message
+complement_IsSealed family source destination kind sum body unsealed message spelled written whole lacks =
+    let header : List ℕ → List ℕ = λ bytes. pseudo_header family source destination (length bytes) in
+    let total : List ℕ → ℕ = λ bytes. words_sum (header bytes ++ bytes) in
+    let even : length (header (framed kind 0 body)) % 2 ≡ 0 = subst (λ (bytes : List ℕ). length (header bytes) % 2 ≡ 0) spelled whole in
+    let gap : folded (total (framed kind 0 body)) + sum ≡ 65535 = subst (λ (bytes : List ℕ). folded (total bytes) + sum ≡ 65535) spelled lacks in
+    let seals = complement_seals (header (framed kind 0 body)) (first_byte kind) sum body even (first_byte_above kind) gap in
+    let whole_message : message ≡ framed kind sum body = written ∙ ap (λ (bytes : List ℕ). framed kind sum (drop 4 bytes)) spelled in
+    let field : checksum message ≡ sum = ap checksum whole_message ∙ checksum_framed kind sum body seals.0 in (
+      whole_message ∙ ap (λ (n : ℕ). framed kind n body) (sym field),
+      rw field seals.0,
+      subst (λ (bytes : List ℕ). is_right (total bytes)) (sym whole_message) seals.1,
+    )
+
+-- ---- there is one at most
+
+-- two messages that differ in the checksum field: by how much their sums do, where the field is one word, and
+-- where it lies across two
+field_in_sum : (header : List ℕ) (a b : ℕ) (body : List ℕ) (h l i m : ℕ)
+    → (words_sum (header ++ a ∷ b ∷ h ∷ l ∷ body) + (256 * i + m) ≡ words_sum (header ++ a ∷ b ∷ i ∷ m ∷ body) + (256 * h + l))
+    ⊎ (words_sum (header ++ a ∷ b ∷ h ∷ l ∷ body) + (256 * m + i) ≡ words_sum (header ++ a ∷ b ∷ i ∷ m ∷ body) + (256 * l + h))
+unfolding words_sum
+field_in_sum [] a b body h l i m = inl (omega arith)
+field_in_sum (x ∷ []) a b [] h l i m = inr (omega arith)
+field_in_sum (x ∷ []) a b (y ∷ ys) h l i m = inr (omega arith)
+field_in_sum (x ∷ y ∷ rest) a b body h l i m =
+    elim (field_in_sum rest a b body h l i m) [ inl e ↦ inl (omega arith) | inr e ↦ inr (omega arith) ]
+
+one_sum : (header : List ℕ) (first : ℕ) (body : List ℕ) (b c : ℕ) → b < 65535 → c < 65535
+    → words_sum (header ++ first ∷ 0 ∷ b / 256 % 256 ∷ b % 256 ∷ body) % 65535 ≡ 0
+    → words_sum (header ++ first ∷ 0 ∷ c / 256 % 256 ∷ c % 256 ∷ body) % 65535 ≡ 0
+    → b ≡ c
+one_sum header first body b c below_b below_c right_b right_c =
+    elim (field_in_sum header first 0 body (b / 256 % 256) (b % 256) (c / 256 % 256) (c % 256)) [ inl e ↦ omega arith | inr e ↦ omega arith ]
+
+divides : (total : ℕ) → is_right total → total % 65535 ≡ 0
+divides total h = grind (arith, nat_tests)
+
+sealed_total : (family : AddressFamily) (source destination : List ℕ) (kind : Kind) (body message : List ℕ) → IsSealed family source destination kind body message
+    → words_sum (pseudo_header family source destination (length (framed kind 0 body)) ++ framed kind (checksum message) body) % 65535 ≡ 0
+sealed_total family source destination kind body message (spelled, below, right) =
+    let total : List ℕ → ℕ = λ bytes. words_sum (pseudo_header family source destination (length bytes) ++ bytes) in
+    subst (λ (bytes : List ℕ). total bytes % 65535 ≡ 0) spelled (divides (total message) right)
+
+pub one_seal : (family : AddressFamily) (source destination : List ℕ) (kind : Kind) (body first second : List ℕ)
+    → IsSealed family source destination kind body first → IsSealed family source destination kind body second → first ≡ second
+one_seal family source destination kind body first second one two =
+    let header = pseudo_header family source destination (length (framed kind 0 body)) in
+    let same : checksum first ≡ checksum second =
+    one_sum header (first_byte kind) body (checksum first) (checksum second) one.1 two.1
+    (sealed_total family source destination kind body first one) (sealed_total family source destination kind body second two) in
+    one.0 ∙ ap (λ n. framed kind n body) same ∙ sym two.0

@@ -1,0 +1,5 @@
+pub mod Sum
+pub mod Folded
+pub mod Frame
+pub mod Seen
+pub mod Seal

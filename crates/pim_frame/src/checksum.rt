@@ -1,0 +1,103 @@
+//! The checksum of PIM messages (RFC 7761, 4.9), over IPv6 with the pseudo-header of RFC 8200, 8.1.
+
+ghost use Rattle.std.specs.Prelude.{◌≡◌, ◌+◌, ◌%◌, ◌^◌, ◌<◌, ◌≤◌, length};
+ghost use Rattle.pim_frame.specs.Folded.{folded};
+ghost use Rattle.pim_frame.specs.Sum.{words_sum, pseudo_header, message_sum, sums_rightly};
+
+use pim_addr::{AddressFamily, Family};
+
+/// PIM's protocol number, the next header that the pseudo-header names.
+const PIM: u16 = 103;
+
+/// Adds a word to a folded sum, and a carry out of 16 bits back in.
+#[tactic(auto, using(crate::proofs::Sums::folded_low, crate::proofs::Sums::folded_high))]
+fn add_word(sum: u16, word: u16) -> u16
+    ensures { result ≡ folded (sum + word) }
+{
+    let sum = u32::from(sum) + u32::from(word);
+    if sum > 0xffff {
+        (sum - 0xffff) as u16
+    } else {
+        sum as u16
+    }
+}
+
+/// The word that one or two bytes make, a zero byte following one alone.
+#[tactic(auto, using(crate::proofs::Sums::words_sum_of_one, crate::proofs::Sums::words_sum_of_two))]
+fn word_of(bytes: &[u8]) -> u16
+    requires some { 0 < length bytes.now }
+    requires few { length bytes.now ≤ 2 }
+    ensures { result ≡ words_sum bytes.now }
+{
+    match bytes {
+        [high, low] => u16::from(*high) * 256 + u16::from(*low),
+        [last] => u16::from(*last) * 256,
+        _ => unreachable!(),
+    }
+}
+
+/// Adds the words of these bytes to a folded sum.
+fn add_bytes(start: u16, bytes: &[u8]) -> u16
+    ensures { result ≡ folded (start + words_sum bytes.now) }
+{
+    let mut sum = start;
+    for pair in bytes.chunks(2) {
+        sum = add_word(sum, word_of(pair));
+    }
+    sum
+}
+
+/// Adds the words of an address to a folded sum.
+fn add_address<F: Family>(start: u16, address: F::Addr) -> u16
+    ensures sum { result ≡ folded (start + words_sum (F.bytes_of address)) }
+    ensures whole { length (F.bytes_of address) % 2 ≡ 0 }
+{
+    let mut bytes = [0; 16];
+    let (bytes, _) = bytes.split_at_mut(F::LEN);
+    F::put(address, bytes);
+    add_bytes(start, bytes)
+}
+
+/// The folded sum of the pseudo-header of a message of so many bytes: 0 over IPv4, which has none.
+fn pseudo_header_sum<F: Family>(src: F::Addr, dst: F::Addr, message_length: u32) -> u16
+    ensures sum { result ≡ folded (words_sum (pseudo_header F.family (F.bytes_of src) (F.bytes_of dst) message_length)) }
+    ensures whole { length (pseudo_header F.family (F.bytes_of src) (F.bytes_of dst) message_length) % 2 ≡ 0 }
+{
+    match F::family() {
+        AddressFamily::Ipv4 => 0,
+        AddressFamily::Ipv6 => {
+            let sum = add_address::<F>(0, src);
+            let sum = add_address::<F>(sum, dst);
+            let sum = add_bytes(sum, &message_length.to_be_bytes());
+            add_word(sum, PIM)
+        }
+    }
+}
+
+/// The folded sum of a message from `src` to `dst`, its checksum field included.
+fn folded_sum<F: Family>(src: F::Addr, dst: F::Addr, message: &[u8]) -> u16
+    requires { length message.now < 2 ^ 32 }
+    ensures sum { result ≡ folded (message_sum F.family (F.bytes_of src) (F.bytes_of dst) message.now) }
+    ensures whole { length (pseudo_header F.family (F.bytes_of src) (F.bytes_of dst) (length message.now)) % 2 ≡ 0 }
+{
+    let start = pseudo_header_sum::<F>(src, dst, message.len() as u32);
+    add_bytes(start, message)
+}
+
+/// Whether a message from `src` to `dst` sums rightly. Of the two spellings of zero, 0x0000 and 0xffff, a
+/// checksum may have either.
+pub(crate) fn sums_rightly<F: Family>(src: F::Addr, dst: F::Addr, message: &[u8]) -> bool
+    requires { length message.now < 2 ^ 32 }
+    ensures { result ≡ sums_rightly F.family (F.bytes_of src) (F.bytes_of dst) message.now }
+{
+    folded_sum::<F>(src, dst, message) == 0xffff
+}
+
+/// The checksum for a message from `src` to `dst` whose checksum field is 0: the complement of its sum.
+pub(crate) fn complement<F: Family>(src: F::Addr, dst: F::Addr, message: &[u8]) -> u16
+    requires { length message.now < 2 ^ 32 }
+    ensures sum { folded (message_sum F.family (F.bytes_of src) (F.bytes_of dst) message.now) + result ≡ 65535 }
+    ensures whole { length (pseudo_header F.family (F.bytes_of src) (F.bytes_of dst) (length message.now)) % 2 ≡ 0 }
+{
+    !folded_sum::<F>(src, dst, message)
+}

@@ -1,0 +1,155 @@
+//! The header of a PIM message, read and written (RFC 7761, 4.9).
+
+ghost use Rattle.std.specs.Prelude.{◌≡◌, ◌≢◌, ◌↔◌, ◌^◌, ◌<◌, ◌≤◌, length, drop, IsErrAnd, IsFalse, IsOk, Ok, Err};
+ghost use Rattle.pim_addr.specs.Faults.{judged, Answers};
+ghost use Rattle.pim_frame.specs.Frame.{all_routers, frame_faults, content, version, message_type, is_hello_or_join_prune, IsAccepted};
+ghost use Rattle.pim_frame.specs.Seal.{first_byte, framed, IsSealed, OneChecksum, SealedOpens};
+ghost use Rattle.pim_frame.specs.Seen.{content_of};
+
+use crate::checksum::{complement, sums_rightly};
+use pim_addr::{AddressFamily, Family};
+use thiserror::Error;
+
+/// PIM's version.
+const VERSION: u8 = 2;
+
+/// The type of a Hello (RFC 7761, 4.9).
+const HELLO: u8 = 0;
+
+/// The type of a Join/Prune.
+const JOIN_PRUNE: u8 = 3;
+
+/// What is wrong with the header of a message. Of several faults the first in this order is told.
+#[derive(Clone, Copy, Debug, PartialEq, Eq, Error)]
+pub enum FrameFault {
+    /// Fewer than the header's 4 bytes.
+    #[error("short")]
+    Short,
+    /// The version, given here, isn't 2.
+    #[error("version {0}")]
+    Version(u8),
+    /// The message doesn't sum rightly.
+    #[error("checksum")]
+    Checksum,
+    /// The destination isn't ALL-PIM-ROUTERS.
+    #[error("not-all-routers")]
+    NotAllRouters,
+}
+
+/// What a message carries after its header.
+#[derive(Clone, Copy, Debug, PartialEq, Eq)]
+pub enum Body<'a> {
+    /// The options of a Hello (RFC 7761, 4.9.2).
+    Hello(&'a [u8]),
+    /// The body of a Join/Prune (RFC 7761, 4.9.5).
+    JoinPrune(&'a [u8]),
+    /// A message of another type, given here.
+    Other(u8),
+}
+
+/// The kinds of message that are sealed.
+#[derive(Clone, Copy, Debug, PartialEq, Eq)]
+pub enum Kind {
+    /// A Hello (RFC 7761, 4.9.2).
+    Hello,
+    /// A Join/Prune (RFC 7761, 4.9.5).
+    JoinPrune,
+}
+
+impl Kind {
+    /// The first byte of its messages: version 2 and the type.
+    fn first_byte(self) -> u8
+        ensures { result ≡ first_byte self }
+    {
+        let message_type = match self {
+            Kind::Hello => HELLO,
+            Kind::JoinPrune => JOIN_PRUNE,
+        };
+        VERSION * 16 + message_type
+    }
+}
+
+/// ALL-PIM-ROUTERS, to which Hellos and Join/Prunes go: 224.0.0.13 or ff02::d (RFC 7761, 4.3.1).
+pub fn all_routers<F: Family>() -> F::Addr
+    ensures { F.bytes_of result ≡ all_routers F.family }
+{
+    match F::family() {
+        AddressFamily::Ipv4 => F::take(&[224, 0, 0, 13]),
+        AddressFamily::Ipv6 => F::take(&[255, 2, 0, 0, 0, 0, 0, 0, 0, 0, 0, 0, 0, 0, 0, 13]),
+    }
+}
+
+/// Opens a message that came from `src` to `dst`: a Hello or a Join/Prune that is sound, with the bytes after
+/// its header, or the type of another message, of which only length and version are looked at.
+pub fn open<'a, F: Family>(
+    src: F::Addr,
+    dst: F::Addr,
+    bytes: &'a [u8],
+) -> Result<Body<'a>, FrameFault>
+    requires { length bytes.now < 2 ^ 32 }
+    ensures answer { Answers content_of result (judged (frame_faults F.family (F.bytes_of src) (F.bytes_of dst) bytes.now) (content bytes.now)) }
+
+    // What this says of acceptance, of the first two faults, and of the types that are not looked into.
+    ensures accepted { IsOk result ↔ IsAccepted F.family (F.bytes_of src) (F.bytes_of dst) bytes.now }
+    ensures short { (result ≡ Err FrameFault.Short) ↔ (length bytes.now < 4) }
+    ensures version { IsErrAnd result (λ fault. fault ≡ FrameFault.Version (version bytes.now)) ↔ ((4 ≤ length bytes.now) × (version bytes.now ≢ 2)) }
+    ensures other { 4 ≤ length bytes.now → version bytes.now ≡ 2 → IsFalse (is_hello_or_join_prune bytes.now) → result ≡ Ok (Body.Other (message_type bytes.now)) }
+{
+    if bytes.len() < 4 {
+        return Err(FrameFault::Short);
+    }
+    let version = bytes[0] / 16;
+    let message_type = bytes[0] % 16;
+    if version != VERSION {
+        return Err(FrameFault::Version(version));
+    }
+    if message_type != HELLO && message_type != JOIN_PRUNE {
+        return Ok(Body::Other(message_type));
+    }
+    if !sums_rightly::<F>(src, dst, bytes) {
+        return Err(FrameFault::Checksum);
+    }
+    if dst != all_routers::<F>() {
+        return Err(FrameFault::NotAllRouters);
+    }
+    let (_, body) = bytes.split_at(4);
+    if message_type == HELLO {
+        Ok(Body::Hello(body))
+    } else {
+        Ok(Body::JoinPrune(body))
+    }
+}
+
+/// Writes a header of this kind, with this checksum, before the body.
+fn put_header(kind: Kind, checksum: u16, bytes: &mut [u8])
+    requires { 4 ≤ length bytes.old }
+    ensures { bytes.new ≡ framed kind checksum (drop 4 bytes.old) }
+{
+    let [high, low] = checksum.to_be_bytes();
+    let (header, _) = bytes.split_at_mut(4);
+    header.copy_from_slice(&[kind.first_byte(), 0, high, low]);
+}
+
+/// Seals a message from `src` to `dst` whose body stands from byte 4: writes its header, with the one checksum
+/// below 65,535 with which it sums rightly.
+pub fn seal<F: Family>(src: F::Addr, dst: F::Addr, kind: Kind, bytes: &mut [u8])
+    requires header { 4 ≤ length bytes.old }
+    requires counted { length bytes.old < 2 ^ 32 }
+    ensures sealed { IsSealed F.family (F.bytes_of src) (F.bytes_of dst) kind (drop 4 bytes.old) bytes.new }
+    ensures body { drop 4 bytes.new ≡ drop 4 bytes.old }
+    ensures length { length bytes.new ≡ length bytes.old }
+{
+    put_header(kind, 0, bytes);
+    let checksum = complement::<F>(src, dst, bytes);
+    put_header(kind, checksum, bytes);
+}
+
+/// A law: of the messages of one kind and body at most one has a checksum below 65,535 and sums rightly.
+pub fn one_checksum()
+    ensures { OneChecksum }
+{}
+
+/// A law: a message sealed for ALL-PIM-ROUTERS opens with no fault, as its kind with its body.
+pub fn sealed_opens()
+    ensures { SealedOpens }
+{}

@@ -1,0 +1,70 @@
+-- The spelling that is written is one, and what is spelled is within the ranges of the format.
+use Rattle.std.proofs.Common.{◌≡◌, ℕ, List, [], ◌∷◌, ◌++◌, length, refl, sym, subst, append_assoc}
+use Rattle.std.specs.List.{AllByRecursion, flat_map}
+use Rattle.byteorder.specs.Endian.{big_bytes}
+use Rattle.pim_addr.specs.declared.family.AddressFamily.{AddressFamily}
+use Rattle.pim_addr.specs.Address.{mask_length, family_byte}
+use Rattle.pim_jp.specs.declared.entry.Entry.{Entry}
+use Rattle.pim_jp.specs.declared.entry.Entry.TheVariants.{Star, Source, Rpt}
+use Rattle.pim_jp.specs.Message.{GroupSet, Message, message_of}
+use Rattle.pim_jp.specs.Spelling.{IsEntry, AreEntries, IsSet, AreSets, Spells}
+use Rattle.pim_jp.specs.Canonical.{IsMessageEntry, IsMessageSet, IsMessage, canonical_entry, canonical_set, canonical}
+use Rattle.pim_jp.proofs.SetParts.{set_spelled}
+use Rattle.pim_jp.proofs.Legal.{message_spelled}
+use Rattle.pim_jp.proofs.Spelled.{spelled_value}
+
+-- ---- the spelling that is written is one
+
+entry_written : (family : AddressFamily) (this : Entry (List ℕ)) → IsMessageEntry family this → IsEntry family this (canonical_entry family this)
+entry_written family (Star rp) is = ((is.0, refl, refl, refl), is.1)
+entry_written family (Source source) is = ((is.0, refl, refl, refl), is.1)
+entry_written family (Rpt source) is = ((is.0, refl, refl, refl), is.1)
+
+entries_written : (family : AddressFamily) (entries : List (Entry (List ℕ))) → AllByRecursion (IsMessageEntry family) entries → AreEntries family entries (flat_map (canonical_entry family) entries)
+unfolding AreEntries
+entries_written family [] are = refl
+entries_written family (this ∷ entries) are = (canonical_entry family this, flat_map (canonical_entry family) entries, refl, entry_written family this are.0, entries_written family entries are.1)
+
+five_in_a_row : (a b c d e : List ℕ) → a ++ ((b ++ c) ++ (d ++ e)) ≡ a ++ b ++ c ++ d ++ e
+five_in_a_row a b c d e = simp append_assoc
+
+set_written : (family : AddressFamily) (set : GroupSet) → IsMessageSet family set → IsSet family set (canonical_set family set)
+set_written family set is =
+    let group : List ℕ = family_byte family ∷ 0 ∷ 0 ∷ mask_length family ∷ set.group in
+    let numbers : List ℕ = big_bytes 2 (length set.joined) ++ big_bytes 2 (length set.pruned) in
+    let joined = flat_map (canonical_entry family) set.joined in
+    let pruned = flat_map (canonical_entry family) set.pruned in
+    subst (IsSet family set) (five_in_a_row group (big_bytes 2 (length set.joined)) (big_bytes 2 (length set.pruned)) joined pruned) (set_spelled family set group numbers joined pruned
+    is.2 is.1 is.3 is.5 (is.0, refl) refl (entries_written family set.joined is.4) (entries_written family set.pruned is.6))
+
+sets_written : (family : AddressFamily) (sets : List GroupSet) → AllByRecursion (IsMessageSet family) sets → AreSets family sets (flat_map (canonical_set family) sets)
+unfolding AreSets
+sets_written family [] are = refl
+sets_written family (set ∷ sets) are = (canonical_set family set, flat_map (canonical_set family) sets, refl, set_written family set are.0, sets_written family sets are.1)
+
+pub message_written : (family : AddressFamily) (message : Message) → IsMessage family message → Spells family message (canonical family message)
+message_written family message is =
+    let front : List ℕ = family_byte family ∷ 0 ∷ message.upstream in
+    let numbers : List ℕ = 0 ∷ length message.sets ∷ big_bytes 2 message.holdtime in
+    let sets = flat_map (canonical_set family) message.sets in
+    subst (Spells family message) (sym (append_assoc front numbers sets)) (message_spelled family message front numbers sets (is.0, refl) (is.2, is.1, refl) (sets_written family message.sets is.3))
+
+pub written_value : (family : AddressFamily) (message : Message) → IsMessage family message → message_of family (canonical family message) ≡ message
+written_value family message is = sym (spelled_value family message (canonical family message) (message_written family message is))
+
+-- ---- what is spelled is in range
+
+entries_in_range : (family : AddressFamily) (entries : List (Entry (List ℕ))) (bytes : List ℕ) → AreEntries family entries bytes → AllByRecursion (IsMessageEntry family) entries
+unfolding AreEntries
+entries_in_range family [] bytes h = tt
+entries_in_range family (this ∷ entries) bytes h = ((h.3.0.0, h.3.1), entries_in_range family entries h.1 h.4)
+
+sets_in_range : (family : AddressFamily) (sets : List GroupSet) (bytes : List ℕ) → AreSets family sets bytes → AllByRecursion (IsMessageSet family) sets
+unfolding AreSets
+sets_in_range family [] bytes h = tt
+sets_in_range family (set ∷ sets) bytes h =
+    let lists = h.3.4.4.4 in
+    ((h.3.4.3.0, h.3.1, h.3.0, h.3.2, entries_in_range family set.joined lists.0 lists.3, h.3.3, entries_in_range family set.pruned lists.1 lists.4), sets_in_range family sets h.1 h.4)
+
+pub message_in_range : (family : AddressFamily) (message : Message) (body : List ℕ) → Spells family message body → IsMessage family message
+message_in_range family message body h = (h.3.0, h.4.3.1, h.4.3.0, sets_in_range family message.sets h.4.1 h.4.4)

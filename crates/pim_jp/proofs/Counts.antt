@@ -1,0 +1,34 @@
+-- Lists of bytes, and the numbers of two bytes that stand in them.
+use Rattle.std.proofs.Common.{◌≡◌, ℕ, ◌+◌, ◌*◌, ◌/◌, ◌%◌, ◌≤◌, ◌<◌, ◌^◌, List, [], ◌∷◌, ◌++◌, length, take, drop, refl, arith, get_or-drop}
+use Rattle.byteorder.specs.Endian.{big_number, big_bytes}
+use Rattle.byteorder.specs.Numbers.{big_from-lt}
+use Rattle.pim_jp.specs.Laws.{AreBytes}
+
+pub AreBytes-drop : (n : ℕ) (bytes : List ℕ) → AreBytes bytes → AreBytes (drop n bytes)
+AreBytes-drop n bytes are i = rw (get_or-drop n bytes i 0) (are (n + i))
+
+pub count_fits : (bytes : List ℕ) → AreBytes bytes → big_number 2 bytes < 2 ^ 16
+count_fits bytes are = big_from-lt 0 2 bytes are
+
+-- two bytes below 256 are those of their number
+two_bytes : (a b : ℕ) → a < 256 → b < 256 → big_bytes 2 (a * 256 + b) ≡ a ∷ b ∷ []
+two_bytes a b high low =
+    let first : (a * 256 + b) / 256 % 256 ≡ a = omega arith in
+    let second : (a * 256 + b) % 256 ≡ b = omega arith in
+    rw (first, second) refl
+
+pub count_bytes : (bytes : List ℕ) → AreBytes bytes → 2 ≤ length bytes → big_bytes 2 (big_number 2 bytes) ≡ take 2 bytes
+count_bytes [] are h = absurd (omega arith)
+count_bytes (a ∷ []) are h = absurd (omega arith)
+count_bytes (a ∷ b ∷ bytes) are h =
+    let high : a < 256 = are 0 in
+    let low : b < 256 = are 1 in
+    let number : big_number 2 (a ∷ b ∷ bytes) ≡ a * 256 + b = omega arith in
+    rw number (two_bytes a b high low)
+
+pub take_four : (bytes : List ℕ) → 4 ≤ length bytes → take 4 bytes ≡ take 2 bytes ++ take 2 (drop 2 bytes)
+take_four [] h = absurd (omega arith)
+take_four (a ∷ []) h = absurd (omega arith)
+take_four (a ∷ b ∷ []) h = absurd (omega arith)
+take_four (a ∷ b ∷ c ∷ []) h = absurd (omega arith)
+take_four (a ∷ b ∷ c ∷ d ∷ bytes) h = refl

@@ -1,0 +1,16 @@
+pub mod Front
+pub mod Forms
+pub mod Counts
+pub mod EntryParts
+pub mod Lists
+pub mod SetParts
+pub mod Legal
+pub mod Spelled
+pub mod Order
+pub mod Canonical
+pub mod Walks
+pub mod Judged
+pub mod Parts
+pub mod EntryLoop
+pub mod SetLoop
+pub mod Body

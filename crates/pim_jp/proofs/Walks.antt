@@ -1,0 +1,46 @@
+-- How the lists of a message are walked: one item, and then the others.
+use Rattle.std.proofs.Common.{◌≡◌, ℕ, zero, suc, ◌+◌, ◌-◌, ◌*◌, ◌≤◌, ◌<◌, List, [], ◌∷◌, length, drop, refl, ap, subst, arith}
+use Rattle.pim_addr.specs.declared.family.AddressFamily.{AddressFamily}
+use Rattle.pim_addr.specs.Encoded.{source_length, source_value}
+use Rattle.pim_jp.specs.Message.{entry_of, entries_of, set_of, sets_of, after_set}
+use Rattle.pim_jp.specs.Whole.{set_length, HoldsSets}
+
+pub entries_count : (family : AddressFamily) (count : ℕ) (bytes : List ℕ) → length (entries_of family count bytes) ≡ count
+unfolding entries_of
+entries_count family zero bytes = refl
+entries_count family (suc count) bytes = grind (arith, entries_count family count (drop (source_length family) bytes))
+
+pub entries_end : (family : AddressFamily) (count : ℕ) (bytes : List ℕ) → count ≡ 0 → entries_of family count bytes ≡ []
+unfolding entries_of
+entries_end family count bytes e = rw e refl
+
+pub entries_step : (family : AddressFamily) (count : ℕ) (bytes : List ℕ) → 0 < count
+  → entries_of family count bytes ≡ entry_of (source_value family bytes) ∷ entries_of family (count - 1) (drop (source_length family) bytes)
+unfolding entries_of
+entries_step family zero bytes h = absurd (omega arith)
+entries_step family (suc count) bytes h = let e : suc count - 1 ≡ count = omega arith in rw e refl
+
+pub sets_count : (family : AddressFamily) (count : ℕ) (bytes : List ℕ) → length (sets_of family count bytes) ≡ count
+unfolding sets_of
+sets_count family zero bytes = refl
+sets_count family (suc count) bytes = grind (arith, sets_count family count (after_set family bytes))
+
+pub sets_end : (family : AddressFamily) (count : ℕ) (bytes : List ℕ) → count ≡ 0 → sets_of family count bytes ≡ []
+unfolding sets_of
+sets_end family count bytes e = rw e refl
+
+pub sets_step : (family : AddressFamily) (count : ℕ) (bytes : List ℕ) → 0 < count
+  → sets_of family count bytes ≡ set_of family bytes ∷ sets_of family (count - 1) (after_set family bytes)
+unfolding sets_of
+sets_step family zero bytes h = absurd (omega arith)
+sets_step family (suc count) bytes h = let e : suc count - 1 ≡ count = omega arith in rw e refl
+
+pub holds_first : (family : AddressFamily) (count : ℕ) (bytes : List ℕ) → 0 < count → HoldsSets family count bytes → set_length family bytes ≤ length bytes
+unfolding HoldsSets
+holds_first family zero bytes h holds = absurd (omega arith)
+holds_first family (suc count) bytes h holds = holds.0
+
+pub holds_others : (family : AddressFamily) (count : ℕ) (bytes : List ℕ) → 0 < count → HoldsSets family count bytes → HoldsSets family (count - 1) (after_set family bytes)
+unfolding HoldsSets
+holds_others family zero bytes h holds = absurd (omega arith)
+holds_others family (suc count) bytes h holds = let e : suc count - 1 ≡ count = omega arith in rw e holds.1

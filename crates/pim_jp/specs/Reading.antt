@@ -1,0 +1,80 @@
+-- What the steps of the reader promise. One that looks at a part speaks of the part's kinds; one that passes over
+-- several speaks of the faults of all the parts from there on, whatever parts `next` gives behind them.
+use Rattle.std.specs.Prelude.{◌≡◌, ℕ, ◌+◌, ◌*◌, Bool, ◌&&◌, not, List, [], ◌∷◌, ◌++◌, Result, Ok, Err, length, map, drop, nat_lt, if◌then◌else◌}
+use Rattle.std.specs.List.{list_any}
+use Rattle.byteorder.specs.Endian.{big_number}
+use Rattle.pim_addr.specs.declared.family.AddressFamily.{AddressFamily}
+use Rattle.pim_addr.specs.Address.{is_source}
+use Rattle.pim_addr.specs.Faults.{fault_if, judged}
+use Rattle.pim_addr.specs.Encoded.{source_faults, group_length, source_length, source_value}
+use Rattle.pim_jp.specs.declared.entry.Entry.{Entry}
+use Rattle.pim_jp.specs.declared.fault.JpKind.{JpKind}
+use Rattle.pim_jp.specs.declared.fault.JpKind.TheVariants.{Flags, NotSource, SecondStar, BothLists}
+use Rattle.pim_jp.specs.declared.fault.JpFault.{JpFault}
+use Rattle.pim_jp.specs.Message.{entries_of}
+use Rattle.pim_jp.specs.Spelling.{is_star, same_source}
+use Rattle.pim_jp.specs.Parts.{Part, group, counts, part_then, entry_parts, is_kindless, kind_of}
+use Rattle.pim_jp.specs.Faults.{address_kind, faults_of}
+
+-- the first of the faults is this one
+abbrev pub Tells : {E : Type 0} → List E → E → Type 0
+Tells faults fault = judged faults (tt {0}) ≡ Err fault
+
+-- no fault is there, or the first is told
+abbrev pub Judges : {A E : Type 0} → Result A E → List E → Type 0
+Judges (Ok x) faults = faults ≡ []
+Judges (Err fault) faults = Tells faults fault
+
+-- the kinds at an entry that it has by itself
+abbrev pub own_kinds : AddressFamily → List ℕ → List JpKind
+own_kinds family bytes =
+    map address_kind (source_faults family bytes)
+    ++ (if nat_lt (length bytes) (source_length family) then [] else
+      fault_if (is_kindless (source_value family bytes)) Flags ++ fault_if (not (is_source family (source_value family bytes).address)) NotSource)
+
+-- those that it has by the entries before it: of these only whether a (*,G) is among them, and the other list
+abbrev pub set_kinds : Bool → List (Entry (List ℕ)) → List (Entry (List ℕ)) → List JpKind
+set_kinds has_star other entries =
+    fault_if (list_any is_star entries && has_star) SecondStar
+    ++ fault_if (list_any (λ this. list_any (same_source this) other) entries) BothLists
+
+abbrev pub kinds_at_entry : AddressFamily → Bool → List (Entry (List ℕ)) → List ℕ → List JpKind
+kinds_at_entry family has_star other bytes =
+    own_kinds family bytes
+    ++ (if nat_lt (length bytes) (source_length family) then [] else set_kinds has_star other (kind_of (source_value family bytes)))
+
+-- ---- runs of parts, behind which `next` goes on
+
+-- the run has no fault, and behind it stands this
+abbrev pub Passes : {Next : Type 0} → AddressFamily → (Next → List Part) → (Next → List Part) → Type 0
+Passes {Next} family run after = (next : Next) → faults_of family (run next) ≡ faults_of family (after next)
+
+-- the run has this fault first
+abbrev pub Stops : {Next : Type 0} → AddressFamily → (Next → List Part) → JpFault → Type 0
+Stops {Next} family run fault = (next : Next) → Tells (faults_of family (run next)) fault
+
+-- so many entries have no fault, and behind them `next` goes on
+abbrev pub EntriesPass : AddressFamily → ℕ → List (Entry (List ℕ)) → ℕ → List ℕ → Type 0
+EntriesPass family count joined at bytes = Passes family (entry_parts family count joined joined at bytes)
+    (λ next. next (joined ++ entries_of family count bytes) (at + count * source_length family) (drop (count * source_length family) bytes))
+
+-- the parts of a set from its counts on
+abbrev pub lists_then : AddressFamily → ℕ → List ℕ → (ℕ → List ℕ → List Part) → List Part
+lists_then family at bytes next =
+    part_then counts 4 at bytes (λ at entries.
+    entry_parts family (big_number 2 bytes) [] [] at entries (λ joined at entries.
+    entry_parts family (big_number 2 (drop 2 bytes)) joined joined at entries (λ _ at bytes. next at bytes)))
+
+abbrev pub lists_length : AddressFamily → List ℕ → ℕ
+lists_length family bytes = 4 + big_number 2 bytes * source_length family + big_number 2 (drop 2 bytes) * source_length family
+
+-- where they end
+abbrev pub lists_end : AddressFamily → ℕ → List ℕ → ℕ
+lists_end family at bytes = at + 4 + big_number 2 bytes * source_length family + big_number 2 (drop 2 bytes) * source_length family
+
+abbrev pub after_lists : AddressFamily → List ℕ → List ℕ
+after_lists family bytes = drop (big_number 2 (drop 2 bytes) * source_length family) (drop (big_number 2 bytes * source_length family) (drop 4 bytes))
+
+-- the parts of a set
+abbrev pub set_then : AddressFamily → ℕ → List ℕ → (ℕ → List ℕ → List Part) → List Part
+set_then family at bytes next = part_then group (group_length family) at bytes (λ at bytes. lists_then family at bytes next)

@@ -1,0 +1,42 @@
+-- The line of a fault.
+use Rattle.std.specs.Prelude.{ℕ, List, [], ◌∷◌, ◌++◌, codes, decimal}
+use Rattle.pim_frame.specs.declared.frame.FrameFault.{FrameFault}
+use Rattle.pim_frame.specs.declared.frame.FrameFault.TheVariants as frame
+use Rattle.pim_jp.specs.declared.fault.JpKind.{JpKind}
+use Rattle.pim_jp.specs.declared.fault.JpKind.TheVariants as kind
+use Rattle.pim_jp.specs.declared.fault.JpFault.{JpFault}
+use Rattle.pimtree.specs.declared.fault.Fault.{Fault}
+use Rattle.pimtree.specs.declared.fault.Fault.TheVariants.{Frame, JoinPrune, InputTooLong, InputRead, Output, Memory}
+use Rattle.pimtree.specs.Text.{line}
+
+abbrev pub frame_words : FrameFault → List ℕ
+frame_words frame.Short = codes "frame short"
+frame_words (frame.Version version) = codes "frame version " ++ decimal version
+frame_words frame.Checksum = codes "frame checksum"
+frame_words frame.NotAllRouters = codes "frame not-all-routers"
+
+abbrev pub kind_name : JpKind → List ℕ
+kind_name kind.Short = codes "short"
+kind_name kind.Family = codes "family"
+kind_name kind.Encoding = codes "encoding"
+kind_name kind.Mask = codes "mask"
+kind_name kind.NotGroup = codes "not-group"
+kind_name kind.Flags = codes "flags"
+kind_name kind.NotSource = codes "not-source"
+kind_name kind.SecondStar = codes "second-star"
+kind_name kind.BothLists = codes "both-lists"
+kind_name kind.Trailing = codes "trailing"
+
+abbrev pub join_prune_words : JpFault → List ℕ
+join_prune_words fault = codes "join/prune " ++ kind_name fault.kind ++ codes " at " ++ decimal fault.at
+
+abbrev pub fault_words : Fault → List ℕ
+fault_words (Frame fault) = frame_words fault
+fault_words (JoinPrune fault) = join_prune_words fault
+fault_words InputTooLong = codes "input too-long"
+fault_words InputRead = codes "input read"
+fault_words Output = codes "output"
+fault_words Memory = codes "memory"
+
+abbrev pub fault_text : Fault → List ℕ
+fault_text fault = line (codes "pimtree: " ++ fault_words fault)

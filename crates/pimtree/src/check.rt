@@ -1,0 +1,79 @@
+//! The command `check`: one message, read and printed.
+
+ghost use Rattle.std.specs.Prelude.{◌≡◌, ◌+◌, ◌<◌, ◌≤◌, length, take, IfOk, IfSome, IfErr, IsErrOf, Err, OnErr, vec_len};
+ghost use Rattle.std.specs.Io.KnownBytes.{Keeps, IsAtEnd, Consumes};
+ghost use Rattle.pim_addr.specs.Device.{FailedIn, ConsumesAtMost, failures_after};
+ghost use Rattle.pim_addr.specs.Faults.{Answers};
+ghost use Rattle.pimtree.specs.Report.{message_report, input_report, Reports, GivesReport, GivesInput, IsReadFault};
+
+use crate::fault::Fault;
+use crate::text::{message_text, type_text};
+use pim_addr::{Drain, Family, Feed, read_up_to, write_all};
+use pim_frame::{Body, open};
+use pim_jp::JpView;
+use std::alloc::Global;
+
+/// The most bytes that an input may have.
+const INPUT_LIMIT: usize = 65_536;
+
+/// The type of a Hello, which is all that is told of it so far.
+const HELLO: u8 = 0;
+
+/// A buffer of so many bytes.
+fn blank(alloc: Global, length: usize) -> Result<Vec<u8>, Fault>
+    ensures length { IfOk result (λ buffer. vec_len buffer ≡ length) }
+    ensures memory { IfErr result (λ fault. fault ≡ Fault.Memory) }
+{
+    vec![in alloc; 0u8; length].map_err(|_| Fault::Memory)
+}
+
+/// Reads the input to its end.
+fn read_input<R: Feed>(alloc: Global, reader: &mut R) -> Result<Vec<u8>, Fault>
+    ensures input { IfSome (R.remaining reader.old) (λ all. GivesInput (λ v. v.items) all result) }
+    ensures causes { IfErr result IsReadFault }
+    ensures failed { IsErrOf result Fault.InputRead → FailedIn (R.failures reader.old) (R.failures reader.new) }
+    ensures taken { ConsumesAtMost 65537 (R.remaining reader.old) (R.remaining reader.new) }
+    ensures small { IfOk result (λ input. length input.items ≤ 65536) }
+{
+    let mut input = blank(alloc, INPUT_LIMIT + 1)?;
+    let length = read_up_to(reader, &mut input).map_err(|_| Fault::InputRead)?;
+    if length > INPUT_LIMIT {
+        return Err(Fault::InputTooLong);
+    }
+    input.truncate(length);
+    Ok(input)
+}
+
+/// What is to be printed of a message.
+fn report<F: Family>(alloc: Global, src: F::Addr, dst: F::Addr, message: &[u8]) -> Result<Vec<u8>, Fault>
+    requires { length message.now ≤ 65536 }
+    ensures { GivesReport (λ v. v.items) (message_report F.family (F.bytes_of src) (F.bytes_of dst) message.now) result }
+{
+    match open::<F>(src, dst, message).map_err(Fault::Frame)? {
+        Body::Hello(_) => type_text(alloc, HELLO).map_err(|_| Fault::Memory),
+        Body::JoinPrune(body) => {
+            return Err(Fault::Memory);
+        }
+        Body::Other(kind) => type_text(alloc, kind).map_err(|_| Fault::Memory),
+    }
+}
+
+/// Reads one message, which went from `src` to `dst`, to the reader's end, and writes what it says. The answer
+/// is the status, 0. Of an input at most 65,537 bytes are read: the last one shows that it is too long.
+///
+/// # Errors
+/// The first of: `Memory` (at any time before the writing), `InputRead`, `InputTooLong` (above 65,536 bytes), `Frame`, `JoinPrune`,
+/// after which nothing was written, and `Output`, after which a front of the text was.
+pub fn check_into<F: Family, R: Feed, W: Drain>(alloc: Global, reader: &mut R, writer: &mut W, src: F::Addr, dst: F::Addr) -> Result<u8, Fault>
+    ensures report { IfSome (R.remaining reader.old) (λ input.
+        Reports (input_report F.family (F.bytes_of src) (F.bytes_of dst) input) (W.contents writer.old) (W.contents writer.new) result) }
+    ensures status { IfOk result (λ status. status ≡ 0) }
+    ensures input_read { IsErrOf result Fault.InputRead → FailedIn (R.failures reader.old) (R.failures reader.new) }
+    ensures output { IsErrOf result Fault.Output → FailedIn (W.failures writer.old) (W.failures writer.new) }
+    ensures taken { ConsumesAtMost 65537 (R.remaining reader.old) (R.remaining reader.new) }
+{
+    let input = read_input(alloc, reader)?;
+    let text = report::<F>(alloc, src, dst, &input)?;
+    write_all(writer, &text).map_err(|_| Fault::Output)?;
+    Ok(0)
+}
