@@ -1,13 +1,27 @@
 -- How the report of a message becomes that of an input.
-use Rattle.std.proofs.Common.{◌≡◌, ℕ, ◌≤◌, Bool, true, false, ltb, List, length, Option, None, Some, Result, Ok, Err, refl, sym, ap, ◌∙◌}
+use Rattle.std.proofs.Common.{◌≡◌, ℕ, ◌≤◌, Bool, true, false, ltb, List, [], ◌∷◌, ◌++◌, length, map, Option, None, Some, Result, Ok, Err, refl, sym, ap, ◌∙◌}
 use Rattle.std.specs.Prelude.{IfSome}
 use Rattle.std.specs.Io.KnownBytes.{Appends, Keeps}
 use Rattle.std.proofs.lemmas.Bool.{le-ltb}
 use Rattle.pim_addr.specs.declared.family.AddressFamily.{AddressFamily}
-use Rattle.pim_addr.specs.Faults.{fault_if}
+use Rattle.pim_addr.specs.Faults.{fault_if, judged}
+use Rattle.pim_frame.specs.declared.frame.FrameFault.{FrameFault}
+use Rattle.pim_frame.specs.Frame.{Content, join_prune, content, frame_faults}
+use Rattle.pim_jp.specs.Message.{Message, message_of}
+use Rattle.pim_jp.specs.Faults.{faults}
+use Rattle.pim_jp.specs.declared.fault.JpFault.{JpFault}
+use Rattle.pimtree.specs.Text.{message_text}
 use Rattle.pimtree.specs.declared.fault.Fault.{Fault}
 use Rattle.pimtree.specs.declared.fault.Fault.TheVariants.{Frame, JoinPrune, InputTooLong, InputRead, Output, Memory}
-use Rattle.pimtree.specs.Report.{message_report, input_report, Explains, IsMessageFault, Reports}
+use Rattle.pimtree.specs.Report.{content_faults, content_text, body_report, message_report, input_report, Explains, IsMessageFault, Reports}
+
+first_told : (all : List JpFault) (message : Message) (text : List ℕ) (fault : JpFault) → judged all message ≡ Err fault → judged (map JoinPrune all) text ≡ Err (JoinPrune fault)
+first_told [] message text fault told = absurd cc
+first_told (first ∷ others) message text fault told = let same : first ≡ fault = cc in ap (λ (f : JpFault). Err (JoinPrune f)) same
+
+none_told : (family : AddressFamily) (all : List JpFault) (message given : Message) → judged all message ≡ Ok given → judged (map JoinPrune all) (message_text family message) ≡ Ok (message_text family given)
+none_told family [] message given told = let same : message ≡ given = cc in ap (λ (m : Message). Ok (message_text family m)) same
+none_told family (first ∷ others) message given told = absurd cc
 
 -- an input that isn't too long is looked at as a message
 pub short_input : (family : AddressFamily) (source destination input : List ℕ) → length input ≤ 65536 → input_report family source destination input ≡ message_report family source destination input
@@ -35,3 +49,22 @@ refused (Some all) written family source destination input message result fault 
     let is_message : input_report family source destination all ≡ message_report family source destination message =
       short_input family source destination all whole.1 ∙ ap (message_report family source destination) (whole.0 ∙ sym same) in
     rw (is_fault, is_message) (unreported (message_report family source destination message) written written fault (keeps_self written) cause)
+
+-- ---- the report of a body
+
+pub told_fault : (family : AddressFamily) (body : List ℕ) (fault : JpFault) → judged (faults family body) (message_of family body) ≡ Err fault → body_report family body ≡ Err (JoinPrune fault)
+told_fault family body fault = first_told (faults family body) (message_of family body) (message_text family (message_of family body)) fault
+
+pub told_text : (family : AddressFamily) (body : List ℕ) (message : Message) → judged (faults family body) (message_of family body) ≡ Ok message → body_report family body ≡ Ok (message_text family message)
+told_text family body message = none_told family (faults family body) (message_of family body) message
+
+-- ---- the report of a message whose header is sound
+
+framed : (family : AddressFamily) (all : List FrameFault) (held given : Content) → judged all held ≡ Ok given
+    → judged (map Frame all ++ content_faults family held) (content_text family held) ≡ judged (content_faults family given) (content_text family given)
+framed family [] held given told = let same : held ≡ given = cc in ap (λ (c : Content). judged (content_faults family c) (content_text family c)) same
+framed family (first ∷ others) held given told = absurd cc
+
+pub framed_body : (family : AddressFamily) (source destination message body : List ℕ) → judged (frame_faults family source destination message) (content message) ≡ Ok (join_prune body)
+    → message_report family source destination message ≡ body_report family body
+framed_body family source destination message body = framed family (frame_faults family source destination message) (content message) (join_prune body)

@@ -16,6 +16,10 @@ content_faults family (hello body) = []
 content_faults family (join_prune body) = map JoinPrune (faults family body)
 content_faults family (other kind) = []
 
+-- the text of a Join/Prune's body, or the first thing that is wrong with it
+abbrev pub body_report : AddressFamily → List ℕ → Result (List ℕ) Fault
+body_report family body = judged (map JoinPrune (faults family body)) (message_text family (message_of family body))
+
 -- A Hello's options aren't read yet.
 abbrev pub content_text : AddressFamily → Content → List ℕ
 content_text family (hello body) = type_text 0

@@ -4,7 +4,7 @@ ghost use Rattle.std.specs.Prelude.{◌≡◌, ◌+◌, ◌<◌, ◌≤◌, leng
 ghost use Rattle.std.specs.Io.KnownBytes.{Keeps, IsAtEnd, Consumes};
 ghost use Rattle.pim_addr.specs.Device.{FailedIn, ConsumesAtMost, failures_after};
 ghost use Rattle.pim_addr.specs.Faults.{Answers};
-ghost use Rattle.pimtree.specs.Report.{message_report, input_report, Reports, GivesReport, GivesInput, IsReadFault};
+ghost use Rattle.pimtree.specs.Report.{body_report, message_report, input_report, Reports, GivesReport, GivesInput, IsReadFault};
 
 use crate::fault::Fault;
 use crate::text::{message_text, type_text};
@@ -44,17 +44,28 @@ fn read_input<R: Feed>(alloc: Global, reader: &mut R) -> Result<Vec<u8>, Fault>
     Ok(input)
 }
 
+/// What is to be printed of the body of a Join/Prune.
+#[tactic(auto, using(crate::proofs::Reports::told_fault, crate::proofs::Reports::told_text))]
+fn report_join_prune<F: Family>(alloc: Global, body: &[u8]) -> Result<Vec<u8>, Fault>
+    ensures { GivesReport (λ v. v.items) (body_report F.family body.now) result }
+{
+    match JpView::<F>::read(body) {
+        Ok(message) => message_text(alloc, &message).map_err(|_| Fault::Memory),
+        Err(fault) => Err(Fault::JoinPrune(fault)),
+    }
+}
+
 /// What is to be printed of a message.
+#[tactic(auto, using(crate::proofs::Reports::framed_body))]
 fn report<F: Family>(alloc: Global, src: F::Addr, dst: F::Addr, message: &[u8]) -> Result<Vec<u8>, Fault>
     requires { length message.now ≤ 65536 }
     ensures { GivesReport (λ v. v.items) (message_report F.family (F.bytes_of src) (F.bytes_of dst) message.now) result }
 {
-    match open::<F>(src, dst, message).map_err(Fault::Frame)? {
-        Body::Hello(_) => type_text(alloc, HELLO).map_err(|_| Fault::Memory),
-        Body::JoinPrune(body) => {
-            return Err(Fault::Memory);
-        }
-        Body::Other(kind) => type_text(alloc, kind).map_err(|_| Fault::Memory),
+    match open::<F>(src, dst, message) {
+        Err(fault) => Err(Fault::Frame(fault)),
+        Ok(Body::Hello(_)) => type_text(alloc, HELLO).map_err(|_| Fault::Memory),
+        Ok(Body::JoinPrune(body)) => report_join_prune::<F>(alloc, body),
+        Ok(Body::Other(kind)) => type_text(alloc, kind).map_err(|_| Fault::Memory),
     }
 }
 
