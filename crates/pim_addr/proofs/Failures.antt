@@ -1,6 +1,6 @@
 -- Counts of failures over several calls.
-use Rattle.std.proofs.Common.{◌≡◌, ℕ, ◌≤◌, Result, Ok, Err, IsErr, IsOk, refl, arith}
-use Rattle.pim_addr.specs.Device.{top_count, failures_after, FailedIn, NeverFalls}
+use Rattle.std.proofs.Common.{◌≡◌, ℕ, Result, Ok, Err, IsErr, IsOk, arith}
+use Rattle.pim_addr.specs.Device.{failures_after, FailedIn, NeverFalls}
 
 pub NeverFalls-same : (n : ℕ) → NeverFalls n n
 NeverFalls-same n = omega arith

@@ -1,9 +1,8 @@
 -- Writing pieces one after the other, and the steps of an address's text.
-use Rattle.std.proofs.Common.{◌≡◌, ℕ, ◌+◌, ◌-◌, ◌*◌, ◌/◌, ◌%◌, ◌<◌, ◌≤◌, zero, suc, List, [], ◌∷◌, ◌++◌, length, get_or, take, drop, map, decimal, refl, sym, ap, ◌∙◌, subst, arith, append_assoc, length-append, take-append-drop}
+use Rattle.std.proofs.Common.{◌≡◌, ℕ, ◌+◌, ◌-◌, ◌*◌, ◌/◌, ◌%◌, ◌<◌, ◌≤◌, zero, suc, List, [], ◌∷◌, ◌++◌, length, get_or, take, drop, map, decimal, refl, sym, ap, ◌∙◌, subst, arith, append_assoc, length-append}
 use Rattle.std.proofs.lemmas.Fmt.{decimal_digit, decimal_step}
 use Rattle.std.proofs.lemmas.List.{drop-drop, map_more, take_more, length-map, length-take-le}
 use Rattle.std.specs.List.{join_with_byte}
-use Rattle.std.specs.Char.{digit_char}
 use Rattle.pim_addr.specs.Text.{hex_pair, hex_groups, separator, Wrote}
 
 pub Wrote-nothing : (t : List ℕ) → Wrote [] 0 t 0 t
@@ -14,10 +13,10 @@ pub Wrote-more : {p q t u v : List ℕ} {a b c : ℕ} → Wrote p a t b u → Wr
 Wrote-more {p} {q} {t} {u} {v} {a} {b} {c} first second =
     let far : c ≡ b + length q = second.up_to in
     record {
-    up_to = omega (arith, first.up_to, second.up_to, length-append p q);
-    written = second.written ∙ ap (λ l. l ++ q) first.written ∙ append_assoc (take a t) p q;
-    behind = second.behind ∙ ap (λ n. drop n u) far ∙ sym (drop-drop (length q) b u) ∙ ap (drop (length q)) first.behind
-    ∙ drop-drop (length q) b t ∙ ap (λ n. drop n t) (sym far)
+      up_to = omega (arith, first.up_to, second.up_to, length-append p q);
+      written = second.written ∙ ap (λ l. l ++ q) first.written ∙ append_assoc (take a t) p q;
+      behind = second.behind ∙ ap (λ n. drop n u) far ∙ sym (drop-drop (length q) b u) ∙ ap (drop (length q)) first.behind
+          ∙ drop-drop (length q) b t ∙ ap (λ n. drop n t) (sym far);
     }
 
 pub Wrote-is : {p q t u : List ℕ} {a b : ℕ} → p ≡ q → Wrote p a t b u → Wrote q a t b u

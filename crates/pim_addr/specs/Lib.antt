@@ -5,3 +5,4 @@ pub mod Encoded
 pub mod Seen
 pub mod Text
 pub mod Device
+pub mod Scripted

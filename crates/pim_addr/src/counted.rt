@@ -1,7 +1,7 @@
 //! A reader or a writer as a device that counts its failures.
 
-ghost use Rattle.std.specs.Prelude.{◌≡◌};
-ghost use Rattle.pim_addr.specs.Device.{counted_inner, counted_failures};
+ghost use Rattle.std.specs.Prelude.{◌≡◌, ◌+◌, min};
+ghost use Rattle.pim_addr.specs.Device.{counted_inner, counted_failures, top_count};
 
 use crate::device::{Drain, Failed, Feed};
 use std::io::{Read, Write};
@@ -44,6 +44,14 @@ impl<T> Counted<T> {
     {
         self.failures
     }
+
+    fn count_failure(&mut self) -> Failed
+        ensures inner { counted_inner self.new ≡ counted_inner self.old }
+        ensures failures { counted_failures self.new ≡ min (counted_failures self.old + 1) top_count }
+    {
+        self.failures = self.failures.saturating_add(1);
+        Failed
+    }
 }
 
 impl<R: Read> Feed for Counted<R> {
@@ -54,10 +62,7 @@ impl<R: Read> Feed for Counted<R> {
     fn read(&mut self, buffer: &mut [u8]) -> Result<usize, Failed> {
         match self.inner.read(buffer) {
             Ok(given) => Ok(given),
-            Err(_) => {
-                self.failures = self.failures.saturating_add(1);
-                Err(Failed)
-            }
+            Err(_) => Err(self.count_failure()),
         }
     }
 }
@@ -70,10 +75,7 @@ impl<W: Write> Drain for Counted<W> {
     fn write(&mut self, bytes: &[u8]) -> Result<usize, Failed> {
         match self.inner.write(bytes) {
             Ok(taken) if taken > 0 || bytes.is_empty() => Ok(taken),
-            _ => {
-                self.failures = self.failures.saturating_add(1);
-                Err(Failed)
-            }
+            _ => Err(self.count_failure()),
         }
     }
 }

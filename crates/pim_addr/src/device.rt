@@ -6,6 +6,9 @@ ghost use Rattle.pim_addr.specs.Device.{failures_after, AppendsAll, ConsumesAtMo
 
 use thiserror::Error;
 
+#[cfg(test)]
+mod tests;
+
 /// A device failed: it gave nothing, or took nothing, in that call.
 #[derive(Clone, Copy, Debug, PartialEq, Eq, Error)]
 #[error("the device failed")]

@@ -130,8 +130,8 @@ pub fn read_group<F: Family>(bytes: &[u8]) -> Result<F::Addr, AddrFault>
     if bytes[3] != F::FULL {
         return Err(AddrFault::Mask);
     }
-    let (_, address) = bytes.split_at(4);
-    Ok(F::take(address))
+    let (_, group) = bytes.split_at(4);
+    Ok(F::take(group))
 }
 
 /// Reads the encoded source at the front, with its W and R bits. Its bit S and the reserved ones are ignored.

@@ -7,6 +7,9 @@ ghost use Rattle.pim_addr.specs.Text.{address_text, hex_pair, hex_groups, separa
 
 use crate::family::{AddressFamily, Family};
 
+#[cfg(test)]
+mod tests;
+
 /// Writes one byte.
 fn write_byte(text: &mut [u8], place: usize, byte: u8) -> usize
     requires { place < length text.old }
@@ -99,6 +102,7 @@ fn write_groups(text: &mut [u8], bytes: &[u8; 16]) -> usize
 /// Writes the one spelling of an address at the front of the text, and answers how many bytes that is: IPv4 as
 /// decimals joined by dots, IPv6 as eight groups of four lower-case hexadecimal digits joined by colons.
 pub fn write_text<F: Family>(address: F::Addr, text: &mut [u8; 39]) -> usize
+    ensures short { result ≤ 39 }
     ensures length { result ≡ length (address_text F.family (F.bytes_of address)) }
     ensures text { text.new ≡ address_text F.family (F.bytes_of address) ++ drop result text.old }
 {

@@ -1,5 +1,5 @@
 -- The first of some faults.
-use Rattle.std.proofs.Common.{◌≡◌, List, [], ◌∷◌, ◌++◌, Result, Ok, Err}
+use Rattle.std.proofs.Common.{◌≡◌, List, [], ◌∷◌, ◌++◌, Ok, Err}
 use Rattle.pim_addr.specs.Faults.{judged}
 
 -- it stays the first, whatever others come behind

@@ -13,4 +13,3 @@ pub mod Judged
 pub mod Parts
 pub mod EntryLoop
 pub mod SetLoop
-pub mod Body

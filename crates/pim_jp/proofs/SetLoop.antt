@@ -1,78 +1,30 @@
 -- How the reader goes over the sets of a body.
-use Rattle.std.proofs.Common.{◌≡◌, ◌∙◌, sym, ap, ℕ, zero, suc, ◌+◌, ◌-◌, ◌*◌, ◌≤◌, ◌<◌, List, [], ◌∷◌, ◌++◌, length, drop, refl, arith, length-drop, append-nil}
-use Rattle.byteorder.specs.Endian.{big_number}
+use Rattle.std.proofs.Common.{◌≡◌, ◌∙◌, sym, ap, ℕ, suc, ◌+◌, ◌-◌, ◌*◌, ◌≤◌, ◌<◌, List, [], length, drop, refl, arith, length-drop, append-nil}
 use Rattle.pim_addr.specs.declared.family.AddressFamily.{AddressFamily}
 use Rattle.pim_addr.specs.Faults.{judged}
 use Rattle.pim_addr.specs.Encoded.{group_length, source_length}
-use Rattle.pim_jp.specs.declared.entry.Entry.{Entry}
 use Rattle.pim_jp.specs.declared.fault.JpFault.{JpFault}
-use Rattle.pim_jp.specs.Message.{entries_of, joined_count, pruned_count, after_set}
-use Rattle.pim_jp.specs.Parts.{Part, group, counts, rest, part_then, entry_parts, set_parts}
+use Rattle.pim_jp.specs.Message.{joined_count, pruned_count, after_set}
+use Rattle.pim_jp.specs.Parts.{group, rest, set_parts}
 use Rattle.pim_jp.specs.Faults.{part_faults, faults_of}
 use Rattle.pim_jp.specs.Whole.{set_length, HoldsSets}
-use Rattle.pim_jp.specs.Reading.{Tells, Passes, Stops, EntriesPass, lists_then, lists_end, after_lists, set_then}
-use Rattle.pim_jp.proofs.Parts.{part_passes, part_stops}
-
--- ---- the lists of a set
-
--- what goes on behind the joined entries
-abbrev pub pruned_then : AddressFamily → List ℕ → (ℕ → List ℕ → List Part) → List (Entry (List ℕ)) → ℕ → List ℕ → List Part
-pruned_then family bytes next joined at entries = entry_parts family (big_number 2 (drop 2 bytes)) joined joined at entries (λ _ at bytes. next at bytes)
-
-abbrev pub joined_then : AddressFamily → List ℕ → (ℕ → List ℕ → List Part) → ℕ → List ℕ → List Part
-joined_then family bytes next at entries = entry_parts family (big_number 2 bytes) [] [] at entries (pruned_then family bytes next)
-
-pub lists_pass : (family : AddressFamily) (at : ℕ) (bytes : List ℕ) → 4 ≤ length bytes
-  → part_faults family (record { shape = counts; at = at; bytes = bytes }) ≡ []
-  → EntriesPass family (big_number 2 bytes) [] (at + 4) (drop 4 bytes)
-  → EntriesPass family (big_number 2 (drop 2 bytes)) (entries_of family (big_number 2 bytes) (drop 4 bytes)) (at + 4 + big_number 2 bytes * source_length family) (drop (big_number 2 bytes * source_length family) (drop 4 bytes))
-  → Passes family (lists_then family at bytes) (λ next. next (lists_end family at bytes) (after_lists family bytes))
-lists_pass family at bytes whole none joined pruned = λ next.
-    part_passes family counts 4 at bytes (joined_then family bytes next) none whole
-    ∙ joined (pruned_then family bytes next)
-    ∙ pruned (λ _ at bytes'. next at bytes')
-
-pub lists_stop_counts : (family : AddressFamily) (at : ℕ) (bytes : List ℕ) (fault : JpFault)
-  → Tells (part_faults family (record { shape = counts; at = at; bytes = bytes })) fault → Stops family (lists_then family at bytes) fault
-lists_stop_counts family at bytes fault told = λ next. part_stops family counts 4 at bytes (joined_then family bytes next) fault told
-
-pub lists_stop_joined : (family : AddressFamily) (at : ℕ) (bytes : List ℕ) (fault : JpFault) → 4 ≤ length bytes
-  → part_faults family (record { shape = counts; at = at; bytes = bytes }) ≡ []
-  → Stops family (entry_parts family (big_number 2 bytes) [] [] (at + 4) (drop 4 bytes)) fault
-  → Stops family (lists_then family at bytes) fault
-lists_stop_joined family at bytes fault whole none stop = λ next.
-    ap (λ faults. judged faults tt) (part_passes family counts 4 at bytes (joined_then family bytes next) none whole)
-    ∙ stop (pruned_then family bytes next)
-
-pub lists_stop_pruned : (family : AddressFamily) (at : ℕ) (bytes : List ℕ) (fault : JpFault) → 4 ≤ length bytes
-  → part_faults family (record { shape = counts; at = at; bytes = bytes }) ≡ []
-  → EntriesPass family (big_number 2 bytes) [] (at + 4) (drop 4 bytes)
-  → Stops family (entry_parts family (big_number 2 (drop 2 bytes)) (entries_of family (big_number 2 bytes) (drop 4 bytes)) (entries_of family (big_number 2 bytes) (drop 4 bytes))
-      (at + 4 + big_number 2 bytes * source_length family) (drop (big_number 2 bytes * source_length family) (drop 4 bytes))) fault
-  → Stops family (lists_then family at bytes) fault
-lists_stop_pruned family at bytes fault whole none joined stop = λ next.
-    ap (λ faults. judged faults tt) (part_passes family counts 4 at bytes (joined_then family bytes next) none whole ∙ joined (pruned_then family bytes next))
-    ∙ stop (λ _ at bytes'. next at bytes')
+use Rattle.pim_jp.specs.Reading.{Tells, Passes, Stops, lists_then, lists_end, set_then}
+use Rattle.pim_jp.proofs.Parts.{part_passes}
 
 -- ---- a set
 
 pub set_pass : (family : AddressFamily) (at : ℕ) (bytes : List ℕ) → group_length family ≤ length bytes
-  → part_faults family (record { shape = group; at = at; bytes = bytes }) ≡ []
-  → Passes family (lists_then family (at + group_length family) (drop (group_length family) bytes))
-      (λ next. next (lists_end family (at + group_length family) (drop (group_length family) bytes)) (after_set family bytes))
-  → Passes family (set_then family at bytes) (λ next. next (lists_end family (at + group_length family) (drop (group_length family) bytes)) (after_set family bytes))
+    → part_faults family (record { shape = group; at = at; bytes = bytes }) ≡ []
+    → Passes family (lists_then family (at + group_length family) (drop (group_length family) bytes))
+    (λ next. next (lists_end family (at + group_length family) (drop (group_length family) bytes)) (after_set family bytes))
+    → Passes family (set_then family at bytes) (λ next. next (lists_end family (at + group_length family) (drop (group_length family) bytes)) (after_set family bytes))
 set_pass family at bytes whole none lists = λ next.
     part_passes family group (group_length family) at bytes (λ at bytes'. lists_then family at bytes' next) none whole ∙ lists next
 
-pub set_stop_group : (family : AddressFamily) (at : ℕ) (bytes : List ℕ) (fault : JpFault)
-  → Tells (part_faults family (record { shape = group; at = at; bytes = bytes })) fault → Stops family (set_then family at bytes) fault
-set_stop_group family at bytes fault told = λ next.
-    part_stops family group (group_length family) at bytes (λ at bytes'. lists_then family at bytes' next) fault told
-
 pub set_stop_lists : (family : AddressFamily) (at : ℕ) (bytes : List ℕ) (fault : JpFault) → group_length family ≤ length bytes
-  → part_faults family (record { shape = group; at = at; bytes = bytes }) ≡ []
-  → Stops family (lists_then family (at + group_length family) (drop (group_length family) bytes)) fault
-  → Stops family (set_then family at bytes) fault
+    → part_faults family (record { shape = group; at = at; bytes = bytes }) ≡ []
+    → Stops family (lists_then family (at + group_length family) (drop (group_length family) bytes)) fault
+    → Stops family (set_then family at bytes) fault
 set_stop_lists family at bytes fault whole none stop = λ next.
     ap (λ faults. judged faults tt) (part_passes family group (group_length family) at bytes (λ at bytes'. lists_then family at bytes' next) none whole)
     ∙ stop next
@@ -86,14 +38,14 @@ pub record SetsReached (family : AddressFamily) (count start : ℕ) (bytes : Lis
 
 -- where the reader stands after a set
 length_behind : (at front joined pruned : ℕ) (bytes : List ℕ) → front + 4 + joined + pruned ≤ length bytes
-  → (at + (length bytes - length (drop pruned (drop joined (drop 4 (drop front bytes))))) ≡ at + front + 4 + joined + pruned)
+    → (at + (length bytes - length (drop pruned (drop joined (drop 4 (drop front bytes))))) ≡ at + front + 4 + joined + pruned)
     × (at + (length bytes - length (drop pruned (drop joined (drop 4 (drop front bytes))))) + length (drop pruned (drop joined (drop 4 (drop front bytes)))) ≡ at + length bytes)
 length_behind at front joined pruned bytes whole =
     let left : length (drop pruned (drop joined (drop 4 (drop front bytes)))) ≡ length bytes - front - 4 - joined - pruned = simp length-drop refl in
     (omega (arith, left), omega (arith, left))
 
 after_length : (family : AddressFamily) (at : ℕ) (bytes : List ℕ) → set_length family bytes ≤ length bytes
-  → (at + (length bytes - length (after_set family bytes)) ≡ lists_end family (at + group_length family) (drop (group_length family) bytes))
+    → (at + (length bytes - length (after_set family bytes)) ≡ lists_end family (at + group_length family) (drop (group_length family) bytes))
     × (at + (length bytes - length (after_set family bytes)) + length (after_set family bytes) ≡ at + length bytes)
 after_length family at bytes whole =
     length_behind at (group_length family) (joined_count family bytes * source_length family) (pruned_count family bytes * source_length family) bytes whole
@@ -108,12 +60,12 @@ sets_none family count start bytes =
     }
 
 sets_step : (family : AddressFamily) (count at : ℕ) (bytes : List ℕ) (end : ℕ) → Passes family (set_then family at bytes) (λ next. next end (after_set family bytes))
-  → faults_of family (set_parts family (suc count) at bytes) ≡ faults_of family (set_parts family count end (after_set family bytes))
+    → faults_of family (set_parts family (suc count) at bytes) ≡ faults_of family (set_parts family count end (after_set family bytes))
 unfolding set_parts
 sets_step family count at bytes end passes = passes (set_parts family count)
 
 sets_stopped : (family : AddressFamily) (count at : ℕ) (bytes : List ℕ) (fault : JpFault) → Stops family (set_then family at bytes) fault
-  → Tells (faults_of family (set_parts family (suc count) at bytes)) fault
+    → Tells (faults_of family (set_parts family (suc count) at bytes)) fault
 unfolding set_parts
 sets_stopped family count at bytes fault stops = stops (set_parts family count)
 
@@ -122,32 +74,39 @@ unfolding HoldsSets
 holds_more family count bytes whole holds = (whole, holds)
 
 pub sets_more : (family : AddressFamily) (count start : ℕ) (bytes : List ℕ) (done at : ℕ) (left : List ℕ)
-  → SetsReached family count start bytes done at left → done < count
-  → Passes family (set_then family at left) (λ next. next (lists_end family (at + group_length family) (drop (group_length family) left)) (after_set family left))
-  → set_length family left ≤ length left
-  → SetsReached family count start bytes (done + 1) (at + (length left - length (after_set family left))) (after_set family left)
+    → SetsReached family count start bytes done at left → done < count
+    → Passes family (set_then family at left) (λ next. next (lists_end family (at + group_length family) (drop (group_length family) left)) (after_set family left))
+    → set_length family left ≤ length left
+    → SetsReached family count start bytes (done + 1) (at + (length left - length (after_set family left))) (after_set family left)
 sets_more family count start bytes done at left reached some passes whole =
     let step : count - done ≡ suc (count - (done + 1)) = omega arith in
     let place = after_length family at left whole in
     record {
       fits = place.1 ∙ reached.fits;
       passes = reached.passes ∙ ap (λ n. faults_of family (set_parts family n at left)) step ∙ sets_step family (count - (done + 1)) at left _ passes
-        ∙ ap (λ n. faults_of family (set_parts family (count - (done + 1)) n (after_set family left))) (sym place.0);
+          ∙ ap (λ n. faults_of family (set_parts family (count - (done + 1)) n (after_set family left))) (sym place.0);
       holds = λ holds. reached.holds (rw step (holds_more family (count - (done + 1)) left whole holds));
     }
 
 pub sets_stop : (family : AddressFamily) (count start : ℕ) (bytes : List ℕ) (done at : ℕ) (left : List ℕ) (fault : JpFault)
-  → SetsReached family count start bytes done at left → done < count → Stops family (set_then family at left) fault
-  → Tells (faults_of family (set_parts family count start bytes)) fault
+    → SetsReached family count start bytes done at left → done < count → Stops family (set_then family at left) fault
+    → Tells (faults_of family (set_parts family count start bytes)) fault
 sets_stop family count start bytes done at left fault reached some stops =
     let step : count - done ≡ suc (count - (done + 1)) = omega arith in
     ap (λ faults. judged faults tt) (reached.passes ∙ ap (λ n. faults_of family (set_parts family n at left)) step)
     ∙ sets_stopped family (count - (done + 1)) at left fault stops
 
 pub sets_all : (family : AddressFamily) (count start : ℕ) (bytes : List ℕ) (done at : ℕ) (left : List ℕ)
-  → SetsReached family count start bytes done at left → count ≤ done
-  → (faults_of family (set_parts family count start bytes) ≡ part_faults family (record { shape = rest; at = at; bytes = left })) × HoldsSets family count bytes
+    → SetsReached family count start bytes done at left → count ≤ done
+    → (faults_of family (set_parts family count start bytes) ≡ part_faults family (record { shape = rest; at = at; bytes = left })) × HoldsSets family count bytes
 unfolding set_parts HoldsSets
 sets_all family count start bytes done at left reached all =
     let none : count - done ≡ 0 = omega arith in
     (reached.passes ∙ (rw none (append-nil _)), reached.holds (rw none tt))
+
+pub sets_told : (family : AddressFamily) (count start : ℕ) (bytes : List ℕ) (done at : ℕ) (left : List ℕ) (fault : JpFault)
+  → SetsReached family count start bytes done at left → count ≤ done
+  → Tells (part_faults family (record { shape = rest; at = at; bytes = left })) fault
+  → Tells (faults_of family (set_parts family count start bytes)) fault
+sets_told family count start bytes done at left fault reached all told =
+    ap (λ faults. judged faults tt) (sets_all family count start bytes done at left reached all).0 ∙ told

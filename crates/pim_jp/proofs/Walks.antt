@@ -1,5 +1,5 @@
 -- How the lists of a message are walked: one item, and then the others.
-use Rattle.std.proofs.Common.{◌≡◌, ℕ, zero, suc, ◌+◌, ◌-◌, ◌*◌, ◌≤◌, ◌<◌, List, [], ◌∷◌, length, drop, refl, ap, subst, arith}
+use Rattle.std.proofs.Common.{◌≡◌, ℕ, zero, suc, ◌-◌, ◌≤◌, ◌<◌, List, [], ◌∷◌, length, drop, refl, arith}
 use Rattle.pim_addr.specs.declared.family.AddressFamily.{AddressFamily}
 use Rattle.pim_addr.specs.Encoded.{source_length, source_value}
 use Rattle.pim_jp.specs.Message.{entry_of, entries_of, set_of, sets_of, after_set}
@@ -15,7 +15,7 @@ unfolding entries_of
 entries_end family count bytes e = rw e refl
 
 pub entries_step : (family : AddressFamily) (count : ℕ) (bytes : List ℕ) → 0 < count
-  → entries_of family count bytes ≡ entry_of (source_value family bytes) ∷ entries_of family (count - 1) (drop (source_length family) bytes)
+    → entries_of family count bytes ≡ entry_of (source_value family bytes) ∷ entries_of family (count - 1) (drop (source_length family) bytes)
 unfolding entries_of
 entries_step family zero bytes h = absurd (omega arith)
 entries_step family (suc count) bytes h = let e : suc count - 1 ≡ count = omega arith in rw e refl
@@ -30,7 +30,7 @@ unfolding sets_of
 sets_end family count bytes e = rw e refl
 
 pub sets_step : (family : AddressFamily) (count : ℕ) (bytes : List ℕ) → 0 < count
-  → sets_of family count bytes ≡ set_of family bytes ∷ sets_of family (count - 1) (after_set family bytes)
+    → sets_of family count bytes ≡ set_of family bytes ∷ sets_of family (count - 1) (after_set family bytes)
 unfolding sets_of
 sets_step family zero bytes h = absurd (omega arith)
 sets_step family (suc count) bytes h = let e : suc count - 1 ≡ count = omega arith in rw e refl

@@ -1,6 +1,6 @@
 -- What the steps of the reader promise. One that looks at a part speaks of the part's kinds; one that passes over
 -- several speaks of the faults of all the parts from there on, whatever parts `next` gives behind them.
-use Rattle.std.specs.Prelude.{◌≡◌, ℕ, ◌+◌, ◌*◌, Bool, ◌&&◌, not, List, [], ◌∷◌, ◌++◌, Result, Ok, Err, length, map, drop, nat_lt, if◌then◌else◌}
+use Rattle.std.specs.Prelude.{◌≡◌, ℕ, ◌+◌, ◌*◌, Bool, ◌&&◌, not, List, [], ◌++◌, Result, Ok, Err, length, map, drop, nat_lt, if◌then◌else◌}
 use Rattle.std.specs.List.{list_any}
 use Rattle.byteorder.specs.Endian.{big_number}
 use Rattle.pim_addr.specs.declared.family.AddressFamily.{AddressFamily}
@@ -30,7 +30,7 @@ abbrev pub own_kinds : AddressFamily → List ℕ → List JpKind
 own_kinds family bytes =
     map address_kind (source_faults family bytes)
     ++ (if nat_lt (length bytes) (source_length family) then [] else
-      fault_if (is_kindless (source_value family bytes)) Flags ++ fault_if (not (is_source family (source_value family bytes).address)) NotSource)
+    fault_if (is_kindless (source_value family bytes)) Flags ++ fault_if (not (is_source family (source_value family bytes).address)) NotSource)
 
 -- those that it has by the entries before it: of these only whether a (*,G) is among them, and the other list
 abbrev pub set_kinds : Bool → List (Entry (List ℕ)) → List (Entry (List ℕ)) → List JpKind

@@ -7,6 +7,10 @@ mod fault;
 mod laws;
 mod reading;
 mod sets;
+#[cfg(test)]
+mod slow;
+#[cfg(test)]
+mod tests;
 mod view;
 
 pub use entries::Entries;

@@ -115,7 +115,11 @@ fn is_star<A: Copy>(entry: Entry<A>) -> bool
 
 /// Looks at an entry beside those before it in its set: `joined` has the entries of the list before its own, and
 /// `has_star` says whether a (*,G) entry is before it.
-fn check_in_set<F: Family>(entry: Entry<F::Addr>, has_star: bool, joined: &Entries<'_, F>) -> Result<(), JpKind>
+fn check_in_set<F: Family>(
+    entry: Entry<F::Addr>,
+    has_star: bool,
+    joined: &Entries<'_, F>,
+) -> Result<(), JpKind>
     ensures { Judges result (set_kinds has_star joined.now (entry_seen F.bytes_of entry ∷ [])) }
 {
     if has_star && is_star(entry) {
@@ -128,7 +132,11 @@ fn check_in_set<F: Family>(entry: Entry<F::Addr>, has_star: bool, joined: &Entri
 }
 
 /// Looks at an entry, and says whether a (*,G) entry is in its set up to there.
-fn check_entry<F: Family>(bytes: &[u8], has_star: bool, joined: &Entries<'_, F>) -> Result<bool, JpKind>
+fn check_entry<F: Family>(
+    bytes: &[u8],
+    has_star: bool,
+    joined: &Entries<'_, F>,
+) -> Result<bool, JpKind>
     ensures told { Judges result (kinds_at_entry F.family has_star joined.now bytes.now) }
     ensures star { IfOk result (λ starred. starred ≡ (has_star || is_star (entry_of (source_value F.family bytes.now)))) }
     ensures kind { IfOk result (λ _. is_kindless (source_value F.family bytes.now) ≡ false) }
@@ -169,7 +177,13 @@ fn entries_size<F: Family>(count: u16) -> usize
 
 /// Looks at so many entries of one list, and says whether a (*,G) entry is in their set up to there. `joined`
 /// has the entries of the list before, and `has_star` says whether a (*,G) entry is among those.
-fn check_entries<F: Family>(mut at: usize, count: u16, bytes: &[u8], has_star: bool, joined: &Entries<'_, F>) -> Result<bool, JpFault>
+fn check_entries<F: Family>(
+    mut at: usize,
+    count: u16,
+    bytes: &[u8],
+    has_star: bool,
+    joined: &Entries<'_, F>,
+) -> Result<bool, JpFault>
     requires fits { at + length bytes.now < 2 ^ 64 }
     requires star { list_any is_star joined.now ≡ has_star }
     ensures passes { IfOk result (λ _. EntriesPass F.family count joined.now at bytes.now) }
@@ -179,7 +193,7 @@ fn check_entries<F: Family>(mut at: usize, count: u16, bytes: &[u8], has_star: b
 {
     let mut starred = has_star;
     let mut rest = bytes;
-    for done in 0..count {
+    for _ in 0..count {
         starred = told_at(at, check_entry::<F>(rest, starred, joined))?;
         let (_, others) = rest.split_at(4 + F::LEN);
         rest = others;
@@ -235,7 +249,7 @@ fn check_sets<F: Family>(mut at: usize, count: u8, bytes: &[u8]) -> Result<(), J
     ensures whole { IfOk result (λ _. HoldsSets F.family count bytes.now) }
 {
     let mut left = bytes;
-    for done in 0..count {
+    for _ in 0..count {
         let after = check_set::<F>(at, left)?;
         at += left.len() - after.len();
         left = after;

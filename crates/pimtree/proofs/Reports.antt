@@ -47,7 +47,7 @@ pub refused : (known written : Option (List ℕ)) (family : AddressFamily) (sour
 refused None written family source destination input message result fault is_fault whole same cause = tt
 refused (Some all) written family source destination input message result fault is_fault whole same cause =
     let is_message : input_report family source destination all ≡ message_report family source destination message =
-      short_input family source destination all whole.1 ∙ ap (message_report family source destination) (whole.0 ∙ sym same) in
+    short_input family source destination all whole.1 ∙ ap (message_report family source destination) (whole.0 ∙ sym same) in
     rw (is_fault, is_message) (unreported (message_report family source destination message) written written fault (keeps_self written) cause)
 
 -- ---- the report of a body

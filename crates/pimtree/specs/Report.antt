@@ -40,7 +40,7 @@ message_report family source destination message =
 abbrev pub input_report : AddressFamily → List ℕ → List ℕ → List ℕ → Result (List ℕ) Fault
 input_report family source destination input =
     judged (fault_if (nat_lt 65536 (length input)) InputTooLong ++ message_faults family source destination input)
-        (content_text family (content input))
+    (content_text family (content input))
 
 -- ---- what an answer says of the bytes that went out, `old` being those before the call and `new` those after it
 

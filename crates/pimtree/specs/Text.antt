@@ -14,12 +14,12 @@ line text = text ++ 10 ∷ []
 abbrev pub message_line : AddressFamily → Message → List ℕ
 message_line family message =
     line (codes "join/prune upstream " ++ address_text family message.upstream ++ codes " holdtime " ++ decimal message.holdtime
-        ++ codes " sets " ++ decimal (length message.sets))
+    ++ codes " sets " ++ decimal (length message.sets))
 
 abbrev pub set_line : AddressFamily → GroupSet → List ℕ
 set_line family set =
     line (codes "set " ++ address_text family set.group ++ codes " joined " ++ decimal (length set.joined)
-        ++ codes " pruned " ++ decimal (length set.pruned))
+    ++ codes " pruned " ++ decimal (length set.pruned))
 
 -- what an entry is, and its address
 abbrev pub entry_words : AddressFamily → Entry (List ℕ) → List ℕ

@@ -57,7 +57,12 @@ fn report_join_prune<F: Family>(alloc: Global, body: &[u8]) -> Result<Vec<u8>, F
 
 /// What is to be printed of a message.
 #[tactic(auto, using(crate::proofs::Reports::framed_body))]
-fn report<F: Family>(alloc: Global, src: F::Addr, dst: F::Addr, message: &[u8]) -> Result<Vec<u8>, Fault>
+fn report<F: Family>(
+    alloc: Global,
+    src: F::Addr,
+    dst: F::Addr,
+    message: &[u8],
+) -> Result<Vec<u8>, Fault>
     requires { length message.now ≤ 65536 }
     ensures { GivesReport (λ v. v.items) (message_report F.family (F.bytes_of src) (F.bytes_of dst) message.now) result }
 {
@@ -75,7 +80,13 @@ fn report<F: Family>(alloc: Global, src: F::Addr, dst: F::Addr, message: &[u8]) 
 /// # Errors
 /// The first of: `Memory` (at any time before the writing), `InputRead`, `InputTooLong` (above 65,536 bytes), `Frame`, `JoinPrune`,
 /// after which nothing was written, and `Output`, after which a front of the text was.
-pub fn check_into<F: Family, R: Feed, W: Drain>(alloc: Global, reader: &mut R, writer: &mut W, src: F::Addr, dst: F::Addr) -> Result<u8, Fault>
+pub fn check_into<F: Family, R: Feed, W: Drain>(
+    alloc: Global,
+    reader: &mut R,
+    writer: &mut W,
+    src: F::Addr,
+    dst: F::Addr,
+) -> Result<u8, Fault>
     ensures report { IfSome (R.remaining reader.old) (λ input.
         Reports (input_report F.family (F.bytes_of src) (F.bytes_of dst) input) (W.contents writer.old) (W.contents writer.new) result) }
     ensures status { IfOk result (λ status. status ≡ 0) }

@@ -65,7 +65,13 @@ fn write_numbered<W: Drain>(writer: &mut W, words: &[u8], number: usize) -> Resu
 }
 
 /// Writes words and a name, and then more words and a number, and ends the line.
-fn write_named<W: Drain>(writer: &mut W, words: &[u8], name: &[u8], place: &[u8], number: usize) -> Result<(), Failed>
+fn write_named<W: Drain>(
+    writer: &mut W,
+    words: &[u8],
+    name: &[u8],
+    place: &[u8],
+    number: usize,
+) -> Result<(), Failed>
     ensures bytes { AppendsAll (W.contents writer.old) (W.contents writer.new) result (words.now ++ (name.now ++ line (place.now ++ decimal number))) }
     ensures count { W.failures writer.new ≡ failures_after (W.failures writer.old) result }
 {
@@ -81,7 +87,11 @@ fn write_frame_words<W: Drain>(fault: FrameFault, writer: &mut W) -> Result<(), 
 {
     match fault {
         FrameFault::Short => write_plain(writer, b"frame short"),
-        FrameFault::Version(version) => write_numbered(writer, b"frame version ", usize::from(version)),
+        FrameFault::Version(version) => write_numbered(
+            writer,
+            b"frame version ",
+            usize::from(version),
+        ),
         FrameFault::Checksum => write_plain(writer, b"frame checksum"),
         FrameFault::NotAllRouters => write_plain(writer, b"frame not-all-routers"),
     }
@@ -94,7 +104,13 @@ fn write_words<W: Drain>(fault: Fault, writer: &mut W) -> Result<(), Failed>
 {
     match fault {
         Fault::Frame(fault) => write_frame_words(fault, writer),
-        Fault::JoinPrune(JpFault { at, kind }) => write_named(writer, b"join/prune ", kind_name(kind), b" at ", at),
+        Fault::JoinPrune(JpFault { at, kind }) => write_named(
+            writer,
+            b"join/prune ",
+            kind_name(kind),
+            b" at ",
+            at,
+        ),
         Fault::InputTooLong => write_plain(writer, b"input too-long"),
         Fault::InputRead => write_plain(writer, b"input read"),
         Fault::Output => write_plain(writer, b"output"),

@@ -4,6 +4,8 @@
 
 mod check;
 mod fault;
+#[cfg(test)]
+mod tests;
 mod text;
 
 use check::check_into;
@@ -20,7 +22,13 @@ const FAULTY: u8 = 2;
 fn run(rt: &HostRuntime) -> Result<u8, Fault> {
     let mut output = Counted::new(io::writer(rt));
     let mut input = Counted::new(rt.stdin());
-    let status = check_into::<V4, _, _>(rt.alloc(), &mut input, &mut output, [0; 4], [224, 0, 0, 13])?;
+    let status = check_into::<V4, _, _>(
+        rt.alloc(),
+        &mut input,
+        &mut output,
+        [0; 4],
+        [224, 0, 0, 13],
+    )?;
     output.into_inner().flush().map_err(|_| Fault::Output)?;
     Ok(status)
 }

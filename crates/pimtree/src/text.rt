@@ -12,7 +12,11 @@ use pim_jp::{Entries, Entry, JpView, SetView};
 use std::alloc::{AllocError, Global};
 
 /// Adds some words and the address behind them.
-fn push_address<F: Family>(text: &mut Vec<u8>, words: &[u8], address: F::Addr) -> Result<(), AllocError>
+fn push_address<F: Family>(
+    text: &mut Vec<u8>,
+    words: &[u8],
+    address: F::Addr,
+) -> Result<(), AllocError>
     ensures { OnOk result (text.new.items ≡ text.old.items ++ (words.now ++ address_text F.family (F.bytes_of address))) }
 {
     let mut shown = [0; 39];
@@ -30,7 +34,10 @@ fn push_number(text: &mut Vec<u8>, words: &[u8], number: usize) -> Result<(), Al
 }
 
 /// Adds the first line of a message.
-fn push_message_line<F: Family>(text: &mut Vec<u8>, message: &JpView<'_, F>) -> Result<(), AllocError>
+fn push_message_line<F: Family>(
+    text: &mut Vec<u8>,
+    message: &JpView<'_, F>,
+) -> Result<(), AllocError>
     ensures { OnOk result (text.new.items ≡ text.old.items ++ message_line F.family message.now) }
 {
     push_address::<F>(text, b"join/prune upstream ", message.upstream())?;
@@ -62,7 +69,11 @@ fn push_entry<F: Family>(text: &mut Vec<u8>, entry: Entry<F::Addr>) -> Result<()
 }
 
 /// Adds the line of an entry of the list that the word names.
-fn push_entry_line<F: Family>(text: &mut Vec<u8>, list: &[u8], entry: Entry<F::Addr>) -> Result<(), AllocError>
+fn push_entry_line<F: Family>(
+    text: &mut Vec<u8>,
+    list: &[u8],
+    entry: Entry<F::Addr>,
+) -> Result<(), AllocError>
     ensures { OnOk result (text.new.items ≡ text.old.items ++ entry_line F.family list.now (entry_seen F.bytes_of entry)) }
 {
     text.extend_from_slice(list)?;
@@ -71,7 +82,11 @@ fn push_entry_line<F: Family>(text: &mut Vec<u8>, list: &[u8], entry: Entry<F::A
 }
 
 /// Adds the lines of the entries of one list.
-fn push_entries<F: Family>(text: &mut Vec<u8>, list: &[u8], entries: Entries<'_, F>) -> Result<(), AllocError>
+fn push_entries<F: Family>(
+    text: &mut Vec<u8>,
+    list: &[u8],
+    entries: Entries<'_, F>,
+) -> Result<(), AllocError>
     ensures { OnOk result (text.new.items ≡ text.old.items ++ flat_map (entry_line F.family list.now) entries.entry) }
 {
     for entry in entries {
@@ -90,7 +105,10 @@ fn push_set<F: Family>(text: &mut Vec<u8>, set: &SetView<'_, F>) -> Result<(), A
 }
 
 /// The text of a Join/Prune.
-pub fn message_text<F: Family>(alloc: Global, message: &JpView<'_, F>) -> Result<Vec<u8>, AllocError>
+pub fn message_text<F: Family>(
+    alloc: Global,
+    message: &JpView<'_, F>,
+) -> Result<Vec<u8>, AllocError>
     ensures { IfOk result (λ text. text.items ≡ message_text F.family message.now) }
 {
     let mut text = Vec::new(alloc);

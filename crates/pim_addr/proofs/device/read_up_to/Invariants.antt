@@ -6,7 +6,7 @@ abbrev pub invariant-loop-got : goal.invariant-loop-got
 invariant-loop-got g l = record {
   within : l.got ≤ length l.buffer;
   consumed : Consumes (g.R.Feed.remaining l.initial.feed) (g.R.Feed.remaining l.feed) (take l.got l.buffer);
-  unfailed : g.R.Feed.failures l.feed ≡ g.R.Feed.failures l.initial.feed
+  unfailed : g.R.Feed.failures l.feed ≡ g.R.Feed.failures l.initial.feed;
 }
 
 abbrev pub decreases-loop-got : goal.decreases-loop-got

@@ -6,7 +6,7 @@ abbrev pub invariant-loop-taken : goal.invariant-loop-taken
 invariant-loop-taken g l = record {
   within : l.taken ≤ length l.bytes;
   appended : Appends (g.D.Drain.contents l.initial.drain) (g.D.Drain.contents l.drain) (take l.taken l.bytes);
-  unfailed : g.D.Drain.failures l.drain ≡ g.D.Drain.failures l.initial.drain
+  unfailed : g.D.Drain.failures l.drain ≡ g.D.Drain.failures l.initial.drain;
 }
 
 abbrev pub decreases-loop-taken : goal.decreases-loop-taken

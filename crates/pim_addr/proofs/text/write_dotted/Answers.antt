@@ -5,6 +5,6 @@ use Rattle.pim_addr.proofs.text.write_dotted.Goals as goal
 pub loop-index-preserved : goal.loop-index-preserved
 loop-index-preserved c = record {
   written = Wrote-is (sym (dotted_more c.args.bytes.now c.loop-index.index (omega arith)))
-  (Wrote-more (Wrote-more c.loop-index.invariant.written c.write_separator-end.ensures) c.write_decimal-end.ensures.piece);
-  short = omega (arith, length-separator-le 46 c.loop-index.index)
+      (Wrote-more (Wrote-more c.loop-index.invariant.written c.write_separator-end.ensures) c.write_decimal-end.ensures.piece);
+  short = omega (arith, length-separator-le 46 c.loop-index.index);
 }

@@ -1,4 +1,3 @@
-use Rattle.std.proofs.Common.{◌≡◌}
 use Rattle.std.proofs.lemmas.Result.{err_from_is_err_and}
 use Rattle.pim_jp.proofs.Judged.{judged_first}
 use Rattle.pim_jp.proofs.reading.check_entry.Goals as goal

@@ -1,4 +1,4 @@
-use Rattle.std.proofs.Common.{◌≡◌, ◌≤◌, ◌∙◌, ap, drop, length}
+use Rattle.std.proofs.Common.{◌≡◌, ◌≤◌, ◌∙◌, length}
 use Rattle.std.proofs.lemmas.Result.{err_from_is_err_and, IfOk-at_ok}
 use Rattle.pim_addr.specs.Address.{address_length}
 use Rattle.pim_addr.specs.Encoded.{group_length}

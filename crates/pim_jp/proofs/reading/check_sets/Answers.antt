@@ -1,32 +1,31 @@
-use Rattle.std.proofs.Common.{◌≡◌, ◌≤◌, ◌∙◌, ap, drop, length, arith}
-use Rattle.std.proofs.lemmas.Result.{err_from_is_err_and, IfOk-at_ok}
-use Rattle.pim_addr.specs.Faults.{judged}
+use Rattle.std.proofs.Common.{◌∙◌}
+use Rattle.std.proofs.lemmas.Result.{err_from_is_err_and}
 use Rattle.pim_jp.specs.Parts.{rest}
 use Rattle.pim_jp.specs.Faults.{kinds_at}
-use Rattle.pim_jp.proofs.SetLoop.{sets_more, sets_stop, sets_all}
+use Rattle.pim_jp.proofs.SetLoop.{sets_more, sets_stop, sets_told, sets_all}
 use Rattle.pim_jp.proofs.reading.check_sets.Goals as goal
 
 pub returns-in_err-after-clause-told : goal.returns-in_err-after-clause-told
 returns-in_err-after-clause-told g c =
     let p = err_from_is_err_and c.from_residual.result c.from_residual.ensures.1 in
-    rw (p.1, p.2) (sets_stop _ _ _ _ _ _ _ _ c.loop-done.invariant c.loop-done-test.true c.in_err-after.ensures.stops)
+    rw (p.1, p.2) (sets_stop _ _ _ _ _ _ _ _ c.loop.invariant c.loop-test.true c.in_err-after.ensures.stops)
 
-pub loop-done-preserved : goal.loop-done-preserved
-loop-done-preserved g c =
+pub loop-preserved : goal.loop-preserved
+loop-preserved g c =
     rw c.in_ok-after.ensures.after
-    (sets_more _ _ _ _ _ _ _ c.loop-done.invariant c.loop-done-test.true c.in_ok-after.ensures.passes c.in_ok-after.ensures.whole)
+    (sets_more _ _ _ _ _ _ _ c.loop.invariant c.loop-test.true c.in_ok-after.ensures.passes c.in_ok-after.ensures.whole)
 
 pub returns-in_err-told_at-clause-told : goal.returns-in_err-told_at-clause-told
 returns-in_err-told_at-clause-told g c =
     let p = err_from_is_err_and c.from_residual-in_err-told_at.result c.from_residual-in_err-told_at.ensures.1 in
-    let all = sets_all _ _ _ _ _ _ _ c.loop-done.invariant c.loop-done-test.false in
     rw (p.1, p.2)
-    (ap (λ faults. judged faults tt) all.0 ∙ c.in_err-told_at.ensures.told (kinds_at g.F.Family.family rest c.loop-done.left.now) c.check_rest.ensures)
+    (sets_told _ _ _ _ _ _ _ _ c.loop.invariant c.loop-test.false
+      (c.in_err-told_at.ensures.told (kinds_at g.F.Family.family rest c.loop.left.now) c.check_rest.ensures))
 
 pub returns-clause-told : goal.returns-clause-told
 returns-clause-told g c =
-    let all = sets_all _ _ _ _ _ _ _ c.loop-done.invariant c.loop-done-test.false in
-    all.0 ∙ c.in_ok-told_at.ensures.told (kinds_at g.F.Family.family rest c.loop-done.left.now) c.check_rest.ensures
+    let all = sets_all _ _ _ _ _ _ _ c.loop.invariant c.loop-test.false in
+    all.0 ∙ c.in_ok-told_at.ensures.told (kinds_at g.F.Family.family rest c.loop.left.now) c.check_rest.ensures
 
 pub returns-clause-whole : goal.returns-clause-whole
-returns-clause-whole g c = (sets_all _ _ _ _ _ _ _ c.loop-done.invariant c.loop-done-test.false).1
+returns-clause-whole g c = (sets_all _ _ _ _ _ _ _ c.loop.invariant c.loop-test.false).1

@@ -9,4 +9,4 @@ invariant-loop-other g l =
     (goal.iterator-loop-other g).can_next l.other-iterator ×
     (goal.iterator-loop-other g).is_finite l.other-iterator ×
     (list_any (same_source (entry_seen g.F.Family.bytes_of l.fn.entry)) l.fn.others
-      ≡ list_any (same_source (entry_seen g.F.Family.bytes_of l.fn.entry)) l.other-iterator)
+    ≡ list_any (same_source (entry_seen g.F.Family.bytes_of l.fn.entry)) l.other-iterator)
