@@ -105,8 +105,8 @@ sets_all family count start bytes done at left reached all =
     (reached.passes ∙ (rw none (append-nil _)), reached.holds (rw none tt))
 
 pub sets_told : (family : AddressFamily) (count start : ℕ) (bytes : List ℕ) (done at : ℕ) (left : List ℕ) (fault : JpFault)
-  → SetsReached family count start bytes done at left → count ≤ done
-  → Tells (part_faults family (record { shape = rest; at = at; bytes = left })) fault
-  → Tells (faults_of family (set_parts family count start bytes)) fault
+    → SetsReached family count start bytes done at left → count ≤ done
+    → Tells (part_faults family (record { shape = rest; at = at; bytes = left })) fault
+    → Tells (faults_of family (set_parts family count start bytes)) fault
 sets_told family count start bytes done at left fault reached all told =
     ap (λ faults. judged faults tt) (sets_all family count start bytes done at left reached all).0 ∙ told

@@ -20,7 +20,7 @@ returns-in_err-told_at-clause-told g c =
     let p = err_from_is_err_and c.from_residual-in_err-told_at.result c.from_residual-in_err-told_at.ensures.1 in
     rw (p.1, p.2)
     (sets_told _ _ _ _ _ _ _ _ c.loop.invariant c.loop-test.false
-      (c.in_err-told_at.ensures.told (kinds_at g.F.Family.family rest c.loop.left.now) c.check_rest.ensures))
+    (c.in_err-told_at.ensures.told (kinds_at g.F.Family.family rest c.loop.left.now) c.check_rest.ensures))
 
 pub returns-clause-told : goal.returns-clause-told
 returns-clause-told g c =
