@@ -1,3 +1,4 @@
 pub mod Pieces
 pub mod Moved
 pub mod Failures
+pub mod ReadBack

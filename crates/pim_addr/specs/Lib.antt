@@ -6,3 +6,4 @@ pub mod Seen
 pub mod Text
 pub mod Device
 pub mod Scripted
+pub mod Canonical

@@ -1,4 +1,8 @@
-//! Addresses of the two families.
+//! Addresses of the two families, their encoded forms and their text, and the devices that bytes come from and go to.
+//!
+//! Proved: an address is its bytes; an encoded form is read as the value that it spells, or its first fault is told,
+//! and written in its one canonical spelling; an address has one text; devices move what they tell and count
+//! their failures.
 #![tactic(auto)]
 
 mod counted;
@@ -7,6 +11,7 @@ mod encoded;
 mod family;
 mod scripted;
 mod text;
+mod written;
 
 pub use counted::Counted;
 pub use device::{Drain, Failed, Feed, read_up_to, write_all};
@@ -14,3 +19,6 @@ pub use encoded::{AddrFault, SourceAddress, SourceBits, read_group, read_source,
 pub use family::{AddressFamily, Family, V4, V6};
 pub use scripted::{ScriptedDrain, ScriptedFeed};
 pub use text::write_text;
+pub use written::{
+    group_reads_back, put_group, put_source, put_unicast, source_reads_back, unicast_reads_back,
+};

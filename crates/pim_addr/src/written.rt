@@ -1,0 +1,86 @@
+//! Encoded addresses, written in their one canonical spelling (RFC 7761, 4.9.1).
+
+ghost use Rattle.std.specs.Prelude.{◌≡◌, ◌+◌, ◌∷◌, length};
+ghost use Rattle.pim_addr.specs.Address.{address_length, mask_length, family_byte};
+ghost use Rattle.pim_addr.specs.Encoded.{unicast_length, group_length, source_length, IsUnicast, IsGroup, IsSource, wildcard_bit, rpt_bit};
+ghost use Rattle.pim_addr.specs.Canonical.{canonical_unicast, canonical_group, canonical_flags, canonical_source, UnicastReadsBack, GroupReadsBack, SourceReadsBack};
+ghost use Rattle.pim_addr.specs.Seen.{source_seen};
+
+#[cfg(test)]
+mod tests;
+
+use crate::encoded::{SourceAddress, SourceBits};
+use crate::family::Family;
+
+/// The S bit of an encoded source: the sparse mode's, always written (RFC 7761, 4.9.1).
+const SPARSE: u8 = 4;
+
+/// The W bit: the entry is (*,G).
+const WILDCARD: u8 = 2;
+
+/// The R bit: the entry is on the tree of the RP.
+const RPT: u8 = 1;
+
+/// Writes the encoded unicast address into a slice of its length, 2 bytes more than an address has.
+pub fn put_unicast<F: Family>(address: F::Addr, bytes: &mut [u8])
+    requires { length bytes.old ≡ unicast_length F.family }
+    ensures written { bytes.new ≡ canonical_unicast F.family (F.bytes_of address) }
+    ensures spelled { IsUnicast F.family (F.bytes_of address) bytes.new }
+{
+    let (front, place) = bytes.split_at_mut(2);
+    front.copy_from_slice(&[F::AFI, 0]);
+    F::put(address, place);
+}
+
+/// Writes a form that has a mask length: the family, encoding 0, this byte, the mask length, the address.
+fn put_masked<F: Family>(third: u8, address: F::Addr, bytes: &mut [u8])
+    requires { length bytes.old ≡ 4 + address_length F.family }
+    ensures address { length (F.bytes_of address) ≡ address_length F.family }
+    ensures written { bytes.new ≡ family_byte F.family ∷ 0 ∷ third ∷ mask_length F.family ∷ F.bytes_of address }
+{
+    let (front, place) = bytes.split_at_mut(4);
+    front.copy_from_slice(&[F::AFI, 0, third, F::FULL]);
+    F::put(address, place);
+}
+
+/// Writes the encoded group into a slice of its length, 4 bytes more than an address has.
+pub fn put_group<F: Family>(address: F::Addr, bytes: &mut [u8])
+    requires { length bytes.old ≡ group_length F.family }
+    ensures written { bytes.new ≡ canonical_group F.family (F.bytes_of address) }
+    ensures spelled { IsGroup F.family (F.bytes_of address) bytes.new }
+{
+    put_masked::<F>(0, address, bytes);
+}
+
+/// The flags byte of a source: S, with W and R as they are given.
+fn flags_byte(bits: SourceBits) -> u8
+    ensures { result ≡ canonical_flags (wildcard_bit bits.0) (rpt_bit bits.0) }
+{
+    let wildcard = if bits.is_wildcard() { WILDCARD } else { 0 };
+    let rpt = if bits.is_rpt() { RPT } else { 0 };
+    SPARSE + wildcard + rpt
+}
+
+/// Writes the encoded source, with its W and R bits, into a slice of its length, 4 bytes more than an address has.
+pub fn put_source<F: Family>(source: SourceAddress<F::Addr>, bytes: &mut [u8])
+    requires { length bytes.old ≡ source_length F.family }
+    ensures written { bytes.new ≡ canonical_source F.family (source_seen F.bytes_of source) }
+    ensures spelled { IsSource F.family (source_seen F.bytes_of source) bytes.new }
+{
+    put_masked::<F>(flags_byte(source.bits), source.address, bytes);
+}
+
+/// A law: what is written of a unicast address has no fault, and is read as that address.
+pub fn unicast_reads_back()
+    ensures { UnicastReadsBack }
+{}
+
+/// A law: what is written of a group has no fault, and is read as that group.
+pub fn group_reads_back()
+    ensures { GroupReadsBack }
+{}
+
+/// A law: what is written of a source has no fault, and is read as that source with its two bits.
+pub fn source_reads_back()
+    ensures { SourceReadsBack }
+{}

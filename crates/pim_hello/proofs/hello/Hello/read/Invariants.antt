@@ -1,0 +1,18 @@
+use Rattle.std.proofs.Common.{◌≡◌, ◌≤◌, length}
+use Rattle.pim_hello.specs.Faults.{faults_of, faults}
+use Rattle.pim_hello.specs.Value.{hello_of}
+use Rattle.pim_hello.specs.Seen.{hello_seen}
+use Rattle.pim_hello.specs.Steps.{over}
+use Rattle.pim_hello.proofs.Parts.{parts_left}
+use Rattle.pim_hello.proofs.hello.Hello.read.Given as goal
+
+-- what is told of the bytes that are left, and said by them over the message so far, is so of the whole body
+abbrev pub invariant-loop-rest : goal.invariant-loop-rest
+invariant-loop-rest g l = record {
+  inside : length l.rest ≤ length l.body;
+  told : faults_of (parts_left l.body l.rest) ≡ faults l.body;
+  said : over g.F.Family.family (hello_seen {F = g.row.F.Denot} g.F.Family.family l.hello) (parts_left l.body l.rest) ≡ hello_of g.F.Family.family l.body;
+}
+
+abbrev pub decreases-loop-rest : goal.decreases-loop-rest
+decreases-loop-rest g l = length l.rest

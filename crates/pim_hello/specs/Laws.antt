@@ -1,0 +1,27 @@
+-- What follows for one address: time passes for all alike, and a Hello changes what is kept of its sender alone.
+use Rattle.std.specs.Prelude.{◌≡◌, ℕ, ◌-◌, List, Option, Some, None, option_map, if◌then◌else◌}
+use Rattle.pim_hello.specs.Hello.{Parameters}
+use Rattle.pim_hello.specs.Neighbours.{Neighbour, Table, neighbour_at, waited, passed_to, is_over, without_ended, says_goodbye, lifetime, heard_from, IsAscending}
+
+-- what is kept of the sender of a Hello
+abbrev pub kept_of_sender : Parameters → Option Neighbour
+kept_of_sender hello = if says_goodbye hello then None else Some (record { parameters = hello; left = lifetime hello.holdtime })
+
+-- what stays of a neighbour when those go whose time has ended
+abbrev pub unless_ended : Option Neighbour → Option Neighbour
+unless_ended None = None
+unless_ended (Some neighbour) = if is_over neighbour.left then None else Some neighbour
+
+abbrev pub HearingChangesItsSenderAlone : Type 0
+HearingChangesItsSenderAlone = (table : Table) (sender : List ℕ) (hello : Parameters) → IsAscending table →
+    (neighbour_at sender (heard_from sender hello table) ≡ kept_of_sender hello)
+    × ((other : List ℕ) → (sender ≡ other → ⊥) → neighbour_at other (heard_from sender hello table) ≡ neighbour_at other table)
+    × IsAscending (heard_from sender hello table)
+
+abbrev pub TimePassesForAll : Type 0
+TimePassesForAll = (table : Table) (now : ℕ) (address : List ℕ) →
+    neighbour_at address (passed_to now table) ≡ option_map (waited (now - table.moment)) (neighbour_at address table)
+
+abbrev pub ExactlyTheEndedGo : Type 0
+ExactlyTheEndedGo = (table : Table) (address : List ℕ) → IsAscending table →
+    neighbour_at address (without_ended table) ≡ unless_ended (neighbour_at address table)

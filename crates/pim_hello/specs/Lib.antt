@@ -1,0 +1,14 @@
+pub mod Hello
+pub mod Delays
+pub mod Options
+pub mod Row
+pub mod Faults
+pub mod Value
+pub mod Seen
+pub mod Steps
+pub mod Spelling
+pub mod Neighbours
+pub mod Laws
+pub mod Interval
+pub mod Kept
+pub mod Index

@@ -1,0 +1,39 @@
+//! The delays of a port, and the override interval that they make (RFC 7761, 4.3.3).
+
+ghost use Rattle.std.specs.Prelude.{◌≡◌, ◌≤◌, ◌+◌, max};
+
+use crate::delay::LanDelay;
+
+/// The override interval where a neighbour doesn't tell its delays, in milliseconds: 500 and 2,500.
+pub(crate) const DEFAULT_OVERRIDE_INTERVAL: u32 = 3000;
+
+/// A port's own delays, in milliseconds. A port has 500 and 2,500 unless it is told otherwise.
+#[derive(Clone, Copy, Debug, PartialEq, Eq)]
+pub struct PortDelays {
+    /// The propagation delay: at most 32,767.
+    pub propagation: u16,
+    /// The override interval.
+    pub override_ms: u16,
+    ghost fits_15_bits: { propagation ≤ 32767 },
+}
+
+impl PortDelays {
+    /// Each delay, or the neighbour's where that is greater.
+    pub(crate) fn or_greater(self, lan: LanDelay) -> PortDelays
+        ensures propagation { result.propagation ≡ max self.propagation lan.propagation }
+        ensures override_ms { result.override_ms ≡ max self.override_ms lan.override_ms }
+    {
+        PortDelays {
+            propagation: self.propagation.max(lan.propagation),
+            override_ms: self.override_ms.max(lan.override_ms),
+        }
+    }
+
+    /// Both together.
+    pub(crate) fn sum(self) -> u32
+        ensures sum { result ≡ self.propagation + self.override_ms }
+        ensures bound { result ≤ 98302 }
+    {
+        self.propagation as u32 + self.override_ms as u32
+    }
+}

@@ -1,0 +1,151 @@
+//! The neighbours of one port (RFC 7761, 4.3.1 and 4.3.2).
+
+ghost use Rattle.std.specs.Prelude.{◌≡◌, ◌↔◌, ◌≤◌, ◌^◌, length, is_some, IfOk, IsOk, OnOk, OnErr, Err, IsTrue, not, ◌&&◌, nat_le};
+ghost use Rattle.pim_hello.specs.Interval.{override_interval};
+ghost use Rattle.pim_hello.specs.Kept.{parameters_seen};
+ghost use Rattle.pim_hello.specs.Seen.{hello_seen};
+ghost use Rattle.pim_hello.specs.Neighbours.{no_neighbours, neighbour_at, passed_to, without_ended, heard_from, told, is_full, needs_no_memory, hellos_of, IsAscending};
+ghost use Rattle.pim_hello.specs.declared.heard.NeighbourFault.TheVariants.{Full};
+
+#[cfg(test)]
+mod tests;
+
+use crate::heard::{Heard, NeighbourFault};
+use crate::hearing::{end_of_time, says_goodbye, told};
+use crate::hello::Hello;
+use crate::interval::PortDelays;
+use crate::parameters::{Kept, Parameters};
+use crate::roster::Roster;
+use pim_addr::Family;
+use std::alloc::Global;
+use std::marker::Model;
+
+/// How many neighbours a port has at most.
+const NEIGHBOUR_LIMIT: usize = 1024;
+
+/// The neighbours of one port: what the last accepted Hello of each said, and the time that is left to it.
+#[derive(Drop)]
+pub struct Neighbours<F: Family> {
+    roster: Roster<F::Addr>,
+    /// The present moment, in milliseconds.
+    moment: u64,
+}
+
+impl<F: Family> Model for Neighbours<F> {
+    ghost use Rattle.std.specs.Prelude.{◌≤◌, ◌^◌, length};
+    ghost use Rattle.pim_hello.specs.Neighbours.{Table};
+
+    ghost Value = { Table };
+
+    ghost use Rattle.pim_hello.specs.Kept.{table_seen};
+
+    ghost view = { λ s. table_seen F.bytes_of s.moment s.roster.neighbours.entries };
+
+    ghost invariant = { λ s. (s.moment ≤ 10 ^ 15) × (length s.roster.neighbours.entries ≤ 1024) };
+}
+
+/// Whether a sender of which this is kept has no place beside so many neighbours.
+fn lacks_room(known: &Option<Kept>, count: usize) -> bool
+    ensures { result ≡ (not (is_some known.now) && nat_le 1024 count) }
+{
+    known.is_none() && count >= NEIGHBOUR_LIMIT
+}
+
+impl<F: Family> Neighbours<F> {
+    /// A port without neighbours, at the moment 0. It takes no memory.
+    pub fn new(alloc: Global) -> Neighbours<F>
+        ensures { result ≡ no_neighbours }
+    {
+        Neighbours {
+            roster: Roster::new(alloc),
+            moment: 0,
+        }
+    }
+
+    /// How many neighbours there are, with those whose time has ended and that aren't removed yet.
+    pub fn count(&self) -> usize
+        ensures count { result ≡ length self.now.entries }
+        ensures limit { result ≤ 1024 }
+        ensures ascending { IsAscending self.now }
+    {
+        self.roster.len()
+    }
+
+    /// Whether this address is a neighbour.
+    pub fn knows(&self, from: F::Addr) -> bool
+        ensures { result ≡ is_some (neighbour_at (F.bytes_of from) self.now) }
+    {
+        self.roster.get(from).is_some()
+    }
+
+    /// Takes a Hello at this moment, in milliseconds: its sender's neighbour is replaced, or removed by a
+    /// goodbye. Nobody's time ends here.
+    pub fn hear(
+        &mut self,
+        from: F::Addr,
+        hello: &Hello<'_, F>,
+        now: u64,
+    ) -> Result<Heard, NeighbourFault>
+        requires { now ≤ 10 ^ 15 }
+        ensures answer { IfOk result (λ heard. heard ≡ told (neighbour_at (F.bytes_of from) self.old) (hello_seen F.family hello.now).parameters) }
+        ensures table { OnOk result (self.new ≡ heard_from (F.bytes_of from) (hello_seen F.family hello.now).parameters (passed_to now self.old)) }
+        ensures full { (result ≡ Err Full) ↔ IsTrue (is_full (F.bytes_of from) (hello_seen F.family hello.now).parameters self.old) }
+        ensures memory { IsTrue (needs_no_memory (F.bytes_of from) (hello_seen F.family hello.now).parameters self.old) → IsOk result }
+        ensures unchanged { OnErr result (self.new ≡ self.old) }
+    {
+        self.hear_parameters(from, &hello.parameters(), now)
+    }
+
+    /// Takes what a Hello says without its Address List.
+    fn hear_parameters(
+        &mut self,
+        from: F::Addr,
+        hello: &Parameters,
+        now: u64,
+    ) -> Result<Heard, NeighbourFault>
+        requires { now ≤ 10 ^ 15 }
+        ensures answer { IfOk result (λ heard. heard ≡ told (neighbour_at (F.bytes_of from) self.old) (parameters_seen hello.now)) }
+        ensures table { OnOk result (self.new ≡ heard_from (F.bytes_of from) (parameters_seen hello.now) (passed_to now self.old)) }
+        ensures full { (result ≡ Err Full) ↔ IsTrue (is_full (F.bytes_of from) (parameters_seen hello.now) self.old) }
+        ensures memory { IsTrue (needs_no_memory (F.bytes_of from) (parameters_seen hello.now) self.old) → IsOk result }
+        ensures unchanged { OnErr result (self.new ≡ self.old) }
+    {
+        let moment = self.moment.max(now);
+        if says_goodbye(hello) {
+            self.moment = moment;
+            self.roster.remove(from);
+            return Ok(Heard::Gone);
+        }
+        let known = self.roster.get(from);
+        if lacks_room(&known, self.roster.len()) {
+            return Err(NeighbourFault::Full);
+        }
+        let kept = Kept {
+            parameters: *hello,
+            end: end_of_time(hello, moment),
+        };
+        let Ok(()) = self.roster.insert(from, kept) else {
+            return Err(NeighbourFault::Memory);
+        };
+        self.moment = moment;
+        Ok(told(known, hello))
+    }
+
+    /// Lets time pass up to this moment, in milliseconds, and removes the neighbours whose time has ended.
+    pub fn expire(&mut self, now: u64)
+        requires { now ≤ 10 ^ 15 }
+        ensures { self.new ≡ without_ended (passed_to now self.old) }
+    {
+        self.moment = self.moment.max(now);
+        while let Some(_removed) = self.roster.remove_ended(self.moment) {}
+    }
+
+    /// The override interval of a port with these delays of its own, in milliseconds (RFC 7761, 4.3.3): at
+    /// most 98,302.
+    pub fn override_interval(&self, own: PortDelays) -> u32
+        ensures interval { result ≡ override_interval own.propagation own.override_ms (hellos_of self.now) }
+        ensures bound { result ≤ 98302 }
+    {
+        self.roster.override_interval(own)
+    }
+}

@@ -1,0 +1,145 @@
+//! What is kept of each neighbour, with an index of the moments at which their times end.
+
+ghost use Rattle.std.specs.Prelude.{◌≡◌, ◌<◌, ◌≤◌, ◌+◌, [], map, length, OnOk, OnErr, IfSome, not, false, ◌&&◌, is_some, true, if◌then◌else◌};
+ghost use Rattle.std.specs.Option.{OnSome, IfNone};
+ghost use Rattle.std.specs.BTreeMap.{get, insert_entry, is_at, IsOrdered, values};
+ghost use Rattle.std.specs.Map.{remove_entry};
+ghost use Rattle.std.proofs.Props.{props};
+ghost use Rattle.pim_hello.specs.Interval.{override_interval};
+ghost use Rattle.pim_hello.specs.Kept.{hello_of_kept};
+ghost use Rattle.pim_hello.specs.Index.{AddsEnd, RemovesEnd, IndexesEnds, NoneEnded, end_kept, ended_by};
+
+use crate::interval::{DEFAULT_OVERRIDE_INTERVAL, PortDelays};
+use crate::parameters::Kept;
+use std::alloc::{AllocError, Global};
+use std::collections::{BTreeMap, BTreeSet};
+
+/// The neighbours of one port by their addresses, and beside them the ends of their times in ascending
+/// order, each with its address.
+#[derive(Drop)]
+pub(crate) struct Roster<A: Ord + Copy> {
+    neighbours: BTreeMap<A, Kept>,
+    ends: BTreeSet<(u64, A)>,
+    ghost indexed: { IndexesEnds A.cmp ends.keys neighbours.entries },
+    ghost ascending: { IsOrdered A.cmp neighbours } by { Prim.hlevel props },
+}
+
+/// Adds an end to the index, where there is one.
+fn add_end<A: Ord + Copy>(
+    ends: &mut BTreeSet<(u64, A)>,
+    end: Option<u64>,
+    address: A,
+) -> Result<(), AllocError>
+    ensures added { OnOk result (AddsEnd A.cmp end address ends.old.keys ends.new.keys) }
+    ensures unchanged { OnErr result (ends.new.keys ≡ ends.old.keys) }
+    ensures refused { OnErr result (is_some end ≡ true) }
+{
+    if let Some(end) = end {
+        ends.insert((end, address))?;
+    }
+    Ok(())
+}
+
+/// Removes an end from the index, where there is one.
+fn remove_end<A: Ord + Copy>(ends: &mut BTreeSet<(u64, A)>, end: Option<u64>, address: A)
+    ensures { RemovesEnd A.cmp end address ends.old.keys ends.new.keys }
+{
+    if let Some(end) = end {
+        ends.remove(&(end, address));
+    }
+}
+
+impl<A: Ord + Copy> Roster<A> {
+    /// No neighbours.
+    pub(crate) fn new(alloc: Global) -> Roster<A>
+        ensures { result.neighbours.entries ≡ [] }
+    {
+        Roster {
+            neighbours: BTreeMap::new(alloc),
+            ends: BTreeSet::new(alloc),
+        }
+    }
+
+    /// How many there are.
+    pub(crate) fn len(&self) -> usize
+        ensures { result ≡ length self.now.neighbours.entries }
+    {
+        self.neighbours.len()
+    }
+
+    /// What is kept of this address.
+    pub(crate) fn get(&self, address: A) -> Option<Kept>
+        ensures { result ≡ get A.cmp self.now.neighbours address }
+    {
+        self.neighbours.get(&address).copied()
+    }
+
+    /// Where the time of this address ends: none where it never does, or nothing is kept of it.
+    fn end_of(&self, address: A) -> Option<u64>
+        ensures { result ≡ end_kept (get A.cmp self.now.neighbours address) }
+    {
+        let kept = self.get(address)?;
+        kept.end
+    }
+
+    /// Keeps this of an address, in the place of what was kept of it.
+    pub(crate) fn insert(&mut self, address: A, kept: Kept) -> Result<(), AllocError>
+        ensures kept { OnOk result (self.new.neighbours.entries ≡ insert_entry A.cmp self.old.neighbours.entries address kept) }
+        ensures count { OnOk result (length self.new.neighbours.entries ≡ length self.old.neighbours.entries + (if is_some (get A.cmp self.old.neighbours address) then 0 else 1)) }
+        ensures unchanged { OnErr result (self.new.neighbours.entries ≡ self.old.neighbours.entries) }
+        ensures refused { OnErr result ((is_some (get A.cmp self.old.neighbours address) && not (is_some kept.end)) ≡ false) }
+    {
+        let old_end = self.end_of(address);
+        add_end(&mut self.ends, kept.end, address)?;
+        if self.neighbours.insert(address, kept).is_err() {
+            // Only a new address is refused, so its end wasn't there before.
+            remove_end(&mut self.ends, kept.end, address);
+            return Err(AllocError);
+        }
+        if old_end != kept.end {
+            remove_end(&mut self.ends, old_end, address);
+        }
+        Ok(())
+    }
+
+    /// Removes what is kept of an address.
+    pub(crate) fn remove(&mut self, address: A)
+        ensures removed { self.new.neighbours.entries ≡ remove_entry (is_at (A.cmp address)) self.old.neighbours.entries }
+        ensures count { length self.new.neighbours.entries + (if is_some (get A.cmp self.old.neighbours address) then 1 else 0) ≡ length self.old.neighbours.entries }
+    {
+        let end = self.end_of(address);
+        remove_end(&mut self.ends, end, address);
+        self.neighbours.remove(&address);
+    }
+
+    /// Removes the neighbour whose time ends first, where it has ended by this moment.
+    pub(crate) fn remove_ended(&mut self, moment: u64) -> Option<A>
+        ensures ended { IfSome result (λ address. ended_by moment (end_kept (get A.cmp self.old.neighbours address)) ≡ true) }
+        ensures removed { IfSome result (λ address. self.new.neighbours.entries ≡ remove_entry (is_at (A.cmp address)) self.old.neighbours.entries) }
+        ensures shorter { OnSome result (length self.new.neighbours.entries < length self.old.neighbours.entries) }
+        ensures unchanged { IfNone result (self.new.neighbours.entries ≡ self.old.neighbours.entries) }
+        ensures none_ended { IfNone result (NoneEnded A.cmp moment self.old.neighbours.entries) }
+    {
+        let (end, address) = *self.ends.first()?;
+        if end > moment {
+            return None;
+        }
+        self.remove(address);
+        Some(address)
+    }
+
+    /// The override interval of a port with these delays of its own, in milliseconds (RFC 7761, 4.3.3).
+    pub(crate) fn override_interval(&self, own: PortDelays) -> u32
+        ensures interval { result ≡ override_interval own.propagation own.override_ms (map hello_of_kept (values self.now.neighbours)) }
+        ensures bound { result ≤ 98302 }
+    {
+        let mut greatest = own;
+        for kept in self.neighbours.values() {
+            let Some(lan) = kept.parameters.lan else {
+                return DEFAULT_OVERRIDE_INTERVAL;
+            };
+            greatest = greatest.or_greater(lan);
+        }
+        greatest.sum()
+    }
+}

@@ -1,0 +1,34 @@
+//! The row of encoded addresses that an Address List holds.
+
+ghost use Rattle.std.specs.Prelude.{◌≡◌};
+ghost use Rattle.std.specs.Option.{option_map};
+ghost use Rattle.pim_addr.specs.Encoded.{unicast_length};
+ghost use Rattle.pim_hello.specs.Row.{first_family, is_row};
+
+use pim_addr::{V4, V6, read_unicast};
+
+/// How many bytes the address at the front takes, or `None` if no whole native address stands there.
+pub(crate) fn native_size(bytes: &[u8]) -> Option<usize>
+    ensures { result ≡ option_map unicast_length (first_family bytes.now) }
+{
+    if read_unicast::<V4>(bytes).is_ok() {
+        Some(6)
+    } else if read_unicast::<V6>(bytes).is_ok() {
+        Some(18)
+    } else {
+        None
+    }
+}
+
+/// Whether the bytes are a row of whole native addresses and nothing else.
+#[tactic(auto, using(crate::proofs::Rows::steps))]
+pub(crate) fn is_row(bytes: &[u8]) -> bool
+    ensures { result ≡ is_row bytes.now }
+{
+    let mut rest = bytes;
+    while let Some(size) = native_size(rest) {
+        let (_, others) = rest.split_at(size);
+        rest = others;
+    }
+    rest.is_empty()
+}

@@ -1,0 +1,157 @@
+//! Options, written (RFC 7761, 4.9.2). An option that is absent takes no bytes.
+
+ghost use Rattle.std.specs.Prelude.{◌≡◌, ℕ, ◌+◌, ◌<◌, ◌≤◌, ◌^◌, ◌++◌, length};
+ghost use Rattle.std.specs.Option.{IfSome, option_map};
+ghost use Rattle.byteorder.specs.Endian.{big_bytes};
+ghost use Rattle.pim_addr.specs.Encoded.{unicast_length};
+ghost use Rattle.pim_hello.specs.Delays.{delays_seen};
+ghost use Rattle.pim_hello.specs.Seen.{addresses_seen};
+ghost use Rattle.pim_hello.specs.Spelling.{if_there, delays_spelled, address_spelled, row_spelled, row_there};
+
+use crate::addresses::Addresses;
+use crate::delay::{LanDelay, T_BIT};
+use crate::option::{ADDRESS_LIST, LAN_PRUNE_DELAY};
+use byteorder::{BigEndian, ByteOrder};
+use pim_addr::Family;
+
+/// Writes an option's type and length.
+fn put_header(kind: u16, size: u16, out: &mut [u8])
+    requires { length out.old ≡ 4 }
+    ensures { out.new ≡ big_bytes 2 kind ++ big_bytes 2 size }
+{
+    let (first, second) = out.split_at_mut(2);
+    BigEndian::write_u16(first, kind);
+    BigEndian::write_u16(second, size);
+}
+
+/// How many bytes an option of 16 bits takes.
+pub(crate) fn size_number16(number: Option<u16>) -> usize
+    ensures size { (kind : ℕ) → result ≡ length (if_there kind (option_map (big_bytes 2) number)) }
+    ensures small { result ≤ 8 }
+{
+    if number.is_some() { 6 } else { 0 }
+}
+
+/// Writes an option of 16 bits.
+pub(crate) fn put_number16(kind: u16, number: Option<u16>, out: &mut [u8])
+    requires { length out.old ≡ length (if_there kind (option_map (big_bytes 2) number)) }
+    ensures spelled { out.new ≡ if_there kind (option_map (big_bytes 2) number) }
+    ensures fits { IfSome number (λ n. n < 2 ^ 16) }
+{
+    if let Some(number) = number {
+        let (header, value) = out.split_at_mut(4);
+        put_header(kind, 2, header);
+        BigEndian::write_u16(value, number);
+    }
+}
+
+/// How many bytes an option of 32 bits takes.
+pub(crate) fn size_number32(number: Option<u32>) -> usize
+    ensures size { (kind : ℕ) → result ≡ length (if_there kind (option_map (big_bytes 4) number)) }
+    ensures small { result ≤ 8 }
+{
+    if number.is_some() { 8 } else { 0 }
+}
+
+/// Writes an option of 32 bits.
+pub(crate) fn put_number32(kind: u16, number: Option<u32>, out: &mut [u8])
+    requires { length out.old ≡ length (if_there kind (option_map (big_bytes 4) number)) }
+    ensures spelled { out.new ≡ if_there kind (option_map (big_bytes 4) number) }
+    ensures fits { IfSome number (λ n. n < 2 ^ 32) }
+{
+    if let Some(number) = number {
+        let (header, value) = out.split_at_mut(4);
+        put_header(kind, 4, header);
+        BigEndian::write_u32(value, number);
+    }
+}
+
+/// How many bytes the LAN Prune Delay takes.
+pub(crate) fn size_delays(lan: Option<LanDelay>) -> usize
+    ensures size { result ≡ length (if_there 2 (option_map delays_spelled (option_map delays_seen lan))) }
+    ensures small { result ≤ 8 }
+{
+    if lan.is_some() { 8 } else { 0 }
+}
+
+/// Writes the LAN Prune Delay.
+pub(crate) fn put_delays(lan: Option<LanDelay>, out: &mut [u8])
+    requires { length out.old ≡ length (if_there 2 (option_map delays_spelled (option_map delays_seen lan))) }
+    ensures spelled { out.new ≡ if_there 2 (option_map delays_spelled (option_map delays_seen lan)) }
+    ensures fits { IfSome (option_map delays_seen lan) (λ d. (d.propagation < 2 ^ 15) × (d.override_ms < 2 ^ 16)) }
+{
+    if let Some(delays) = lan {
+        let (header, value) = out.split_at_mut(4);
+        put_header(LAN_PRUNE_DELAY, 4, header);
+        let (propagation, interval) = value.split_at_mut(2);
+        let t_bit = if delays.t { T_BIT } else { 0 };
+        BigEndian::write_u16(propagation, t_bit + delays.propagation);
+        BigEndian::write_u16(interval, delays.override_ms);
+    }
+}
+
+/// Writes an encoded unicast address.
+fn put_unicast<F: Family>(address: F::Addr, out: &mut [u8])
+    requires { length out.old ≡ unicast_length F.family }
+    ensures { out.new ≡ address_spelled F.family (F.bytes_of address) }
+{
+    let (form, bytes) = out.split_at_mut(2);
+    form.copy_from_slice(&[F::AFI, 0]);
+    F::put(address, bytes);
+}
+
+/// How many bytes an encoded unicast address takes.
+fn size_unicast<F: Family>() -> usize
+    ensures { result ≡ unicast_length F.family }
+{
+    2 + F::LEN
+}
+
+/// How many bytes the addresses take in their row.
+fn size_row<F: Family>(addresses: Addresses<'_, F>) -> usize
+    ensures size { result ≡ length (row_spelled F.family (addresses_seen F.family addresses.entry)) }
+    ensures small { result < 2 ^ 16 }
+{
+    addresses.len() * size_unicast::<F>()
+}
+
+/// Writes the addresses, one after the other.
+fn put_row<F: Family>(addresses: Addresses<'_, F>, row: &mut [u8])
+    requires { length row.old ≡ length (row_spelled F.family (addresses_seen F.family addresses)) }
+    ensures { row.new ≡ row_spelled F.family (addresses_seen F.family addresses.entry) }
+{
+    let size = size_unicast::<F>();
+    let mut at = 0;
+    for address in addresses {
+        let (_, rest) = row.split_at_mut(at);
+        let (first, _) = rest.split_at_mut(size);
+        put_unicast::<F>(address, first);
+        at += size;
+    }
+}
+
+/// How many bytes the Address List takes. There is none without an address.
+#[tactic(auto, using(crate::proofs::Spelled::nothing_written))]
+pub(crate) fn size_addresses<F: Family>(addresses: Addresses<'_, F>) -> usize
+    ensures size { result ≡ length (if_there 24 (row_there F.family (addresses_seen F.family addresses.entry))) }
+    ensures small { result < 2 ^ 17 }
+{
+    match size_row(addresses) {
+        0 => 0,
+        size => 4 + size,
+    }
+}
+
+/// Writes the Address List. There is none without an address.
+#[tactic(auto, using(crate::proofs::Spelled::nothing_written))]
+pub(crate) fn put_addresses<F: Family>(addresses: Addresses<'_, F>, out: &mut [u8])
+    requires { length out.old ≡ length (if_there 24 (row_there F.family (addresses_seen F.family addresses))) }
+    ensures { out.new ≡ if_there 24 (row_there F.family (addresses_seen F.family addresses.entry)) }
+{
+    let size = size_row(addresses);
+    if size != 0 {
+        let (header, row) = out.split_at_mut(4);
+        put_header(ADDRESS_LIST, size as u16, header);
+        put_row(addresses, row);
+    }
+}
