@@ -1,0 +1,5 @@
+pub mod Ranges
+pub mod Fronts
+pub mod Records
+pub mod Known
+pub mod Taken

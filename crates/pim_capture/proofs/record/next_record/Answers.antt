@@ -1,0 +1,78 @@
+use Rattle.std.proofs.Common.{◌≡◌, ◌≢◌, ◌+◌, ◌-◌, ◌≤◌, List, ℕ, length, take, Ok, Err, subst, ap, sym, ◌∙◌, arith, inr}
+use Rattle.std.proofs.lemmas.Result.{err_from_is_err_and}
+use Rattle.std.specs.Option.{option_map}
+use Rattle.pim_capture.specs.declared.fault.CaptureFault.TheVariants.{TooLong}
+use Rattle.pim_capture.specs.Frame.{judge_frame}
+use Rattle.pim_capture.specs.Capture.{most_captured, millis_of, told_of, records}
+use Rattle.pim_capture.specs.Parts.{FillsExactly}
+use Rattle.pim_capture.specs.Next.{IsNext, CountsReads, event_seen}
+use Rattle.pim_capture.proofs.Known.{end_known, bound_known, header_cut_known, whole_header, too_long_known, frame_fault_known, record_known}
+use Rattle.std.proofs.lemmas.List.{length-take-le}
+use Rattle.pim_capture.proofs.Taken.{front_taken, both_taken, most_with_frame}
+use Rattle.pim_capture.proofs.record.next_record.Goals as goal
+
+pub returns-then-got-eq0-clause-answer : goal.returns-then-got-eq0-clause-answer
+returns-then-got-eq0-clause-answer g c =
+    inr (end_known c.args.left c.args.format _ _ c.read_up_to.new.buffer c.in_ok-got.got (omega arith) c.in_ok-got.ensures.bytes (c.in_ok-got.ensures.end (omega arith)))
+
+pub returns-then-left-eq0-clause-answer : goal.returns-then-left-eq0-clause-answer
+returns-then-left-eq0-clause-answer g c =
+    inr (bound_known c.args.left c.args.format _ _ c.read_up_to.new.buffer c.in_ok-got.got (omega arith) (omega arith) c.in_ok-got.ensures.bound c.in_ok-got.ensures.bytes)
+
+pub returns-then-got-lt16-clause-answer : goal.returns-then-got-lt16-clause-answer
+returns-then-got-lt16-clause-answer g c =
+    inr (header_cut_known c.args.left c.args.format _ _ c.read_up_to.new.buffer c.in_ok-got.got (omega arith) (omega arith) (omega arith) c.in_ok-got.ensures.bound
+    c.in_ok-got.ensures.bytes (c.in_ok-got.ensures.end (omega arith)))
+
+pub returns-then-length-gt-MOST_CAPTURED-clause-answer :
+    goal.returns-then-length-gt-MOST_CAPTURED-clause-answer
+returns-then-length-gt-MOST_CAPTURED-clause-answer g c =
+    let header = c.read_up_to.new.buffer in
+    let l : length header ≡ 16 = omega arith in
+    inr (too_long_known c.args.left c.args.format _ _ header (omega arith) l
+    (whole_header _ _ header c.in_ok-got.got l (omega arith) c.in_ok-got.ensures.bytes) (omega arith))
+
+pub returns-in_err-read_frame-clause-answer : goal.returns-in_err-read_frame-clause-answer
+returns-in_err-read_frame-clause-answer g c =
+    let header = c.read_up_to.new.buffer in
+    let l : length header ≡ 16 = omega arith in
+    let size = c.read_u32_at-length.ensures in
+    let new = c.read_frame.new.buffer.items in
+    let p = err_from_is_err_and c.from_residual-in_err-read_frame.result c.from_residual-in_err-read_frame.ensures.1 in
+    rw (p.1, p.2) (frame_fault_known c.args.left c.args.format _ _ _ header new c.in_err-read_frame.field-0.0 _ _ (omega arith) l
+    (whole_header _ _ header c.in_ok-got.got l (omega arith) c.in_ok-got.ensures.bytes) (omega arith)
+    (subst (λ n. FillsExactly n (g.R.Feed.remaining c.read_up_to.new.feed) (g.R.Feed.remaining c.read_frame.new.reader) new (Err c.in_err-read_frame.field-0.0)) size c.in_err-read_frame.ensures.answer)
+    (subst (λ n. CountsReads {A = Unit {0}} ⊥ n (g.R.Feed.failures c.read_frame.new.reader) (Err c.in_err-read_frame.field-0.0)) c.in_ok-got.ensures.count c.in_err-read_frame.ensures.reads))
+
+pub returns-clause-answer : goal.returns-clause-answer
+returns-clause-answer g c =
+    let header = c.read_up_to.new.buffer in
+    let frame = c.read_frame.new.buffer.items in
+    let l : length header ≡ 16 = omega arith in
+    let old = g.R.Feed.remaining c.args.reader.now in
+    let new = g.R.Feed.remaining c.read_frame.new.reader in
+    let left = c.args.left in
+    let format = c.args.format in
+    let P : List ℕ → Type 0 = λ bytes. event_seen bytes c.event_of.result ≡ told_of c.millis-millis.result bytes (judge_frame format.link bytes) in
+    let told : event_seen frame c.event_of.result ≡ told_of (millis_of format header) frame (judge_frame format.link frame) =
+    subst P c.as_slice.ensures.value c.event_of.ensures.event ∙ ap (λ millis. told_of millis frame (judge_frame format.link frame)) c.millis-millis.ensures in
+    inr (subst (λ t. IsNext (option_map (records left format) old) (Ok t) (option_map (records (left - 1) format) new)) (sym told)
+    (record_known left format old (g.R.Feed.remaining c.read_up_to.new.feed) new header frame (omega arith) l
+    (whole_header _ _ header c.in_ok-got.got l (omega arith) c.in_ok-got.ensures.bytes) (omega arith)
+    (c.in_ok-read_frame.ensures.answer.0 ∙ c.read_u32_at-length.ensures) c.in_ok-read_frame.ensures.answer.1))
+
+pub returns-in_err-read_frame-clause-taken : goal.returns-in_err-read_frame-clause-taken
+returns-in_err-read_frame-clause-taken g c =
+    let p = err_from_is_err_and c.from_residual-in_err-read_frame.result c.from_residual-in_err-read_frame.ensures.1 in
+    let header = take c.in_ok-got.got c.read_up_to.new.buffer in
+    let short : length header ≤ 16 = omega (arith, c.in_ok-got.ensures.bound, length-take-le c.in_ok-got.got c.read_up_to.new.buffer c.in_ok-got.ensures.bound) in
+    let fault = c.in_err-read_frame.field-0.0 in
+    let other : fault ≢ TooLong = λ same. c.read_frame.ensures.not_long (c.in_err-read_frame.was ∙ ap Err same) in
+    rw (p.1, p.2, most_with_frame 16 fault other)
+    (both_taken 16 c.read_u32_at-length.result (16 + most_captured) _ _ _ (front_taken 16 _ _ header c.in_ok-got.ensures.bytes short) c.in_err-read_frame.ensures.taken (omega arith))
+
+pub returns-clause-taken : goal.returns-clause-taken
+returns-clause-taken g c =
+    let header = take c.in_ok-got.got c.read_up_to.new.buffer in
+    let short : length header ≤ 16 = omega (arith, c.in_ok-got.ensures.bound, length-take-le c.in_ok-got.got c.read_up_to.new.buffer c.in_ok-got.ensures.bound) in
+    both_taken 16 c.read_u32_at-length.result (16 + most_captured) _ _ _ (front_taken 16 _ _ header c.in_ok-got.ensures.bytes short) c.in_ok-read_frame.ensures.taken (omega arith)

@@ -1,0 +1,6 @@
+pub mod Header
+pub mod Frame
+pub mod Capture
+pub mod Seen
+pub mod Next
+pub mod Parts

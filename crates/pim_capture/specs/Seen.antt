@@ -1,0 +1,16 @@
+-- What a contract sees of what a capture tells.
+use Rattle.std.specs.Prelude.{◌≤◌, ℕ, List, length, slice_range}
+use Rattle.pim_addr.specs.declared.family.AddressFamily.TheVariants.{Ipv4, Ipv6}
+use Rattle.pim_capture.specs.declared.event.Ip.{Ip}
+use Rattle.pim_capture.specs.declared.event.Ip.TheVariants.{V4, V6}
+use Rattle.pim_capture.specs.Frame.{Datagram}
+
+-- a packet in a buffer that holds these bytes
+abbrev pub ip_seen : List ℕ → Ip → Datagram
+ip_seen bytes (V4 source destination payload) = record { family = Ipv4; source = source; destination = destination; payload = slice_range bytes payload.start payload.end }
+ip_seen bytes (V6 source destination payload) = record { family = Ipv6; source = source; destination = destination; payload = slice_range bytes payload.start payload.end }
+
+-- its payload lies in them
+abbrev pub LiesIn : List ℕ → Ip → Type 0
+LiesIn bytes (V4 source destination payload) = (payload.start ≤ payload.end) × (payload.end ≤ length bytes)
+LiesIn bytes (V6 source destination payload) = (payload.start ≤ payload.end) × (payload.end ≤ length bytes)

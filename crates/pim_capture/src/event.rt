@@ -1,0 +1,62 @@
+//! What a capture tells.
+
+use std::ops::Range;
+
+/// An IP packet that carries PIM, as it lies in the caller's buffer.
+#[derive(Clone, Debug, PartialEq, Eq, Drop)]
+pub enum Ip {
+    /// IPv4 (RFC 791).
+    V4 {
+        /// The source address.
+        source: [u8; 4],
+        /// The destination address.
+        destination: [u8; 4],
+        /// Where the PIM message stands in the buffer.
+        payload: Range<usize>,
+    },
+    /// IPv6 (RFC 8200).
+    V6 {
+        /// The source address.
+        source: [u8; 16],
+        /// The destination address.
+        destination: [u8; 16],
+        /// Where the PIM message stands in the buffer.
+        payload: Range<usize>,
+    },
+}
+
+/// Why a record holds no whole PIM packet. Of several reasons the first step of the judging that meets one tells it.
+#[derive(Clone, Copy, Debug, PartialEq, Eq)]
+pub enum Why {
+    /// Fewer bytes were captured than its headers name.
+    Cut,
+    /// Neither IPv4 nor IPv6.
+    NotIp,
+    /// An IP header that contradicts itself, or the link layer.
+    BadHeader,
+    /// Another protocol than PIM.
+    NotPim,
+    /// A part of an IPv4 packet.
+    Fragment,
+}
+
+/// What a record of a capture holds.
+#[derive(Clone, Debug, PartialEq, Eq, Drop)]
+pub enum Event {
+    /// A PIM packet. The buffer holds the bytes of its record.
+    Packet {
+        /// When it was captured, in milliseconds since 1970.
+        millis: u64,
+        /// Where it came from and went to, and its message.
+        ip: Ip,
+    },
+    /// A record that holds no whole PIM packet.
+    Skipped {
+        /// When it was captured, in milliseconds since 1970.
+        millis: u64,
+        /// Why it is passed over.
+        why: Why,
+    },
+    /// No record is left.
+    End,
+}
