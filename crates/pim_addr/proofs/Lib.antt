@@ -2,3 +2,4 @@ pub mod Pieces
 pub mod Moved
 pub mod Failures
 pub mod ReadBack
+pub mod TextNames

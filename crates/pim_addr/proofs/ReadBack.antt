@@ -1,5 +1,5 @@
 -- What is written of an encoded address has no fault, and is read back.
-use Rattle.std.proofs.Common.{◌≡◌, ℕ, suc, ◌+◌, Bool, true, false, eqb, ltb, List, [], ◌∷◌, ◌++◌, length, slice_index, refl, sym, ap, arith, length-append}
+use Rattle.std.proofs.Common.{◌≡◌, ℕ, suc, ◌+◌, Bool, true, false, eqb, ltb, List, ◌++◌, length, slice_index, refl, sym, ap, arith, length-append}
 use Rattle.std.proofs.lemmas.Bool.{le-ltb, eq-eqb}
 use Rattle.std.proofs.lemmas.List.{take_at}
 use Rattle.pim_addr.specs.declared.family.AddressFamily.{AddressFamily}

@@ -7,3 +7,4 @@ pub mod Text
 pub mod Device
 pub mod Scripted
 pub mod Canonical
+pub mod TextForms

@@ -9,6 +9,7 @@ mod counted;
 mod device;
 mod encoded;
 mod family;
+mod parsed;
 mod scripted;
 mod text;
 mod written;
@@ -17,6 +18,7 @@ pub use counted::Counted;
 pub use device::{Drain, Failed, Feed, read_up_to, write_all};
 pub use encoded::{AddrFault, SourceAddress, SourceBits, read_group, read_source, read_unicast};
 pub use family::{AddressFamily, Family, V4, V6};
+pub use parsed::{read_text, text_names_one_address, written_text_names};
 pub use scripted::{ScriptedDrain, ScriptedFeed};
 pub use text::write_text;
 pub use written::{

@@ -1,21 +1,23 @@
 -- The spelling that is written is one, and what is spelled is within the ranges of the format.
-use Rattle.std.proofs.Common.{◌≡◌, ℕ, List, [], ◌∷◌, ◌++◌, length, refl, sym, subst, append_assoc}
+use Rattle.std.proofs.Common.{◌≡◌, ℕ, ◌<◌, ◌^◌, List, [], ◌∷◌, ◌++◌, length, refl, sym, subst, append_assoc}
 use Rattle.std.specs.List.{AllByRecursion, flat_map}
 use Rattle.byteorder.specs.Endian.{big_bytes}
 use Rattle.pim_addr.specs.declared.family.AddressFamily.{AddressFamily}
-use Rattle.pim_addr.specs.Address.{mask_length, family_byte}
+use Rattle.pim_addr.specs.Address.{address_length, mask_length, family_byte}
+use Rattle.pim_addr.specs.Canonical.{canonical_unicast}
 use Rattle.pim_jp.specs.declared.entry.Entry.{Entry}
 use Rattle.pim_jp.specs.declared.entry.Entry.TheVariants.{Star, Source, Rpt}
 use Rattle.pim_jp.specs.Message.{GroupSet, Message, message_of}
 use Rattle.pim_jp.specs.Spelling.{IsEntry, AreEntries, IsSet, AreSets, Spells}
-use Rattle.pim_jp.specs.Canonical.{IsMessageEntry, IsMessageSet, IsMessage, canonical_entry, canonical_set, canonical}
+use Rattle.pim_jp.specs.Canonical.{IsMessageEntry, IsMessageSet, IsMessage, canonical_entry, canonical_set, canonical_head, canonical}
+use Rattle.pim_jp.specs.Laws.{ReadsHead, ReadsSet}
 use Rattle.pim_jp.proofs.SetParts.{set_spelled}
 use Rattle.pim_jp.proofs.Legal.{message_spelled}
-use Rattle.pim_jp.proofs.Spelled.{spelled_value}
+use Rattle.pim_jp.proofs.Spelled.{spelled_value, set_back, head_back}
 
 -- ---- the spelling that is written is one
 
-entry_written : (family : AddressFamily) (this : Entry (List ℕ)) → IsMessageEntry family this → IsEntry family this (canonical_entry family this)
+pub entry_written : (family : AddressFamily) (this : Entry (List ℕ)) → IsMessageEntry family this → IsEntry family this (canonical_entry family this)
 entry_written family (Star rp) is = ((is.0, refl, refl, refl), is.1)
 entry_written family (Source source) is = ((is.0, refl, refl, refl), is.1)
 entry_written family (Rpt source) is = ((is.0, refl, refl, refl), is.1)
@@ -25,7 +27,7 @@ unfolding AreEntries
 entries_written family [] are = refl
 entries_written family (this ∷ entries) are = (canonical_entry family this, flat_map (canonical_entry family) entries, refl, entry_written family this are.0, entries_written family entries are.1)
 
-five_in_a_row : (a b c d e : List ℕ) → a ++ ((b ++ c) ++ (d ++ e)) ≡ a ++ b ++ c ++ d ++ e
+pub five_in_a_row : (a b c d e : List ℕ) → a ++ ((b ++ c) ++ (d ++ e)) ≡ a ++ b ++ c ++ d ++ e
 five_in_a_row a b c d e = simp append_assoc
 
 set_written : (family : AddressFamily) (set : GroupSet) → IsMessageSet family set → IsSet family set (canonical_set family set)
@@ -51,6 +53,16 @@ message_written family message is =
 
 pub written_value : (family : AddressFamily) (message : Message) → IsMessage family message → message_of family (canonical family message) ≡ message
 written_value family message is = sym (spelled_value family message (canonical family message) (message_written family message is))
+
+-- ---- what is written of a head, and of a set, is read, whatever stands behind it
+
+pub head_read : (family : AddressFamily) (upstream behind : List ℕ) (sets holdtime : ℕ) → length upstream ≡ address_length family → sets < 2 ^ 8 → holdtime < 2 ^ 16
+    → ReadsHead family upstream sets holdtime behind (canonical_head family upstream sets holdtime ++ behind)
+head_read family upstream behind sets holdtime size few fits =
+    head_back family upstream (canonical_unicast family upstream) (0 ∷ sets ∷ big_bytes 2 holdtime) behind sets holdtime (size, refl) (few, fits, refl)
+
+pub set_read : (family : AddressFamily) (set : GroupSet) (behind : List ℕ) → IsMessageSet family set → ReadsSet family set behind (canonical_set family set ++ behind)
+set_read family set behind is = set_back family set (canonical_set family set) behind (set_written family set is)
 
 -- ---- what is spelled is in range
 

@@ -8,8 +8,10 @@ pub mod Legal
 pub mod Spelled
 pub mod Order
 pub mod Canonical
+pub mod PlainSpelling
 pub mod Walks
 pub mod Judged
 pub mod Parts
+pub mod EntryPlaces
 pub mod EntryLoop
 pub mod SetLoop

@@ -5,11 +5,12 @@ use Rattle.byteorder.specs.Endian.{big_number, big_bytes}
 use Rattle.byteorder.specs.Numbers.{big_number-reads_back}
 use Rattle.pim_addr.specs.declared.family.AddressFamily.{AddressFamily}
 use Rattle.pim_addr.specs.Address.{is_group, is_source}
-use Rattle.pim_addr.specs.Encoded.{unicast_length, group_length, source_length, group_faults, unicast_faults, unicast_address, masked_address, source_value}
+use Rattle.pim_addr.specs.Encoded.{IsUnicast, unicast_length, group_length, source_length, group_faults, unicast_faults, unicast_address, masked_address, source_value}
 use Rattle.pim_jp.specs.declared.entry.Entry.{Entry}
 use Rattle.pim_jp.specs.declared.entry.Entry.TheVariants.{Star, Source, Rpt}
 use Rattle.pim_jp.specs.Message.{GroupSet, Message, entry_of, entries_of, counts_of, joined_count, pruned_count, joined_bytes, pruned_bytes, after_set, set_of, sets_of, head_of, set_count, message_of}
 use Rattle.pim_jp.specs.Spelling.{source_of, AreEntries, IsSet, AreSets, IsHead, Spells}
+use Rattle.pim_jp.specs.Laws.{ReadsHead}
 use Rattle.pim_jp.specs.Parts.{Part, upstream, head, group, counts, entry, part_then, kind_of, entry_parts, set_parts}
 use Rattle.pim_jp.specs.Faults.{entry_kinds, kinds_at, faults_of, faults}
 use Rattle.pim_jp.proofs.Forms.{unicast_spelled, group_spelled, source_spelled}
@@ -148,6 +149,13 @@ set_read family set bytes behind at =
     let pruned : entries_of family (pruned_count family bytes) (pruned_bytes family bytes) ≡ set.pruned = ap₂ (entries_of family) at.pruned_size at.pruned_at ∙ entries_read family set.pruned at.pruned behind at.pruned_spelled in
     same_set _ _ _ _ _ _ at.read joined pruned
 
+-- a set that is spelled is read, whatever stands behind it
+pub set_back : (family : AddressFamily) (set : GroupSet) (bytes behind : List ℕ) → IsSet family set bytes
+    → (set_of family (bytes ++ behind) ≡ set) × (after_set family (bytes ++ behind) ≡ behind)
+set_back family set bytes behind h =
+    let stands = stands_at family set bytes behind h in
+    (set_read family set (bytes ++ behind) behind stands, stands.behind_at)
+
 set_told : (family : AddressFamily) (set : GroupSet) (count at : ℕ) (bytes behind : List ℕ) → StandsAt family set bytes behind → is_group family set.group ≡ true
     → AllAllowed [] [] set.joined → AllAllowed set.joined set.joined set.pruned → ((at : ℕ) → faults_of family (set_parts family count at behind) ≡ [])
     → faults_of family (set_parts family (suc count) at bytes) ≡ []
@@ -209,6 +217,22 @@ head_at sets holdtime bytes behind h =
     let cut : bytes ++ behind ≡ slice_index bytes 0 ∷ sets ∷ (big_bytes 2 holdtime ++ behind) = ap (λ (xs : List ℕ). xs ++ behind) h.2 in
     let size : length (bytes ++ behind) ≡ suc (suc (length (big_bytes 2 holdtime ++ behind))) = ap (λ (xs : List ℕ). length xs) cut in
     (ap (λ (xs : List ℕ). slice_index xs 1) cut, ap (λ (xs : List ℕ). big_number 2 (drop 2 xs)) cut ∙ big_number-reads_back 2 holdtime behind h.1, ap (λ (xs : List ℕ). drop 4 xs) cut, omega (arith, size))
+
+-- an upstream neighbour and a head that are spelled are read, whatever stands behind them
+pub head_back : (family : AddressFamily) (neighbour front numbers behind : List ℕ) (sets holdtime : ℕ) → IsUnicast family neighbour front → IsHead sets holdtime numbers
+    → ReadsHead family neighbour sets holdtime behind ((front ++ numbers) ++ behind)
+head_back family neighbour front numbers behind sets holdtime form h =
+    let body = (front ++ numbers) ++ behind in
+    let cut : body ≡ front ++ (numbers ++ behind) = append_assoc front numbers behind in
+    let first = unicast_spelled family neighbour front (numbers ++ behind) form in
+    let second = head_at sets holdtime numbers behind h in
+    let at : head_of family body ≡ numbers ++ behind = ap (drop (unicast_length family)) cut ∙ drop_at front (numbers ++ behind) (unicast_length family) first.2 in (
+      ap (unicast_faults family) cut ∙ first.0,
+      ap (unicast_address family) cut ∙ first.1,
+      ap (λ (xs : List ℕ). slice_index xs 1) at ∙ second.0,
+      ap (λ (xs : List ℕ). big_number 2 (drop 2 xs)) at ∙ second.1,
+      ap (λ (xs : List ℕ). drop 4 xs) at ∙ second.2,
+    )
 
 -- what is known of a body that spells a message
 record IsSpelled (family : AddressFamily) (message : Message) (body : List ℕ) : Type 0 where

@@ -1,12 +1,13 @@
 -- Which messages have a spelling, and the one that is written: reserved bytes and ignored bits are 0, and of each
 -- entry's flags the S bit is set (RFC 7761, 4.9.1 and 4.9.5).
-use Rattle.std.specs.Prelude.{◌≡◌, ℕ, ◌<◌, ◌^◌, true, List, ◌∷◌, ◌++◌, length}
+use Rattle.std.specs.Prelude.{◌≡◌, ℕ, ◌+◌, ◌*◌, ◌<◌, ◌^◌, true, List, ◌∷◌, ◌++◌, length}
 use Rattle.std.specs.List.{AllByRecursion, flat_map}
 use Rattle.byteorder.specs.Endian.{big_bytes}
 use Rattle.pim_addr.specs.declared.family.AddressFamily.{AddressFamily}
-use Rattle.pim_addr.specs.Address.{address_length, mask_length, family_byte, is_group, is_source}
+use Rattle.pim_addr.specs.Address.{address_length, is_group, is_source}
+use Rattle.pim_addr.specs.Encoded.{unicast_length, group_length, source_length}
+use Rattle.pim_addr.specs.Canonical.{canonical_unicast, canonical_group, canonical_source}
 use Rattle.pim_jp.specs.declared.entry.Entry.{Entry}
-use Rattle.pim_jp.specs.declared.entry.Entry.TheVariants.{Star, Source, Rpt}
 use Rattle.pim_jp.specs.Message.{GroupSet, Message}
 use Rattle.pim_jp.specs.Spelling.{source_of, IsLegalSet}
 
@@ -26,20 +27,28 @@ IsMessage family message = (length message.upstream ≡ address_length family) �
 
 -- ---- the spelling that is written
 
-abbrev pub canonical_flags : Entry (List ℕ) → ℕ
-canonical_flags (Star rp) = 7
-canonical_flags (Source source) = 4
-canonical_flags (Rpt source) = 5
-
 abbrev pub canonical_entry : AddressFamily → Entry (List ℕ) → List ℕ
-canonical_entry family entry = family_byte family ∷ 0 ∷ canonical_flags entry ∷ mask_length family ∷ (source_of entry).address
+canonical_entry family entry = canonical_source family (source_of entry)
 
+-- group, the two counts, the joined entries, the pruned entries
 abbrev pub canonical_set : AddressFamily → GroupSet → List ℕ
-canonical_set family set = (family_byte family ∷ 0 ∷ 0 ∷ mask_length family ∷ set.group)
+canonical_set family set = canonical_group family set.group
     ++ big_bytes 2 (length set.joined) ++ big_bytes 2 (length set.pruned)
     ++ flat_map (canonical_entry family) set.joined ++ flat_map (canonical_entry family) set.pruned
 
+-- upstream neighbour, a reserved byte, the number of sets, the holdtime
+abbrev pub canonical_head : AddressFamily → List ℕ → ℕ → ℕ → List ℕ
+canonical_head family upstream sets holdtime = canonical_unicast family upstream ++ (0 ∷ sets ∷ big_bytes 2 holdtime)
+
 abbrev pub canonical : AddressFamily → Message → List ℕ
-canonical family message = (family_byte family ∷ 0 ∷ message.upstream)
-    ++ (0 ∷ length message.sets ∷ big_bytes 2 message.holdtime)
+canonical family message = canonical_head family message.upstream (length message.sets) message.holdtime
     ++ flat_map (canonical_set family) message.sets
+
+-- ---- lengths of what is written
+
+abbrev pub canonical_head_length : AddressFamily → ℕ
+canonical_head_length family = unicast_length family + 4
+
+-- of a set with so many joined entries and so many pruned ones
+abbrev pub canonical_set_length : AddressFamily → ℕ → ℕ → ℕ
+canonical_set_length family joined pruned = group_length family + 4 + joined * source_length family + pruned * source_length family

@@ -1,6 +1,10 @@
 -- The words of the laws in `src/laws.rt`.
-use Rattle.std.specs.Prelude.{◌≡◌, ℕ, ◌<◌, ◌⊎◌, List, slice_index}
+use Rattle.std.specs.Prelude.{◌≡◌, ℕ, ◌<◌, ◌⊎◌, List, [], drop, slice_index}
+use Rattle.byteorder.specs.Endian.{big_number}
+use Rattle.pim_addr.specs.declared.family.AddressFamily.{AddressFamily}
+use Rattle.pim_addr.specs.Encoded.{unicast_faults, unicast_address}
 use Rattle.pim_jp.specs.declared.fault.JpFault.{JpFault}
+use Rattle.pim_jp.specs.Message.{GroupSet, head_of, set_count, set_of, after_set}
 use Rattle.pim_jp.specs.Faults.{number_of}
 
 -- a list of bytes
@@ -10,3 +14,13 @@ AreBytes bytes = (i : ℕ) → slice_index bytes i < 256
 -- The first of two faults is told: its part stands before the other's, or they are of one part and its number is less.
 abbrev pub ToldBefore : JpFault → JpFault → Type 0
 ToldBefore first other = (first.at < other.at) ⊎ ((first.at ≡ other.at) × (number_of first.kind < number_of other.kind))
+
+-- At the front of the bytes stand an upstream neighbour, without a fault, and a head, and behind them `behind`.
+abbrev pub ReadsHead : AddressFamily → List ℕ → ℕ → ℕ → List ℕ → List ℕ → Type 0
+ReadsHead family upstream sets holdtime behind bytes =
+    (unicast_faults family bytes ≡ []) × (unicast_address family bytes ≡ upstream) × (set_count family bytes ≡ sets)
+    × (big_number 2 (drop 2 (head_of family bytes)) ≡ holdtime) × (drop 4 (head_of family bytes) ≡ behind)
+
+-- At the front of the bytes stands a set, and behind it `behind`.
+abbrev pub ReadsSet : AddressFamily → GroupSet → List ℕ → List ℕ → Type 0
+ReadsSet family set behind bytes = (set_of family bytes ≡ set) × (after_set family bytes ≡ behind)

@@ -4,6 +4,7 @@ pub mod Parts
 pub mod Faults
 pub mod Laws
 pub mod Canonical
+pub mod Plain
 pub mod Seen
 pub mod Whole
 pub mod Reading

@@ -1,4 +1,4 @@
-//! Join/Prune messages of PIM sparse mode (RFC 7761, 4.9.5), read in place.
+//! Join/Prune messages of PIM sparse mode (RFC 7761, 4.9.5), read in place and written part by part.
 #![tactic(auto)]
 
 mod entries;
@@ -12,13 +12,16 @@ mod slow;
 #[cfg(test)]
 mod tests;
 mod view;
+mod writing;
 
 pub use entries::Entries;
 pub use entry::Entry;
 pub use fault::{JpFault, JpKind};
 pub use laws::{
-    canonical_is_read, canonical_is_spelled, first_fault_is_least, legal_is_spelled,
-    spelled_by_one_value, spelled_is_legal, spelled_is_message,
+    canonical_head_is_read, canonical_is_read, canonical_is_spelled, canonical_set_is_read,
+    first_fault_is_least, legal_is_spelled, one_canonical_spelling, spelled_by_one_value,
+    spelled_is_legal, spelled_is_message,
 };
 pub use sets::{SetView, Sets};
 pub use view::JpView;
+pub use writing::{head_length, put_head, put_set, set_length};

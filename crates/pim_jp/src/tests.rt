@@ -4,7 +4,7 @@ use crate::fault::JpKind::{
     BothLists, Encoding, Family, Flags, Mask, NotGroup, NotSource, SecondStar, Short, Trailing,
 };
 use crate::slow::first_fault;
-use crate::{Entry, JpKind, JpView};
+use crate::{Entry, JpKind, JpView, head_length, put_head, put_set, set_length};
 use pim_addr::{V4, V6};
 use std::test::Fail;
 
@@ -235,4 +235,38 @@ fn tells_what_the_plain_reader_tells(rt: HostRuntime) -> Result<(), Fail> {
         }
     }
     Ok(())
+}
+
+#[test]
+fn writes_star(rt: HostRuntime) {
+    let mut body = [0xff; 30];
+    let (head, set) = body.split_at_mut(head_length::<V4>());
+    put_head::<V4>([10, 0, 0, 2], 1, 210, head);
+    let joined = [Entry::Star([10, 9, 9, 9])];
+    put_set::<V4>([239, 1, 1, 1], &joined, &[], set);
+    assert_eq!(rt; body, STAR);
+}
+
+#[test]
+fn writes_star_of_ipv6(rt: HostRuntime) {
+    let mut body = [0xff; 66];
+    let (head, set) = body.split_at_mut(head_length::<V6>());
+    let upstream = [0xfe, 0x80, 0, 0, 0, 0, 0, 0, 0, 0, 0, 0, 0, 0, 0, 2];
+    put_head::<V6>(upstream, 1, 210, head);
+    let group = [0xff, 0x0e, 0, 0, 0, 0, 0, 0, 0, 0, 0, 0, 0, 0, 0, 1];
+    let joined = [Entry::Star([0x20, 1, 0x0d, 0xb8, 0, 0, 0, 0, 0, 0, 0, 0, 0, 0, 0, 9])];
+    put_set::<V6>(group, &joined, &[], set);
+    assert_eq!(rt; body, STAR_V6);
+}
+
+#[test]
+fn writes_both_lists_in_their_order(rt: HostRuntime) {
+    let mut set = [0xff; 36];
+    assert_eq!(rt; set_length::<V4>(1, 2), 36);
+    let joined = [Entry::Source([192, 0, 2, 1])];
+    let pruned = [Entry::Rpt([192, 0, 2, 1]), Entry::Star([10, 9, 9, 9])];
+    put_set::<V4>([239, 1, 1, 1], &joined, &pruned, &mut set);
+    let want =
+        b"\x01\x00\x00\x20\xef\x01\x01\x01\x00\x01\x00\x02\x01\x00\x04\x20\xc0\x00\x02\x01\x01\x00\x05\x20\xc0\x00\x02\x01\x01\x00\x07\x20\x0a\x09\x09\x09";
+    assert_eq!(rt; set, *want);
 }
