@@ -5,3 +5,4 @@ pub mod Again
 pub mod Index
 pub mod Kept
 pub mod OneNeighbour
+pub mod Order

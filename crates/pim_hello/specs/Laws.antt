@@ -1,7 +1,19 @@
--- What follows for one address: time passes for all alike, and a Hello changes what is kept of its sender alone.
-use Rattle.std.specs.Prelude.{◌≡◌, ℕ, ◌-◌, List, Option, Some, None, option_map, if◌then◌else◌}
+-- What the definitions mean: the first fault is the least; and for one address, time passes for all alike, and a Hello
+-- changes what is kept of its sender alone.
+use Rattle.std.specs.Prelude.{◌≡◌, ℕ, ◌-◌, ◌<◌, ◌⊎◌, List, ◌∷◌, Option, Some, None, option_map, if◌then◌else◌}
+use Rattle.std.specs.List.{AllByRecursion}
+use Rattle.pim_hello.specs.declared.fault.HelloFault.{HelloFault}
+use Rattle.pim_hello.specs.Faults.{number_of, faults}
 use Rattle.pim_hello.specs.Hello.{Parameters}
 use Rattle.pim_hello.specs.Neighbours.{Neighbour, Table, neighbour_at, waited, passed_to, is_over, without_ended, says_goodbye, lifetime, heard_from, IsAscending}
+
+-- The first of two faults is told: its option stands before the other's, or they are of one option and its number is less.
+abbrev pub ToldBefore : HelloFault → HelloFault → Type 0
+ToldBefore first other = (first.at < other.at) ⊎ ((first.at ≡ other.at) × (number_of first.kind < number_of other.kind))
+
+abbrev pub FirstFaultIsLeast : Type 0
+FirstFaultIsLeast = (body : List ℕ) (first : HelloFault) (others : List HelloFault) →
+    faults body ≡ first ∷ others → AllByRecursion (ToldBefore first) others
 
 -- what is kept of the sender of a Hello
 abbrev pub kept_of_sender : Parameters → Option Neighbour

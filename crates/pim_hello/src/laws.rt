@@ -1,6 +1,12 @@
-//! Laws of the table of neighbours: what its changes mean for one address.
+//! What the definitions mean: the fault that is told is the least, and a change of the table of neighbours is one of
+//! one address. Nothing here is to be called.
 
-ghost use Rattle.pim_hello.specs.Laws.{HearingChangesItsSenderAlone, TimePassesForAll, ExactlyTheEndedGo};
+ghost use Rattle.pim_hello.specs.Laws.{FirstFaultIsLeast, HearingChangesItsSenderAlone, TimePassesForAll, ExactlyTheEndedGo};
+
+/// Of all the faults of a body the first has the least offset, and of those at its offset the least number.
+pub fn first_fault_is_least()
+    ensures { FirstFaultIsLeast }
+{}
 
 /// After a Hello its sender has what the Hello said, or nothing after a goodbye, and each other address has
 /// what it had.

@@ -29,6 +29,9 @@ pub use fault::{HelloFault, HelloKind};
 pub use heard::{Heard, NeighbourFault};
 pub use hello::{Hello, reads_back};
 pub use interval::PortDelays;
-pub use laws::{exactly_the_ended_go, hearing_changes_its_sender_alone, time_passes_for_all};
+pub use laws::{
+    exactly_the_ended_go, first_fault_is_least, hearing_changes_its_sender_alone,
+    time_passes_for_all,
+};
 pub use neighbours::Neighbours;
 pub use parameters::Parameters;

@@ -1,0 +1,5 @@
+use Rattle.pim_hello.proofs.Order.{first_of_faults}
+use Rattle.pim_hello.proofs.laws.first_fault_is_least.Goals as goal
+
+pub returns : goal.returns
+returns c = first_of_faults
