@@ -6,14 +6,19 @@ use Rattle.std.proofs.lemmas.Bool.{le-ltb}
 use Rattle.pim_addr.specs.declared.family.AddressFamily.{AddressFamily}
 use Rattle.pim_addr.specs.Faults.{fault_if, judged}
 use Rattle.pim_frame.specs.declared.frame.FrameFault.{FrameFault}
-use Rattle.pim_frame.specs.Frame.{Content, join_prune, content, frame_faults}
+use Rattle.pim_frame.specs.Frame.{Content, hello, join_prune, content, frame_faults}
+use Rattle.pim_hello.specs.Hello as of_hello
+use Rattle.pim_hello.specs.Value.{hello_of}
+use Rattle.pim_hello.specs.Faults.{faults as hello_option_faults}
+use Rattle.pim_hello.specs.declared.fault.HelloFault.{HelloFault}
 use Rattle.pim_jp.specs.Message.{Message, message_of}
 use Rattle.pim_jp.specs.Faults.{faults}
 use Rattle.pim_jp.specs.declared.fault.JpFault.{JpFault}
 use Rattle.pimtree.specs.Text.{message_text}
+use Rattle.pimtree.specs.HelloText.{hello_text}
 use Rattle.pimtree.specs.declared.fault.Fault.{Fault}
-use Rattle.pimtree.specs.declared.fault.Fault.TheVariants.{Frame, JoinPrune, InputTooLong, InputRead, Output, Memory}
-use Rattle.pimtree.specs.Report.{content_faults, content_text, body_report, message_report, input_report, Explains, IsMessageFault, Reports}
+use Rattle.pimtree.specs.declared.fault.Fault.TheVariants.{Clap, Address, Family, Frame, Hello, JoinPrune, InputTooLong, InputRead, Output, Memory}
+use Rattle.pimtree.specs.Report.{content_faults, content_text, body_report, hello_report, message_report, input_report, Explains, IsMessageFault, Reports}
 
 first_told : (all : List JpFault) (message : Message) (text : List ℕ) (fault : JpFault) → judged all message ≡ Err fault → judged (map JoinPrune all) text ≡ Err (JoinPrune fault)
 first_told [] message text fault told = absurd cc
@@ -29,11 +34,15 @@ short_input family source destination input short = rw (le-ltb _ _ short) refl
 
 -- a message that isn't reported, with nothing written
 pub unreported : (report : Result (List ℕ) Fault) (old new : Option (List ℕ)) (fault : Fault) → Keeps old new → IsMessageFault report fault → Explains report old new fault
+unreported report old new (Clap error) kept cause = absurd cause
+unreported report old new (Address word) kept cause = absurd cause
+unreported report old new Family kept cause = absurd cause
 unreported report old new Memory kept cause = kept
 unreported report old new InputRead kept cause = absurd cause
 unreported report old new InputTooLong kept cause = absurd cause
 unreported report old new Output kept cause = absurd cause
 unreported report old new (Frame fault) kept cause = (cause, kept)
+unreported report old new (Hello fault) kept cause = (cause, kept)
 unreported report old new (JoinPrune fault) kept cause = (cause, kept)
 
 keeps_self : (known : Option (List ℕ)) → Keeps known known
@@ -58,6 +67,20 @@ told_fault family body fault = first_told (faults family body) (message_of famil
 pub told_text : (family : AddressFamily) (body : List ℕ) (message : Message) → judged (faults family body) (message_of family body) ≡ Ok message → body_report family body ≡ Ok (message_text family message)
 told_text family body message = none_told family (faults family body) (message_of family body) message
 
+first_hello_told : (all : List HelloFault) (value : of_hello.Hello) (text : List ℕ) (fault : HelloFault) → judged all value ≡ Err fault → judged (map Hello all) text ≡ Err (Hello fault)
+first_hello_told [] value text fault told = absurd cc
+first_hello_told (first ∷ others) value text fault told = let same : first ≡ fault = cc in ap (λ (f : HelloFault). Err (Hello f)) same
+
+no_hello_told : (family : AddressFamily) (all : List HelloFault) (value given : of_hello.Hello) → judged all value ≡ Ok given → judged (map Hello all) (hello_text family value) ≡ Ok (hello_text family given)
+no_hello_told family [] value given told = let same : value ≡ given = cc in ap (λ (h : of_hello.Hello). Ok (hello_text family h)) same
+no_hello_told family (first ∷ others) value given told = absurd cc
+
+pub told_hello_fault : (family : AddressFamily) (body : List ℕ) (fault : HelloFault) → judged (hello_option_faults body) (hello_of family body) ≡ Err fault → hello_report family body ≡ Err (Hello fault)
+told_hello_fault family body fault = first_hello_told (hello_option_faults body) (hello_of family body) (hello_text family (hello_of family body)) fault
+
+pub told_hello : (family : AddressFamily) (body : List ℕ) (value : of_hello.Hello) → judged (hello_option_faults body) (hello_of family body) ≡ Ok value → hello_report family body ≡ Ok (hello_text family value)
+told_hello family body value = no_hello_told family (hello_option_faults body) (hello_of family body) value
+
 -- ---- the report of a message whose header is sound
 
 framed : (family : AddressFamily) (all : List FrameFault) (held given : Content) → judged all held ≡ Ok given
@@ -68,3 +91,7 @@ framed family (first ∷ others) held given told = absurd cc
 pub framed_body : (family : AddressFamily) (source destination message body : List ℕ) → judged (frame_faults family source destination message) (content message) ≡ Ok (join_prune body)
     → message_report family source destination message ≡ body_report family body
 framed_body family source destination message body = framed family (frame_faults family source destination message) (content message) (join_prune body)
+
+pub framed_hello : (family : AddressFamily) (source destination message body : List ℕ) → judged (frame_faults family source destination message) (content message) ≡ Ok (hello body)
+    → message_report family source destination message ≡ hello_report family body
+framed_hello family source destination message body = framed family (frame_faults family source destination message) (content message) (hello body)

@@ -5,14 +5,17 @@ use Rattle.pim_addr.specs.Faults.{fault_if, judged}
 use Rattle.pim_addr.specs.Device.{AppendsFront}
 use Rattle.pim_addr.specs.declared.family.AddressFamily.{AddressFamily}
 use Rattle.pim_frame.specs.Frame.{Content, hello, join_prune, other, content, frame_faults}
+use Rattle.pim_hello.specs.Value.{hello_of}
+use Rattle.pim_hello.specs.Faults.{faults as hello_option_faults}
 use Rattle.pim_jp.specs.Message.{message_of}
 use Rattle.pim_jp.specs.Faults.{faults}
 use Rattle.pimtree.specs.declared.fault.Fault.{Fault}
-use Rattle.pimtree.specs.declared.fault.Fault.TheVariants.{Frame, JoinPrune, InputTooLong, InputRead, Output, Memory}
+use Rattle.pimtree.specs.declared.fault.Fault.TheVariants.{Clap, Address, Family, Frame, Hello, JoinPrune, InputTooLong, InputRead, Output, Memory}
 use Rattle.pimtree.specs.Text.{message_text, type_text}
+use Rattle.pimtree.specs.HelloText.{hello_text}
 
 abbrev pub content_faults : AddressFamily → Content → List Fault
-content_faults family (hello body) = []
+content_faults family (hello body) = map Hello (hello_option_faults body)
 content_faults family (join_prune body) = map JoinPrune (faults family body)
 content_faults family (other kind) = []
 
@@ -20,9 +23,12 @@ content_faults family (other kind) = []
 abbrev pub body_report : AddressFamily → List ℕ → Result (List ℕ) Fault
 body_report family body = judged (map JoinPrune (faults family body)) (message_text family (message_of family body))
 
--- A Hello's options aren't read yet.
+-- the text of a Hello's body, or the first thing that is wrong with it
+abbrev pub hello_report : AddressFamily → List ℕ → Result (List ℕ) Fault
+hello_report family body = judged (map Hello (hello_option_faults body)) (hello_text family (hello_of family body))
+
 abbrev pub content_text : AddressFamily → Content → List ℕ
-content_text family (hello body) = type_text 0
+content_text family (hello body) = hello_text family (hello_of family body)
 content_text family (join_prune body) = message_text family (message_of family body)
 content_text family (other kind) = type_text kind
 
@@ -54,11 +60,15 @@ WroteFront (Err fault) old new = ⊥
 
 -- A fault's cause is there, and what went out is a front of the text.
 abbrev pub Explains : Result (List ℕ) Fault → Option (List ℕ) → Option (List ℕ) → Fault → Type 0
+Explains report old new (Clap error) = ⊥
+Explains report old new (Address word) = ⊥
+Explains report old new Family = ⊥
 Explains report old new Memory = Keeps old new
 Explains report old new InputRead = Keeps old new
 Explains report old new Output = WroteFront report old new
 Explains report old new InputTooLong = (report ≡ Err InputTooLong) × Keeps old new
 Explains report old new (Frame fault) = (report ≡ Err (Frame fault)) × Keeps old new
+Explains report old new (Hello fault) = (report ≡ Err (Hello fault)) × Keeps old new
 Explains report old new (JoinPrune fault) = (report ≡ Err (JoinPrune fault)) × Keeps old new
 
 -- Status 0 and the whole text, or a fault.
@@ -70,20 +80,28 @@ Reports report old new (Err fault) = Explains report old new fault
 
 -- Reading the input is refused for one of these.
 abbrev pub IsReadFault : Fault → Type 0
+IsReadFault (Clap error) = ⊥
+IsReadFault (Address word) = ⊥
+IsReadFault Family = ⊥
 IsReadFault Memory = ⊤
 IsReadFault InputRead = ⊤
 IsReadFault InputTooLong = ⊤
 IsReadFault Output = ⊥
 IsReadFault (Frame fault) = ⊥
+IsReadFault (Hello fault) = ⊥
 IsReadFault (JoinPrune fault) = ⊥
 
 -- Reading the input, where the reader gives all these bytes, is refused for this cause.
 abbrev pub IsInputFault : List ℕ → Fault → Type 0
+IsInputFault all (Clap error) = ⊥
+IsInputFault all (Address word) = ⊥
+IsInputFault all Family = ⊥
 IsInputFault all Memory = ⊤
 IsInputFault all InputRead = ⊤
 IsInputFault all InputTooLong = 65536 < length all
 IsInputFault all Output = ⊥
 IsInputFault all (Frame fault) = ⊥
+IsInputFault all (Hello fault) = ⊥
 IsInputFault all (JoinPrune fault) = ⊥
 
 -- all of the bytes, or why not
@@ -93,11 +111,15 @@ GivesInput bytes_of all (Err fault) = IsInputFault all fault
 
 -- The text of a message isn't made for this cause.
 abbrev pub IsMessageFault : Result (List ℕ) Fault → Fault → Type 0
+IsMessageFault report (Clap error) = ⊥
+IsMessageFault report (Address word) = ⊥
+IsMessageFault report Family = ⊥
 IsMessageFault report Memory = ⊤
 IsMessageFault report InputRead = ⊥
 IsMessageFault report InputTooLong = ⊥
 IsMessageFault report Output = ⊥
 IsMessageFault report (Frame fault) = report ≡ Err (Frame fault)
+IsMessageFault report (Hello fault) = report ≡ Err (Hello fault)
 IsMessageFault report (JoinPrune fault) = report ≡ Err (JoinPrune fault)
 
 -- the text that is reported, or why there is none

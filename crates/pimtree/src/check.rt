@@ -4,23 +4,24 @@ ghost use Rattle.std.specs.Prelude.{◌≡◌, ◌+◌, ◌<◌, ◌≤◌, leng
 ghost use Rattle.std.specs.Io.KnownBytes.{Keeps, IsAtEnd, Consumes};
 ghost use Rattle.pim_addr.specs.Device.{FailedIn, ConsumesAtMost, failures_after};
 ghost use Rattle.pim_addr.specs.Faults.{Answers};
-ghost use Rattle.pimtree.specs.Report.{body_report, message_report, input_report, Reports, GivesReport, GivesInput, IsReadFault};
+ghost use Rattle.pimtree.specs.Plan.{end_family, end_source, end_destination};
+ghost use Rattle.pimtree.specs.Report.{body_report, hello_report, message_report, input_report, Reports, GivesReport, GivesInput, IsReadFault};
 
 use crate::fault::Fault;
+use crate::hello_text::hello_text;
+use crate::task::Ends;
 use crate::text::{message_text, type_text};
-use pim_addr::{Drain, Family, Feed, read_up_to, write_all};
+use pim_addr::{Drain, Family, Feed, V4, V6, read_up_to, write_all};
 use pim_frame::{Body, open};
+use pim_hello::Hello;
 use pim_jp::JpView;
 use std::alloc::Global;
 
 /// The most bytes that an input may have.
 const INPUT_LIMIT: usize = 65_536;
 
-/// The type of a Hello, which is all that is told of it so far.
-const HELLO: u8 = 0;
-
 /// A buffer of so many bytes.
-fn blank(alloc: Global, length: usize) -> Result<Vec<u8>, Fault>
+fn blank(alloc: Global, length: usize) -> Result<Vec<u8>, Fault<'static>>
     ensures length { IfOk result (λ buffer. vec_len buffer ≡ length) }
     ensures memory { IfErr result (λ fault. fault ≡ Fault.Memory) }
 {
@@ -28,7 +29,7 @@ fn blank(alloc: Global, length: usize) -> Result<Vec<u8>, Fault>
 }
 
 /// Reads the input to its end.
-fn read_input<R: Feed>(alloc: Global, reader: &mut R) -> Result<Vec<u8>, Fault>
+fn read_input<R: Feed>(alloc: Global, reader: &mut R) -> Result<Vec<u8>, Fault<'static>>
     ensures input { IfSome (R.remaining reader.old) (λ all. GivesInput (λ v. v.items) all result) }
     ensures causes { IfErr result IsReadFault }
     ensures failed { IsErrOf result Fault.InputRead → FailedIn (R.failures reader.old) (R.failures reader.new) }
@@ -46,7 +47,7 @@ fn read_input<R: Feed>(alloc: Global, reader: &mut R) -> Result<Vec<u8>, Fault>
 
 /// What is to be printed of the body of a Join/Prune.
 #[tactic(auto, using(crate::proofs::Reports::told_fault, crate::proofs::Reports::told_text))]
-fn report_join_prune<F: Family>(alloc: Global, body: &[u8]) -> Result<Vec<u8>, Fault>
+fn report_join_prune<F: Family>(alloc: Global, body: &[u8]) -> Result<Vec<u8>, Fault<'static>>
     ensures { GivesReport (λ v. v.items) (body_report F.family body.now) result }
 {
     match JpView::<F>::read(body) {
@@ -55,20 +56,31 @@ fn report_join_prune<F: Family>(alloc: Global, body: &[u8]) -> Result<Vec<u8>, F
     }
 }
 
+/// What is to be printed of the body of a Hello.
+#[tactic(auto, using(crate::proofs::Reports::told_hello_fault, crate::proofs::Reports::told_hello))]
+fn report_hello<F: Family>(alloc: Global, body: &[u8]) -> Result<Vec<u8>, Fault<'static>>
+    ensures { GivesReport (λ v. v.items) (hello_report F.family body.now) result }
+{
+    match Hello::<F>::read(body) {
+        Ok(hello) => hello_text(alloc, &hello).map_err(|_| Fault::Memory),
+        Err(fault) => Err(Fault::Hello(fault)),
+    }
+}
+
 /// What is to be printed of a message.
-#[tactic(auto, using(crate::proofs::Reports::framed_body))]
+#[tactic(auto, using(crate::proofs::Reports::framed_body, crate::proofs::Reports::framed_hello))]
 fn report<F: Family>(
     alloc: Global,
     src: F::Addr,
     dst: F::Addr,
     message: &[u8],
-) -> Result<Vec<u8>, Fault>
+) -> Result<Vec<u8>, Fault<'static>>
     requires { length message.now ≤ 65536 }
     ensures { GivesReport (λ v. v.items) (message_report F.family (F.bytes_of src) (F.bytes_of dst) message.now) result }
 {
     match open::<F>(src, dst, message) {
         Err(fault) => Err(Fault::Frame(fault)),
-        Ok(Body::Hello(_)) => type_text(alloc, HELLO).map_err(|_| Fault::Memory),
+        Ok(Body::Hello(body)) => report_hello::<F>(alloc, body),
         Ok(Body::JoinPrune(body)) => report_join_prune::<F>(alloc, body),
         Ok(Body::Other(kind)) => type_text(alloc, kind).map_err(|_| Fault::Memory),
     }
@@ -78,7 +90,7 @@ fn report<F: Family>(
 /// is the status, 0. Of an input at most 65,537 bytes are read: the last one shows that it is too long.
 ///
 /// # Errors
-/// The first of: `Memory` (at any time before the writing), `InputRead`, `InputTooLong` (above 65,536 bytes), `Frame`, `JoinPrune`,
+/// The first of: `Memory` (at any time before the writing), `InputRead`, `InputTooLong` (above 65,536 bytes), `Frame`, `Hello`, `JoinPrune`,
 /// after which nothing was written, and `Output`, after which a front of the text was.
 pub fn check_into<F: Family, R: Feed, W: Drain>(
     alloc: Global,
@@ -86,7 +98,7 @@ pub fn check_into<F: Family, R: Feed, W: Drain>(
     writer: &mut W,
     src: F::Addr,
     dst: F::Addr,
-) -> Result<u8, Fault>
+) -> Result<u8, Fault<'static>>
     ensures report { IfSome (R.remaining reader.old) (λ input.
         Reports (input_report F.family (F.bytes_of src) (F.bytes_of dst) input) (W.contents writer.old) (W.contents writer.new) result) }
     ensures status { IfOk result (λ status. status ≡ 0) }
@@ -98,4 +110,27 @@ pub fn check_into<F: Family, R: Feed, W: Drain>(
     let text = report::<F>(alloc, src, dst, &input)?;
     write_all(writer, &text).map_err(|_| Fault::Output)?;
     Ok(0)
+}
+
+/// `check_into` of a message that went from one of these ends to the other.
+///
+/// # Errors
+/// Those of `check_into`.
+pub fn check_ends<R: Feed, W: Drain>(
+    alloc: Global,
+    reader: &mut R,
+    writer: &mut W,
+    ends: Ends,
+) -> Result<u8, Fault<'static>>
+    ensures report { IfSome (R.remaining reader.old) (λ input.
+        Reports (input_report (end_family ends) (end_source ends) (end_destination ends) input) (W.contents writer.old) (W.contents writer.new) result) }
+    ensures status { IfOk result (λ status. status ≡ 0) }
+    ensures input_read { IsErrOf result Fault.InputRead → FailedIn (R.failures reader.old) (R.failures reader.new) }
+    ensures output { IsErrOf result Fault.Output → FailedIn (W.failures writer.old) (W.failures writer.new) }
+    ensures taken { ConsumesAtMost 65537 (R.remaining reader.old) (R.remaining reader.new) }
+{
+    match ends {
+        Ends::V4 { src, dst } => check_into::<V4, _, _>(alloc, reader, writer, src, dst),
+        Ends::V6 { src, dst } => check_into::<V6, _, _>(alloc, reader, writer, src, dst),
+    }
 }

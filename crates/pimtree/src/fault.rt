@@ -3,18 +3,28 @@
 ghost use Rattle.std.specs.Prelude.{◌≡◌, ◌++◌, decimal};
 ghost use Rattle.pim_addr.specs.Device.{AppendsAll, failures_after};
 ghost use Rattle.pimtree.specs.Text.{line};
-ghost use Rattle.pimtree.specs.Words.{frame_words, kind_name, fault_words, fault_text};
+ghost use Rattle.pimtree.specs.Words.{frame_words, hello_kind_name, kind_name, refusal_words, fault_words, fault_text};
 
+use clap::Error;
 use itoa::Buffer;
 use pim_addr::{Drain, Failed, write_all};
 use pim_frame::FrameFault;
+use pim_hello::{HelloFault, HelloKind};
 use pim_jp::{JpFault, JpKind};
 
 /// Why a run ended before its end.
-#[derive(Clone, Copy, Debug, PartialEq, Eq)]
-pub enum Fault {
+#[derive(Debug, Drop)]
+pub enum Fault<'a> {
+    /// `clap` doesn't take the words, or they ask for help or the version.
+    Clap(Error),
+    /// The value of an option, as it was given, is no address.
+    Address(&'a str),
+    /// The addresses of the command are of two families.
+    Family,
     /// The message's header is at fault.
     Frame(FrameFault),
+    /// The body of a Hello is at fault.
+    Hello(HelloFault),
     /// The body of a Join/Prune is at fault.
     JoinPrune(JpFault),
     /// The input has more than 65,536 bytes.
@@ -42,6 +52,17 @@ fn kind_name(kind: JpKind) -> &'static [u8]
         JpKind::SecondStar => b"second-star",
         JpKind::BothLists => b"both-lists",
         JpKind::Trailing => b"trailing",
+    }
+}
+
+/// The name of what is wrong with the body of a Hello.
+fn hello_kind_name(kind: HelloKind) -> &'static [u8]
+    ensures { result.now ≡ hello_kind_name kind }
+{
+    match kind {
+        HelloKind::Short => b"short",
+        HelloKind::OptionLength => b"option-length",
+        HelloKind::Address => b"address",
     }
 }
 
@@ -97,19 +118,46 @@ fn write_frame_words<W: Drain>(fault: FrameFault, writer: &mut W) -> Result<(), 
     }
 }
 
+/// Writes words with a word of the command line behind them, and ends the line.
+fn write_word<W: Drain>(writer: &mut W, words: &[u8], word: &str) -> Result<(), Failed>
+    ensures bytes { AppendsAll (W.contents writer.old) (W.contents writer.new) result (line (words.now ++ word.now)) }
+    ensures count { W.failures writer.new ≡ failures_after (W.failures writer.old) result }
+{
+    write_all(writer, words)?;
+    write_all(writer, word.as_bytes())?;
+    write_all(writer, b"\n")
+}
+
+/// The short text that `clap` has on a kind of error. What it has to say in full is printed by itself.
+fn refusal_words(error: &Error) -> &'static str
+    ensures { result.now ≡ refusal_words error.now }
+{
+    error.kind().as_str().unwrap_or("help")
+}
+
 /// Writes the words of a fault and ends the line.
-fn write_words<W: Drain>(fault: Fault, writer: &mut W) -> Result<(), Failed>
-    ensures bytes { AppendsAll (W.contents writer.old) (W.contents writer.new) result (line (fault_words fault)) }
+fn write_words<W: Drain>(fault: &Fault<'_>, writer: &mut W) -> Result<(), Failed>
+    ensures bytes { AppendsAll (W.contents writer.old) (W.contents writer.new) result (line (fault_words fault.now)) }
     ensures count { W.failures writer.new ≡ failures_after (W.failures writer.old) result }
 {
     match fault {
-        Fault::Frame(fault) => write_frame_words(fault, writer),
+        Fault::Clap(error) => write_plain(writer, refusal_words(error).as_bytes()),
+        Fault::Address(word) => write_word(writer, b"address ", word),
+        Fault::Family => write_plain(writer, b"family"),
+        Fault::Frame(fault) => write_frame_words(*fault, writer),
+        Fault::Hello(HelloFault { at, kind }) => write_named(
+            writer,
+            b"hello ",
+            hello_kind_name(*kind),
+            b" at ",
+            *at,
+        ),
         Fault::JoinPrune(JpFault { at, kind }) => write_named(
             writer,
             b"join/prune ",
-            kind_name(kind),
+            kind_name(*kind),
             b" at ",
-            at,
+            *at,
         ),
         Fault::InputTooLong => write_plain(writer, b"input too-long"),
         Fault::InputRead => write_plain(writer, b"input read"),
@@ -120,10 +168,10 @@ fn write_words<W: Drain>(fault: Fault, writer: &mut W) -> Result<(), Failed>
 
 /// Writes the line of a fault: `pimtree: `, its words and a line feed. Where the writer fails, a front of the
 /// line went out.
-pub fn fault_line<W: Drain>(fault: &Fault, writer: &mut W) -> Result<(), Failed>
+pub fn fault_line<W: Drain>(fault: &Fault<'_>, writer: &mut W) -> Result<(), Failed>
     ensures bytes { AppendsAll (W.contents writer.old) (W.contents writer.new) result (fault_text fault.now) }
     ensures count { W.failures writer.new ≡ failures_after (W.failures writer.old) result }
 {
     write_all(writer, b"pimtree: ")?;
-    write_words(*fault, writer)
+    write_words(fault, writer)
 }

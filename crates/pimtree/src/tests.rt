@@ -3,21 +3,33 @@
 use crate::check::check_into;
 use crate::fault::{Fault, fault_line};
 use pim_addr::{Family, ScriptedDrain, ScriptedFeed, V4, V6};
-use pim_frame::{FrameFault, Kind, all_routers, open, seal};
+use pim_frame::{Body, FrameFault, Kind, all_routers, open, seal};
 use std::alloc::{AllocError, Global};
 use std::process::Abort;
 use std::test::Fail;
 
 /// A Join(*,G), which the README reads too.
-const JOIN_STAR: &str = "2300c4d4 01000a000002 000100d2 01000020ef010101 00010000 010007200a090909";
+pub const JOIN_STAR: &str =
+    "2300c4d4 01000a000002 000100d2 01000020ef010101 00010000 010007200a090909";
 
-const JOIN_STAR_TEXT: &str = "join/prune upstream 10.0.0.2 holdtime 210 sets 1
+pub const JOIN_STAR_TEXT: &str = "join/prune upstream 10.0.0.2 holdtime 210 sets 1
 set 239.1.1.1 joined 1 pruned 0
 join star 10.9.9.9
 ";
 
+/// A Join(*,G) over IPv6, from fe80::1 to ff02::d.
+pub const JOIN_STAR_V6: &str =
+    "2300a497 0200 fe80000000000000 0000000000000002 000100d2 02000080 ff0e000000000000 0000000000000001
+        00010000 02000780 20010db800000000 0000000000000009";
+
+pub const JOIN_STAR_V6_TEXT: &str =
+    "join/prune upstream fe80:0000:0000:0000:0000:0000:0000:0002 holdtime 210 sets 1
+set ff0e:0000:0000:0000:0000:0000:0000:0001 joined 1 pruned 0
+join star 2001:0db8:0000:0000:0000:0000:0000:0009
+";
+
 /// IPv4 messages to ALL-PIM-ROUTERS, each with what is printed of it and the line of its fault.
-const ROWS: [(&str, &str, &str); 17] = [
+const ROWS: [(&str, &str, &str); 25] = [
     (JOIN_STAR, JOIN_STAR_TEXT, ""),
     (
         "2300c4d5 01000a000002 000100d2 01000020ef010101 00010000 010007200a090909",
@@ -56,8 +68,50 @@ prune rpt 192.0.2.1
     ("", "", "pimtree: frame short\n"),
     ("25000000", "type 5\n", ""),
     ("33000000", "", "pimtree: frame version 3\n"),
-    ("2000 0000 0001 0002 dffc", "type 0\n", ""),
-    ("2000 ffff 0001 0002 dffc", "type 0\n", ""),
+    ("2000 0000 0001 0002 dffc", "hello\nholdtime 57340\n", ""),
+    ("2000 ffff 0001 0002 dffc", "hello\nholdtime 57340\n", ""),
+    (
+        "200083d7 00010002 0023 00020004 01f409c4 00130004 00000001 00140004 0edb4187
+        00180012 0200fe80000000000000000000fffe000007",
+        "hello
+holdtime 35
+lan-prune-delay t 0 propagation 500 override 2500
+dr-priority 1
+generation 249250183
+",
+        "",
+    ),
+    (
+        "20005441 0002 0004 81f4 09c4",
+        "hello\nlan-prune-delay t 1 propagation 500 override 2500\n",
+        "",
+    ),
+    (
+        "2000dfd0 00130004 ffffffff 00140004 ffffffff",
+        "hello\ndr-priority 4294967295\ngeneration 4294967295\n",
+        "",
+    ),
+    (
+        "2000d4d8 0018 0006 01000a000009",
+        "hello\naddress 10.0.0.9\n",
+        "",
+    ),
+    (
+        "2000dd6a 000100020069 0014000401020304",
+        "",
+        "pimtree: frame checksum\n",
+    ),
+    ("2000dffc 00010002", "", "pimtree: hello short at 0\n"),
+    (
+        "2000df91 00010004 00000069",
+        "",
+        "pimtree: hello option-length at 0\n",
+    ),
+    (
+        "2000dd7a 00010002 0069 00180001 02",
+        "",
+        "pimtree: hello address at 6\n",
+    ),
     ("2000 0001 0001 0002 dffc", "", "pimtree: frame checksum\n"),
     ("2300dcff 0000", "", "pimtree: join/prune short at 0\n"),
     (
@@ -78,7 +132,7 @@ prune rpt 192.0.2.1
 ];
 
 /// The bytes that hexadecimal digits spell; spaces are for reading.
-fn bytes_of(alloc: Global, digits: &str) -> Result<Vec<u8>, AllocError> {
+pub fn bytes_of(alloc: Global, digits: &str) -> Result<Vec<u8>, AllocError> {
     let mut bytes = Vec::new(alloc);
     let mut high = None;
     for digit in digits.chars() {
@@ -96,7 +150,7 @@ fn bytes_of(alloc: Global, digits: &str) -> Result<Vec<u8>, AllocError> {
 }
 
 /// The line of a fault.
-fn line_of(rt: &impl Abort, alloc: Global, answer: Result<u8, Fault>) -> ScriptedDrain {
+pub fn line_of(rt: &impl Abort, alloc: Global, answer: Result<u8, Fault<'_>>) -> ScriptedDrain {
     let mut line = ScriptedDrain::new(alloc, 1, usize::MAX);
     if let Err(fault) = answer {
         let written = fault_line(&fault, &mut line);
@@ -143,20 +197,29 @@ fn messages_are_printed(rt: HostRuntime) -> Result<(), Fail> {
 #[test]
 fn ipv6_is_printed(rt: HostRuntime) -> Result<(), Fail> {
     let alloc = rt.alloc();
-    let digits =
-        "2300a497 0200 fe80000000000000 0000000000000002 000100d2 02000080 ff0e000000000000 0000000000000001
-        00010000 02000780 20010db800000000 0000000000000009";
-    let text = "join/prune upstream fe80:0000:0000:0000:0000:0000:0000:0002 holdtime 210 sets 1
-set ff0e:0000:0000:0000:0000:0000:0000:0001 joined 1 pruned 0
-join star 2001:0db8:0000:0000:0000:0000:0000:0009
-";
-    let message = bytes_of(alloc, digits)?;
+    let message = bytes_of(alloc, JOIN_STAR_V6)?;
     let src = [0xfe, 0x80, 0, 0, 0, 0, 0, 0, 0, 0, 0, 0, 0, 0, 0, 1];
     let mut input = ScriptedFeed::new(&message, 1, usize::MAX);
     let mut output = ScriptedDrain::new(alloc, 7, usize::MAX);
     let answer = check_into::<V6, _, _>(alloc, &mut input, &mut output, src, all_routers::<V6>());
-    assert_eq!(rt; answer, Ok(0));
-    assert_eq!(rt; output.written(), text.as_bytes());
+    assert!(rt; matches!(answer, Ok(0)));
+    assert_eq!(rt; output.written(), JOIN_STAR_V6_TEXT.as_bytes());
+    Ok(())
+}
+
+#[test]
+fn hello_over_ipv6_is_printed(rt: HostRuntime) -> Result<(), Fail> {
+    let alloc = rt.alloc();
+    let message = bytes_of(alloc, "2000dd6a 000100020069 0014000401020304")?;
+    let src = [0xfe, 0x80, 0, 0, 0, 0, 0, 0, 0, 0, 0, 0, 0, 0, 0, 1];
+    let mut input = ScriptedFeed::new(&message, 1, usize::MAX);
+    let mut output = ScriptedDrain::new(alloc, 7, usize::MAX);
+    let answer = check_into::<V6, _, _>(alloc, &mut input, &mut output, src, all_routers::<V6>());
+    assert!(rt; matches!(answer, Ok(0)));
+    assert_eq!(rt;
+        output.written(),
+        b"hello\nholdtime 105\ngeneration 16909060\n".as_slice()
+    );
     Ok(())
 }
 
@@ -227,6 +290,63 @@ fn changed_bytes_fail_the_checksum(rt: HostRuntime) -> Result<(), Fail> {
     Ok(())
 }
 
+/// The first message with its first byte changed, and nothing mended: its version and type are told before its
+/// checksum, which is that of a Join/Prune alone.
+#[test]
+fn changed_first_bytes_are_told(rt: HostRuntime) -> Result<(), Fail> {
+    let mut message = bytes_of(rt.alloc(), JOIN_STAR)?;
+    for first in 0..=255u8 {
+        assert!(rt; !message.is_empty() && message.len() < 100);
+        message[0] = first;
+        let opened = open::<V4>([0; 4], all_routers::<V4>(), &message);
+        match (first >> 4, first & 0x0f) {
+            (2, 3) => assert!(rt; opened.is_ok()),
+            (2, 0) => assert_eq!(rt; opened, Err(FrameFault::Checksum)),
+            (2, kind) => assert_eq!(rt; opened, Ok(Body::Other(kind))),
+            (version, _) => assert_eq!(rt; opened, Err(FrameFault::Version(version))),
+        }
+    }
+    Ok(())
+}
+
+/// A read that fails from this byte on is told, and nothing was written.
+fn fails_to_read(rt: &impl Abort, alloc: Global, message: &[u8], from: usize) {
+    let mut input = ScriptedFeed::new(message, 1, from);
+    let mut output = ScriptedDrain::new(alloc, 1, usize::MAX);
+    let answer = check_into::<V4, _, _>(
+        alloc,
+        &mut input,
+        &mut output,
+        [0; 4],
+        all_routers::<V4>(),
+    );
+    assert!(rt; matches!(answer, Err(Fault::InputRead)));
+    assert!(rt; output.written().is_empty());
+    assert_eq!(rt;
+        line_of(rt, alloc, answer).written(),
+        b"pimtree: input read\n".as_slice()
+    );
+}
+
+/// A write that fails from this byte on is told, behind a front of the text.
+fn fails_to_write(rt: &impl Abort, alloc: Global, message: &[u8], text: &str, from: usize) {
+    let mut input = ScriptedFeed::new(message, usize::MAX, usize::MAX);
+    let mut output = ScriptedDrain::new(alloc, 5, from);
+    let answer = check_into::<V4, _, _>(
+        alloc,
+        &mut input,
+        &mut output,
+        [0; 4],
+        all_routers::<V4>(),
+    );
+    assert!(rt; matches!(answer, Err(Fault::Output)));
+    assert_eq!(rt; Some(output.written()), text.as_bytes().get(..from));
+    assert_eq!(rt;
+        line_of(rt, alloc, answer).written(),
+        b"pimtree: output\n".as_slice()
+    );
+}
+
 /// Each read fails in turn, and then each write.
 #[test]
 fn devices_that_fail_are_told(rt: HostRuntime) -> Result<(), Fail> {
@@ -234,38 +354,10 @@ fn devices_that_fail_are_told(rt: HostRuntime) -> Result<(), Fail> {
     for (digits, text, _) in ROWS {
         let message = bytes_of(alloc, digits)?;
         for from in 0..=message.len() {
-            let mut input = ScriptedFeed::new(&message, 1, from);
-            let mut output = ScriptedDrain::new(alloc, 1, usize::MAX);
-            let answer = check_into::<V4, _, _>(
-                alloc,
-                &mut input,
-                &mut output,
-                [0; 4],
-                all_routers::<V4>(),
-            );
-            assert_eq!(rt; answer, Err(Fault::InputRead));
-            assert!(rt; output.written().is_empty());
-            assert_eq!(rt;
-                line_of(&rt, alloc, answer).written(),
-                b"pimtree: input read\n".as_slice()
-            );
+            fails_to_read(&rt, alloc, &message, from);
         }
         for from in 0..text.len() {
-            let mut input = ScriptedFeed::new(&message, usize::MAX, usize::MAX);
-            let mut output = ScriptedDrain::new(alloc, 5, from);
-            let answer = check_into::<V4, _, _>(
-                alloc,
-                &mut input,
-                &mut output,
-                [0; 4],
-                all_routers::<V4>(),
-            );
-            assert_eq!(rt; answer, Err(Fault::Output));
-            assert_eq!(rt; output.written(), &text.as_bytes()[..from]);
-            assert_eq!(rt;
-                line_of(&rt, alloc, answer).written(),
-                b"pimtree: output\n".as_slice()
-            );
+            fails_to_write(&rt, alloc, &message, text, from);
         }
     }
     Ok(())

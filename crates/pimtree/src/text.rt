@@ -12,7 +12,7 @@ use pim_jp::{Entries, Entry, JpView, SetView};
 use std::alloc::{AllocError, Global};
 
 /// Adds some words and the address behind them.
-fn push_address<F: Family>(
+pub fn push_address<F: Family>(
     text: &mut Vec<u8>,
     words: &[u8],
     address: F::Addr,
@@ -26,7 +26,7 @@ fn push_address<F: Family>(
 }
 
 /// Adds some words and the number behind them.
-fn push_number(text: &mut Vec<u8>, words: &[u8], number: usize) -> Result<(), AllocError>
+pub fn push_number(text: &mut Vec<u8>, words: &[u8], number: usize) -> Result<(), AllocError>
     ensures { OnOk result (text.new.items ≡ text.old.items ++ (words.now ++ decimal number)) }
 {
     text.extend_from_slice(words)?;
