@@ -1,0 +1,53 @@
+-- What a call that hears a message leaves, whose records count from the moment 0.
+use Rattle.std.proofs.Common.{◌≡◌, ◌≢◌, ℕ, List, Option, Result, Ok, Err, OnOk, OnErr, map, sym, ap, subst, ◌∙◌, arith}
+use Rattle.pim_jp.specs.Message.{Message}
+use Rattle.pim_down.specs.declared.key.Key.{Key}
+use Rattle.pim_down.specs.declared.machine.Start.{Start}
+use Rattle.pim_down.specs.declared.machine.Record.{Record}
+use Rattle.pim_down.specs.declared.event.Timing.{Timing}
+use Rattle.pim_down.specs.declared.fault.HearFault.{HearFault}
+use Rattle.pim_down.specs.Records.{IsAscending, machine_at}
+use Rattle.pim_down.specs.Hearing.{hearing, events_of, start_of, needed}
+use Rattle.pim_down.specs.Time.{Downstream, record_after}
+use Rattle.pim_down.specs.Sound.{IsSound}
+use Rattle.pim_down.specs.Heard.{heard, needed_for, IsWithin}
+use Rattle.pim_down.specs.Seen.{records_seen, shown}
+use Rattle.pim_down.specs.Running.{state_at, start_after}
+use Rattle.pim_down.proofs.Origin.{hearing_later, count_on_later, count_new_later}
+use Rattle.pim_down.proofs.Heard.{sound_heard, hearing_elsewhere}
+
+module _ {A : Type 0} (bytes_of : A → List ℕ) (ports limit moment port : ℕ) (message : Message) (known : Option (List ℕ)) (timing : Timing) where
+  pub heard_is : (start : Start) (old new : List (Record A)) (state : Downstream) → start_after moment start ≡ start_of message.holdtime timing → state_at bytes_of ports limit moment old ≡ state → records_seen bytes_of new ≡ hearing port start (events_of known message) (records_seen bytes_of old) → state_at bytes_of ports limit moment new ≡ heard port message known timing state
+  heard_is start old new state starts view is =
+      let events = events_of known message in
+      let later : shown bytes_of moment new ≡ hearing port (start_of message.holdtime timing) events (shown bytes_of moment old) =
+      ap (λ (rs : List (Record (List ℕ))). map (record_after moment) rs) is
+      ∙ hearing_later moment port start events (records_seen bytes_of old)
+      ∙ ap (λ (s : Start). hearing port s events (shown bytes_of moment old)) starts in
+      let whole : state_at bytes_of ports limit moment new ≡ heard port message known timing (state_at bytes_of ports limit moment old) =
+      ap (λ (rs : List (Record (List ℕ))). record { ports = ports; limit = limit; moment = moment; records = rs }) later in
+      whole ∙ ap (heard port message known timing) view
+
+  needed_is : (old : List (Record A)) → needed port (records_seen bytes_of old) (events_of known message) ≡ needed_for port message known (state_at bytes_of ports limit moment old)
+  needed_is old =
+      let held = count_on_later moment port (records_seen bytes_of old) in
+      let new = count_new_later moment port (events_of known message) (records_seen bytes_of old) in
+      omega arith
+
+  pub within_is : {T : Type 0} (r : Result T HearFault) (old : List (Record A)) (state : Downstream) → state_at bytes_of ports limit moment old ≡ state → IsWithin limit (needed port (records_seen bytes_of old) (events_of known message)) r → IsWithin state.limit (needed_for port message known state) r
+  within_is r old state view within =
+      subst (λ (s : Downstream). IsWithin s.limit (needed_for port message known s) r) view (subst (λ (n : ℕ). IsWithin limit n r) (needed_is old) within)
+
+  pub others_are : {T : Type 0} (r : Result T HearFault) (old new : Downstream) → IsAscending old.records → OnOk r (new ≡ heard port message known timing old) → OnErr r (new ≡ old) → (key : Key (List ℕ)) → key.port ≢ port → machine_at key new.records ≡ machine_at key old.records
+  others_are (Ok x) old new ascending ok err key differs =
+      ap (λ (s : Downstream). machine_at key s.records) ok
+      ∙ hearing_elsewhere port (start_of message.holdtime timing) (events_of known message) old.records key ascending differs
+  others_are (Err x) old new ascending ok err key differs = ap (λ (s : Downstream). machine_at key s.records) err
+
+  pub sound_is : {T : Type 0} (r : Result T HearFault) (old new : Downstream) → IsSound old → OnOk r (new ≡ heard port message known timing old) → OnErr r (new ≡ old) → IsWithin old.limit (needed_for port message known old) r → IsSound new
+  sound_is (Ok x) old new sound ok err within = subst IsSound (sym ok) (sound_heard port message known timing old sound within)
+  sound_is (Err x) old new sound ok err within = subst IsSound (sym err) sound
+
+pub on_err : {T E P Q : Type 0} (r : Result T E) → (P → Q) → OnErr r P → OnErr r Q
+on_err (Ok x) f p = p
+on_err (Err x) f p = f p

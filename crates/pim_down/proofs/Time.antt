@@ -1,0 +1,252 @@
+-- The machine of milliseconds: jumps over the milliseconds in which nothing fires, runs one after another, and that a
+-- run has one end.
+use Rattle.std.proofs.Common.{◌≡◌, ℕ, zero, suc, ◌+◌, ◌-◌, ◌<◌, ◌≤◌, Bool, true, false, cond, ◌||◌, List, [], ◌∷◌, Option, Some, None, map, ltb, leb, eqb, min, refl, sym, ap, subst, ◌∙◌, arith}
+use Rattle.std.specs.Option.{is_some}
+use Rattle.std.proofs.lemmas.Bool.{false≢true, true≢false, lt-ltb, le-ltb, ltb-true}
+use Rattle.std.proofs.lemmas.Bool.Decides.{nat_tests}
+use Rattle.pim_down.specs.declared.key.What.{What}
+use Rattle.pim_down.specs.declared.machine.Pending.{Pending}
+use Rattle.pim_down.specs.declared.machine.Record.{Record}
+use Rattle.pim_down.specs.declared.step.Step.{Step}
+use Rattle.pim_down.specs.declared.step.Step.TheVariants.{Echo, Reached}
+use Rattle.pim_down.specs.Time.{Downstream, expiry_after, pending_after, record_after, tick, expiry_due, pending_due, et_due, ppt_due, after_ppt, echo_of, first_due, with_first, fire_et, fired, Outcome, rests, moves, echoes, with_records, told, step, run_on, run_within, Runs, ticks, is_due_after, IsQuietFor}
+use Rattle.pim_down.specs.Ends.{sooner, pending_end, first_end, ends_by}
+
+-- ---- milliseconds add up
+
+expiry_more : (k j : ℕ) (e : Option ℕ) → expiry_after j (expiry_after k e) ≡ expiry_after (k + j) e
+expiry_more k j None = refl
+expiry_more k j (Some ends) = ap (λ n. Some n) (omega arith)
+
+pending_more : (k j : ℕ) (p : Option Pending) → pending_after j (pending_after k p) ≡ pending_after (k + j) p
+pending_more k j None = refl
+pending_more k j (Some timer) = let e : timer.ends - k - j ≡ timer.ends - (k + j) = omega arith in λ i. Some (record { ends = e i; several = timer.several })
+
+pub record_more : (k j : ℕ) (held : Record (List ℕ)) → record_after j (record_after k held) ≡ record_after (k + j) held
+record_more k j held =
+    λ i. record {
+      key = held.key;
+      machine = record { state = held.machine.state; expiry = expiry_more k j held.machine.expiry i; pending = pending_more k j held.machine.pending i };
+    }
+
+pub records_more : (k j : ℕ) (records : List (Record (List ℕ))) → map (record_after j) (map (record_after k) records) ≡ map (record_after (k + j)) records
+records_more k j [] = refl
+records_more k j (held ∷ records) = λ i. record_more k j held i ∷ records_more k j records i
+
+expiry_none : (e : Option ℕ) → expiry_after 0 e ≡ e
+expiry_none None = refl
+expiry_none (Some ends) = ap (λ n. Some n) (omega arith)
+
+pending_none : (p : Option Pending) → pending_after 0 p ≡ p
+pending_none None = refl
+pending_none (Some timer) = let e : timer.ends - 0 ≡ timer.ends = omega arith in λ i. Some (record { ends = e i; several = timer.several })
+
+pub records_none : (records : List (Record (List ℕ))) → map (record_after 0) records ≡ records
+records_none [] = refl
+records_none (held ∷ records) =
+    λ i. record {
+      key = held.key;
+      machine = record { state = held.machine.state; expiry = expiry_none held.machine.expiry i; pending = pending_none held.machine.pending i };
+    } ∷ records_none records i
+
+abbrev pub state_after : ℕ → Downstream → Downstream
+state_after k state = record { ports = state.ports; limit = state.limit; moment = state.moment + k; records = map (record_after k) state.records }
+
+-- so many ticks are one subtraction
+pub ticks_is : (k : ℕ) (state : Downstream) → ticks k state ≡ state_after k state
+unfolding ticks
+ticks_is zero state =
+    let m : state.moment ≡ state.moment + 0 = omega arith in
+    let r = sym (records_none state.records) in
+    λ i. record { ports = state.ports; limit = state.limit; moment = m i; records = r i }
+ticks_is (suc k) state =
+    let m : state.moment + 1 + k ≡ state.moment + suc k = omega arith in
+    let n : 1 + k ≡ suc k = omega arith in
+    let r = records_more 1 k state.records ∙ ap (λ (x : ℕ). map (record_after x) state.records) n in
+    ticks_is k (tick state) ∙ (λ i. record { ports = state.ports; limit = state.limit; moment = m i; records = r i })
+
+-- ---- what is due
+
+abbrev either_due : List (Record (List ℕ)) → Bool
+either_due records = is_some (first_due ppt_due records) || is_some (first_due et_due records)
+
+fired_is : (records : List (Record (List ℕ))) → is_some (fired records) ≡ either_due records
+unfolding fired
+fired_is records = by (first_due ppt_due records) (first_due et_due records)
+  where
+    by : (p e : Option (Record (List ℕ))) → is_some (elim p as (λ _. Option (Step (List ℕ) × List (Record (List ℕ)))) [ None ↦ fire_et records e | Some held ↦ Some (echo_of held, with_first ppt_due after_ppt records) ]) ≡ (is_some p || is_some e)
+    by None None = refl
+    by None (Some held) = refl
+    by (Some held) e = refl
+
+due_first : (due : Record (List ℕ) → Bool) (held : Record (List ℕ)) (records : List (Record (List ℕ))) → is_some (first_due due (held ∷ records)) ≡ (due held || is_some (first_due due records))
+unfolding first_due
+due_first due held records = elim (due held) as (λ b. is_some (cond b (Some held) (first_due due records)) ≡ (b || is_some (first_due due records))) [ true ↦ refl | false ↦ refl ]
+
+monus_by : (e k : ℕ) → eqb (e - k) 0 ≡ leb e k
+monus_by e k = grind (arith, nat_tests)
+
+expiry_by : (k : ℕ) (e : Option ℕ) → expiry_due (expiry_after k e) ≡ ends_by k e
+expiry_by k None = refl
+expiry_by k (Some e) = monus_by e k
+
+pending_by : (k : ℕ) (p : Option Pending) → pending_due (pending_after k p) ≡ ends_by k (pending_end p)
+pending_by k None = refl
+pending_by k (Some timer) = monus_by timer.ends k
+
+min_by : (a b k : ℕ) → leb (min a b) k ≡ (leb a k || leb b k)
+min_by a b k = grind (arith, nat_tests)
+
+sooner_by : (k : ℕ) (a b : Option ℕ) → ends_by k (sooner a b) ≡ (ends_by k a || ends_by k b)
+sooner_by k None b = refl
+sooner_by k (Some a) None = or_false (leb a k)
+  where
+    or_false : (b : Bool) → b ≡ (b || false)
+    or_false true = refl
+    or_false false = refl
+sooner_by k (Some a) (Some b) = min_by a b k
+
+shuffled : (p ps e es : Bool) → ((p || ps) || (e || es)) ≡ ((e || p) || (ps || es))
+shuffled true ps true es = refl
+shuffled true ps false es = refl
+shuffled false true true es = refl
+shuffled false true false es = refl
+shuffled false false true es = refl
+shuffled false false false es = refl
+
+either_by : (k : ℕ) (records : List (Record (List ℕ))) → either_due (map (record_after k) records) ≡ ends_by k (first_end records)
+unfolding first_end first_due
+either_by k [] = refl
+either_by k (held ∷ records) =
+    let later = record_after k held in
+    let rest = map (record_after k) records in
+    let p = due_first ppt_due later rest in
+    let e = due_first et_due later rest in
+    let both : either_due (later ∷ rest) ≡ ((ppt_due later || is_some (first_due ppt_due rest)) || (et_due later || is_some (first_due et_due rest))) = λ i. p i || e i in
+    let turned = shuffled (ppt_due later) (is_some (first_due ppt_due rest)) (et_due later) (is_some (first_due et_due rest)) in
+    let here : (et_due later || ppt_due later) ≡ ends_by k (sooner held.machine.expiry (pending_end held.machine.pending)) =
+    (λ i. expiry_by k held.machine.expiry i || pending_by k held.machine.pending i) ∙ sym (sooner_by k held.machine.expiry (pending_end held.machine.pending)) in
+    let all : ((et_due later || ppt_due later) || either_due rest) ≡ ends_by k (first_end (held ∷ records)) =
+    (λ i. here i || either_by k records i) ∙ sym (sooner_by k (sooner held.machine.expiry (pending_end held.machine.pending)) (first_end records)) in
+    both ∙ turned ∙ all
+
+-- something fires after so many milliseconds exactly where the first end is no later
+pub fired_by : (k : ℕ) (records : List (Record (List ℕ))) → is_some (fired (map (record_after k) records)) ≡ ends_by k (first_end records)
+fired_by k records = fired_is (map (record_after k) records) ∙ either_by k records
+
+pub due_by : (k : ℕ) (state : Downstream) → is_due_after k state ≡ ends_by k (first_end state.records)
+due_by k state = ap (λ (s : Downstream). is_some (fired s.records)) (ticks_is k state) ∙ fired_by k state.records
+
+-- ---- runs
+
+pub run_more : (moment : ℕ) (state next after : Downstream) (answer : Step (List ℕ)) → step moment state ≡ moves next → Runs moment next answer after → Runs moment state answer after
+unfolding run_within
+run_more moment state next after answer moved runs = record { steps = suc runs.steps; within = rw moved runs.within }
+
+pub run_echo : (moment : ℕ) (state after : Downstream) (answer : Step (List ℕ)) → step moment state ≡ echoes answer after → Runs moment state answer after
+unfolding run_within
+run_echo moment state after answer told = record { steps = 1; within = rw told refl }
+
+pub run_rest : (moment : ℕ) (state : Downstream) → step moment state ≡ rests → Runs moment state Reached state
+unfolding run_within
+run_rest moment state rested = record { steps = 1; within = rw rested refl }
+
+none_from_quiet : (o : Option (Step (List ℕ) × List (Record (List ℕ)))) → is_some o ≡ false → o ≡ None
+none_from_quiet None e = refl
+none_from_quiet (Some o) e = absurd (false≢true (sym e))
+
+-- nothing is due
+pub step_passes : (moment : ℕ) (state : Downstream) → is_some (fired state.records) ≡ false → state.moment < moment → step moment state ≡ moves (tick state)
+unfolding step
+step_passes moment state quiet before = rw (none_from_quiet (fired state.records) quiet, lt-ltb state.moment moment before) refl
+
+pub step_rests : (moment : ℕ) (state : Downstream) → is_some (fired state.records) ≡ false → moment ≤ state.moment → step moment state ≡ rests
+unfolding step
+step_rests moment state quiet reached = rw (none_from_quiet (fired state.records) quiet, le-ltb state.moment moment reached) refl
+
+-- whatever runs from the end of a quiet time runs from its start
+pub run_quiet : (k moment : ℕ) (state after : Downstream) (answer : Step (List ℕ)) → IsQuietFor k state → state.moment + k ≤ moment → Runs moment (ticks k state) answer after → Runs moment state answer after
+unfolding ticks
+run_quiet zero moment state after answer quiet within runs = runs
+run_quiet (suc k) moment state after answer quiet within runs =
+    let here : is_some (fired state.records) ≡ false = quiet 0 (omega arith) in
+    let moved = step_passes moment state here (omega arith) in
+    let later : IsQuietFor k (tick state) = λ j h. quiet (suc j) (omega arith) in
+    run_more moment state (tick state) after answer moved (run_quiet k moment (tick state) after answer later (omega arith) runs)
+
+-- ---- a run, and then a run
+
+abbrev Answer : Type 0
+Answer = Option (Step (List ℕ) × Downstream)
+
+-- what one step leads to, at an earlier and at a later moment
+data Steps (earlier later : ℕ) (state : Downstream) : Type 0 where
+  goes : (next : Downstream) → step earlier state ≡ moves next → step later state ≡ moves next → Steps earlier later state
+  stays : step earlier state ≡ rests → Steps earlier later state
+  tells : (port : ℕ) (group : List ℕ) (what : What (List ℕ)) (next : Downstream) → step earlier state ≡ echoes (Echo port group what) next → Steps earlier later state
+
+steps_fired : (earlier later : ℕ) (state : Downstream) (answer : Step (List ℕ)) (records : List (Record (List ℕ))) → fired state.records ≡ Some (answer, records) → Steps earlier later state
+unfolding step
+steps_fired earlier later state Reached records e = goes (with_records state records) (rw e refl) (rw e refl)
+steps_fired earlier later state (Echo port group what) records e = tells port group what (with_records state records) (rw e refl)
+
+steps_passed : (earlier later : ℕ) (state : Downstream) → earlier ≤ later → fired state.records ≡ None → Steps earlier later state
+unfolding step
+steps_passed earlier later state le e =
+    elim (ltb state.moment earlier) as (λ b. ltb state.moment earlier ≡ b → Steps earlier later state) [
+      | true ↦ λ t. let lt : state.moment < earlier = ltb-true state.moment earlier t in goes (tick state) (rw (e, t) refl) (rw (e, lt-ltb state.moment later (omega arith)) refl)
+      | false ↦ λ t. stays (rw (e, t) refl)
+    ] refl
+
+steps_of : (earlier later : ℕ) (state : Downstream) → earlier ≤ later → Steps earlier later state
+steps_of earlier later state le =
+    elim (fired state.records) as (λ o. fired state.records ≡ o → Steps earlier later state) [
+      | None ↦ λ e. steps_passed earlier later state le e
+      | Some fire ↦ λ e. steps_fired earlier later state fire.0 fire.1 e
+    ] refl
+
+reached_at : (state middle : Downstream) → ◌≡◌ {A = Answer} (Some (Reached, state)) (Some (Reached, middle)) → state ≡ middle
+reached_at state middle e =
+    let pairs : ◌≡◌ {A = Step (List ℕ) × Downstream} (Reached, state) (Reached, middle) = cc in
+    ap (λ (x : Step (List ℕ) × Downstream). x.1) pairs
+
+abbrev is_echo : Step (List ℕ) → Bool
+is_echo Reached = false
+is_echo (Echo port group what) = true
+
+no_echo : (port : ℕ) (group : List ℕ) (what : What (List ℕ)) (next middle : Downstream) → ◌≡◌ {A = Answer} (Some (Echo port group what, next)) (Some (Reached, middle)) → ⊥
+no_echo port group what next middle e =
+    let pairs : ◌≡◌ {A = Step (List ℕ) × Downstream} (Echo port group what, next) (Reached, middle) = cc in
+    true≢false (ap (λ (x : Step (List ℕ) × Downstream). is_echo x.0) pairs)
+
+run_then : (steps earlier later : ℕ) (state middle after : Downstream) (answer : Step (List ℕ)) → earlier ≤ later → run_within steps earlier state ≡ Some (Reached, middle) → Runs later middle answer after → Runs later state answer after
+unfolding run_within
+run_then zero earlier later state middle after answer le e runs = cc
+run_then (suc steps) earlier later state middle after answer le e runs =
+    elim (steps_of earlier later state le) [
+      | goes next first second ↦ run_more later state next after answer second (run_then steps earlier later next middle after answer le (rw first at e) runs)
+      | stays rest ↦ subst (λ (s : Downstream). Runs later s answer after) (sym (reached_at state middle (rw rest at e))) runs
+      | tells port group what next echo ↦ absurd (no_echo port group what next middle (rw echo at e))
+    ]
+
+-- a run that reaches a moment, and then one up to a later moment, are one run up to the later
+pub runs_then : (earlier later : ℕ) (state middle after : Downstream) (answer : Step (List ℕ)) → earlier ≤ later → Runs earlier state Reached middle → Runs later middle answer after → Runs later state answer after
+runs_then earlier later state middle after answer le first second = run_then first.steps earlier later state middle after answer le first.within second
+
+-- ---- a run has one end
+
+one_by : (outcome : Outcome) (moment n m : ℕ) (state : Downstream) (x y : Step (List ℕ) × Downstream) → ((next : Downstream) → run_within n moment next ≡ Some x → run_within m moment next ≡ Some y → x ≡ y) → run_on outcome state (run_within n moment) ≡ Some x → run_on outcome state (run_within m moment) ≡ Some y → x ≡ y
+one_by rests moment n m state x y more e f = cc
+one_by (moves next) moment n m state x y more e f = more next e f
+one_by (echoes echo next) moment n m state x y more e f = cc
+
+one_within : (n m moment : ℕ) (state : Downstream) (x y : Step (List ℕ) × Downstream) → run_within n moment state ≡ Some x → run_within m moment state ≡ Some y → x ≡ y
+unfolding run_within
+one_within zero m moment state x y e f = cc
+one_within (suc n) zero moment state x y e f = cc
+one_within (suc n) (suc m) moment state x y e f = one_by (step moment state) moment n m state x y (λ next. one_within n m moment next x y) e f
+
+pub runs_once : (moment : ℕ) (state after other : Downstream) (answer told : Step (List ℕ)) → Runs moment state answer after → Runs moment state told other → (answer ≡ told) × (after ≡ other)
+runs_once moment state after other answer told first second =
+    let same = one_within first.steps second.steps moment state (answer, after) (told, other) first.within second.within in
+    (ap (λ (x : Step (List ℕ) × Downstream). x.0) same, ap (λ (x : Step (List ℕ) × Downstream). x.1) same)

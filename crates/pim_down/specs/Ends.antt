@@ -1,0 +1,37 @@
+-- When the first timer of some records ends. The machine of milliseconds knows nothing of it: it is the code's way to
+-- jump.
+use Rattle.std.specs.Prelude.{◌≡◌, ◌≤◌, ℕ, ◌+◌, Bool, false, List, [], ◌∷◌, Option, None, Some, min, nat_le}
+use Rattle.pim_down.specs.declared.machine.Pending.{Pending}
+use Rattle.pim_down.specs.declared.machine.Record.{Record}
+
+-- the lesser of two times, of which `None` is never
+abbrev pub sooner : Option ℕ → Option ℕ → Option ℕ
+sooner None b = b
+sooner (Some a) None = Some a
+sooner (Some a) (Some b) = Some (min a b)
+
+abbrev pub pending_end : Option Pending → Option ℕ
+pending_end None = None
+pending_end (Some timer) = Some timer.ends
+
+unfoldable pub first_end : List (Record (List ℕ)) → Option ℕ
+first_end [] = None
+first_end (held ∷ records) = sooner (sooner held.machine.expiry (pending_end held.machine.pending)) (first_end records)
+
+abbrev pub ends_by : ℕ → Option ℕ → Bool
+ends_by moment None = false
+ends_by moment (Some ends) = nat_le ends moment
+
+abbrev pub pending_weight : Option Pending → ℕ
+pending_weight None = 0
+pending_weight (Some timer) = 1
+
+-- a number that falls whenever a timer fires
+unfoldable pub weight : List (Record (List ℕ)) → ℕ
+weight [] = 0
+weight (held ∷ records) = 1 + pending_weight held.machine.pending + weight records
+
+-- the end, where it is no later than this moment
+abbrev pub IsEndBy : ℕ → Option ℕ → Option ℕ → Type 0
+IsEndBy last end None = ends_by last end ≡ false
+IsEndBy last end (Some ends) = (end ≡ Some ends) × (ends ≤ last)

@@ -1,0 +1,22 @@
+-- A call that hears a message: what it leaves where there is room, and when it refuses.
+use Rattle.std.specs.Prelude.{◌≡◌, ℕ, ◌≤◌, ◌<◌, List, Option, Result, Ok, Err}
+use Rattle.pim_jp.specs.Message.{Message}
+use Rattle.pim_down.specs.declared.event.Timing.{Timing}
+use Rattle.pim_down.specs.declared.fault.HearFault.{HearFault}
+use Rattle.pim_down.specs.declared.fault.HearFault.TheVariants.{Full, Memory}
+use Rattle.pim_down.specs.Hearing.{events_of, start_of, hearing, needed}
+use Rattle.pim_down.specs.Time.{Downstream, with_records}
+
+-- the machines after the message; no timer fires
+abbrev pub heard : ℕ → Message → Option (List ℕ) → Timing → Downstream → Downstream
+heard port message known timing state = with_records state (hearing port (start_of message.holdtime timing) (events_of known message) state.records)
+
+-- how many records the port may need for it
+abbrev pub needed_for : ℕ → Message → Option (List ℕ) → Downstream → ℕ
+needed_for port message known state = needed port state.records (events_of known message)
+
+-- Full exactly where more are needed than the limit, and then it tells how many; want of memory only where they aren't.
+abbrev pub IsWithin : {A : Type 0} → ℕ → ℕ → Result A HearFault → Type 0
+IsWithin limit needed (Ok x) = needed ≤ limit
+IsWithin limit needed (Err (Full n)) = (limit < needed) × (n ≡ needed)
+IsWithin limit needed (Err Memory) = needed ≤ limit

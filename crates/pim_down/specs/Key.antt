@@ -1,0 +1,31 @@
+-- The order of the machines: by port, by group, then (*,G), (S,G) by source, (S,G,rpt) by source. Addresses are
+-- ordered as lists of bytes.
+use Rattle.std.specs.Prelude.{ℕ, Bool, List, []}
+use Rattle.std.specs.declared.cmp.Ordering.{Ordering}
+use Rattle.std.specs.Ordering.{nat_cmp, ordering_then, is_eq}
+use Rattle.std.specs.Cmp.Lexicographic.{slice_cmp}
+use Rattle.pim_down.specs.declared.key.What.{What}
+use Rattle.pim_down.specs.declared.key.What.TheVariants.{Star, Source, Rpt}
+use Rattle.pim_down.specs.declared.key.Key.{Key}
+
+abbrev pub rank : What (List ℕ) → ℕ
+rank Star = 0
+rank (Source source) = 1
+rank (Rpt source) = 2
+
+abbrev pub source_of : What (List ℕ) → List ℕ
+source_of Star = []
+source_of (Source source) = source
+source_of (Rpt source) = source
+
+abbrev pub address_cmp : List ℕ → List ℕ → Ordering
+address_cmp = slice_cmp nat_cmp
+
+unfoldable pub what_cmp : What (List ℕ) → What (List ℕ) → Ordering
+what_cmp a b = ordering_then (nat_cmp (rank a) (rank b)) (address_cmp (source_of a) (source_of b))
+
+unfoldable pub key_cmp : Key (List ℕ) → Key (List ℕ) → Ordering
+key_cmp a b = ordering_then (ordering_then (nat_cmp a.port b.port) (address_cmp a.group b.group)) (what_cmp a.what b.what)
+
+abbrev pub same_key : Key (List ℕ) → Key (List ℕ) → Bool
+same_key a b = is_eq (key_cmp a b)

@@ -1,0 +1,13 @@
+pub mod Key
+pub mod Tables
+pub mod Records
+pub mod Hearing
+pub mod Time
+pub mod Seen
+pub mod Ends
+pub mod Places
+pub mod Running
+pub mod Sound
+pub mod Heard
+pub mod Space
+pub mod Laws

@@ -1,0 +1,40 @@
+-- What a contract sees: addresses as their lists of bytes.
+use Rattle.std.specs.Prelude.{ℕ, List, [], ◌∷◌, Option, None, Some, map}
+use Rattle.pim_down.specs.declared.key.What.{What}
+use Rattle.pim_down.specs.declared.key.What.TheVariants.{Star, Source, Rpt}
+use Rattle.pim_down.specs.declared.key.Key.{Key}
+use Rattle.pim_down.specs.declared.machine.Record.{Record}
+use Rattle.pim_down.specs.declared.event.Event.{Event}
+use Rattle.pim_down.specs.declared.step.Step.{Step}
+use Rattle.pim_down.specs.declared.step.Step.TheVariants.{Echo, Reached}
+use Rattle.pim_down.specs.Time.{record_after}
+
+module _ {A : Type 0} (bytes_of : A → List ℕ) where
+  abbrev pub what_seen : What A → What (List ℕ)
+  what_seen Star = Star
+  what_seen (Source source) = Source (bytes_of source)
+  what_seen (Rpt source) = Rpt (bytes_of source)
+
+  abbrev pub key_seen : Key A → Key (List ℕ)
+  key_seen key = record { port = key.port; group = bytes_of key.group; what = what_seen key.what }
+
+  abbrev pub record_seen : Record A → Record (List ℕ)
+  record_seen held = record { key = key_seen held.key; machine = held.machine }
+
+  abbrev pub step_seen : Step A → Step (List ℕ)
+  step_seen (Echo port group what) = Echo port (bytes_of group) (what_seen what)
+  step_seen Reached = Reached
+
+  abbrev pub records_seen : List (Record A) → List (Record (List ℕ))
+  records_seen records = map record_seen records
+
+  -- records whose times count from the moment 0, as they stand at this moment
+  abbrev pub shown : ℕ → List (Record A) → List (Record (List ℕ))
+  shown moment records = map (record_after moment) (records_seen records)
+
+  abbrev pub event_seen : Event A → Event (List ℕ)
+  event_seen event = record { joins = event.joins; group = bytes_of event.group; what = what_seen event.what }
+
+  abbrev pub events_seen : Option (Event A) → List (Event (List ℕ))
+  events_seen None = []
+  events_seen (Some event) = event_seen event ∷ []

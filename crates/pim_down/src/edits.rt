@@ -1,0 +1,81 @@
+//! Looking up and changing one machine in a list of records in key order.
+
+ghost use Rattle.std.specs.Prelude.{◌≡◌, ◌+◌, ◌<◌, ◌≤◌, ℕ, List, ◌++◌, Option, take, drop, length, vec_len, vec_capacity};
+ghost use Rattle.pim_down.specs.declared.machine.Record.{Record};
+ghost use Rattle.pim_down.specs.Records.{IsAscending, machine_at, recorded, changed};
+ghost use Rattle.pim_down.specs.Seen.{key_seen, records_seen};
+ghost use Rattle.pim_down.specs.Places.{IsPlace};
+
+use crate::key::{Key, compare_keys};
+use crate::machine::{Machine, Record};
+use pim_addr::Family;
+use std::cmp::Ordering;
+
+/// Where the key's record stands, or else where it would stand.
+fn find_place<F: Family>(records: &[Record<F::Addr>], key: &Key<F::Addr>) -> Result<usize, usize>
+    ensures { IsPlace (key_seen F.bytes_of key.now) (records_seen F.bytes_of records.now) result }
+{
+    for (place, held) in records.iter().enumerate() {
+        match compare_keys::<F>(key, &held.key) {
+            Ordering::Less => return Err(place),
+            Ordering::Equal => return Ok(place),
+            Ordering::Greater => {}
+        }
+    }
+    Err(records.len())
+}
+
+/// Replaces the record at this place: the key has this machine now, or none.
+pub(crate) fn replace_at<A: Copy>(
+    records: &mut Vec<Record<A>>,
+    place: usize,
+    key: Key<A>,
+    machine: Option<Machine>,
+)
+    requires { place < vec_len records.old }
+    ensures left { (bytes_of : A → List ℕ) → records_seen bytes_of records.new.items ≡ take place (records_seen bytes_of records.old.items) ++ (recorded (key_seen bytes_of key) machine ++ drop (place + 1) (records_seen bytes_of records.old.items)) }
+    ensures len { vec_len records.new ≤ vec_len records.old }
+    ensures capacity { vec_capacity records.new ≡ vec_capacity records.old }
+{
+    match machine {
+        Some(machine) => records[place] = Record { key, machine },
+        None => {
+            records.remove(place);
+        }
+    }
+}
+
+/// The key's machine; `None` where it is in NoInfo.
+pub(crate) fn machine_of<F: Family>(
+    records: &[Record<F::Addr>],
+    key: &Key<F::Addr>,
+) -> Option<Machine>
+    requires { IsAscending (records_seen F.bytes_of records.now) }
+    ensures { result ≡ machine_at (key_seen F.bytes_of key.now) (records_seen F.bytes_of records.now) }
+{
+    match find_place::<F>(records, key) {
+        Ok(place) => Some(records[place].machine),
+        Err(_) => None,
+    }
+}
+
+/// Gives the key's machine this state, or lets go of it. There is room for the records that are held then.
+pub(crate) fn put_machine<F: Family>(
+    records: &mut Vec<Record<F::Addr>>,
+    key: Key<F::Addr>,
+    machine: Option<Machine>,
+)
+    requires { length (changed (key_seen F.bytes_of key) (λ _. machine) (records_seen F.bytes_of records.old.items)) ≤ vec_capacity records.old }
+    ensures left { records_seen F.bytes_of records.new.items ≡ changed (key_seen F.bytes_of key) (λ _. machine) (records_seen F.bytes_of records.old.items) }
+    ensures capacity { vec_capacity records.old ≤ vec_capacity records.new }
+{
+    match (find_place::<F>(records, &key), machine) {
+        (Ok(place), _) => replace_at(records, place, key, machine),
+        (Err(place), Some(machine)) => {
+            if records.insert(place, Record { key, machine }).is_err() {
+                unreachable!()
+            }
+        }
+        (Err(_), None) => {}
+    }
+}

@@ -1,0 +1,36 @@
+//! The downstream machines of PIM sparse mode (RFC 7761, 4.5): for each port those of (*,G), (S,G) and
+//! (S,G,rpt), what a Join/Prune message does to them, and what time does to them.
+//!
+//! Proved: contracts see `Ports` as a finite map from keys to machines with countdowns. `hear` acts by the transition
+//! tables on that map, or refuses with nothing changed; `run_to` is the machine that counts milliseconds, stopped at its
+//! first echo; `next_due` is the first moment at which that machine fires a timer. No machine is in a Tmp state between
+//! calls, and no port has more records than its limit.
+#![tactic(auto)]
+
+mod edits;
+mod event;
+mod fault;
+mod hear;
+mod key;
+mod laws;
+mod machine;
+mod message;
+mod ports;
+mod run;
+mod step;
+#[cfg(test)]
+mod tests;
+mod timers;
+mod walk;
+
+pub use event::Timing;
+pub use fault::HearFault;
+pub use key::{Key, What};
+pub use laws::{
+    a_map_has_one_list, change_acts_at_its_key, end_acts_at_each_key, event_acts_at_each_key,
+    hearing_keeps_the_order, hearing_leaves_other_ports, run_goes_on, run_has_one_end,
+};
+pub use machine::{Machine, Pending, Record, State};
+pub use ports::Ports;
+pub use step::Step;
+pub use walk::Records;

@@ -1,0 +1,172 @@
+//! A message's entries, counted and heard.
+
+ghost use Rattle.std.specs.Prelude.{◌≡◌, ◌≤◌, ℕ, List, length, option_map, vec_capacity, OnOk, OnErr};
+ghost use Rattle.std.specs.List.{flat_map};
+ghost use Rattle.pim_down.specs.Records.{IsAscending, count_on};
+ghost use Rattle.pim_down.specs.Hearing.{list_events, set_events, events_of, act_all, hearing, is_new, count_new, needed, creates};
+ghost use Rattle.pim_down.specs.Heard.{IsWithin};
+ghost use Rattle.pim_down.specs.Space.{HasRoom};
+ghost use Rattle.pim_down.specs.Seen.{records_seen, what_seen, event_seen};
+
+use crate::edits::machine_of;
+use crate::event::Event;
+use crate::fault::HearFault;
+use crate::hear::{act, end, event_of};
+use crate::key::{Key, What};
+use crate::machine::{Record, Start};
+use pim_addr::Family;
+use pim_jp::{Entries, JpView, Sets};
+
+/// Whether the event makes a record where none is held.
+fn creates<A>(event: &Event<A>) -> bool
+    ensures { (bytes_of : A → List ℕ) → result ≡ creates (event_seen bytes_of event.now) }
+{
+    match &event.what {
+        What::Star | What::Source(_) => event.joins,
+        What::Rpt(_) => !event.joins,
+    }
+}
+
+/// Whether the event makes a record that isn't held.
+fn is_new<F: Family>(records: &[Record<F::Addr>], port: usize, event: &Event<F::Addr>) -> bool
+    requires { IsAscending (records_seen F.bytes_of records.now) }
+    ensures { result ≡ is_new port (records_seen F.bytes_of records.now) (event_seen F.bytes_of event.now) }
+{
+    let key = Key {
+        port,
+        group: event.group,
+        what: event.what,
+    };
+    creates(event) && machine_of::<F>(records, &key).is_none()
+}
+
+/// How many entries of one list make a record that isn't held.
+fn count_list<F: Family>(
+    records: &[Record<F::Addr>],
+    port: usize,
+    known: Option<F::Addr>,
+    joins: bool,
+    group: F::Addr,
+    entries: Entries<'_, F>,
+) -> usize
+    requires { IsAscending (records_seen F.bytes_of records.now) }
+    ensures count { result ≡ count_new port (records_seen F.bytes_of records.now) (list_events (option_map F.bytes_of known) joins (F.bytes_of group) entries.entry) }
+    ensures bound { result ≤ 65535 }
+{
+    let _most = entries.count_left();
+    let mut count = 0;
+    for entry in entries {
+        if let Some(event) = event_of::<F>(known, joins, group, entry) {
+            if is_new::<F>(records, port, &event) {
+                count += 1;
+            }
+        }
+    }
+    count
+}
+
+/// Hears the entries of one list.
+fn hear_list<F: Family>(
+    records: &mut Vec<Record<F::Addr>>,
+    port: usize,
+    start: Start,
+    known: Option<F::Addr>,
+    joins: bool,
+    group: F::Addr,
+    entries: Entries<'_, F>,
+)
+    requires ascending { IsAscending (records_seen F.bytes_of records.old.items) }
+    requires room { HasRoom port start (vec_capacity records.old) (list_events (option_map F.bytes_of known) joins (F.bytes_of group) entries) (records_seen F.bytes_of records.old.items) }
+    ensures records { records_seen F.bytes_of records.new.items ≡ act_all port start (list_events (option_map F.bytes_of known) joins (F.bytes_of group) entries.entry) (records_seen F.bytes_of records.old.items) }
+    ensures capacity { vec_capacity records.old ≤ vec_capacity records.new }
+{
+    for entry in entries {
+        match event_of::<F>(known, joins, group, entry) {
+            Some(event) => act::<F>(records, port, start, event),
+            None => {}
+        }
+    }
+}
+
+/// How many entries of these sets make a record that isn't held.
+pub(crate) fn count_sets<F: Family>(
+    records: &[Record<F::Addr>],
+    port: usize,
+    known: Option<F::Addr>,
+    sets: Sets<'_, F>,
+) -> usize
+    requires { IsAscending (records_seen F.bytes_of records.now) }
+    ensures count { result ≡ count_new port (records_seen F.bytes_of records.now) (flat_map (set_events (option_map F.bytes_of known)) sets.entry) }
+    ensures bound { result ≤ 33422850 }
+{
+    let _most = sets.count_left();
+    let mut count = 0;
+    for set in sets {
+        let group = set.group();
+        let joined = count_list::<F>(records, port, known, true, group, set.joined());
+        let pruned = count_list::<F>(records, port, known, false, group, set.pruned());
+        count += joined + pruned;
+    }
+    count
+}
+
+/// Hears these sets.
+pub(crate) fn hear_sets<F: Family>(
+    records: &mut Vec<Record<F::Addr>>,
+    port: usize,
+    start: Start,
+    known: Option<F::Addr>,
+    sets: Sets<'_, F>,
+)
+    requires ascending { IsAscending (records_seen F.bytes_of records.old.items) }
+    requires room { HasRoom port start (vec_capacity records.old) (flat_map (set_events (option_map F.bytes_of known)) sets) (records_seen F.bytes_of records.old.items) }
+    ensures records { records_seen F.bytes_of records.new.items ≡ act_all port start (flat_map (set_events (option_map F.bytes_of known)) sets.entry) (records_seen F.bytes_of records.old.items) }
+{
+    for set in sets {
+        let group = set.group();
+        hear_list::<F>(records, port, start, known, true, group, set.joined());
+        hear_list::<F>(records, port, start, known, false, group, set.pruned());
+    }
+}
+
+/// How many records the port has.
+pub(crate) fn count_on<F: Family>(records: &[Record<F::Addr>], port: usize) -> usize
+    requires { count_on port (records_seen F.bytes_of records.now) ≤ 100000 }
+    ensures { result ≡ count_on port (records_seen F.bytes_of records.now) }
+{
+    let mut count = 0;
+    for held in records {
+        if held.key.port == port {
+            count += 1;
+        }
+    }
+    count
+}
+
+/// Hears a message on a port, or refuses with nothing changed. All growths come before the first change.
+pub(crate) fn hear_message<F: Family>(
+    records: &mut Vec<Record<F::Addr>>,
+    limit: usize,
+    port: usize,
+    start: Start,
+    known: Option<F::Addr>,
+    message: &JpView<'_, F>,
+) -> Result<(), HearFault>
+    requires ascending { IsAscending (records_seen F.bytes_of records.old.items) }
+    requires within { count_on port (records_seen F.bytes_of records.old.items) ≤ 100000 }
+    ensures ok { OnOk result (records_seen F.bytes_of records.new.items ≡ hearing port start (events_of (option_map F.bytes_of known) message.now) (records_seen F.bytes_of records.old.items)) }
+    ensures err { OnErr result (records.new.items ≡ records.old.items) }
+    ensures room { IsWithin limit (needed port (records_seen F.bytes_of records.old.items) (events_of (option_map F.bytes_of known) message.now)) result }
+{
+    let fresh = count_sets::<F>(records, port, known, message.sets());
+    let needed = count_on::<F>(records, port) + fresh;
+    if needed > limit {
+        return Err(HearFault::Full { needed });
+    }
+    if records.reserve(fresh).is_err() {
+        return Err(HearFault::Memory);
+    }
+    hear_sets::<F>(records, port, start, known, message.sets());
+    end::<F>(records, port);
+    Ok(())
+}

@@ -1,0 +1,149 @@
+//! The downstream machines of a router's ports.
+
+ghost use Rattle.std.specs.Prelude.{◌≡◌, ◌≢◌, ◌≤◌, ◌<◌, ℕ, List, [], max, option_map, OnOk, OnErr};
+ghost use Rattle.pim_down.specs.declared.step.Step.TheVariants.{Reached};
+ghost use Rattle.pim_down.specs.declared.key.Key.{Key};
+ghost use Rattle.pim_down.specs.Records.{machine_at, state_at};
+ghost use Rattle.pim_down.specs.Heard.{heard, needed_for, IsWithin};
+ghost use Rattle.pim_down.specs.Time.{Downstream, Runs, IsNextDue};
+ghost use Rattle.pim_down.specs.Seen.{what_seen, step_seen};
+ghost use Rattle.pim_down.specs.Sound.{IsSound};
+
+use crate::edits::machine_of;
+use crate::event::Timing;
+use crate::fault::HearFault;
+use crate::hear::start_at;
+use crate::key::{Key, What};
+use crate::machine::{Record, State};
+use crate::message::hear_message;
+use crate::run::run;
+use crate::step::Step;
+use crate::timers::next_end;
+use crate::walk::Records;
+use pim_addr::Family;
+use pim_jp::JpView;
+use std::alloc::Global;
+use std::marker::{Model, PhantomData};
+
+/// The downstream machines of all ports, with their timers (RFC 7761, 4.5). It begins at the moment 0.
+#[derive(Drop)]
+pub struct Ports<F: Family> {
+    ports: usize,
+    limit: usize,
+    moment: u64,
+    /// In key order. Their times count from the moment 0.
+    records: Vec<Record<F::Addr>>,
+    family: PhantomData<F>,
+}
+
+impl<F: Family> Model for Ports<F> {
+    ghost use Rattle.pim_down.specs.Time.{Downstream};
+
+    ghost Value = { Downstream };
+
+    ghost use Rattle.pim_down.specs.Running.{state_at};
+    ghost use Rattle.pim_down.specs.Sound.{IsSound};
+
+    ghost view = { λ p. state_at F.bytes_of p.ports p.limit p.moment p.records.items };
+
+    ghost invariant = { λ p. IsSound (state_at F.bytes_of p.ports p.limit p.moment p.records.items) };
+}
+
+impl<F: Family> Ports<F> {
+    /// Machines of so many ports, 1 to 64, none of them held, with room for so many records a port, 1 to 100,000.
+    pub fn new(alloc: Global, ports: usize, limit: usize) -> Self
+        requires some { 1 ≤ ports }
+        requires ports { ports ≤ 64 }
+        requires room { 1 ≤ limit }
+        requires limit { limit ≤ 100000 }
+        ensures { result ≡ record { ports = ports; limit = limit; moment = 0; records = [] } }
+    {
+        Ports {
+            ports,
+            limit,
+            moment: 0,
+            records: Vec::new(alloc),
+            family: PhantomData,
+        }
+    }
+
+    /// The present moment, in milliseconds.
+    pub fn now(&self) -> u64
+        ensures { result ≡ self.now.moment }
+    {
+        self.moment
+    }
+
+    /// How many ports there are.
+    pub fn port_count(&self) -> usize
+        ensures { result ≡ self.now.ports }
+    {
+        self.ports
+    }
+
+    /// The first moment, from now on, at which a timer fires; `None` where none ever does.
+    pub fn next_due(&self) -> Option<u64>
+        ensures { IsNextDue self.now result }
+    {
+        match next_end::<F>(&self.records) {
+            None => None,
+            Some(ends) => Some(self.moment.max(ends)),
+        }
+    }
+
+    /// The state of one machine; `None` is NoInfo.
+    pub fn state_of(&self, port: usize, group: F::Addr, what: What<F::Addr>) -> Option<State>
+        ensures { result ≡ state_at (record { port = port; group = F.bytes_of group; what = what_seen F.bytes_of what }) self.now.records }
+    {
+        let key = Key { port, group, what };
+        match machine_of::<F>(&self.records, &key) {
+            None => None,
+            Some(machine) => Some(machine.state),
+        }
+    }
+
+    /// The machines that are held, in key order, with what is left of their timers.
+    pub fn records(&self) -> Records<'_, F>
+        ensures records { result ≡ self.now.records }
+        ensures sound { IsSound self.now }
+    {
+        Records::new(&self.records, self.moment)
+    }
+
+    /// Hears a message on a port, where this RP is known. No timer fires, and the machines of other ports stay. A refusal
+    /// changes nothing. The override interval is at most 98,302 ms.
+    pub fn hear(
+        &mut self,
+        port: usize,
+        message: &JpView<'_, F>,
+        rp: Option<F::Addr>,
+        timing: Timing,
+    ) -> Result<(), HearFault>
+        requires port { port < self.old.ports }
+        requires interval { timing.override_ms ≤ 98302 }
+        ensures ok { OnOk result (self.new ≡ heard port message.now (option_map F.bytes_of rp) timing self.old) }
+        ensures err { OnErr result (self.new ≡ self.old) }
+        ensures room { IsWithin self.old.limit (needed_for port message.now (option_map F.bytes_of rp) self.old) result }
+        ensures ports { self.new.ports ≡ self.old.ports }
+        ensures others { (key : Key (List ℕ)) → key.port ≢ port → machine_at key self.new.records ≡ machine_at key self.old.records }
+    {
+        let start = start_at(message.holdtime(), timing, self.moment);
+        hear_message::<F>(&mut self.records, self.limit, port, start, rp, message)
+    }
+
+    /// Runs to this moment, in milliseconds, at most 10^15, or to the first echo; an earlier moment counts as now. What
+    /// is still due after an echo stays due, and the next call goes on.
+    pub fn run_to(&mut self, moment: u64) -> Step<F::Addr>
+        requires { moment ≤ 1000000000000000 }
+        ensures run { Runs moment self.old (step_seen F.bytes_of result) self.new }
+        ensures ports { self.new.ports ≡ self.old.ports }
+        ensures limit { self.new.limit ≡ self.old.limit }
+        ensures later { self.old.moment ≤ self.new.moment }
+        ensures moment { self.new.moment ≤ max self.old.moment moment }
+        ensures reached { result ≡ Reached → self.new.moment ≡ max self.old.moment moment }
+    {
+        let (step, now) = run::<F>(&mut self.records, self.moment, moment);
+        self.moment = now;
+        step
+    }
+}

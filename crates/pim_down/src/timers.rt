@@ -1,0 +1,161 @@
+//! When the timers of some records end, and what they do then. Here the times of a record count from the moment 0.
+
+ghost use Rattle.std.specs.Prelude.{◌≡◌, ◌<◌, IsTrue, ◌+◌, ℕ, List, ◌++◌, take, drop, vec_len};
+ghost use Rattle.std.specs.List.{position};
+ghost use Rattle.std.specs.Option.{is_some};
+ghost use Rattle.pim_down.specs.declared.machine.Record.{Record};
+ghost use Rattle.pim_down.specs.Time.{expiry_after, pending_after, record_after, expiry_due, pending_due, et_due, ppt_due, on_ppt, after_ppt, echo_of, fired};
+ghost use Rattle.pim_down.specs.Ends.{sooner, pending_end, first_end, IsEndBy};
+ghost use Rattle.pim_down.specs.Seen.{what_seen, record_seen, records_seen, step_seen, shown};
+
+use crate::edits::replace_at;
+use crate::key::{Key, What};
+use crate::machine::{Machine, Record, State};
+use crate::step::Step;
+use pim_addr::Family;
+
+/// The sooner of two ends, of which `None` is never.
+fn sooner(a: Option<u64>, b: Option<u64>) -> Option<u64>
+    ensures { result ≡ sooner a b }
+{
+    match (a, b) {
+        (Some(a), Some(b)) => Some(a.min(b)),
+        (None, end) | (end, None) => end,
+    }
+}
+
+/// When the machine's first timer ends.
+fn machine_end(machine: &Machine) -> Option<u64>
+    ensures { result ≡ sooner machine.now.expiry (pending_end machine.now.pending) }
+{
+    let pending = match machine.pending {
+        Some(timer) => Some(timer.ends),
+        None => None,
+    };
+    sooner(machine.expiry, pending)
+}
+
+/// When the first timer of all ends.
+pub(crate) fn next_end<F: Family>(records: &[Record<F::Addr>]) -> Option<u64>
+    ensures { result ≡ first_end (records_seen F.bytes_of records.now) }
+{
+    let mut end = None;
+    for record in records {
+        end = sooner(end, machine_end(&record.machine));
+    }
+    end
+}
+
+/// When the first timer of all ends, where that is no later than this.
+pub(crate) fn end_by<F: Family>(records: &[Record<F::Addr>], last: u64) -> Option<u64>
+    ensures { IsEndBy last (first_end (records_seen F.bytes_of records.now)) result }
+{
+    match next_end::<F>(records) {
+        Some(ends) if ends <= last => Some(ends),
+        _ => None,
+    }
+}
+
+/// Whether its prune-pending timer is due.
+#[tactic(auto, using(crate::proofs::Ends::due_from_end))]
+fn is_pending_due(machine: &Machine, now: u64) -> bool
+    ensures { result ≡ pending_due (pending_after now machine.now.pending) }
+{
+    match machine.pending {
+        Some(timer) => timer.ends <= now,
+        None => false,
+    }
+}
+
+/// Whether its expiry timer is due.
+#[tactic(auto, using(crate::proofs::Ends::due_from_end))]
+fn is_expired(machine: &Machine, now: u64) -> bool
+    ensures { result ≡ expiry_due (expiry_after now machine.now.expiry) }
+{
+    match machine.expiry {
+        Some(ends) => ends <= now,
+        None => false,
+    }
+}
+
+/// The first record whose prune-pending timer is due.
+fn first_pending<F: Family>(records: &[Record<F::Addr>], now: u64) -> Option<usize>
+    ensures { result ≡ position (λ held. ppt_due (record_after now (record_seen F.bytes_of held))) records.now }
+{
+    records
+        .iter()
+        .position(|held| is_pending_due(&held.machine, now))
+}
+
+/// The first record whose expiry timer is due.
+fn first_expired<F: Family>(records: &[Record<F::Addr>], now: u64) -> Option<usize>
+    ensures { result ≡ position (λ held. et_due (record_after now (record_seen F.bytes_of held))) records.now }
+{
+    records
+        .iter()
+        .position(|held| is_expired(&held.machine, now))
+}
+
+/// Where a machine goes whose prune-pending timer fires: to Prune if it is of (S,G,rpt), else to NoInfo.
+fn on_ppt<A>(what: &What<A>, machine: &Machine) -> Option<Machine>
+    ensures { (bytes_of : A → List ℕ) → result ≡ on_ppt (what_seen bytes_of what.now) machine.now }
+{
+    match what {
+        What::Star | What::Source(_) => None,
+        What::Rpt(_) => Some(Machine {
+            state: State::Prune,
+            expiry: machine.expiry,
+            pending: None,
+        }),
+    }
+}
+
+/// What is told where the prune-pending timer of this record fires.
+fn echo_of<A: Copy>(held: &Record<A>) -> Step<A>
+    ensures { (bytes_of : A → List ℕ) → step_seen bytes_of result ≡ echo_of (record_seen bytes_of held.now) }
+{
+    let several = match held.machine.pending {
+        Some(timer) => timer.several,
+        None => false,
+    };
+    let Key { port, group, what } = held.key;
+    match what {
+        What::Star | What::Source(_) if several => Step::Echo { port, group, what },
+        _ => Step::Reached,
+    }
+}
+
+/// Fires the prune-pending timer of this record, which stands at this place.
+fn fire_pending<F: Family>(
+    records: &mut Vec<Record<F::Addr>>,
+    place: usize,
+    fired: Record<F::Addr>,
+) -> Step<F::Addr>
+    requires { place < vec_len records.old }
+    ensures told { step_seen F.bytes_of result ≡ echo_of (record_seen F.bytes_of fired) }
+    ensures left { records_seen F.bytes_of records.new.items ≡ take place (records_seen F.bytes_of records.old.items) ++ (after_ppt (record_seen F.bytes_of fired) ++ drop (place + 1) (records_seen F.bytes_of records.old.items)) }
+{
+    let machine = on_ppt(&fired.key.what, &fired.machine);
+    replace_at(records, place, fired.key, machine);
+    echo_of(&fired)
+}
+
+/// Fires the first due timer: prune-pending timers come before expiry timers.
+pub(crate) fn fire_first<F: Family>(records: &mut Vec<Record<F::Addr>>, now: u64) -> Step<F::Addr>
+    requires { IsTrue (is_some (fired (shown F.bytes_of now records.old.items))) }
+    ensures { fired (shown F.bytes_of now records.old.items) ≡ Some (step_seen F.bytes_of result, shown F.bytes_of now records.new.items) }
+{
+    match first_pending::<F>(records, now) {
+        Some(place) => {
+            let fired = records[place];
+            fire_pending::<F>(records, place, fired)
+        }
+        None => match first_expired::<F>(records, now) {
+            Some(place) => {
+                records.remove(place);
+                Step::Reached
+            }
+            None => unreachable!(),
+        },
+    }
+}

@@ -1,0 +1,89 @@
+//! The records, one after another.
+
+ghost use Rattle.std.specs.Prelude.{◌≡◌, ℕ, List};
+ghost use Rattle.std.specs.Iterator.{YieldsFirstBy, item_count};
+ghost use Rattle.pim_down.specs.Time.{machine_after, record_after};
+ghost use Rattle.pim_down.specs.Seen.{record_seen, shown};
+
+use crate::machine::{Machine, Pending, Record};
+use pim_addr::Family;
+use std::marker::{Model, PhantomData};
+
+/// The machine as it stands at this moment: its times are what is left.
+pub(crate) fn machine_at(machine: &Machine, now: u64) -> Machine
+    ensures { result ≡ machine_after now machine.now }
+{
+    let expiry = match machine.expiry {
+        Some(ends) => Some(ends.saturating_sub(now)),
+        None => None,
+    };
+    let pending = match machine.pending {
+        Some(timer) => Some(Pending {
+            ends: timer.ends.saturating_sub(now),
+            several: timer.several,
+        }),
+        None => None,
+    };
+    Machine {
+        state: machine.state,
+        expiry,
+        pending,
+    }
+}
+
+/// The record as it stands at this moment.
+fn record_at<A: Copy>(held: &Record<A>, now: u64) -> Record<A>
+    ensures { (bytes_of : A → List ℕ) → record_seen bytes_of result ≡ record_after now (record_seen bytes_of held.now) }
+{
+    Record {
+        key: held.key,
+        machine: machine_at(&held.machine, now),
+    }
+}
+
+/// The records in key order, with what is left of their timers. Contracts see those that are left.
+#[derive(Drop)]
+pub struct Records<'a, F: Family> {
+    left: &'a [Record<F::Addr>],
+    moment: u64,
+    family: PhantomData<F>,
+}
+
+impl<'a, F: Family> Model for Records<'a, F> {
+    ghost use Rattle.std.specs.Prelude.{ℕ, List};
+    ghost use Rattle.pim_down.specs.declared.machine.Record.{Record};
+    ghost use Rattle.pim_down.specs.Seen.{shown};
+
+    ghost Value = { List (Record (List ℕ)) };
+
+    ghost view = { λ walk. shown F.bytes_of walk.moment walk.left.now };
+}
+
+impl<'a, F: Family> Records<'a, F> {
+    /// These records, as they stand at this moment.
+    pub(crate) fn new(left: &'a [Record<F::Addr>], moment: u64) -> Self
+        ensures { result ≡ shown F.bytes_of moment left.now }
+    {
+        Records {
+            left,
+            moment,
+            family: PhantomData,
+        }
+    }
+}
+
+#[tactic(auto, using(crate::proofs::Walks::shown_first))]
+impl<'a, F: Family> Iterator for Records<'a, F> {
+    type Item = Record<F::Addr>;
+
+    ghost next_gives = { YieldsFirstBy (record_seen F.bytes_of) (λ records. records) };
+
+    ghost remaining = { item_count (λ records. records) };
+
+    fn next(&mut self) -> Option<Record<F::Addr>> {
+        let (first, others) = self.left.split_first()?;
+        let told = record_at(first, self.moment);
+        self.left = others;
+        Some(told)
+    }
+}
