@@ -1,6 +1,6 @@
 -- What a contract sees of what is kept of a neighbour.
 use Rattle.std.specs.Prelude.{ℕ, ◌-◌, List, map, option_map}
-use Rattle.pim_hello.specs.Hello.{Delays, Parameters}
+use Rattle.pim_hello.specs.Hello.{Parameters}
 use Rattle.pim_hello.specs.Neighbours.{Neighbour, Table}
 use Rattle.pim_hello.specs.Delays.{delays_seen}
 use Rattle.pim_hello.specs.declared.parameters.Parameters.{Parameters as Sent}

@@ -5,7 +5,7 @@ use Rattle.pim_addr.specs.declared.family.AddressFamily.{AddressFamily}
 use Rattle.pim_hello.specs.Delays.{delays_seen}
 use Rattle.pim_hello.specs.declared.addresses.Addresses.{Addresses}
 use Rattle.pim_hello.specs.declared.hello.Hello as code
-use Rattle.pim_hello.specs.Hello.{Delays, Hello}
+use Rattle.pim_hello.specs.Hello.{Hello}
 use Rattle.pim_hello.specs.Row.{addresses_of}
 
 abbrev pub addresses_seen : {F : Type 0} → AddressFamily → Addresses F → List (List ℕ)

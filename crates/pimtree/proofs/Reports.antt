@@ -1,10 +1,10 @@
 -- How the report of a message becomes that of an input.
-use Rattle.std.proofs.Common.{◌≡◌, ℕ, ◌≤◌, Bool, true, false, ltb, List, [], ◌∷◌, ◌++◌, length, map, Option, None, Some, Result, Ok, Err, refl, sym, ap, ◌∙◌}
+use Rattle.std.proofs.Common.{◌≡◌, ℕ, ◌≤◌, List, [], ◌∷◌, ◌++◌, length, map, Option, None, Some, Result, Ok, Err, refl, sym, ap, ◌∙◌}
 use Rattle.std.specs.Prelude.{IfSome}
-use Rattle.std.specs.Io.KnownBytes.{Appends, Keeps}
+use Rattle.std.specs.Io.KnownBytes.{Keeps}
 use Rattle.std.proofs.lemmas.Bool.{le-ltb}
 use Rattle.pim_addr.specs.declared.family.AddressFamily.{AddressFamily}
-use Rattle.pim_addr.specs.Faults.{fault_if, judged}
+use Rattle.pim_addr.specs.Faults.{judged}
 use Rattle.pim_frame.specs.declared.frame.FrameFault.{FrameFault}
 use Rattle.pim_frame.specs.Frame.{Content, hello, join_prune, content, frame_faults}
 use Rattle.pim_hello.specs.Hello as of_hello

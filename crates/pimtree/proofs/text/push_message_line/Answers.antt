@@ -1,4 +1,4 @@
-use Rattle.std.specs.Prelude.{codes, decimal, length}
+use Rattle.std.specs.Prelude.{codes, decimal}
 use Rattle.pim_addr.specs.Text.{address_text}
 use Rattle.pimtree.proofs.Lines.{line_of_three}
 use Rattle.pimtree.proofs.text.push_message_line.Goals as goal
