@@ -2,6 +2,9 @@
 //! their number is given, it also prints packets and bytes a second.
 #![tactic(auto)]
 
+ghost use Rattle.std.specs.Prelude.{◌≡◌};
+ghost use Rattle.capture_speed.specs.Payload.{payload_length};
+
 use pim_addr::Counted;
 use pim_capture::{Capture, Event, Ip};
 use std::alloc::{AllocError, Global};
@@ -49,7 +52,9 @@ fn read(alloc: Global, bytes: &[u8]) -> (u64, u64) {
 }
 
 /// How many bytes its message has.
-fn length_of(ip: &Ip) -> u64 {
+fn length_of(ip: &Ip) -> u64
+    ensures { result ≡ payload_length ip.now }
+{
     let payload = match ip {
         Ip::V4 {
             source: _,

@@ -20,13 +20,15 @@ use Rattle.pimtree.specs.declared.fault.Fault.{Fault}
 use Rattle.pimtree.specs.declared.fault.Fault.TheVariants.{Clap, Address, Family, Frame, Hello, JoinPrune, InputTooLong, InputRead, Output, Memory}
 use Rattle.pimtree.specs.Report.{content_faults, content_text, body_report, hello_report, message_report, input_report, Explains, IsMessageFault, Reports}
 
-first_told : (all : List JpFault) (message : Message) (text : List ℕ) (fault : JpFault) → judged all message ≡ Err fault → judged (map JoinPrune all) text ≡ Err (JoinPrune fault)
-first_told [] message text fault told = absurd cc
-first_told (first ∷ others) message text fault told = let same : first ≡ fault = cc in ap (λ (f : JpFault). Err (JoinPrune f)) same
+-- the faults of a body are told as those of its message
 
-none_told : (family : AddressFamily) (all : List JpFault) (message given : Message) → judged all message ≡ Ok given → judged (map JoinPrune all) (message_text family message) ≡ Ok (message_text family given)
-none_told family [] message given told = let same : message ≡ given = cc in ap (λ (m : Message). Ok (message_text family m)) same
-none_told family (first ∷ others) message given told = absurd cc
+first_told : {E V : Type 0} (name : E → Fault) (all : List E) (value : V) (text : List ℕ) (fault : E) → judged all value ≡ Err fault → judged (map name all) text ≡ Err (name fault)
+first_told name [] value text fault told = absurd cc
+first_told name (first ∷ others) value text fault told = let same : first ≡ fault = cc in ap (λ f. Err (name f)) same
+
+none_told : {E V : Type 0} (name : E → Fault) (text_of : V → List ℕ) (all : List E) (value given : V) → judged all value ≡ Ok given → judged (map name all) (text_of value) ≡ Ok (text_of given)
+none_told name text_of [] value given told = let same : value ≡ given = cc in ap (λ v. Ok (text_of v)) same
+none_told name text_of (first ∷ others) value given told = absurd cc
 
 -- an input that isn't too long is looked at as a message
 pub short_input : (family : AddressFamily) (source destination input : List ℕ) → length input ≤ 65536 → input_report family source destination input ≡ message_report family source destination input
@@ -62,24 +64,16 @@ refused (Some all) written family source destination input message result fault 
 -- ---- the report of a body
 
 pub told_fault : (family : AddressFamily) (body : List ℕ) (fault : JpFault) → judged (faults family body) (message_of family body) ≡ Err fault → body_report family body ≡ Err (JoinPrune fault)
-told_fault family body fault = first_told (faults family body) (message_of family body) (message_text family (message_of family body)) fault
+told_fault family body fault = first_told JoinPrune (faults family body) (message_of family body) (message_text family (message_of family body)) fault
 
 pub told_text : (family : AddressFamily) (body : List ℕ) (message : Message) → judged (faults family body) (message_of family body) ≡ Ok message → body_report family body ≡ Ok (message_text family message)
-told_text family body message = none_told family (faults family body) (message_of family body) message
-
-first_hello_told : (all : List HelloFault) (value : of_hello.Hello) (text : List ℕ) (fault : HelloFault) → judged all value ≡ Err fault → judged (map Hello all) text ≡ Err (Hello fault)
-first_hello_told [] value text fault told = absurd cc
-first_hello_told (first ∷ others) value text fault told = let same : first ≡ fault = cc in ap (λ (f : HelloFault). Err (Hello f)) same
-
-no_hello_told : (family : AddressFamily) (all : List HelloFault) (value given : of_hello.Hello) → judged all value ≡ Ok given → judged (map Hello all) (hello_text family value) ≡ Ok (hello_text family given)
-no_hello_told family [] value given told = let same : value ≡ given = cc in ap (λ (h : of_hello.Hello). Ok (hello_text family h)) same
-no_hello_told family (first ∷ others) value given told = absurd cc
+told_text family body message = none_told JoinPrune (message_text family) (faults family body) (message_of family body) message
 
 pub told_hello_fault : (family : AddressFamily) (body : List ℕ) (fault : HelloFault) → judged (hello_option_faults body) (hello_of family body) ≡ Err fault → hello_report family body ≡ Err (Hello fault)
-told_hello_fault family body fault = first_hello_told (hello_option_faults body) (hello_of family body) (hello_text family (hello_of family body)) fault
+told_hello_fault family body fault = first_told Hello (hello_option_faults body) (hello_of family body) (hello_text family (hello_of family body)) fault
 
 pub told_hello : (family : AddressFamily) (body : List ℕ) (value : of_hello.Hello) → judged (hello_option_faults body) (hello_of family body) ≡ Ok value → hello_report family body ≡ Ok (hello_text family value)
-told_hello family body value = no_hello_told family (hello_option_faults body) (hello_of family body) value
+told_hello family body value = none_told Hello (hello_text family) (hello_option_faults body) (hello_of family body) value
 
 -- ---- the report of a message whose header is sound
 
