@@ -1,5 +1,5 @@
 -- Addresses as lists of bytes (RFC 7761, 4.9.1).
-use Rattle.std.specs.Prelude.{ℕ, Bool, List, slice_index, nat_lt, nat_le, ◌&&◌, ◌==◌, not}
+use Rattle.std.specs.Prelude.{◌≡◌, ◌<◌, ℕ, Bool, List, length, slice_index, nat_lt, nat_le, ◌&&◌, ◌==◌, not}
 use Rattle.std.specs.List.{list_all}
 use Rattle.pim_addr.specs.declared.family.AddressFamily.{AddressFamily}
 use Rattle.pim_addr.specs.declared.family.AddressFamily.TheVariants.{Ipv4, Ipv6}
@@ -8,6 +8,14 @@ use Rattle.pim_addr.specs.declared.family.AddressFamily.TheVariants.{Ipv4, Ipv6}
 abbrev pub address_length : AddressFamily → ℕ
 address_length Ipv4 = 4
 address_length Ipv6 = 16
+
+-- a list of bytes: numbers below 256
+abbrev pub AreBytes : List ℕ → Type 0
+AreBytes bytes = (i : ℕ) → slice_index bytes i < 256
+
+-- an address: as many bytes as its family has
+abbrev pub IsAddress : AddressFamily → List ℕ → Type 0
+IsAddress family address = (length address ≡ address_length family) × AreBytes address
 
 -- the mask length of a whole address, in bits
 abbrev pub mask_length : AddressFamily → ℕ
@@ -19,7 +27,7 @@ abbrev pub family_byte : AddressFamily → ℕ
 family_byte Ipv4 = 1
 family_byte Ipv6 = 2
 
--- a multicast group: 224.0.0.0/4 or ff00::/8
+-- a multicast group: 224.0.0.0/4 (RFC 5771, 3) or ff00::/8 (RFC 4291, 2.7)
 abbrev pub is_group : AddressFamily → List ℕ → Bool
 is_group Ipv4 address = nat_le 224 (slice_index address 0) && nat_lt (slice_index address 0) 240
 is_group Ipv6 address = slice_index address 0 == 255

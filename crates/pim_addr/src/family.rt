@@ -3,7 +3,7 @@
 ghost use Rattle.std.specs.Prelude.{◌≡◌, ◌≤◌, ◌↔◌, ℕ, List, length, take, IsTrue};
 ghost use Rattle.std.specs.Ordering.{nat_cmp};
 ghost use Rattle.std.specs.Cmp.Lexicographic.{slice_cmp};
-ghost use Rattle.pim_addr.specs.Address.{address_length, mask_length, family_byte, is_group, is_source, is_unspecified};
+ghost use Rattle.pim_addr.specs.Address.{IsAddress, address_length, mask_length, family_byte, is_group, is_source, is_unspecified};
 
 use std::fmt::Debug;
 
@@ -62,13 +62,17 @@ pub trait Family {
         requires { length bytes.old ≡ address_length family }
         ensures { bytes.new ≡ bytes_of address };
 
-    /// Whether it is a multicast group: 224.0.0.0/4 or ff00::/8.
+    /// Whether it is a multicast group: 224.0.0.0/4 (RFC 5771, 3) or ff00::/8 (RFC 4291, 2.7).
     fn is_group(address: Self::Addr) -> bool
         ensures { result ≡ is_group family (bytes_of address) };
 
     /// Whether it is a valid source: above 0.0.0.0 and below 224.0.0.0, or neither :: nor in ff00::/8.
     fn is_source(address: Self::Addr) -> bool
         ensures { result ≡ is_source family (bytes_of address) };
+
+    /// A law: an address has as many bytes as its family says, and they are bytes. It does nothing.
+    fn address_has_its_bytes(address: Self::Addr)
+        ensures { IsAddress family (bytes_of address) };
 
     ghost length_of_family: { LEN ≡ address_length family };
 
@@ -150,6 +154,8 @@ impl Family for V4 {
         address[0] < 224 && !is_unspecified(&address)
     }
 
+    fn address_has_its_bytes(_address: [u8; 4]) {}
+
     ghost length_of_family = { refl };
 
     ghost length_is_small = { lit≤ tt };
@@ -214,6 +220,8 @@ impl Family for V6 {
     fn is_source(address: [u8; 16]) -> bool {
         address[0] != 255 && !is_unspecified(&address)
     }
+
+    fn address_has_its_bytes(_address: [u8; 16]) {}
 
     ghost length_of_family = { refl };
 
