@@ -11,11 +11,15 @@ use Rattle.pim_addr.specs.declared.encoded.AddrFault.TheVariants.{Short, Family,
 abbrev pub unicast_length : AddressFamily → ℕ
 unicast_length family = 2 + address_length family
 
+-- a form with a mask length: of a group and of a source
+abbrev pub masked_length : AddressFamily → ℕ
+masked_length family = 4 + address_length family
+
 abbrev pub group_length : AddressFamily → ℕ
-group_length family = 4 + address_length family
+group_length = masked_length
 
 abbrev pub source_length : AddressFamily → ℕ
-source_length family = 4 + address_length family
+source_length = masked_length
 
 -- The W bit (0x02) and the R bit (0x01) of a source's flags. The S bit and the reserved ones are ignored.
 abbrev pub wildcard_bit : ℕ → Bool
@@ -23,6 +27,10 @@ wildcard_bit flags = bit_and flags 2 == 2
 
 abbrev pub rpt_bit : ℕ → Bool
 rpt_bit flags = bit_and flags 1 == 1
+
+-- the flags with these two bits alone
+abbrev pub kind_bits : ℕ → ℕ
+kind_bits flags = bit_and flags 3
 
 -- a source with its two bits
 pub record SourceValue : Type 0 where
@@ -56,11 +64,16 @@ mask_faults family bytes = fault_if (not (slice_index bytes 3 == mask_length fam
 abbrev pub unicast_faults : AddressFamily → List ℕ → List AddrFault
 unicast_faults family bytes = if nat_lt (length bytes) (unicast_length family) then Short ∷ [] else family_faults family bytes
 
+-- of a group and of a source
+abbrev pub masked_faults : AddressFamily → List ℕ → List AddrFault
+masked_faults family bytes =
+    if nat_lt (length bytes) (masked_length family) then Short ∷ [] else family_faults family bytes ++ mask_faults family bytes
+
 abbrev pub group_faults : AddressFamily → List ℕ → List AddrFault
-group_faults family bytes = if nat_lt (length bytes) (group_length family) then Short ∷ [] else family_faults family bytes ++ mask_faults family bytes
+group_faults = masked_faults
 
 abbrev pub source_faults : AddressFamily → List ℕ → List AddrFault
-source_faults family bytes = if nat_lt (length bytes) (source_length family) then Short ∷ [] else family_faults family bytes ++ mask_faults family bytes
+source_faults = masked_faults
 
 -- ---- the values
 
