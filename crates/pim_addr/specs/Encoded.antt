@@ -56,18 +56,21 @@ IsSource family source bytes = (length source.address ≡ address_length family)
 -- ---- faults, in the order of their numbers; a form that isn't whole is Short and nothing else
 
 abbrev pub family_faults : AddressFamily → List ℕ → List AddrFault
-family_faults family bytes = fault_if (not (slice_index bytes 0 == family_byte family)) Family ++ fault_if (not (slice_index bytes 1 == 0)) Encoding
+family_faults family bytes =
+    fault_if (not (slice_index bytes 0 == family_byte family)) Family ++ fault_if (not (slice_index bytes 1 == 0)) Encoding
 
 abbrev pub mask_faults : AddressFamily → List ℕ → List AddrFault
 mask_faults family bytes = fault_if (not (slice_index bytes 3 == mask_length family)) Mask
 
 abbrev pub unicast_faults : AddressFamily → List ℕ → List AddrFault
-unicast_faults family bytes = if nat_lt (length bytes) (unicast_length family) then Short ∷ [] else family_faults family bytes
+unicast_faults family bytes =
+    if nat_lt (length bytes) (unicast_length family) then Short ∷ [] else family_faults family bytes
 
 -- of a group and of a source
 abbrev pub masked_faults : AddressFamily → List ℕ → List AddrFault
 masked_faults family bytes =
-    if nat_lt (length bytes) (masked_length family) then Short ∷ [] else family_faults family bytes ++ mask_faults family bytes
+    if nat_lt (length bytes) (masked_length family) then Short ∷ []
+    else family_faults family bytes ++ mask_faults family bytes
 
 abbrev pub group_faults : AddressFamily → List ℕ → List AddrFault
 group_faults = masked_faults
@@ -84,4 +87,8 @@ abbrev pub masked_address : AddressFamily → List ℕ → List ℕ
 masked_address family bytes = take (address_length family) (drop 4 bytes)
 
 abbrev pub source_value : AddressFamily → List ℕ → SourceValue
-source_value family bytes = record { address = masked_address family bytes; wildcard = wildcard_bit (slice_index bytes 2); rpt = rpt_bit (slice_index bytes 2) }
+source_value family bytes = record {
+  address = masked_address family bytes;
+  wildcard = wildcard_bit (slice_index bytes 2);
+  rpt = rpt_bit (slice_index bytes 2);
+}

@@ -107,7 +107,8 @@ fn add_address<F: Family>(start: u16, address: F::Addr) -> u16
 
 /// The folded sum of the pseudo-header of a message of so many bytes: 0 over IPv4, which has none.
 fn pseudo_header_sum<F: Family>(src: F::Addr, dst: F::Addr, message_length: u32) -> u16
-    ensures sum { result ≡ folded (words_sum (pseudo_header F.family (F.bytes_of src) (F.bytes_of dst) message_length)) }
+    ensures sum { result
+        ≡ folded (words_sum (pseudo_header F.family (F.bytes_of src) (F.bytes_of dst) message_length)) }
     ensures whole { length (pseudo_header F.family (F.bytes_of src) (F.bytes_of dst) message_length) % 2 ≡ 0 }
 {
     match F::family() {
