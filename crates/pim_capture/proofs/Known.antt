@@ -74,7 +74,7 @@ header_cut_known left format (Some xs) (Some ys) h got some there cut b e d =
 -- ---- its header is whole
 
 -- the header, what stands behind it, and how many bytes there are
-header_is : (h xs ys : List ℕ) → length h ≡ 16 → xs ≡ h ++ ys → (take 16 xs ≡ h) × (drop 16 xs ≡ ys) × (16 ≤ length xs) × (0 < length xs)
+pub header_is : (h xs ys : List ℕ) → length h ≡ 16 → xs ≡ h ++ ys → (take 16 xs ≡ h) × (drop 16 xs ≡ ys) × (16 ≤ length xs) × (0 < length xs)
 header_is h xs ys l e =
     let n : length xs ≡ 16 + length ys = ap length e ∙ length-append h ys ∙ ap (λ k. k + length ys) l in
     let f = front_reached 16 xs h ys l e in

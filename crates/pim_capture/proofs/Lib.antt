@@ -3,3 +3,4 @@ pub mod Fronts
 pub mod Records
 pub mod Known
 pub mod Taken
+pub mod Room

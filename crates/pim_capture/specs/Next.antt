@@ -1,16 +1,18 @@
 -- What a call of `next` answers, and what is still to come.
-use Rattle.std.specs.Prelude.{◌≡◌, ◌+◌, min, ℕ, List, [], ◌∷◌, Option, Some, None, Result, Ok, Err, ⊤, ◌⊎◌}
+use Rattle.std.specs.Prelude.{◌≡◌, ◌+◌, ◌<◌, ◌≤◌, ◌==◌, ◌||◌, nat_lt, min, ℕ, List, [], ◌∷◌, length, take, drop, Option, Some, None, Result, Ok, Err, IsSomeAnd, ⊤, ◌⊎◌, if◌then◌else◌}
 use Rattle.std.specs.Option.{option_map}
 use Rattle.pim_addr.specs.Device.{FailedIn, top_count}
 use Rattle.pim_capture.specs.declared.fault.CaptureFault.{CaptureFault}
 use Rattle.pim_capture.specs.declared.fault.CaptureFault.TheVariants as fault
+use Rattle.pim_capture.specs.declared.header.Format.{Format}
 use Rattle.pim_capture.specs.declared.event.Event.{Event}
 use Rattle.pim_capture.specs.declared.event.Event.TheVariants.{Packet, Skipped, End}
 use Rattle.pim_capture.specs.declared.capture.State.{State}
 use Rattle.pim_capture.specs.declared.capture.State.TheVariants.{Unbegun, Records, Ended, Failed}
 use Rattle.pim_capture.specs.declared.capture.Capture.{Capture}
 use Rattle.pim_capture.specs.Seen.{ip_seen, LiesIn}
-use Rattle.pim_capture.specs.Capture.{Told, packet, skipped, ended, Answer, most_captured, most_records, answers, records}
+use Rattle.pim_capture.specs.Header.{judge_header}
+use Rattle.pim_capture.specs.Capture.{Told, packet, skipped, ended, Answer, most_captured, most_records, captured_length, answers, records}
 
 -- ---- an answer, beside a buffer that holds these bytes
 
@@ -75,6 +77,57 @@ CountsReads other failures failures' _ = failures' ≡ failures
 abbrev pub OnMemory : {A : Type 0} → Result A CaptureFault → Type 0 → Type 0
 OnMemory (Err fault.Memory) fact = fact
 OnMemory _ fact = ⊤
+
+-- ---- the moments of records
+
+-- no record is of a later moment, in milliseconds since 1970: its seconds and its fraction have 32 bits each
+abbrev pub latest_moment : ℕ
+latest_moment = 4294971589967
+
+abbrev pub IsBy : ℕ → Event → Type 0
+IsBy moment (Packet millis ip) = millis ≤ moment
+IsBy moment (Skipped millis why) = millis ≤ moment
+IsBy moment End = ⊤
+
+-- ---- the room for a record's bytes
+
+-- the length that the next record names, where one more may be read and it names one that a record may have
+abbrev pub length_named : ℕ → Format → List ℕ → Option ℕ
+length_named left format bytes =
+    if left == 0 || nat_lt (length bytes) 16 || nat_lt most_captured (captured_length format (take 16 bytes)) then None
+    else Some (captured_length format (take 16 bytes))
+
+-- the same where the capture's header is read first
+abbrev pub first_named : Result Format CaptureFault → List ℕ → Option ℕ
+first_named (Ok format) bytes = length_named most_records format bytes
+first_named (Err fault) bytes = None
+
+abbrev pub named_in : State → List ℕ → Option ℕ
+named_in Unbegun bytes = first_named (judge_header (take 24 bytes)) (drop 24 bytes)
+named_in (Records format left) bytes = length_named left format bytes
+named_in Ended bytes = None
+named_in Failed bytes = None
+
+-- the length that the next record names, where the reader tells its bytes
+abbrev pub named : {R : Type 0} → (R → Option (List ℕ)) → Capture R → Option (Option ℕ)
+named remaining capture = option_map (named_in capture.state) (remaining capture.reader)
+
+-- A buffer of this capacity has no room for the record that is named.
+abbrev pub LacksRoom : ℕ → Option (Option ℕ) → Type 0
+LacksRoom capacity None = capacity < most_captured
+LacksRoom capacity (Some size) = IsSomeAnd size (λ length. capacity < length)
+
+-- This is the length of the record that is named.
+abbrev pub IsNamed : ℕ → Option (Option ℕ) → Type 0
+IsNamed length None = length ≤ most_captured
+IsNamed length (Some size) = size ≡ Some length
+
+-- The buffer has the length of the record, or of nothing told the length that it had.
+abbrev pub FitsRecord : Result Event CaptureFault → ℕ → ℕ → Option (Option ℕ) → Type 0
+FitsRecord (Ok (Packet millis ip)) old new size = IsNamed new size
+FitsRecord (Ok (Skipped millis why)) old new size = IsNamed new size
+FitsRecord (Ok End) old new size = new ≡ old
+FitsRecord (Err fault) old new size = (new ≡ old) ⊎ IsNamed new size
 
 -- ---- how much is read
 

@@ -1,11 +1,11 @@
 //! A capture that is read record by record.
 
-ghost use Rattle.std.specs.Prelude.{◌≡◌, ◌+◌, ◌<◌, IfOk, vec_capacity, ◌⊎◌};
+ghost use Rattle.std.specs.Prelude.{◌≡◌, ◌+◌, ◌<◌, IfOk, max, vec_len, vec_capacity, ◌⊎◌};
 ghost use Rattle.pim_addr.specs.Device.{ConsumesAtMost};
 ghost use Rattle.std.specs.Option.{option_map};
 ghost use Rattle.pim_capture.specs.declared.capture.State.TheVariants.{Unbegun};
-ghost use Rattle.pim_capture.specs.Capture.{answers, most_captured};
-ghost use Rattle.pim_capture.specs.Next.{coming, seen, reader_of, state_of, IsNext, IsRefusal, CountsReads, CountsRecord, records_left, most_taken, OnMemory, IsRepeated, StaysOver, PayloadLiesIn};
+ghost use Rattle.pim_capture.specs.Capture.{answers};
+ghost use Rattle.pim_capture.specs.Next.{coming, seen, reader_of, state_of, IsNext, IsRefusal, CountsReads, CountsRecord, records_left, most_taken, OnMemory, IsRepeated, StaysOver, PayloadLiesIn, IsBy, latest_moment, named, LacksRoom, FitsRecord};
 
 use crate::event::Event;
 use crate::fault::CaptureFault;
@@ -56,7 +56,8 @@ impl<R: Feed> Capture<R> {
 
     /// What the next record holds, with its bytes in the buffer if it is a packet.
     ///
-    /// Behind the last record every call answers `End`, and behind a fault `Failed`.
+    /// The buffer gets the length of the record, and grows only where its capacity is less, to exactly that. Times are
+    /// at most 4,294,971,589,967 ms. Behind the last record every call answers `End`, and behind a fault `Failed`.
     pub fn next(&mut self, buffer: &mut Vec<u8>) -> Result<Event, CaptureFault>
         // Where the reader tells its bytes, the answers are those of the file, one after the other.
         ensures answer { IsRefusal (R.failures (reader_of self.old)) (R.failures (reader_of self.new)) result
@@ -65,8 +66,12 @@ impl<R: Feed> Capture<R> {
         ensures record { CountsRecord result (records_left (state_of self.old)) (records_left (state_of self.new)) }
         // A record that is too long is told before its bytes are read.
         ensures taken { ConsumesAtMost (most_taken 40 result) (R.remaining (reader_of self.old)) (R.remaining (reader_of self.new)) }
-        ensures memory { OnMemory result (vec_capacity buffer.old < most_captured) }
+        // Memory is refused only behind a whole header, and where the buffer has less room than the record needs.
+        ensures memory { OnMemory result (LacksRoom (vec_capacity buffer.old) (named R.remaining self.old)) }
+        ensures length { FitsRecord result (vec_len buffer.old) (vec_len buffer.new) (named R.remaining self.old) }
+        ensures capacity { vec_capacity buffer.new ≡ max (vec_capacity buffer.old) (vec_len buffer.new) }
         ensures payload { IfOk result (PayloadLiesIn buffer.new.items) }
+        ensures moment { IfOk result (IsBy latest_moment) }
         ensures repeated { IsRepeated (state_of self.old) result }
         ensures over { StaysOver result (state_of self.new) }
     {

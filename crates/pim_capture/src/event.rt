@@ -1,5 +1,8 @@
 //! What a capture tells.
 
+ghost use Rattle.std.specs.Prelude.{◌≡◌};
+ghost use Rattle.pim_capture.specs.Seen.{ip_seen, LiesIn};
+
 use std::ops::Range;
 
 /// An IP packet that carries PIM, as it lies in the caller's buffer.
@@ -23,6 +26,20 @@ pub enum Ip {
         /// Where the PIM message stands in the buffer.
         payload: Range<usize>,
     },
+}
+
+impl Ip {
+    /// The PIM message, from the buffer that holds the record's bytes.
+    pub fn payload<'a>(&self, buffer: &'a [u8]) -> &'a [u8]
+        requires { LiesIn buffer.now self.now }
+        ensures { result.now ≡ (ip_seen buffer.now self.now).payload }
+    {
+        let range = match self {
+            Ip::V4 { payload, .. } => payload,
+            Ip::V6 { payload, .. } => payload,
+        };
+        &buffer[range.start..range.end]
+    }
 }
 
 /// Why a record holds no whole PIM packet. Of several reasons the first step of the judging that meets one tells it.

@@ -1,19 +1,20 @@
 //! The parts of a capture, read one after the other.
 
-ghost use Rattle.std.specs.Prelude.{◌≡◌, ◌≢◌, ◌+◌, ◌-◌, ◌<◌, ◌≤◌, ◌⊎◌, ℕ, length, take, drop, min, Ok, Err, IfOk, IfErr, OnOk, OnErr, MatchResult, vec_len, vec_capacity};
+ghost use Rattle.std.specs.Prelude.{◌≡◌, ◌≢◌, ◌+◌, ◌-◌, ◌<◌, ◌≤◌, ◌⊎◌, ℕ, length, take, drop, min, max, Ok, Err, IfOk, IfErr, OnOk, OnErr, IsErr, MatchResult, vec_len, vec_capacity};
 ghost use Rattle.std.specs.Option.{option_map};
 ghost use Rattle.pim_addr.specs.Device.{ConsumesAtMost};
 ghost use Rattle.pim_capture.specs.declared.event.Event.TheVariants.{End};
 ghost use Rattle.pim_capture.specs.Frame.{judge_frame};
 ghost use Rattle.pim_capture.specs.Capture.{records, millis_of, told_of, most_captured};
 ghost use Rattle.pim_capture.specs.Parts.{BeginsWith, FillsExactly};
-ghost use Rattle.pim_capture.specs.Next.{event_seen, seen, IsNext, IsRefusal, CountsReads, OnMemory, most_taken, PayloadLiesIn};
+ghost use Rattle.pim_capture.specs.Next.{event_seen, seen, IsNext, IsRefusal, CountsReads, OnMemory, most_taken, PayloadLiesIn, IsBy, latest_moment, length_named, LacksRoom, FitsRecord};
 
 use crate::event::Event;
 use crate::fault::CaptureFault;
 use crate::frame::judge;
 use crate::header::{Format, Link, Resolution, read_header};
 use pim_addr::{Feed, read_up_to};
+use std::alloc::AllocError;
 
 /// No record has more bytes.
 const MOST_CAPTURED: u32 = 262_144;
@@ -31,6 +32,23 @@ pub fn begin<R: Feed>(reader: &mut R) -> Result<Format, CaptureFault>
     read_header(header)
 }
 
+/// Makes the buffer so long. It grows only where its capacity is less, and then to exactly that.
+fn fit(buffer: &mut Vec<u8>, length: usize) -> Result<(), AllocError>
+    ensures length { OnOk result (vec_len buffer.new ≡ length) }
+    ensures capacity { OnOk result (vec_capacity buffer.new ≡ max (vec_capacity buffer.old) length) }
+    ensures refused { OnErr result (vec_capacity buffer.old < length) }
+    ensures same_length { OnErr result (vec_len buffer.new ≡ vec_len buffer.old) }
+    ensures same_capacity { OnErr result (vec_capacity buffer.new ≡ vec_capacity buffer.old) }
+{
+    let more = length.saturating_sub(buffer.len());
+    buffer.reserve_exact(more)?;
+    buffer.truncate(length);
+    while buffer.len() < length {
+        buffer.push_reserved(0);
+    }
+    Ok(())
+}
+
 /// Fills the buffer with the next bytes, exactly so many.
 fn read_frame<R: Feed>(
     reader: &mut R,
@@ -40,12 +58,12 @@ fn read_frame<R: Feed>(
     ensures answer { FillsExactly length (R.remaining reader.old) (R.remaining reader.new) buffer.new.items result }
     ensures reads { CountsReads ⊥ (R.failures reader.old) (R.failures reader.new) result }
     ensures memory { OnMemory result (vec_capacity buffer.old < length) }
+    ensures length { (vec_len buffer.new ≡ length) ⊎ (IsErr result × (vec_len buffer.new ≡ vec_len buffer.old)) }
+    ensures capacity { vec_capacity buffer.new ≡ max (vec_capacity buffer.old) (vec_len buffer.new) }
     ensures not_long { result ≢ Err CaptureFault.TooLong }
     ensures taken { ConsumesAtMost length (R.remaining reader.old) (R.remaining reader.new) }
 {
-    let more = length.saturating_sub(buffer.len());
-    buffer.reserve_exact(more)?;
-    buffer.resize(length, 0)?;
+    fit(buffer, length)?;
     let got = read_up_to(reader, buffer.as_mut_slice())?;
     if got < length {
         return Err(CaptureFault::Truncated);
@@ -56,7 +74,8 @@ fn read_frame<R: Feed>(
 /// The time in a record's header, in milliseconds since 1970.
 fn millis(format: Format, header: &[u8]) -> u64
     requires { length header.now ≡ 16 }
-    ensures { result ≡ millis_of format header.now }
+    ensures millis { result ≡ millis_of format header.now }
+    ensures bound { result ≤ latest_moment }
 {
     let seconds = format.endianness.read_u32(header);
     let fraction = format.endianness.read_u32_at(header, 4);
@@ -71,6 +90,7 @@ fn millis(format: Format, header: &[u8]) -> u64
 fn event_of(millis: u64, link: Link, frame: &[u8]) -> Event
     ensures event { event_seen frame.now result ≡ told_of millis frame.now (judge_frame link frame.now) }
     ensures payload { PayloadLiesIn frame.now result }
+    ensures moment { IsBy millis result }
     ensures record { result ≢ End }
 {
     match judge(link, frame) {
@@ -89,8 +109,11 @@ pub fn next_record<R: Feed>(
     ensures answer { IsRefusal (R.failures reader.old) (R.failures reader.new) result
         ⊎ IsNext (option_map (records left format) (R.remaining reader.old)) (seen buffer.new.items result) (option_map (records (left - 1) format) (R.remaining reader.new)) }
     ensures reads { CountsReads (left ≡ 0) (R.failures reader.old) (R.failures reader.new) result }
-    ensures memory { OnMemory result (vec_capacity buffer.old < most_captured) }
+    ensures memory { OnMemory result (LacksRoom (vec_capacity buffer.old) (option_map (length_named left format) (R.remaining reader.old))) }
+    ensures length { FitsRecord result (vec_len buffer.old) (vec_len buffer.new) (option_map (length_named left format) (R.remaining reader.old)) }
+    ensures capacity { vec_capacity buffer.new ≡ max (vec_capacity buffer.old) (vec_len buffer.new) }
     ensures payload { IfOk result (PayloadLiesIn buffer.new.items) }
+    ensures moment { IfOk result (IsBy latest_moment) }
     ensures record { IfOk result (λ event. event ≡ End ⊎ 0 < left) }
     ensures taken { ConsumesAtMost (most_taken 16 result) (R.remaining reader.old) (R.remaining reader.new) }
 {

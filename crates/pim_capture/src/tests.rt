@@ -145,18 +145,10 @@ fn payload_in_the_buffer(rt: HostRuntime) -> Result<(), Fail> {
     let mut capture = Capture::new(ScriptedFeed::new(&CAPTURE, 64, NEVER));
     for (start, end) in [(60, 70), (106, 140)] {
         let event = capture.next(&mut buffer).ok().ok_or("a packet")?;
-        let Event::Packet {
-            millis: _,
-            ip: Ip::V4 {
-                source: _,
-                destination: _,
-                payload,
-            },
-        } = event
-        else {
+        let Event::Packet { millis: _, ip } = event else {
             return Err(Fail::from("not a packet"));
         };
-        let message = buffer.as_slice().get(payload).ok_or("in the buffer")?;
+        let message = ip.payload(buffer.as_slice());
         assert_eq!(rt; Some(message), CAPTURE.get(start..end));
     }
     Ok(())
