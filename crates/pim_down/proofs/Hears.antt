@@ -2,7 +2,7 @@
 use Rattle.std.proofs.Common.{◌≡◌, ◌≢◌, ℕ, List, Option, Result, Ok, Err, OnOk, OnErr, map, sym, ap, subst, ◌∙◌, arith}
 use Rattle.pim_jp.specs.Message.{Message}
 use Rattle.pim_down.specs.declared.key.Key.{Key}
-use Rattle.pim_down.specs.declared.machine.Start.{Start}
+use Rattle.pim_down.specs.Tables.{Start}
 use Rattle.pim_down.specs.declared.machine.Record.{Record}
 use Rattle.pim_down.specs.declared.event.Timing.{Timing}
 use Rattle.pim_down.specs.declared.fault.HearFault.{HearFault}

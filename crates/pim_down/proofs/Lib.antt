@@ -16,3 +16,6 @@ pub mod Events
 pub mod Heard
 pub mod Hears
 pub mod OneList
+pub mod Runs
+pub mod Silence
+pub mod Echo

@@ -6,7 +6,7 @@ ghost use Rattle.pim_down.specs.Records.{IsAscending, count_on};
 ghost use Rattle.pim_down.specs.Hearing.{list_events, set_events, events_of, act_all, hearing, is_new, count_new, needed, creates};
 ghost use Rattle.pim_down.specs.Heard.{IsWithin};
 ghost use Rattle.pim_down.specs.Space.{HasRoom};
-ghost use Rattle.pim_down.specs.Seen.{records_seen, what_seen, event_seen};
+ghost use Rattle.pim_down.specs.Seen.{start_seen, records_seen, what_seen, event_seen};
 
 use crate::edits::machine_of;
 use crate::event::Event;
@@ -76,8 +76,8 @@ fn hear_list<F: Family>(
     entries: Entries<'_, F>,
 )
     requires ascending { IsAscending (records_seen F.bytes_of records.old.items) }
-    requires room { HasRoom port start (vec_capacity records.old) (list_events (option_map F.bytes_of known) joins (F.bytes_of group) entries) (records_seen F.bytes_of records.old.items) }
-    ensures records { records_seen F.bytes_of records.new.items ≡ act_all port start (list_events (option_map F.bytes_of known) joins (F.bytes_of group) entries.entry) (records_seen F.bytes_of records.old.items) }
+    requires room { HasRoom port (start_seen start) (vec_capacity records.old) (list_events (option_map F.bytes_of known) joins (F.bytes_of group) entries) (records_seen F.bytes_of records.old.items) }
+    ensures records { records_seen F.bytes_of records.new.items ≡ act_all port (start_seen start) (list_events (option_map F.bytes_of known) joins (F.bytes_of group) entries.entry) (records_seen F.bytes_of records.old.items) }
     ensures capacity { vec_capacity records.old ≤ vec_capacity records.new }
 {
     for entry in entries {
@@ -119,8 +119,8 @@ pub(crate) fn hear_sets<F: Family>(
     sets: Sets<'_, F>,
 )
     requires ascending { IsAscending (records_seen F.bytes_of records.old.items) }
-    requires room { HasRoom port start (vec_capacity records.old) (flat_map (set_events (option_map F.bytes_of known)) sets) (records_seen F.bytes_of records.old.items) }
-    ensures records { records_seen F.bytes_of records.new.items ≡ act_all port start (flat_map (set_events (option_map F.bytes_of known)) sets.entry) (records_seen F.bytes_of records.old.items) }
+    requires room { HasRoom port (start_seen start) (vec_capacity records.old) (flat_map (set_events (option_map F.bytes_of known)) sets) (records_seen F.bytes_of records.old.items) }
+    ensures records { records_seen F.bytes_of records.new.items ≡ act_all port (start_seen start) (flat_map (set_events (option_map F.bytes_of known)) sets.entry) (records_seen F.bytes_of records.old.items) }
 {
     for set in sets {
         let group = set.group();
@@ -154,7 +154,7 @@ pub(crate) fn hear_message<F: Family>(
 ) -> Result<(), HearFault>
     requires ascending { IsAscending (records_seen F.bytes_of records.old.items) }
     requires within { count_on port (records_seen F.bytes_of records.old.items) ≤ 100000 }
-    ensures ok { OnOk result (records_seen F.bytes_of records.new.items ≡ hearing port start (events_of (option_map F.bytes_of known) message.now) (records_seen F.bytes_of records.old.items)) }
+    ensures ok { OnOk result (records_seen F.bytes_of records.new.items ≡ hearing port (start_seen start) (events_of (option_map F.bytes_of known) message.now) (records_seen F.bytes_of records.old.items)) }
     ensures err { OnErr result (records.new.items ≡ records.old.items) }
     ensures room { IsWithin limit (needed port (records_seen F.bytes_of records.old.items) (events_of (option_map F.bytes_of known) message.now)) result }
 {

@@ -5,7 +5,7 @@ use Rattle.pim_down.specs.declared.key.Key.{Key}
 use Rattle.pim_down.specs.Records.{machine_at}
 use Rattle.pim_down.specs.Time.{Downstream}
 use Rattle.pim_down.specs.Running.{state_at}
-use Rattle.pim_down.specs.Seen.{records_seen}
+use Rattle.pim_down.specs.Seen.{start_seen, records_seen}
 use Rattle.pim_down.proofs.Kept.{ascending_back}
 use Rattle.pim_down.proofs.Origin.{count_on_later}
 use Rattle.pim_down.proofs.Hears.{heard_is, within_is, others_are, sound_is, on_err}
@@ -32,7 +32,7 @@ invariant_of-self g c =
     let starts = rw c.holdtime.ensures at c.start_at-start.ensures in
     let old = state_at bytes_of p.ports p.limit p.moment p.records.items in
     let new = state_at bytes_of p.ports p.limit p.moment c.hear_message.new.records.items in
-    let ok = on_ok_weaker c.hear_message.result (heard_is bytes_of p.ports p.limit p.moment c.args.port message known c.args.timing c.start_at-start.result p.records.items c.hear_message.new.records.items old starts refl) c.hear_message.ensures.ok in
+    let ok = on_ok_weaker c.hear_message.result (heard_is bytes_of p.ports p.limit p.moment c.args.port message known c.args.timing (start_seen c.start_at-start.result) p.records.items c.hear_message.new.records.items old starts refl) c.hear_message.ensures.ok in
     let err = on_err c.hear_message.result (ap (state_at bytes_of p.ports p.limit p.moment)) c.hear_message.ensures.err in
     let within = within_is bytes_of p.ports p.limit p.moment c.args.port message known c.args.timing c.hear_message.result p.records.items old refl c.hear_message.ensures.room in
     sound_is bytes_of p.ports p.limit p.moment c.args.port message known c.args.timing c.hear_message.result old new c.self.invariant ok err within
@@ -42,7 +42,7 @@ returns-clause-ok g c =
     let p = c.self.inside in
     let bytes_of = g.F.Family.bytes_of in
     let starts = rw c.holdtime.ensures at c.start_at-start.ensures in
-    on_ok_weaker c.hear_message.result (heard_is bytes_of p.ports p.limit p.moment c.args.port c.args.message.now (option_map bytes_of c.args.rp) c.args.timing c.start_at-start.result p.records.items c.hear_message.new.records.items c.args.self.now starts c.self.view_is) c.hear_message.ensures.ok
+    on_ok_weaker c.hear_message.result (heard_is bytes_of p.ports p.limit p.moment c.args.port c.args.message.now (option_map bytes_of c.args.rp) c.args.timing (start_seen c.start_at-start.result) p.records.items c.hear_message.new.records.items c.args.self.now starts c.self.view_is) c.hear_message.ensures.ok
 
 pub returns-clause-room : goal.returns-clause-room
 returns-clause-room g c =
@@ -59,7 +59,7 @@ returns-clause-others g c =
     let starts = rw c.holdtime.ensures at c.start_at-start.ensures in
     let old = state_at bytes_of p.ports p.limit p.moment p.records.items in
     let new = state_at bytes_of p.ports p.limit p.moment c.hear_message.new.records.items in
-    let ok = on_ok_weaker c.hear_message.result (heard_is bytes_of p.ports p.limit p.moment c.args.port message known c.args.timing c.start_at-start.result p.records.items c.hear_message.new.records.items old starts refl) c.hear_message.ensures.ok in
+    let ok = on_ok_weaker c.hear_message.result (heard_is bytes_of p.ports p.limit p.moment c.args.port message known c.args.timing (start_seen c.start_at-start.result) p.records.items c.hear_message.new.records.items old starts refl) c.hear_message.ensures.ok in
     let err = on_err c.hear_message.result (ap (state_at bytes_of p.ports p.limit p.moment)) c.hear_message.ensures.err in
     let all = others_are bytes_of p.ports p.limit p.moment c.args.port message known c.args.timing c.hear_message.result old new c.self.invariant.ascending ok err in
     subst (λ (s : Downstream). (key : Key (List ℕ)) → key.port ≢ c.args.port → machine_at key new.records ≡ machine_at key s.records) c.self.view_is all
