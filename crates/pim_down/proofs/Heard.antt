@@ -18,7 +18,7 @@ use Rattle.pim_down.specs.Tables.{join_in, on_join, prune_in, on_prune, on_star_
 use Rattle.pim_down.specs.Records.{IsAscending, machine_at, recorded, at_rank, changed, each_changed, count_on}
 use Rattle.pim_down.specs.Hearing.{key_of, on_own, is_star_join, is_rpt_on, is_rpt_of, on_rpts, effect, act, act_all, at_end, hearing, events_of, start_of, count_new}
 use Rattle.pim_down.specs.Time.{Downstream}
-use Rattle.pim_down.specs.Sound.{is_temporary, IsSettled, IsSound}
+use Rattle.pim_down.specs.Sound.{is_temporary, IsSettled}
 use Rattle.pim_down.specs.Heard.{heard, needed_for}
 use Rattle.pim_down.proofs.Order.{same_keys, equal_keys}
 use Rattle.pim_down.proofs.Act.{at_act, at_hearing_end, IsAscending-act, IsAscending-act_all, IsAscending-hearing}
@@ -187,7 +187,7 @@ unfolding each_changed
 fewer_each port change [] = omega arith
 fewer_each port change (held ∷ records) = fewer_recorded port held (change held.key (Some held.machine)) (each_changed change records) records (fewer_each port change records)
 
-within_hearing : (port other limit : ℕ) (start : Start) (events : List Event) (records : List (Record (List ℕ))) → IsAscending records → count_on port records + count_new port records events ≤ limit → count_on other records ≤ limit → count_on other (hearing port start events records) ≤ limit
+pub within_hearing : (port other limit : ℕ) (start : Start) (events : List Event) (records : List (Record (List ℕ))) → IsAscending records → count_on port records + count_new port records events ≤ limit → count_on other records ≤ limit → count_on other (hearing port start events records) ≤ limit
 within_hearing port other limit start events records a room held =
     let ascending = IsAscending-act_all port start events records a in
     let fewer = fewer_each other (at_end port) (act_all port start events records) in
@@ -199,21 +199,6 @@ within_hearing port other limit start events records a room held =
           let there = room_elsewhere port other start events records e a ascending in
           omega arith
     ] refl
-
--- ---- what is kept
-
-pub sound_heard : (port : ℕ) (message : Message) (known : Option (List ℕ)) (timing : Timing) (state : Downstream) → IsSound state → needed_for port message known state ≤ state.limit → IsSound (heard port message known timing state)
-sound_heard port message known timing state sound room =
-    let start = start_of message.holdtime timing in
-    let events = events_of known message in
-    record {
-      ports = sound.ports;
-      limit = sound.limit;
-      moment = sound.moment;
-      ascending = IsAscending-hearing port start events state.records sound.ascending;
-      settled = settled_hearing port start events state.records sound.settled;
-      within = λ other. within_hearing port other state.limit start events state.records sound.ascending room (sound.within other);
-    }
 
 -- ---- other ports
 

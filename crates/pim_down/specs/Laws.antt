@@ -1,6 +1,10 @@
 -- What the definitions mean together.
-use Rattle.std.specs.Prelude.{◌≡◌, ◌≢◌, ◌≤◌, ◌↔◌, ℕ, ◌-◌, max, true, false, List, Option}
+use Rattle.std.specs.Prelude.{◌≡◌, ◌≢◌, ◌<◌, ◌≤◌, ◌↔◌, ℕ, ◌-◌, max, true, false, List, Option}
 use Rattle.std.specs.declared.cmp.Ordering.TheVariants.{Equal}
+use Rattle.pim_addr.specs.declared.family.AddressFamily.{AddressFamily}
+use Rattle.pim_jp.specs.Message.{Message}
+use Rattle.pim_jp.specs.Canonical.{IsMessage}
+use Rattle.pim_down.specs.declared.event.Timing.{Timing}
 use Rattle.pim_down.specs.declared.key.What.{What}
 use Rattle.pim_down.specs.declared.key.Key.{Key}
 use Rattle.pim_down.specs.declared.machine.Record.{Record}
@@ -13,6 +17,8 @@ use Rattle.pim_down.specs.Key.{key_cmp, same_key}
 use Rattle.pim_down.specs.Records.{IsAscending, ChangesAtEach, machine_at, changed, each_changed}
 use Rattle.pim_down.specs.Hearing.{effect, act, at_end, heard_at, hearing}
 use Rattle.pim_down.specs.Time.{Downstream, Runs, HasRun, after_silence, IsEchoOf}
+use Rattle.pim_down.specs.Sound.{IsSound}
+use Rattle.pim_down.specs.Heard.{heard, needed_for}
 
 -- A change of one machine makes of it what the change says, and of no other machine anything.
 abbrev pub ChangeActsAtItsKey : Type 0
@@ -62,6 +68,17 @@ SilenceActsAtEachKey = (moment : ℕ) (state after : Downstream) → IsAscending
 -- Every state has a run up to every moment.
 abbrev pub EveryStateHasARun : Type 0
 EveryStateHasARun = (moment : ℕ) (state : Downstream) → HasRun moment state
+
+-- A run keeps the machines sound.
+abbrev pub RunKeepsSound : Type 0
+RunKeepsSound = (family : AddressFamily) (moment : ℕ) (state after : Downstream) (answer : Step (List ℕ)) →
+    moment ≤ 1000000000000000 → IsSound family state → Runs moment state answer after → IsSound family after
+
+-- A message that can be spelled, heard on a port that is there and has room for it, keeps the machines sound.
+abbrev pub HearingKeepsSound : Type 0
+HearingKeepsSound = (family : AddressFamily) (port : ℕ) (message : Message) (known : Option (List ℕ)) (timing : Timing) (state : Downstream) →
+    IsSound family state → port < state.ports → IsMessage family message → needed_for port message known state ≤ state.limit →
+    IsSound family (heard port message known timing state)
 
 -- An echo names a machine that was held, whose PPT with the mark "several" ends when it is told.
 abbrev pub EchoNamesAMachine : Type 0

@@ -2,7 +2,7 @@
 //! called.
 
 ghost use Rattle.pim_down.specs.Laws.{ChangeActsAtItsKey, AMapHasOneList, RunGoesOn, RunHasOneEnd, EventActsAtEachKey, EndActsAtEachKey, HearingKeepsTheOrder, HearingLeavesOtherPorts};
-ghost use Rattle.pim_down.specs.Laws.{EventKeepsTheOrder, HearingActsAtEachKey, RunKeepsItsBounds, SilenceActsAtEachKey, EveryStateHasARun, EchoNamesAMachine, KeysAreToldApart};
+ghost use Rattle.pim_down.specs.Laws.{EventKeepsTheOrder, RunKeepsSound, HearingKeepsSound, HearingActsAtEachKey, RunKeepsItsBounds, SilenceActsAtEachKey, EveryStateHasARun, EchoNamesAMachine, KeysAreToldApart};
 
 /// A change of one machine leaves the others.
 pub fn change_acts_at_its_key()
@@ -77,4 +77,14 @@ pub fn echo_names_a_machine()
 /// Two keys compare as equal exactly if they are one.
 pub fn keys_are_told_apart()
     ensures { KeysAreToldApart }
+{}
+
+/// A run keeps what is true of the machines between calls.
+pub fn run_keeps_sound()
+    ensures { RunKeepsSound }
+{}
+
+/// So does a message that is heard.
+pub fn hearing_keeps_sound()
+    ensures { HearingKeepsSound }
 {}

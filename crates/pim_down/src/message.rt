@@ -4,7 +4,7 @@ ghost use Rattle.std.specs.Prelude.{◌≡◌, ◌≤◌, ℕ, List, length, opt
 ghost use Rattle.std.specs.List.{flat_map};
 ghost use Rattle.pim_down.specs.Records.{IsAscending, count_on};
 ghost use Rattle.pim_down.specs.Hearing.{list_events, set_events, events_of, act_all, hearing, is_new, count_new, needed, creates};
-ghost use Rattle.pim_down.specs.Heard.{IsWithin};
+ghost use Rattle.pim_down.specs.Heard.{IsWithin, MayWantMemory};
 ghost use Rattle.pim_down.specs.Space.{HasRoom};
 ghost use Rattle.pim_down.specs.Seen.{start_seen, records_seen, what_seen, event_seen};
 
@@ -14,6 +14,7 @@ use crate::fault::HearFault;
 use crate::hear::{act, end, event_of};
 use crate::key::{Key, What};
 use crate::machine::{Record, Start};
+use crate::walk::count_on;
 use pim_addr::Family;
 use pim_jp::{Entries, JpView, Sets};
 
@@ -129,20 +130,6 @@ pub(crate) fn hear_sets<F: Family>(
     }
 }
 
-/// How many records the port has.
-pub(crate) fn count_on<F: Family>(records: &[Record<F::Addr>], port: usize) -> usize
-    requires { count_on port (records_seen F.bytes_of records.now) ≤ 100000 }
-    ensures { result ≡ count_on port (records_seen F.bytes_of records.now) }
-{
-    let mut count = 0;
-    for held in records {
-        if held.key.port == port {
-            count += 1;
-        }
-    }
-    count
-}
-
 /// Hears a message on a port, or refuses with nothing changed. All growths come before the first change.
 pub(crate) fn hear_message<F: Family>(
     records: &mut Vec<Record<F::Addr>>,
@@ -156,6 +143,7 @@ pub(crate) fn hear_message<F: Family>(
     requires within { count_on port (records_seen F.bytes_of records.old.items) ≤ 100000 }
     ensures ok { OnOk result (records_seen F.bytes_of records.new.items ≡ hearing port (start_seen start) (events_of (option_map F.bytes_of known) message.now) (records_seen F.bytes_of records.old.items)) }
     ensures err { OnErr result (records.new.items ≡ records.old.items) }
+    ensures memory { MayWantMemory (count_new port (records_seen F.bytes_of records.old.items) (events_of (option_map F.bytes_of known) message.now)) result }
     ensures room { IsWithin limit (needed port (records_seen F.bytes_of records.old.items) (events_of (option_map F.bytes_of known) message.now)) result }
 {
     let fresh = count_sets::<F>(records, port, known, message.sets());
