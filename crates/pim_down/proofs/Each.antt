@@ -7,9 +7,9 @@ use Rattle.pim_down.specs.declared.key.Key.{Key}
 use Rattle.pim_down.specs.declared.machine.State.{State}
 use Rattle.pim_down.specs.declared.machine.State.TheVariants.{Join, PrunePending, Prune, PruneTmp, PrunePendingTmp}
 use Rattle.pim_down.specs.declared.machine.Machine.{Machine}
-use Rattle.pim_down.specs.declared.machine.Start.{Start}
+use Rattle.pim_down.specs.Tables.{Start}
 use Rattle.pim_down.specs.declared.machine.Record.{Record}
-use Rattle.pim_down.specs.declared.event.Event.{Event}
+use Rattle.pim_down.specs.Hearing.{Event}
 use Rattle.pim_down.specs.Key.{key_cmp, same_key}
 use Rattle.pim_down.specs.Tables.{on_star_join, star_join_in, on_end, end_in}
 use Rattle.pim_down.specs.Records.{IsBelow, IsAscending, machine_at, recorded, at_rank, changed, each_changed}
@@ -92,7 +92,7 @@ length_rpts port group (held ∷ records) =
     length-append (recorded held.key (on_rpts port group held.key (Some held.machine))) (each_changed (on_rpts port group) records)
     ∙ (λ i. length_rpt (is_rpt_of port group held.key) held i + length_rpts port group records i) ∙ (omega arith)
 
-pub length_act : (port : ℕ) (start : Start) (event : Event (List ℕ)) (records : List (Record (List ℕ))) → length (act port start event records) ≡ length (changed (key_of port event) (on_own event.joins event.what start) records)
+pub length_act : (port : ℕ) (start : Start) (event : Event) (records : List (Record (List ℕ))) → length (act port start event records) ≡ length (changed (key_of port event) (on_own event.joins event.what start) records)
 length_act port start event records =
     elim (is_star_join event) as (λ s. length (cond s (each_changed (on_rpts port event.group) (changed (key_of port event) (on_own event.joins event.what start) records)) (changed (key_of port event) (on_own event.joins event.what start) records)) ≡ length (changed (key_of port event) (on_own event.joins event.what start) records)) [
       | true ↦ length_rpts port event.group (changed (key_of port event) (on_own event.joins event.what start) records)
@@ -134,8 +134,8 @@ seen_filter bytes_of test [] = refl
 seen_filter {A} bytes_of test (held ∷ records) =
     seen_cond bytes_of (test (record_seen bytes_of held)) held (filter (λ (h : Record A). test (record_seen bytes_of h)) records) (filter test (records_seen bytes_of records)) (seen_filter bytes_of test records)
 
-pub act_star : (port : ℕ) (start : Start) (event : Event (List ℕ)) (records : List (Record (List ℕ))) → is_star_join event ≡ true → act port start event records ≡ each_changed (on_rpts port event.group) (changed (key_of port event) (on_own event.joins event.what start) records)
+pub act_star : (port : ℕ) (start : Start) (event : Event) (records : List (Record (List ℕ))) → is_star_join event ≡ true → act port start event records ≡ each_changed (on_rpts port event.group) (changed (key_of port event) (on_own event.joins event.what start) records)
 act_star port start event records star = rw star refl
 
-pub act_other : (port : ℕ) (start : Start) (event : Event (List ℕ)) (records : List (Record (List ℕ))) → is_star_join event ≡ false → act port start event records ≡ changed (key_of port event) (on_own event.joins event.what start) records
+pub act_other : (port : ℕ) (start : Start) (event : Event) (records : List (Record (List ℕ))) → is_star_join event ≡ false → act port start event records ≡ changed (key_of port event) (on_own event.joins event.what start) records
 act_other port start event records other = rw other refl

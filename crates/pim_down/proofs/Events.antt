@@ -7,9 +7,9 @@ use Rattle.pim_jp.specs.declared.entry.Entry.{Entry}
 use Rattle.pim_jp.specs.declared.entry.Entry.TheVariants as entry
 use Rattle.pim_jp.specs.Message.{GroupSet}
 use Rattle.pim_down.specs.declared.key.What.TheVariants.{Star}
-use Rattle.pim_down.specs.declared.machine.Start.{Start}
+use Rattle.pim_down.specs.Tables.{Start}
 use Rattle.pim_down.specs.declared.machine.Record.{Record}
-use Rattle.pim_down.specs.declared.event.Event.{Event}
+use Rattle.pim_down.specs.Hearing.{Event}
 use Rattle.pim_down.specs.Records.{IsAscending, count_on}
 use Rattle.pim_down.specs.Hearing.{act, act_all, is_new, count_new, is_known, entry_events, list_events, set_events}
 use Rattle.pim_down.specs.Space.{HasRoom}
@@ -19,33 +19,33 @@ use Rattle.pim_down.proofs.Room.{room}
 
 -- ---- one list of events, and then another
 
-pub act_append : (port : ℕ) (start : Start) (xs ys : List (Event (List ℕ))) (records : List (Record (List ℕ))) → act_all port start (xs ++ ys) records ≡ act_all port start ys (act_all port start xs records)
+pub act_append : (port : ℕ) (start : Start) (xs ys : List Event) (records : List (Record (List ℕ))) → act_all port start (xs ++ ys) records ≡ act_all port start ys (act_all port start xs records)
 unfolding act_all
 act_append port start [] ys records = refl
 act_append port start (x ∷ xs) ys records = act_append port start xs ys (act port start x records)
 
-pub count_append : (port : ℕ) (records : List (Record (List ℕ))) (xs ys : List (Event (List ℕ))) → count_new port records (xs ++ ys) ≡ count_new port records xs + count_new port records ys
+pub count_append : (port : ℕ) (records : List (Record (List ℕ))) (xs ys : List Event) → count_new port records (xs ++ ys) ≡ count_new port records xs + count_new port records ys
 unfolding count_new
 count_append port records [] ys = omega arith
 count_append port records (x ∷ xs) ys = omega (arith, count_append port records xs ys)
 
-pub room_first : (port : ℕ) (start : Start) (space : ℕ) (xs ys : List (Event (List ℕ))) (records : List (Record (List ℕ))) → HasRoom port start space (xs ++ ys) records → HasRoom port start space xs records
+pub room_first : (port : ℕ) (start : Start) (space : ℕ) (xs ys : List Event) (records : List (Record (List ℕ))) → HasRoom port start space (xs ++ ys) records → HasRoom port start space xs records
 unfolding HasRoom
 room_first port start space [] ys records r = tt
 room_first port start space (x ∷ xs) ys records r = (r.0, room_first port start space xs ys (act port start x records) r.1)
 
-pub room_then : (port : ℕ) (start : Start) (space : ℕ) (xs ys : List (Event (List ℕ))) (records : List (Record (List ℕ))) → HasRoom port start space (xs ++ ys) records → HasRoom port start space ys (act_all port start xs records)
+pub room_then : (port : ℕ) (start : Start) (space : ℕ) (xs ys : List Event) (records : List (Record (List ℕ))) → HasRoom port start space (xs ++ ys) records → HasRoom port start space ys (act_all port start xs records)
 unfolding HasRoom act_all
 room_then port start space [] ys records r = r
 room_then port start space (x ∷ xs) ys records r = room_then port start space xs ys (act port start x records) r.1
 
-pub room_grows : (port : ℕ) (start : Start) (space more : ℕ) (events : List (Event (List ℕ))) (records : List (Record (List ℕ))) → space ≤ more → HasRoom port start space events records → HasRoom port start more events records
+pub room_grows : (port : ℕ) (start : Start) (space more : ℕ) (events : List Event) (records : List (Record (List ℕ))) → space ≤ more → HasRoom port start space events records → HasRoom port start more events records
 unfolding HasRoom
 room_grows port start space more [] records le r = tt
 room_grows port start space more (x ∷ xs) records le r = (omega (arith, r.0), room_grows port start space more xs (act port start x records) le r.1)
 
 -- there is room for what is held and what the message creates anew
-room_from : (port : ℕ) (start : Start) (space : ℕ) (before events : List (Event (List ℕ))) (held : List (Record (List ℕ))) → IsAscending held → length held + count_new port held (before ++ events) ≤ space → HasRoom port start space events (act_all port start before held)
+room_from : (port : ℕ) (start : Start) (space : ℕ) (before events : List Event) (held : List (Record (List ℕ))) → IsAscending held → length held + count_new port held (before ++ events) ≤ space → HasRoom port start space events (act_all port start before held)
 unfolding HasRoom act_all
 room_from port start space before [] held a fits = tt
 room_from port start space before (x ∷ xs) held a fits =
@@ -58,7 +58,7 @@ room_from port start space before (x ∷ xs) held a fits =
     let rest = room_from port start space (before ++ x ∷ []) xs held a (omega (arith, whole)) in
     (omega arith, subst (HasRoom port start space xs) next rest)
 
-pub room_for : (port : ℕ) (start : Start) (space : ℕ) (events : List (Event (List ℕ))) (held : List (Record (List ℕ))) → IsAscending held → length held + count_new port held events ≤ space → HasRoom port start space events held
+pub room_for : (port : ℕ) (start : Start) (space : ℕ) (events : List Event) (held : List (Record (List ℕ))) → IsAscending held → length held + count_new port held events ≤ space → HasRoom port start space events held
 unfolding act_all
 room_for port start space events held a fits = room_from port start space [] events held a fits
 
@@ -67,7 +67,7 @@ room_for port start space events held a fits = room_from port start space [] eve
 entry_bound : (port : ℕ) (held : List (Record (List ℕ))) (known : Option (List ℕ)) (joins : Bool) (group : List ℕ) (this : Entry (List ℕ)) → length (entry_events known joins group this) ≤ 1
 entry_bound port held known joins group (entry.Star rp) = by (joins && not (is_known known rp))
   where
-    by : (b : Bool) → length {A = Event (List ℕ)} (cond b [] (record { joins = joins; group = group; what = Star } ∷ [])) ≤ 1
+    by : (b : Bool) → length {A = Event} (cond b [] (record { joins = joins; group = group; what = Star } ∷ [])) ≤ 1
     by true = omega arith
     by false = omega arith
 entry_bound port held known joins group (entry.Source s) = omega arith
@@ -77,7 +77,7 @@ one_new : (b : Bool) → cond b 1 0 ≤ 1
 one_new true = omega arith
 one_new false = omega arith
 
-count_length : (port : ℕ) (held : List (Record (List ℕ))) (events : List (Event (List ℕ))) → count_new port held events ≤ length events
+count_length : (port : ℕ) (held : List (Record (List ℕ))) (events : List Event) → count_new port held events ≤ length events
 unfolding count_new
 count_length port held [] = omega arith
 count_length port held (x ∷ xs) = omega (arith, count_length port held xs, one_new (is_new port held x))
@@ -93,26 +93,26 @@ list_bound port held known joins group (this ∷ entries) =
 
 -- ---- one entry, and then the others
 
-pub events_one : (known : Option (List ℕ)) (joins : Bool) (group : List ℕ) (left rest : List (Entry (List ℕ))) (this : Entry (List ℕ)) (event : Event (List ℕ)) → left ≡ this ∷ rest → event ∷ [] ≡ entry_events known joins group this → list_events known joins group left ≡ event ∷ list_events known joins group rest
-events_one known joins group left rest this event split is = ap (list_events known joins group) split ∙ ap (λ (es : List (Event (List ℕ))). es ++ list_events known joins group rest) (sym is)
+pub events_one : (known : Option (List ℕ)) (joins : Bool) (group : List ℕ) (left rest : List (Entry (List ℕ))) (this : Entry (List ℕ)) (event : Event) → left ≡ this ∷ rest → event ∷ [] ≡ entry_events known joins group this → list_events known joins group left ≡ event ∷ list_events known joins group rest
+events_one known joins group left rest this event split is = ap (list_events known joins group) split ∙ ap (λ (es : List Event). es ++ list_events known joins group rest) (sym is)
 
-pub room_at : (port : ℕ) (start : Start) (space : ℕ) (event : Event (List ℕ)) (all events : List (Event (List ℕ))) (records : List (Record (List ℕ))) → all ≡ event ∷ events → HasRoom port start space all records → (length (act port start event records) ≤ space) × HasRoom port start space events (act port start event records)
+pub room_at : (port : ℕ) (start : Start) (space : ℕ) (event : Event) (all events : List Event) (records : List (Record (List ℕ))) → all ≡ event ∷ events → HasRoom port start space all records → (length (act port start event records) ≤ space) × HasRoom port start space events (act port start event records)
 unfolding HasRoom
-room_at port start space event all events records e r = subst (λ (es : List (Event (List ℕ))). HasRoom port start space es records) e r
+room_at port start space event all events records e r = subst (λ (es : List Event). HasRoom port start space es records) e r
 
-pub left_at : (port : ℕ) (start : Start) (event : Event (List ℕ)) (all events : List (Event (List ℕ))) (records : List (Record (List ℕ))) → all ≡ event ∷ events → act_all port start all records ≡ act_all port start events (act port start event records)
+pub left_at : (port : ℕ) (start : Start) (event : Event) (all events : List Event) (records : List (Record (List ℕ))) → all ≡ event ∷ events → act_all port start all records ≡ act_all port start events (act port start event records)
 unfolding act_all
-left_at port start event all events records e = ap (λ (es : List (Event (List ℕ))). act_all port start es records) e
+left_at port start event all events records e = ap (λ (es : List Event). act_all port start es records) e
 
 pub nothing_left : (port : ℕ) (start : Start) (known : Option (List ℕ)) (joins : Bool) (group : List ℕ) (left : List (Entry (List ℕ))) (records : List (Record (List ℕ))) → left ≡ [] → act_all port start (list_events known joins group left) records ≡ records
 unfolding act_all
 nothing_left port start known joins group left records e = ap (λ (es : List (Entry (List ℕ))). act_all port start (list_events known joins group es) records) e
 
-pub count_yes : (port : ℕ) (held : List (Record (List ℕ))) (event : Event (List ℕ)) (all events : List (Event (List ℕ))) → all ≡ event ∷ events → is_new port held event ≡ true → count_new port held all ≡ 1 + count_new port held events
+pub count_yes : (port : ℕ) (held : List (Record (List ℕ))) (event : Event) (all events : List Event) → all ≡ event ∷ events → is_new port held event ≡ true → count_new port held all ≡ 1 + count_new port held events
 unfolding count_new
 count_yes port held event all events e is = ap (count_new port held) e ∙ ap (λ b. cond b 1 0 + count_new port held events) is
 
-pub count_no : (port : ℕ) (held : List (Record (List ℕ))) (event : Event (List ℕ)) (all events : List (Event (List ℕ))) → all ≡ event ∷ events → is_new port held event ≡ false → count_new port held all ≡ count_new port held events
+pub count_no : (port : ℕ) (held : List (Record (List ℕ))) (event : Event) (all events : List Event) → all ≡ event ∷ events → is_new port held event ≡ false → count_new port held all ≡ count_new port held events
 unfolding count_new
 count_no port held event all events e is = ap (count_new port held) e ∙ ap (λ b. cond b 1 0 + count_new port held events) is ∙ (omega arith)
 
@@ -122,13 +122,13 @@ count_none port known joins group left held e = ap (λ (es : List (Entry (List �
 
 -- ---- one set, and then the others
 
-abbrev pub sets_events : Option (List ℕ) → List GroupSet → List (Event (List ℕ))
+abbrev pub sets_events : Option (List ℕ) → List GroupSet → List Event
 sets_events known sets = flat_map (set_events known) sets
 
-abbrev joined_events : Option (List ℕ) → GroupSet → List (Event (List ℕ))
+abbrev joined_events : Option (List ℕ) → GroupSet → List Event
 joined_events known set = list_events known true set.group set.joined
 
-abbrev pruned_events : Option (List ℕ) → GroupSet → List (Event (List ℕ))
+abbrev pruned_events : Option (List ℕ) → GroupSet → List Event
 pruned_events known set = list_events known false set.group set.pruned
 
 pub set_room : (port : ℕ) (start : Start) (space : ℕ) (known : Option (List ℕ)) (set : GroupSet) (left rest : List GroupSet) (records : List (Record (List ℕ))) → left ≡ set ∷ rest → HasRoom port start space (sets_events known left) records →

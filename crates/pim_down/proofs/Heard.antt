@@ -9,16 +9,16 @@ use Rattle.pim_down.specs.declared.key.Key.{Key}
 use Rattle.pim_down.specs.declared.machine.State.{State}
 use Rattle.pim_down.specs.declared.machine.State.TheVariants.{Join, PrunePending, Prune, PruneTmp, PrunePendingTmp}
 use Rattle.pim_down.specs.declared.machine.Machine.{Machine}
-use Rattle.pim_down.specs.declared.machine.Start.{Start}
+use Rattle.pim_down.specs.Tables.{Start}
 use Rattle.pim_down.specs.declared.machine.Record.{Record}
-use Rattle.pim_down.specs.declared.event.Event.{Event}
+use Rattle.pim_down.specs.Hearing.{Event}
 use Rattle.pim_down.specs.declared.event.Timing.{Timing}
 use Rattle.pim_down.specs.Key.{key_cmp, same_key}
 use Rattle.pim_down.specs.Tables.{join_in, on_join, prune_in, on_prune, on_star_join, on_rpt_prune, end_in, on_end}
 use Rattle.pim_down.specs.Records.{IsAscending, machine_at, recorded, at_rank, changed, each_changed, count_on}
 use Rattle.pim_down.specs.Hearing.{key_of, on_own, is_star_join, is_rpt_on, is_rpt_of, on_rpts, effect, act, act_all, at_end, hearing, events_of, start_of, count_new}
 use Rattle.pim_down.specs.Time.{Downstream}
-use Rattle.pim_down.specs.Sound.{is_temporary, IsSettled, IsSound}
+use Rattle.pim_down.specs.Sound.{is_temporary, IsSettled}
 use Rattle.pim_down.specs.Heard.{heard, needed_for}
 use Rattle.pim_down.proofs.Order.{same_keys, equal_keys}
 use Rattle.pim_down.proofs.Act.{at_act, at_hearing_end, IsAscending-act, IsAscending-act_all, IsAscending-hearing}
@@ -121,7 +121,7 @@ calm_rpts port group key m c =
       | false ↦ λ e. c
     ] refl
 
-calm_act : (port : ℕ) (start : Start) (event : Event (List ℕ)) (records : List (Record (List ℕ))) → AreCalm port records → AreCalm port (act port start event records)
+calm_act : (port : ℕ) (start : Start) (event : Event) (records : List (Record (List ℕ))) → AreCalm port records → AreCalm port (act port start event records)
 calm_act port start event records cs =
     let own = changed (key_of port event) (on_own event.joins event.what start) records in
     let after = calm_changed port (key_of port event) (on_own event.joins event.what start) records (calm_own port start event.group event.joins event.what) cs in
@@ -130,7 +130,7 @@ calm_act port start event records cs =
       | false ↦ after
     ]
 
-calm_all : (port : ℕ) (start : Start) (events : List (Event (List ℕ))) (records : List (Record (List ℕ))) → AreCalm port records → AreCalm port (act_all port start events records)
+calm_all : (port : ℕ) (start : Start) (events : List Event) (records : List (Record (List ℕ))) → AreCalm port records → AreCalm port (act_all port start events records)
 unfolding act_all
 calm_all port start [] records cs = cs
 calm_all port start (event ∷ events) records cs = calm_all port start events (act port start event records) (calm_act port start event records cs)
@@ -172,7 +172,7 @@ settled_end port [] cs = tt
 settled_end port (held ∷ records) cs =
     settled_recorded held.key (at_end port held.key (Some held.machine)) (each_changed (at_end port) records) (out_at_end port held.key held.machine cs.0) (settled_end port records cs.1)
 
-pub settled_hearing : (port : ℕ) (start : Start) (events : List (Event (List ℕ))) (records : List (Record (List ℕ))) → IsSettled records → IsSettled (hearing port start events records)
+pub settled_hearing : (port : ℕ) (start : Start) (events : List Event) (records : List (Record (List ℕ))) → IsSettled records → IsSettled (hearing port start events records)
 settled_hearing port start events records s = settled_end port (act_all port start events records) (calm_all port start events records (calm_settled port records s))
 
 -- ---- the limit
@@ -187,7 +187,7 @@ unfolding each_changed
 fewer_each port change [] = omega arith
 fewer_each port change (held ∷ records) = fewer_recorded port held (change held.key (Some held.machine)) (each_changed change records) records (fewer_each port change records)
 
-within_hearing : (port other limit : ℕ) (start : Start) (events : List (Event (List ℕ))) (records : List (Record (List ℕ))) → IsAscending records → count_on port records + count_new port records events ≤ limit → count_on other records ≤ limit → count_on other (hearing port start events records) ≤ limit
+pub within_hearing : (port other limit : ℕ) (start : Start) (events : List Event) (records : List (Record (List ℕ))) → IsAscending records → count_on port records + count_new port records events ≤ limit → count_on other records ≤ limit → count_on other (hearing port start events records) ≤ limit
 within_hearing port other limit start events records a room held =
     let ascending = IsAscending-act_all port start events records a in
     let fewer = fewer_each other (at_end port) (act_all port start events records) in
@@ -200,21 +200,6 @@ within_hearing port other limit start events records a room held =
           omega arith
     ] refl
 
--- ---- what is kept
-
-pub sound_heard : (port : ℕ) (message : Message) (known : Option (List ℕ)) (timing : Timing) (state : Downstream) → IsSound state → needed_for port message known state ≤ state.limit → IsSound (heard port message known timing state)
-sound_heard port message known timing state sound room =
-    let start = start_of message.holdtime timing in
-    let events = events_of known message in
-    record {
-      ports = sound.ports;
-      limit = sound.limit;
-      moment = sound.moment;
-      ascending = IsAscending-hearing port start events state.records sound.ascending;
-      settled = settled_hearing port start events state.records sound.settled;
-      within = λ other. within_hearing port other state.limit start events state.records sound.ascending room (sound.within other);
-    }
-
 -- ---- other ports
 
 other_port : (port : ℕ) (key : Key (List ℕ)) → key.port ≢ port → eqb key.port port ≡ false
@@ -224,7 +209,7 @@ other_port port key differs = by (eqb key.port port) refl
     by true e = absurd (differs (eqb-true key.port port e))
     by false e = e
 
-effect_elsewhere : (port : ℕ) (start : Start) (event : Event (List ℕ)) (key : Key (List ℕ)) (m : Option Machine) → key.port ≢ port → effect port start event key m ≡ m
+effect_elsewhere : (port : ℕ) (start : Start) (event : Event) (key : Key (List ℕ)) (m : Option Machine) → key.port ≢ port → effect port start event key m ≡ m
 effect_elsewhere port start event key m differs = by (same_key (key_of port event) key) refl
   where
     rpts : on_rpts port event.group key m ≡ m
@@ -234,7 +219,7 @@ effect_elsewhere port start event key m differs = by (same_key (key_of port even
     by true e = absurd (differs (ap (λ (k : Key (List ℕ)). k.port) (sym (same_keys (key_of port event) key e))))
     by false e = elim (is_star_join event) as (λ s. cond s (on_rpts port event.group key m) m ≡ m) [ true ↦ rpts | false ↦ refl ]
 
-all_elsewhere : (port : ℕ) (start : Start) (events : List (Event (List ℕ))) (records : List (Record (List ℕ))) (key : Key (List ℕ)) → IsAscending records → key.port ≢ port → machine_at key (act_all port start events records) ≡ machine_at key records
+all_elsewhere : (port : ℕ) (start : Start) (events : List Event) (records : List (Record (List ℕ))) (key : Key (List ℕ)) → IsAscending records → key.port ≢ port → machine_at key (act_all port start events records) ≡ machine_at key records
 unfolding act_all
 all_elsewhere port start [] records key a differs = refl
 all_elsewhere port start (event ∷ events) records key a differs =
@@ -242,7 +227,7 @@ all_elsewhere port start (event ∷ events) records key a differs =
     ∙ at_act port start event records a key
     ∙ effect_elsewhere port start event key (machine_at key records) differs
 
-pub hearing_elsewhere : (port : ℕ) (start : Start) (events : List (Event (List ℕ))) (records : List (Record (List ℕ))) (key : Key (List ℕ)) → IsAscending records → key.port ≢ port → machine_at key (hearing port start events records) ≡ machine_at key records
+pub hearing_elsewhere : (port : ℕ) (start : Start) (events : List Event) (records : List (Record (List ℕ))) (key : Key (List ℕ)) → IsAscending records → key.port ≢ port → machine_at key (hearing port start events records) ≡ machine_at key records
 hearing_elsewhere port start events records key a differs =
     let after = act_all port start events records in
     at_hearing_end port after (IsAscending-act_all port start events records a) key

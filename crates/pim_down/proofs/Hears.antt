@@ -1,20 +1,23 @@
 -- What a call that hears a message leaves, whose records count from the moment 0.
-use Rattle.std.proofs.Common.{◌≡◌, ◌≢◌, ℕ, List, Option, Result, Ok, Err, OnOk, OnErr, map, sym, ap, subst, ◌∙◌, arith}
+use Rattle.std.proofs.Common.{◌≡◌, ◌≢◌, ◌<◌, ℕ, List, Option, Result, Ok, Err, OnOk, OnErr, map, sym, ap, subst, ◌∙◌, arith}
+use Rattle.pim_addr.specs.declared.family.AddressFamily.{AddressFamily}
 use Rattle.pim_jp.specs.Message.{Message}
+use Rattle.pim_jp.specs.Canonical.{IsMessage}
 use Rattle.pim_down.specs.declared.key.Key.{Key}
-use Rattle.pim_down.specs.declared.machine.Start.{Start}
+use Rattle.pim_down.specs.Tables.{Start}
 use Rattle.pim_down.specs.declared.machine.Record.{Record}
 use Rattle.pim_down.specs.declared.event.Timing.{Timing}
 use Rattle.pim_down.specs.declared.fault.HearFault.{HearFault}
 use Rattle.pim_down.specs.Records.{IsAscending, machine_at}
-use Rattle.pim_down.specs.Hearing.{hearing, events_of, start_of, needed}
+use Rattle.pim_down.specs.Hearing.{hearing, events_of, start_of, needed, count_new}
 use Rattle.pim_down.specs.Time.{Downstream, record_after}
 use Rattle.pim_down.specs.Sound.{IsSound}
-use Rattle.pim_down.specs.Heard.{heard, needed_for, IsWithin}
+use Rattle.pim_down.specs.Heard.{heard, needed_for, new_for, IsWithin, MayWantMemory}
 use Rattle.pim_down.specs.Seen.{records_seen, shown}
 use Rattle.pim_down.specs.Running.{state_at, start_after}
 use Rattle.pim_down.proofs.Origin.{hearing_later, count_on_later, count_new_later}
-use Rattle.pim_down.proofs.Heard.{sound_heard, hearing_elsewhere}
+use Rattle.pim_down.proofs.Heard.{hearing_elsewhere}
+use Rattle.pim_down.proofs.SoundHeard.{sound_heard}
 
 module _ {A : Type 0} (bytes_of : A → List ℕ) (ports limit moment port : ℕ) (message : Message) (known : Option (List ℕ)) (timing : Timing) where
   pub heard_is : (start : Start) (old new : List (Record A)) (state : Downstream) → start_after moment start ≡ start_of message.holdtime timing → state_at bytes_of ports limit moment old ≡ state → records_seen bytes_of new ≡ hearing port start (events_of known message) (records_seen bytes_of old) → state_at bytes_of ports limit moment new ≡ heard port message known timing state
@@ -38,15 +41,20 @@ module _ {A : Type 0} (bytes_of : A → List ℕ) (ports limit moment port : ℕ
   within_is r old state view within =
       subst (λ (s : Downstream). IsWithin s.limit (needed_for port message known s) r) view (subst (λ (n : ℕ). IsWithin limit n r) (needed_is old) within)
 
+  pub memory_is : {T : Type 0} (r : Result T HearFault) (old : List (Record A)) (state : Downstream) → state_at bytes_of ports limit moment old ≡ state → MayWantMemory (count_new port (records_seen bytes_of old) (events_of known message)) r → MayWantMemory (new_for port message known state) r
+  memory_is r old state view may =
+      subst (λ (s : Downstream). MayWantMemory (new_for port message known s) r) view
+      (subst (λ (n : ℕ). MayWantMemory n r) (sym (count_new_later moment port (events_of known message) (records_seen bytes_of old))) may)
+
   pub others_are : {T : Type 0} (r : Result T HearFault) (old new : Downstream) → IsAscending old.records → OnOk r (new ≡ heard port message known timing old) → OnErr r (new ≡ old) → (key : Key (List ℕ)) → key.port ≢ port → machine_at key new.records ≡ machine_at key old.records
   others_are (Ok x) old new ascending ok err key differs =
       ap (λ (s : Downstream). machine_at key s.records) ok
       ∙ hearing_elsewhere port (start_of message.holdtime timing) (events_of known message) old.records key ascending differs
   others_are (Err x) old new ascending ok err key differs = ap (λ (s : Downstream). machine_at key s.records) err
 
-  pub sound_is : {T : Type 0} (r : Result T HearFault) (old new : Downstream) → IsSound old → OnOk r (new ≡ heard port message known timing old) → OnErr r (new ≡ old) → IsWithin old.limit (needed_for port message known old) r → IsSound new
-  sound_is (Ok x) old new sound ok err within = subst IsSound (sym ok) (sound_heard port message known timing old sound within)
-  sound_is (Err x) old new sound ok err within = subst IsSound (sym err) sound
+  pub sound_is : {T : Type 0} (family : AddressFamily) (r : Result T HearFault) (old new : Downstream) → IsSound family old → port < old.ports → IsMessage family message → OnOk r (new ≡ heard port message known timing old) → OnErr r (new ≡ old) → IsWithin old.limit (needed_for port message known old) r → IsSound family new
+  sound_is family (Ok x) old new sound there legal ok err within = subst (IsSound family) (sym ok) (sound_heard family port message known timing old sound there legal within)
+  sound_is family (Err x) old new sound there legal ok err within = subst (IsSound family) (sym err) sound
 
 pub on_err : {T E P Q : Type 0} (r : Result T E) → (P → Q) → OnErr r P → OnErr r Q
 on_err (Ok x) f p = p

@@ -1,6 +1,8 @@
 -- Time keeps the machines sound.
 use Rattle.std.proofs.Common.{◌≡◌, ℕ, zero, suc, ◌+◌, ◌≤◌, Bool, true, false, cond, List, [], ◌∷◌, ◌++◌, Option, Some, None, map, ltb, refl, sym, ap, subst, ◌∙◌, arith}
 use Rattle.std.proofs.lemmas.Bool.{ltb-true}
+use Rattle.std.specs.List.{AllByRecursion}
+use Rattle.pim_addr.specs.declared.family.AddressFamily.{AddressFamily}
 use Rattle.pim_down.specs.declared.key.What.{What}
 use Rattle.pim_down.specs.declared.key.What.TheVariants.{Star, Source, Rpt}
 use Rattle.pim_down.specs.declared.key.Key.{Key}
@@ -12,7 +14,8 @@ use Rattle.pim_down.specs.Key.{same_key}
 use Rattle.pim_down.specs.Records.{IsBelow, IsAscending, machine_at, recorded, count_on, state_of_machine, state_at}
 use Rattle.pim_down.specs.Running.{state_at as state_at_moment}
 use Rattle.pim_down.specs.Time.{Downstream, record_after, machine_after, tick, on_ppt, after_et, after_ppt, et_due, ppt_due, first_due, with_first, fire_et, fire_ppt, fired, echo_of, Outcome, rests, moves, echoes, with_records, told, step_by, step, run_on, run_within, Runs}
-use Rattle.pim_down.specs.Sound.{is_temporary, IsSettled, IsSound}
+use Rattle.pim_down.specs.Sound.{is_temporary, IsSettled, IsReal, IsSound}
+use Rattle.pim_down.proofs.Real.{real_later, real_ppt}
 use Rattle.pim_down.proofs.Map.{IsBelow-recorded, IsAscending-recorded}
 
 -- what is kept of a list of records, where all ports are looked at together
@@ -20,19 +23,21 @@ pub record Kept (old new : List (Record (List ℕ))) : Type 0 where
   pub below : (key : Key (List ℕ)) → IsBelow key old → IsBelow key new
   pub ascending : IsAscending old → IsAscending new
   pub settled : IsSettled old → IsSettled new
+  pub real : (family : AddressFamily) (ports : ℕ) → AllByRecursion (IsReal family ports) old → AllByRecursion (IsReal family ports) new
   pub fewer : (port : ℕ) → count_on port new ≤ count_on port old
 
 -- ---- a millisecond
 
 pub kept_later : (k : ℕ) (records : List (Record (List ℕ))) → Kept records (map (record_after k) records)
 unfolding IsBelow IsAscending IsSettled count_on
-kept_later k [] = record { below = λ key b. tt; ascending = λ a. tt; settled = λ s. tt; fewer = λ port. omega arith }
+kept_later k [] = record { below = λ key b. tt; ascending = λ a. tt; settled = λ s. tt; real = λ family ports rs. rs; fewer = λ port. omega arith }
 kept_later k (held ∷ records) =
     let rest = kept_later k records in
     record {
       below = λ key b. (b.0, rest.below key b.1);
       ascending = λ a. (rest.below held.key a.0, rest.ascending a.1);
       settled = λ s. (s.0, rest.settled s.1);
+      real = λ family ports. real_later family ports k (held ∷ records);
       fewer = λ port. let f = rest.fewer port in omega arith;
     }
 
@@ -53,21 +58,27 @@ abbrev stays_settled : Option Machine → Type 0
 stays_settled None = Unit {0}
 stays_settled (Some machine) = is_temporary machine.state ≡ false
 
-kept_first : (due : Record (List ℕ) → Bool) (change : Record (List ℕ) → Option Machine) (records : List (Record (List ℕ))) → ((held : Record (List ℕ)) → stays_settled (change held)) → Kept records (with_first due (λ (held : Record (List ℕ)). recorded held.key (change held)) records)
-unfolding IsBelow IsAscending IsSettled count_on with_first
-kept_first due change [] quiet = record { below = λ key b. tt; ascending = λ a. tt; settled = λ s. tt; fewer = λ port. omega arith }
-kept_first due change (held ∷ records) quiet =
+-- the record that a change leaves is real where the one before was
+StaysReal : (Record (List ℕ) → Option Machine) → Type 0
+StaysReal change = (family : AddressFamily) (ports : ℕ) (held : Record (List ℕ)) → IsReal family ports held → (records : List (Record (List ℕ))) → AllByRecursion (IsReal family ports) records → AllByRecursion (IsReal family ports) (recorded held.key (change held) ++ records)
+
+kept_first : (due : Record (List ℕ) → Bool) (change : Record (List ℕ) → Option Machine) (records : List (Record (List ℕ))) → ((held : Record (List ℕ)) → stays_settled (change held)) → StaysReal change → Kept records (with_first due (λ (held : Record (List ℕ)). recorded held.key (change held)) records)
+unfolding IsBelow IsAscending IsSettled count_on with_first StaysReal
+kept_first due change [] quiet real = record { below = λ key b. tt; ascending = λ a. tt; settled = λ s. tt; real = λ family ports rs. rs; fewer = λ port. omega arith }
+kept_first due change (held ∷ records) quiet real =
     elim (due held) as (λ b. Kept (held ∷ records) (cond b (recorded held.key (change held) ++ records) (held ∷ with_first due (λ (h : Record (List ℕ)). recorded h.key (change h)) records))) [
       | true ↦ record {
         below = λ key b. IsBelow-recorded key held.key (change held) records b.0 b.1;
         ascending = λ a. IsAscending-recorded held.key (change held) records a.0 a.1;
         settled = λ s. settled_recorded (change held) (quiet held) s.1;
+        real = λ family ports rs. real family ports held rs.0 records rs.1;
         fewer = λ port. fewer_recorded port (change held);
       }
-      | false ↦ let rest = kept_first due change records quiet in record {
+      | false ↦ let rest = kept_first due change records quiet real in record {
         below = λ key b. (b.0, rest.below key b.1);
         ascending = λ a. (rest.below held.key a.0, rest.ascending a.1);
         settled = λ s. (s.0, rest.settled s.1);
+        real = λ family ports rs. (rs.0, rest.real family ports rs.1);
         fewer = λ port. let f = rest.fewer port in omega arith;
       }
     ]
@@ -88,6 +99,14 @@ settled_ppt held = by held.key.what
     by (Source source) = tt
     by (Rpt source) = refl
 
+none_real : StaysReal (λ (h : Record (List ℕ)). None)
+unfolding StaysReal
+none_real family ports held r records rs = rs
+
+ppt_real : StaysReal (λ (h : Record (List ℕ)). on_ppt h.key.what h.machine)
+unfolding StaysReal
+ppt_real family ports held r records rs = real_ppt family ports held r records rs
+
 kept_none : (records after : List (Record (List ℕ))) (answer : Step (List ℕ)) → ◌≡◌ {A = Option (Step (List ℕ) × List (Record (List ℕ)))} None (Some (answer, after)) → Kept records after
 kept_none records after answer e = absurd (never e)
   where
@@ -105,66 +124,67 @@ kept_fired records after answer e = by_ppt (first_due ppt_due records) e
   where
     by_et : (o : Option (Record (List ℕ))) → fire_et records o ≡ Some (answer, after) → Kept records after
     by_et None f = kept_none records after answer f
-    by_et (Some held) f = kept_pair records (with_first et_due after_et records) after Reached answer f (kept_first et_due (λ (h : Record (List ℕ)). None) records (λ h. tt))
+    by_et (Some held) f = kept_pair records (with_first et_due after_et records) after Reached answer f (kept_first et_due (λ (h : Record (List ℕ)). None) records (λ h. tt) none_real)
 
     by_ppt : (o : Option (Record (List ℕ))) → fire_ppt records o ≡ Some (answer, after) → Kept records after
     by_ppt None f = by_et (first_due et_due records) f
-    by_ppt (Some held) f = kept_pair records (with_first ppt_due after_ppt records) after (echo_of held) answer f (kept_first ppt_due (λ (h : Record (List ℕ)). on_ppt h.key.what h.machine) records settled_ppt)
+    by_ppt (Some held) f = kept_pair records (with_first ppt_due after_ppt records) after (echo_of held) answer f (kept_first ppt_due (λ (h : Record (List ℕ)). on_ppt h.key.what h.machine) records settled_ppt ppt_real)
 
 -- ---- a run
 
-sound_kept : (state : Downstream) (moment : ℕ) (records : List (Record (List ℕ))) → moment ≤ 1000000000000000 → Kept state.records records → IsSound state → IsSound (record { ports = state.ports; limit = state.limit; moment = moment; records = records })
-sound_kept state moment records small kept sound = record {
+sound_kept : (family : AddressFamily) (state : Downstream) (moment : ℕ) (records : List (Record (List ℕ))) → moment ≤ 1000000000000000 → Kept state.records records → IsSound family state → IsSound family (record { ports = state.ports; limit = state.limit; moment = moment; records = records })
+sound_kept family state moment records small kept sound = record {
   ports = sound.ports;
   limit = sound.limit;
   moment = small;
   ascending = kept.ascending sound.ascending;
   settled = kept.settled sound.settled;
+  real = kept.real family state.ports sound.real;
   within = λ port. let f = kept.fewer port in let w = sound.within port in omega arith;
 }
 
-abbrev SoundThen : Outcome → Type 0
-SoundThen rests = Unit {0}
-SoundThen (moves next) = IsSound next
-SoundThen (echoes echo next) = IsSound next
+abbrev SoundThen : AddressFamily → Outcome → Type 0
+SoundThen family rests = Unit {0}
+SoundThen family (moves next) = IsSound family next
+SoundThen family (echoes echo next) = IsSound family next
 
-sound_told : (answer : Step (List ℕ)) (next : Downstream) → IsSound next → SoundThen (told answer next)
-sound_told Reached next sound = sound
-sound_told (Echo port group what) next sound = sound
+sound_told : (family : AddressFamily) (answer : Step (List ℕ)) (next : Downstream) → IsSound family next → SoundThen family (told answer next)
+sound_told family Reached next sound = sound
+sound_told family (Echo port group what) next sound = sound
 
-sound_step : (moment : ℕ) (state : Downstream) → moment ≤ 1000000000000000 → IsSound state → SoundThen (step moment state)
+sound_step : (family : AddressFamily) (moment : ℕ) (state : Downstream) → moment ≤ 1000000000000000 → IsSound family state → SoundThen family (step moment state)
 unfolding step
-sound_step moment state small sound = by (fired state.records) refl
+sound_step family moment state small sound = by (fired state.records) refl
   where
-    passes : (b : Bool) → ltb state.moment moment ≡ b → SoundThen (cond b (moves (tick state)) rests)
-    passes true e = let lt = ltb-true state.moment moment e in sound_kept state (state.moment + 1) (map (record_after 1) state.records) (omega arith) (kept_later 1 state.records) sound
+    passes : (b : Bool) → ltb state.moment moment ≡ b → SoundThen family (cond b (moves (tick state)) rests)
+    passes true e = let lt = ltb-true state.moment moment e in sound_kept family state (state.moment + 1) (map (record_after 1) state.records) (omega arith) (kept_later 1 state.records) sound
     passes false e = tt
 
-    by : (o : Option (Step (List ℕ) × List (Record (List ℕ)))) → fired state.records ≡ o → SoundThen (step_by moment state o)
+    by : (o : Option (Step (List ℕ) × List (Record (List ℕ)))) → fired state.records ≡ o → SoundThen family (step_by moment state o)
     by None e = passes (ltb state.moment moment) refl
-    by (Some (answer, records)) e = sound_told answer (with_records state records) (sound_kept state state.moment records sound.moment (kept_fired state.records records answer e) sound)
+    by (Some (answer, records)) e = sound_told family answer (with_records state records) (sound_kept family state state.moment records sound.moment (kept_fired state.records records answer e) sound)
 
-pair_sound : (state after : Downstream) (step answer : Step (List ℕ)) → ◌≡◌ {A = Option (Step (List ℕ) × Downstream)} (Some (step, state)) (Some (answer, after)) → IsSound state → IsSound after
-pair_sound state after step answer e sound =
+pair_sound : (family : AddressFamily) (state after : Downstream) (step answer : Step (List ℕ)) → ◌≡◌ {A = Option (Step (List ℕ) × Downstream)} (Some (step, state)) (Some (answer, after)) → IsSound family state → IsSound family after
+pair_sound family state after step answer e sound =
     let pairs : ◌≡◌ {A = Step (List ℕ) × Downstream} (step, state) (answer, after) = cc in
-    subst IsSound (ap (λ (x : Step (List ℕ) × Downstream). x.1) pairs) sound
+    subst (IsSound family) (ap (λ (x : Step (List ℕ) × Downstream). x.1) pairs) sound
 
 no_run : (answer : Step (List ℕ)) (after : Downstream) → ◌≡◌ {A = Option (Step (List ℕ) × Downstream)} None (Some (answer, after)) → ⊥
 no_run answer after e = cc
 
-sound_on : (outcome : Outcome) (steps moment : ℕ) (state after : Downstream) (answer : Step (List ℕ)) → ((next : Downstream) → IsSound next → run_within steps moment next ≡ Some (answer, after) → IsSound after) → IsSound state → SoundThen outcome → run_on outcome state (run_within steps moment) ≡ Some (answer, after) → IsSound after
-sound_on rests steps moment state after answer more sound s f = pair_sound state after Reached answer f sound
-sound_on (moves next) steps moment state after answer more sound s f = more next s f
-sound_on (echoes echo next) steps moment state after answer more sound s f = pair_sound next after echo answer f s
+sound_on : (family : AddressFamily) (outcome : Outcome) (steps moment : ℕ) (state after : Downstream) (answer : Step (List ℕ)) → ((next : Downstream) → IsSound family next → run_within steps moment next ≡ Some (answer, after) → IsSound family after) → IsSound family state → SoundThen family outcome → run_on outcome state (run_within steps moment) ≡ Some (answer, after) → IsSound family after
+sound_on family rests steps moment state after answer more sound s f = pair_sound family state after Reached answer f sound
+sound_on family (moves next) steps moment state after answer more sound s f = more next s f
+sound_on family (echoes echo next) steps moment state after answer more sound s f = pair_sound family next after echo answer f s
 
-sound_within : (steps moment : ℕ) (state after : Downstream) (answer : Step (List ℕ)) → moment ≤ 1000000000000000 → IsSound state → run_within steps moment state ≡ Some (answer, after) → IsSound after
+sound_within : (family : AddressFamily) (steps moment : ℕ) (state after : Downstream) (answer : Step (List ℕ)) → moment ≤ 1000000000000000 → IsSound family state → run_within steps moment state ≡ Some (answer, after) → IsSound family after
 unfolding run_within
-sound_within zero moment state after answer small sound e = absurd (no_run answer after e)
-sound_within (suc steps) moment state after answer small sound e =
-    sound_on (step moment state) steps moment state after answer (λ next s f. sound_within steps moment next after answer small s f) sound (sound_step moment state small sound) e
+sound_within family zero moment state after answer small sound e = absurd (no_run answer after e)
+sound_within family (suc steps) moment state after answer small sound e =
+    sound_on family (step moment state) steps moment state after answer (λ next s f. sound_within family steps moment next after answer small s f) sound (sound_step family moment state small sound) e
 
-pub sound_runs : (moment : ℕ) (state after : Downstream) (answer : Step (List ℕ)) → moment ≤ 1000000000000000 → IsSound state → Runs moment state answer after → IsSound after
-sound_runs moment state after answer small sound runs = sound_within runs.steps moment state after answer small sound runs.within
+pub sound_runs : (family : AddressFamily) (moment : ℕ) (state after : Downstream) (answer : Step (List ℕ)) → moment ≤ 1000000000000000 → IsSound family state → Runs moment state answer after → IsSound family after
+sound_runs family moment state after answer small sound runs = sound_within family runs.steps moment state after answer small sound runs.within
 
 -- ---- what callers see
 
@@ -182,9 +202,9 @@ pub state_seen : (k : ℕ) (key : Key (List ℕ)) (records : List (Record (List 
 state_seen k key records state machine seen at =
     ap state_of_machine at ∙ sym (machine_state_later k key records) ∙ ap (state_at key) (sym seen)
 
-pub sound_at_first : {A : Type 0} (bytes_of : A → List ℕ) (ports limit : ℕ) (records : List (Record A)) → records ≡ [] → ports ≤ 64 → limit ≤ 100000 → IsSound (state_at_moment bytes_of ports limit 0 records)
+pub sound_at_first : (family : AddressFamily) {A : Type 0} (bytes_of : A → List ℕ) (ports limit : ℕ) (records : List (Record A)) → records ≡ [] → ports ≤ 64 → limit ≤ 100000 → IsSound family (state_at_moment bytes_of ports limit 0 records)
 unfolding IsAscending IsSettled count_on
-sound_at_first {A} bytes_of ports limit records none small_ports small_limit = subst (λ (rs : List (Record A)). IsSound (state_at_moment bytes_of ports limit 0 rs)) (sym none) (empty ports limit small_ports small_limit)
+sound_at_first family {A} bytes_of ports limit records none small_ports small_limit = subst (λ (rs : List (Record A)). IsSound family (state_at_moment bytes_of ports limit 0 rs)) (sym none) (empty ports limit small_ports small_limit)
   where
-    empty : (ports limit : ℕ) → ports ≤ 64 → limit ≤ 100000 → IsSound (record { ports = ports; limit = limit; moment = 0; records = [] })
-    empty ports limit p l = record { ports = p; limit = l; moment = omega arith; ascending = tt; settled = tt; within = λ port. omega arith }
+    empty : (ports limit : ℕ) → ports ≤ 64 → limit ≤ 100000 → IsSound family (record { ports = ports; limit = limit; moment = 0; records = [] })
+    empty ports limit p l = record { ports = p; limit = l; moment = omega arith; ascending = tt; settled = tt; real = tt; within = λ port. omega arith }

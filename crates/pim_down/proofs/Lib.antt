@@ -16,3 +16,9 @@ pub mod Events
 pub mod Heard
 pub mod Hears
 pub mod OneList
+pub mod Real
+pub mod SoundHeard
+pub mod OnPort
+pub mod Runs
+pub mod Silence
+pub mod Echo

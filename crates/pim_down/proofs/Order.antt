@@ -1,5 +1,5 @@
 -- The order of keys is total, and tells no two of them alike.
-use Rattle.std.proofs.Common.{◌≡◌, ℕ, true, false, List, refl, ap, ◌∙◌}
+use Rattle.std.proofs.Common.{◌≡◌, ◌↔◌, ℕ, true, false, List, refl, ap, subst, ◌∙◌}
 use Rattle.std.specs.declared.cmp.Ordering.{Ordering}
 use Rattle.std.specs.declared.cmp.Ordering.TheVariants.{Less, Equal, Greater}
 use Rattle.std.specs.Ordering.{ordering_then, is_eq, ordering_reverse, nat_cmp}
@@ -83,3 +83,6 @@ same_back a b e = ap is_eq (key_total.antisymm b a) ∙ reversed (key_cmp a b) �
     reversed Less = refl
     reversed Equal = refl
     reversed Greater = refl
+
+pub told_apart : (a b : Key (List ℕ)) → ((key_cmp a b ≡ Equal) ↔ (a ≡ b)) × ((same_key a b ≡ true) ↔ (a ≡ b))
+told_apart a b = ((equal_keys a b, λ e. subst (λ (k : Key (List ℕ)). key_cmp a k ≡ Equal) e (key_itself a)), (same_keys a b, λ e. subst (λ (k : Key (List ℕ)). same_key a k ≡ true) e (same_itself a)))

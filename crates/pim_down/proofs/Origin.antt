@@ -9,9 +9,9 @@ use Rattle.pim_down.specs.declared.key.Key.{Key}
 use Rattle.pim_down.specs.declared.machine.State.{State}
 use Rattle.pim_down.specs.declared.machine.State.TheVariants.{Join, PrunePending, Prune, PruneTmp, PrunePendingTmp}
 use Rattle.pim_down.specs.declared.machine.Machine.{Machine}
-use Rattle.pim_down.specs.declared.machine.Start.{Start}
+use Rattle.pim_down.specs.Tables.{Start}
 use Rattle.pim_down.specs.declared.machine.Record.{Record}
-use Rattle.pim_down.specs.declared.event.Event.{Event}
+use Rattle.pim_down.specs.Hearing.{Event}
 use Rattle.pim_down.specs.Key.{key_cmp, same_key}
 use Rattle.pim_down.specs.Tables.{greater, join_in, on_join, prune_in, on_prune, star_join_in, on_star_join, rpt_prune_in, on_rpt_prune, end_in, on_end}
 use Rattle.pim_down.specs.Records.{machine_at, recorded, at_rank, changed, each_changed, count_on}
@@ -129,7 +129,7 @@ unfolding each_changed
 each_later k f same [] = refl
 each_later k f same (held ∷ records) = joined_later k held.key (f held.key (Some held.machine)) (f held.key (Some (machine_after k held.machine))) (each_changed f records) (each_changed f (map (record_after k) records)) (same held.key (Some held.machine)) (each_later k f same records)
 
-act_later : (k port : ℕ) (start : Start) (event : Event (List ℕ)) (records : List (Record (List ℕ))) → map (record_after k) (act port start event records) ≡ act port (start_after k start) event (map (record_after k) records)
+act_later : (k port : ℕ) (start : Start) (event : Event) (records : List (Record (List ℕ))) → map (record_after k) (act port start event records) ≡ act port (start_after k start) event (map (record_after k) records)
 act_later k port start event records =
     let own = changed_later k (key_of port event) (on_own event.joins event.what start) (on_own event.joins event.what (start_after k start)) (own_later k start event.joins event.what) records in
     elim (is_star_join event) as (λ s. map (record_after k) (cond s (each_changed (on_rpts port event.group) (changed (key_of port event) (on_own event.joins event.what start) records)) (changed (key_of port event) (on_own event.joins event.what start) records)) ≡ cond s (each_changed (on_rpts port event.group) (changed (key_of port event) (on_own event.joins event.what (start_after k start)) (map (record_after k) records))) (changed (key_of port event) (on_own event.joins event.what (start_after k start)) (map (record_after k) records))) [
@@ -137,12 +137,12 @@ act_later k port start event records =
       | false ↦ own
     ]
 
-act_all_later : (k port : ℕ) (start : Start) (events : List (Event (List ℕ))) (records : List (Record (List ℕ))) → map (record_after k) (act_all port start events records) ≡ act_all port (start_after k start) events (map (record_after k) records)
+act_all_later : (k port : ℕ) (start : Start) (events : List Event) (records : List (Record (List ℕ))) → map (record_after k) (act_all port start events records) ≡ act_all port (start_after k start) events (map (record_after k) records)
 unfolding act_all
 act_all_later k port start [] records = refl
 act_all_later k port start (event ∷ events) records = act_all_later k port start events (act port start event records) ∙ ap (act_all port (start_after k start) events) (act_later k port start event records)
 
-pub hearing_later : (k port : ℕ) (start : Start) (events : List (Event (List ℕ))) (records : List (Record (List ℕ))) → map (record_after k) (hearing port start events records) ≡ hearing port (start_after k start) events (map (record_after k) records)
+pub hearing_later : (k port : ℕ) (start : Start) (events : List Event) (records : List (Record (List ℕ))) → map (record_after k) (hearing port start events records) ≡ hearing port (start_after k start) events (map (record_after k) records)
 hearing_later k port start events records =
     each_later k (at_end port) (at_end_later k port) (act_all port start events records) ∙ ap (each_changed (at_end port)) (act_all_later k port start events records)
 
@@ -158,7 +158,7 @@ unfolding count_on
 count_on_later k port [] = refl
 count_on_later k port (held ∷ records) = ap (λ n. cond (eqb held.key.port port) 1 0 + n) (count_on_later k port records)
 
-pub count_new_later : (k port : ℕ) (events : List (Event (List ℕ))) (records : List (Record (List ℕ))) → count_new port (map (record_after k) records) events ≡ count_new port records events
+pub count_new_later : (k port : ℕ) (events : List Event) (records : List (Record (List ℕ))) → count_new port (map (record_after k) records) events ≡ count_new port records events
 unfolding count_new
 count_new_later k port [] records = refl
 count_new_later k port (event ∷ events) records = rw (some_later k (key_of port event) records, count_new_later k port events records) refl

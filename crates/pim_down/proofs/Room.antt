@@ -6,9 +6,9 @@ use Rattle.pim_down.specs.declared.key.What.{What}
 use Rattle.pim_down.specs.declared.key.What.TheVariants.{Star, Source, Rpt}
 use Rattle.pim_down.specs.declared.key.Key.{Key}
 use Rattle.pim_down.specs.declared.machine.Machine.{Machine}
-use Rattle.pim_down.specs.declared.machine.Start.{Start}
+use Rattle.pim_down.specs.Tables.{Start}
 use Rattle.pim_down.specs.declared.machine.Record.{Record}
-use Rattle.pim_down.specs.declared.event.Event.{Event}
+use Rattle.pim_down.specs.Hearing.{Event}
 use Rattle.pim_down.specs.Key.{same_key}
 use Rattle.pim_down.specs.Tables.{on_prune, on_star_join}
 use Rattle.pim_down.specs.Records.{IsBelow, IsAscending, machine_at, count_on}
@@ -100,7 +100,7 @@ unfolding on_star_join
 rpts_none port group key = elim (is_rpt_of port group key) as (λ b. cond b (on_star_join None) None ≡ None) [ true ↦ refl | false ↦ refl ]
 
 -- where a machine is held afterwards that wasn't before, the event creates it
-effect_none : (port : ℕ) (start : Start) (event : Event (List ℕ)) (key : Key (List ℕ)) → is_some (effect port start event key None) ≡ true → (same_key (key_of port event) key ≡ true) × (creates event ≡ true)
+effect_none : (port : ℕ) (start : Start) (event : Event) (key : Key (List ℕ)) → is_some (effect port start event key None) ≡ true → (same_key (key_of port event) key ≡ true) × (creates event ≡ true)
 effect_none port start event key e = by (same_key (key_of port event) key) refl e
   where
     others : (s : Bool) → is_some (cond s (on_rpts port event.group key None) None) ≡ true → ⊥
@@ -112,7 +112,7 @@ effect_none port start event key e = by (same_key (key_of port event) key) refl 
     by false s f = absurd (others (is_star_join event) f)
 
 -- the keys that are covered, and those of the events that create anew
-tally_new : (Key (List ℕ) → Bool) → ℕ → List (Record (List ℕ)) → List (Event (List ℕ)) → ℕ
+tally_new : (Key (List ℕ) → Bool) → ℕ → List (Record (List ℕ)) → List Event → ℕ
 tally_new test port held [] = 0
 tally_new test port held (event ∷ events) = cond (is_new port held event) (one (test (key_of port event))) 0 + tally_new test port held events
 
@@ -121,7 +121,7 @@ record CoveredAfter (test : Key (List ℕ) → Bool) (bound : ℕ) (records : Li
   covers : Covers keys records
   count : tally test keys ≡ bound
 
-act_covers : (port : ℕ) (start : Start) (event : Event (List ℕ)) (held records : List (Record (List ℕ))) (keys : List (Key (List ℕ))) → IsAscending records → Covers keys held → Covers keys records → Covers (cond (is_new port held event) (key_of port event ∷ keys) keys) (act port start event records)
+act_covers : (port : ℕ) (start : Start) (event : Event) (held records : List (Record (List ℕ))) (keys : List (Key (List ℕ))) → IsAscending records → Covers keys held → Covers keys records → Covers (cond (is_new port held event) (key_of port event ∷ keys) keys) (act port start event records)
 unfolding has Covers
 act_covers port start event held records keys a covers_held covers key some = before (machine_at key records) refl
   where
@@ -158,7 +158,7 @@ covers_added true key keys held covers k some = rw (covers k some) (or_true (sam
     or_true false = refl
 covers_added false key keys held covers k some = covers k some
 
-all_covered : (test : Key (List ℕ) → Bool) (port : ℕ) (start : Start) (events : List (Event (List ℕ))) (held records : List (Record (List ℕ))) (keys : List (Key (List ℕ))) → IsAscending records → Covers keys held → Covers keys records → CoveredAfter test (tally test keys + tally_new test port held events) (act_all port start events records)
+all_covered : (test : Key (List ℕ) → Bool) (port : ℕ) (start : Start) (events : List Event) (held records : List (Record (List ℕ))) (keys : List (Key (List ℕ))) → IsAscending records → Covers keys held → Covers keys records → CoveredAfter test (tally test keys + tally_new test port held events) (act_all port start events records)
 unfolding act_all tally_new
 all_covered test port start [] held records keys a covers_held covers = record { keys = keys; covers = covers; count = omega arith }
 all_covered test port start (event ∷ events) held records keys a covers_held covers =
@@ -181,7 +181,7 @@ unfolding tally keys_of tally_held
 tally_keys test [] = refl
 tally_keys test (held ∷ records) = ap (λ n. one (test held.key) + n) (tally_keys test records)
 
-bounded : (test : Key (List ℕ) → Bool) (port : ℕ) (start : Start) (events : List (Event (List ℕ))) (held : List (Record (List ℕ))) → IsAscending held → IsAscending (act_all port start events held) → tally_held test (act_all port start events held) ≤ tally_held test held + tally_new test port held events
+bounded : (test : Key (List ℕ) → Bool) (port : ℕ) (start : Start) (events : List Event) (held : List (Record (List ℕ))) → IsAscending held → IsAscending (act_all port start events held) → tally_held test (act_all port start events held) ≤ tally_held test held + tally_new test port held events
 bounded test port start events held a a' =
     let after = all_covered test port start events held held (keys_of held) a (covers_itself held) (covers_itself held) in
     let less = covered test (act_all port start events held) after.keys a' after.covers in
@@ -206,7 +206,7 @@ unfolding one
 one_at_most true = omega arith
 one_at_most false = omega arith
 
-new_at_most : (test : Key (List ℕ) → Bool) (port : ℕ) (held : List (Record (List ℕ))) (events : List (Event (List ℕ))) → tally_new test port held events ≤ count_new port held events
+new_at_most : (test : Key (List ℕ) → Bool) (port : ℕ) (held : List (Record (List ℕ))) (events : List Event) → tally_new test port held events ≤ count_new port held events
 unfolding tally_new count_new
 new_at_most test port held [] = omega arith
 new_at_most test port held (event ∷ events) = by (is_new port held event) (new_at_most test port held events)
@@ -216,7 +216,7 @@ new_at_most test port held (event ∷ events) = by (is_new port held event) (new
     by false h = omega arith
 
 -- records that a message leaves are no more than were held and those that it creates anew
-pub room : (port : ℕ) (start : Start) (events : List (Event (List ℕ))) (held : List (Record (List ℕ))) → IsAscending held → IsAscending (act_all port start events held) → length (act_all port start events held) ≤ length held + count_new port held events
+pub room : (port : ℕ) (start : Start) (events : List Event) (held : List (Record (List ℕ))) → IsAscending held → IsAscending (act_all port start events held) → length (act_all port start events held) ≤ length held + count_new port held events
 room port start events held a a' =
     let b = bounded (λ _. true) port start events held a a' in
     let n = new_at_most (λ _. true) port held events in
@@ -224,7 +224,7 @@ room port start events held a a' =
     let new = tally_all (act_all port start events held) in
     omega arith
 
-new_elsewhere : (port other : ℕ) (held : List (Record (List ℕ))) (events : List (Event (List ℕ))) → eqb port other ≡ false → tally_new (λ (key : Key (List ℕ)). eqb key.port other) port held events ≡ 0
+new_elsewhere : (port other : ℕ) (held : List (Record (List ℕ))) (events : List Event) → eqb port other ≡ false → tally_new (λ (key : Key (List ℕ)). eqb key.port other) port held events ≡ 0
 unfolding tally_new one
 new_elsewhere port other held [] differs = refl
 new_elsewhere port other held (event ∷ events) differs = rw (differs, new_elsewhere port other held events differs) (by (is_new port held event))
@@ -233,7 +233,7 @@ new_elsewhere port other held (event ∷ events) differs = rw (differs, new_else
     by true = omega arith
     by false = omega arith
 
-pub room_on : (port : ℕ) (start : Start) (events : List (Event (List ℕ))) (held : List (Record (List ℕ))) → IsAscending held → IsAscending (act_all port start events held) → count_on port (act_all port start events held) ≤ count_on port held + count_new port held events
+pub room_on : (port : ℕ) (start : Start) (events : List Event) (held : List (Record (List ℕ))) → IsAscending held → IsAscending (act_all port start events held) → count_on port (act_all port start events held) ≤ count_on port held + count_new port held events
 room_on port start events held a a' =
     let b = bounded (λ (key : Key (List ℕ)). eqb key.port port) port start events held a a' in
     let n = new_at_most (λ (key : Key (List ℕ)). eqb key.port port) port held events in
@@ -241,7 +241,7 @@ room_on port start events held a a' =
     let new = tally_port port (act_all port start events held) in
     omega arith
 
-pub room_elsewhere : (port other : ℕ) (start : Start) (events : List (Event (List ℕ))) (held : List (Record (List ℕ))) → eqb port other ≡ false → IsAscending held → IsAscending (act_all port start events held) → count_on other (act_all port start events held) ≤ count_on other held
+pub room_elsewhere : (port other : ℕ) (start : Start) (events : List Event) (held : List (Record (List ℕ))) → eqb port other ≡ false → IsAscending held → IsAscending (act_all port start events held) → count_on other (act_all port start events held) ≤ count_on other held
 room_elsewhere port other start events held differs a a' =
     let b = bounded (λ (key : Key (List ℕ)). eqb key.port other) port start events held a a' in
     let n = new_elsewhere port other held events differs in

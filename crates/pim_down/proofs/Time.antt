@@ -6,10 +6,11 @@ use Rattle.std.proofs.lemmas.Bool.{false≢true, true≢false, lt-ltb, le-ltb, l
 use Rattle.std.proofs.lemmas.Bool.Decides.{nat_tests}
 use Rattle.pim_down.specs.declared.key.What.{What}
 use Rattle.pim_down.specs.declared.machine.Pending.{Pending}
+use Rattle.pim_down.specs.declared.machine.Machine.{Machine}
 use Rattle.pim_down.specs.declared.machine.Record.{Record}
 use Rattle.pim_down.specs.declared.step.Step.{Step}
 use Rattle.pim_down.specs.declared.step.Step.TheVariants.{Echo, Reached}
-use Rattle.pim_down.specs.Time.{Downstream, expiry_after, pending_after, record_after, tick, expiry_due, pending_due, et_due, ppt_due, after_ppt, echo_of, first_due, with_first, fire_et, fired, Outcome, rests, moves, echoes, with_records, told, step, run_on, run_within, Runs, ticks, is_due_after, IsQuietFor}
+use Rattle.pim_down.specs.Time.{Downstream, expiry_after, pending_after, machine_after, record_after, tick, expiry_due, pending_due, et_due, ppt_due, after_ppt, echo_of, first_due, with_first, fire_et, fired, Outcome, rests, moves, echoes, with_records, told, step, run_on, run_within, Runs, ticks, is_due_after, IsQuietFor}
 use Rattle.pim_down.specs.Ends.{sooner, pending_end, first_end, ends_by}
 
 -- ---- milliseconds add up
@@ -21,6 +22,9 @@ expiry_more k j (Some ends) = ap (λ n. Some n) (omega arith)
 pending_more : (k j : ℕ) (p : Option Pending) → pending_after j (pending_after k p) ≡ pending_after (k + j) p
 pending_more k j None = refl
 pending_more k j (Some timer) = let e : timer.ends - k - j ≡ timer.ends - (k + j) = omega arith in λ i. Some (record { ends = e i; several = timer.several })
+
+pub machine_more : (k j : ℕ) (held : Machine) → machine_after j (machine_after k held) ≡ machine_after (k + j) held
+machine_more k j held = λ i. record { state = held.state; expiry = expiry_more k j held.expiry i; pending = pending_more k j held.pending i }
 
 pub record_more : (k j : ℕ) (held : Record (List ℕ)) → record_after j (record_after k held) ≡ record_after (k + j) held
 record_more k j held =
@@ -40,6 +44,9 @@ expiry_none (Some ends) = ap (λ n. Some n) (omega arith)
 pending_none : (p : Option Pending) → pending_after 0 p ≡ p
 pending_none None = refl
 pending_none (Some timer) = let e : timer.ends - 0 ≡ timer.ends = omega arith in λ i. Some (record { ends = e i; several = timer.several })
+
+pub machine_none : (held : Machine) → machine_after 0 held ≡ held
+machine_none held = λ i. record { state = held.state; expiry = expiry_none held.expiry i; pending = pending_none held.pending i }
 
 pub records_none : (records : List (Record (List ℕ))) → map (record_after 0) records ≡ records
 records_none [] = refl
@@ -176,7 +183,7 @@ run_quiet (suc k) moment state after answer quiet within runs =
 
 -- ---- a run, and then a run
 
-abbrev Answer : Type 0
+abbrev pub Answer : Type 0
 Answer = Option (Step (List ℕ) × Downstream)
 
 -- what one step leads to, at an earlier and at a later moment

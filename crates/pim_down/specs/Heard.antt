@@ -4,7 +4,7 @@ use Rattle.pim_jp.specs.Message.{Message}
 use Rattle.pim_down.specs.declared.event.Timing.{Timing}
 use Rattle.pim_down.specs.declared.fault.HearFault.{HearFault}
 use Rattle.pim_down.specs.declared.fault.HearFault.TheVariants.{Full, Memory}
-use Rattle.pim_down.specs.Hearing.{events_of, start_of, hearing, needed}
+use Rattle.pim_down.specs.Hearing.{events_of, start_of, hearing, count_new, needed}
 use Rattle.pim_down.specs.Time.{Downstream, with_records}
 
 -- the machines after the message; no timer fires
@@ -15,8 +15,18 @@ heard port message known timing state = with_records state (hearing port (start_
 abbrev pub needed_for : ℕ → Message → Option (List ℕ) → Downstream → ℕ
 needed_for port message known state = needed port state.records (events_of known message)
 
+-- how many records the message makes, repeats counted
+abbrev pub new_for : ℕ → Message → Option (List ℕ) → Downstream → ℕ
+new_for port message known state = count_new port state.records (events_of known message)
+
 -- Full exactly where more are needed than the limit, and then it tells how many; want of memory only where they aren't.
 abbrev pub IsWithin : {A : Type 0} → ℕ → ℕ → Result A HearFault → Type 0
 IsWithin limit needed (Ok x) = needed ≤ limit
 IsWithin limit needed (Err (Full n)) = (limit < needed) × (n ≡ needed)
 IsWithin limit needed (Err Memory) = needed ≤ limit
+
+-- Want of memory comes only where the message makes a record.
+abbrev pub MayWantMemory : {A : Type 0} → ℕ → Result A HearFault → Type 0
+MayWantMemory new (Ok x) = Unit {0}
+MayWantMemory new (Err (Full n)) = Unit {0}
+MayWantMemory new (Err Memory) = 1 ≤ new

@@ -1,16 +1,24 @@
 -- What the definitions mean together.
-use Rattle.std.specs.Prelude.{◌≡◌, ◌≢◌, ◌≤◌, ℕ, false, List, Option}
+use Rattle.std.specs.Prelude.{◌≡◌, ◌≢◌, ◌<◌, ◌≤◌, ◌↔◌, ℕ, ◌-◌, max, true, false, List, Option}
+use Rattle.std.specs.declared.cmp.Ordering.TheVariants.{Equal}
+use Rattle.pim_addr.specs.declared.family.AddressFamily.{AddressFamily}
+use Rattle.pim_jp.specs.Message.{Message}
+use Rattle.pim_jp.specs.Canonical.{IsMessage}
+use Rattle.pim_down.specs.declared.event.Timing.{Timing}
+use Rattle.pim_down.specs.declared.key.What.{What}
 use Rattle.pim_down.specs.declared.key.Key.{Key}
 use Rattle.pim_down.specs.declared.machine.Record.{Record}
 use Rattle.pim_down.specs.declared.machine.Machine.{Machine}
-use Rattle.pim_down.specs.declared.machine.Start.{Start}
-use Rattle.pim_down.specs.declared.event.Event.{Event}
+use Rattle.pim_down.specs.Tables.{Start}
+use Rattle.pim_down.specs.Hearing.{Event}
 use Rattle.pim_down.specs.declared.step.Step.{Step}
-use Rattle.pim_down.specs.declared.step.Step.TheVariants.{Reached}
-use Rattle.pim_down.specs.Key.{same_key}
+use Rattle.pim_down.specs.declared.step.Step.TheVariants.{Echo, Reached}
+use Rattle.pim_down.specs.Key.{key_cmp, same_key}
 use Rattle.pim_down.specs.Records.{IsAscending, ChangesAtEach, machine_at, changed, each_changed}
-use Rattle.pim_down.specs.Hearing.{effect, act, at_end, hearing}
-use Rattle.pim_down.specs.Time.{Downstream, Runs}
+use Rattle.pim_down.specs.Hearing.{effect, act, at_end, heard_at, hearing}
+use Rattle.pim_down.specs.Time.{Downstream, Runs, HasRun, after_silence, IsEchoOf}
+use Rattle.pim_down.specs.Sound.{IsSound}
+use Rattle.pim_down.specs.Heard.{heard, needed_for}
 
 -- A change of one machine makes of it what the change says, and of no other machine anything.
 abbrev pub ChangeActsAtItsKey : Type 0
@@ -33,8 +41,53 @@ RunHasOneEnd = (moment : ℕ) (state after other : Downstream) (answer told : St
 
 -- An event makes of each key's machine what the tables say, and of no other machine anything.
 abbrev pub EventActsAtEachKey : Type 0
-EventActsAtEachKey = (port : ℕ) (start : Start) (event : Event (List ℕ)) (records : List (Record (List ℕ))) →
+EventActsAtEachKey = (port : ℕ) (start : Start) (event : Event) (records : List (Record (List ℕ))) →
     IsAscending records → ChangesAtEach (effect port start event) records (act port start event records)
+
+-- An event leaves the records in key order.
+abbrev pub EventKeepsTheOrder : Type 0
+EventKeepsTheOrder = (port : ℕ) (start : Start) (event : Event) (records : List (Record (List ℕ))) →
+    IsAscending records → IsAscending (act port start event records)
+
+-- A message makes of each key's machine what End of Message makes of the effects of its events, one after the other.
+abbrev pub HearingActsAtEachKey : Type 0
+HearingActsAtEachKey = (port : ℕ) (start : Start) (events : List Event) (records : List (Record (List ℕ))) →
+    IsAscending records → ChangesAtEach (heard_at port start events) records (hearing port start events records)
+
+-- A run keeps the ports and the limit, and ends between its start and the moment, or at the later of both where it reaches.
+abbrev pub RunKeepsItsBounds : Type 0
+RunKeepsItsBounds = (moment : ℕ) (state after : Downstream) (answer : Step (List ℕ)) → Runs moment state answer after →
+    (after.ports ≡ state.ports) × (after.limit ≡ state.limit) × (state.moment ≤ after.moment)
+    × (after.moment ≤ max state.moment moment) × (answer ≡ Reached → after.moment ≡ max state.moment moment)
+
+-- A run that reaches a moment leaves at each key what the silence until then makes of its machine.
+abbrev pub SilenceActsAtEachKey : Type 0
+SilenceActsAtEachKey = (moment : ℕ) (state after : Downstream) → IsAscending state.records →
+    Runs moment state Reached after → ChangesAtEach (after_silence (after.moment - state.moment)) state.records after.records
+
+-- Every state has a run up to every moment.
+abbrev pub EveryStateHasARun : Type 0
+EveryStateHasARun = (moment : ℕ) (state : Downstream) → HasRun moment state
+
+-- A run keeps the machines sound.
+abbrev pub RunKeepsSound : Type 0
+RunKeepsSound = (family : AddressFamily) (moment : ℕ) (state after : Downstream) (answer : Step (List ℕ)) →
+    moment ≤ 1000000000000000 → IsSound family state → Runs moment state answer after → IsSound family after
+
+-- A message that can be spelled, heard on a port that is there and has room for it, keeps the machines sound.
+abbrev pub HearingKeepsSound : Type 0
+HearingKeepsSound = (family : AddressFamily) (port : ℕ) (message : Message) (known : Option (List ℕ)) (timing : Timing) (state : Downstream) →
+    IsSound family state → port < state.ports → IsMessage family message → needed_for port message known state ≤ state.limit →
+    IsSound family (heard port message known timing state)
+
+-- An echo names a machine that was held, whose PPT with the mark "several" ends when it is told.
+abbrev pub EchoNamesAMachine : Type 0
+EchoNamesAMachine = (moment : ℕ) (state after : Downstream) (port : ℕ) (group : List ℕ) (what : What (List ℕ)) →
+    IsAscending state.records → Runs moment state (Echo port group what) after → IsEchoOf (record { port = port; group = group; what = what }) state after
+
+-- Keys compare as equal exactly if they are one.
+abbrev pub KeysAreToldApart : Type 0
+KeysAreToldApart = (a b : Key (List ℕ)) → ((key_cmp a b ≡ Equal) ↔ (a ≡ b)) × ((same_key a b ≡ true) ↔ (a ≡ b))
 
 -- End of Message makes of each key's machine what the table says.
 abbrev pub EndActsAtEachKey : Type 0
@@ -43,10 +96,10 @@ EndActsAtEachKey = (port : ℕ) (records : List (Record (List ℕ))) →
 
 -- The records stay in key order.
 abbrev pub HearingKeepsTheOrder : Type 0
-HearingKeepsTheOrder = (port : ℕ) (start : Start) (events : List (Event (List ℕ))) (records : List (Record (List ℕ))) →
+HearingKeepsTheOrder = (port : ℕ) (start : Start) (events : List Event) (records : List (Record (List ℕ))) →
     IsAscending records → IsAscending (hearing port start events records)
 
 -- Machines of other ports stay as they are.
 abbrev pub HearingLeavesOtherPorts : Type 0
-HearingLeavesOtherPorts = (port : ℕ) (start : Start) (events : List (Event (List ℕ))) (records : List (Record (List ℕ))) (key : Key (List ℕ)) →
+HearingLeavesOtherPorts = (port : ℕ) (start : Start) (events : List Event) (records : List (Record (List ℕ))) (key : Key (List ℕ)) →
     IsAscending records → key.port ≢ port → machine_at key (hearing port start events records) ≡ machine_at key records

@@ -1,5 +1,5 @@
 -- The machines that are held, as a finite map from keys, written down in one way: in strictly ascending order.
-use Rattle.std.specs.Prelude.{◌≡◌, ℕ, ◌+◌, List, [], ◌∷◌, ◌++◌, Option, None, Some, ◌==◌, if◌then◌else◌}
+use Rattle.std.specs.Prelude.{◌≡◌, ℕ, ◌+◌, Bool, List, [], ◌∷◌, ◌++◌, Option, None, Some, ◌==◌, if◌then◌else◌}
 use Rattle.std.specs.declared.cmp.Ordering.{Ordering}
 use Rattle.std.specs.declared.cmp.Ordering.TheVariants.{Less, Equal, Greater}
 use Rattle.pim_down.specs.declared.key.Key.{Key}
@@ -21,6 +21,10 @@ IsAscending (held ∷ records) = IsBelow held.key records × IsAscending records
 unfoldable pub machine_at : Key (List ℕ) → List (Record (List ℕ)) → Option Machine
 machine_at key [] = None
 machine_at key (held ∷ records) = if same_key key held.key then Some held.machine else machine_at key records
+
+-- the record is one of this port
+abbrev pub is_on : ℕ → Record (List ℕ) → Bool
+is_on port held = held.key.port == port
 
 -- how many records a port has
 unfoldable pub count_on : ℕ → List (Record (List ℕ)) → ℕ

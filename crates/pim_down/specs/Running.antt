@@ -1,7 +1,7 @@
 -- The state that some records have at a moment.
 use Rattle.std.specs.Prelude.{ℕ, ◌-◌, Bool, ◌&&◌, List}
 use Rattle.pim_down.specs.declared.machine.Record.{Record}
-use Rattle.pim_down.specs.declared.machine.Start.{Start}
+use Rattle.pim_down.specs.Tables.{Start}
 use Rattle.pim_down.specs.Time.{Downstream, expiry_after}
 use Rattle.pim_down.specs.Hearing.{is_rpt_on}
 use Rattle.pim_down.specs.Sound.{is_temporary}

@@ -4,10 +4,16 @@ use Rattle.pim_down.specs.declared.key.What.{What}
 use Rattle.pim_down.specs.declared.key.What.TheVariants.{Star, Source, Rpt}
 use Rattle.pim_down.specs.declared.key.Key.{Key}
 use Rattle.pim_down.specs.declared.machine.Record.{Record}
-use Rattle.pim_down.specs.declared.event.Event.{Event}
+use Rattle.pim_down.specs.declared.event.Event.{Event as EventOf}
+use Rattle.pim_down.specs.declared.machine.Start.{Start as StartOf}
 use Rattle.pim_down.specs.declared.step.Step.{Step}
 use Rattle.pim_down.specs.declared.step.Step.TheVariants.{Echo, Reached}
+use Rattle.pim_down.specs.Tables.{Start}
+use Rattle.pim_down.specs.Hearing.{Event}
 use Rattle.pim_down.specs.Time.{record_after}
+
+abbrev pub start_seen : StartOf → Start
+start_seen start = record { expiry = start.expiry; pending = start.pending }
 
 module _ {A : Type 0} (bytes_of : A → List ℕ) where
   abbrev pub what_seen : What A → What (List ℕ)
@@ -32,9 +38,9 @@ module _ {A : Type 0} (bytes_of : A → List ℕ) where
   abbrev pub shown : ℕ → List (Record A) → List (Record (List ℕ))
   shown moment records = map (record_after moment) (records_seen records)
 
-  abbrev pub event_seen : Event A → Event (List ℕ)
+  abbrev pub event_seen : EventOf A → Event
   event_seen event = record { joins = event.joins; group = bytes_of event.group; what = what_seen event.what }
 
-  abbrev pub events_seen : Option (Event A) → List (Event (List ℕ))
+  abbrev pub events_seen : Option (EventOf A) → List Event
   events_seen None = []
   events_seen (Some event) = event_seen event ∷ []

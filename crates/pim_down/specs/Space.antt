@@ -1,11 +1,11 @@
 -- Room for records while the events of a message act, one after another.
 use Rattle.std.specs.Prelude.{ℕ, ◌≤◌, List, [], ◌∷◌, length}
-use Rattle.pim_down.specs.declared.machine.Start.{Start}
+use Rattle.pim_down.specs.Tables.{Start}
 use Rattle.pim_down.specs.declared.machine.Record.{Record}
-use Rattle.pim_down.specs.declared.event.Event.{Event}
+use Rattle.pim_down.specs.Hearing.{Event}
 use Rattle.pim_down.specs.Hearing.{act}
 
 -- after each event there are no more records than this
-unfoldable pub HasRoom : ℕ → Start → ℕ → List (Event (List ℕ)) → List (Record (List ℕ)) → Type 0
+unfoldable pub HasRoom : ℕ → Start → ℕ → List Event → List (Record (List ℕ)) → Type 0
 HasRoom port start room [] records = Unit {0}
 HasRoom port start room (event ∷ events) records = (length (act port start event records) ≤ room) × HasRoom port start room events (act port start event records)

@@ -6,7 +6,11 @@ use Rattle.pim_down.specs.declared.machine.State.{State}
 use Rattle.pim_down.specs.declared.machine.State.TheVariants.{Join, PrunePending, Prune, PruneTmp, PrunePendingTmp}
 use Rattle.pim_down.specs.declared.machine.Pending.{Pending}
 use Rattle.pim_down.specs.declared.machine.Machine.{Machine}
-use Rattle.pim_down.specs.declared.machine.Start.{Start}
+
+-- what a message gives the timers that it starts: ET by its holdtime, PPT by the port
+pub record Start : Type 0 where
+  pub expiry : Option ℕ
+  pub pending : Pending
 
 -- the greater of two times; never is the greatest
 abbrev pub greater : Option ℕ → Option ℕ → Option ℕ

@@ -3,6 +3,7 @@ use Rattle.std.specs.Prelude.{◌≡◌, ℕ, zero, suc, ◌+◌, ◌-◌, ◌�
 use Rattle.std.specs.Option.{is_some}
 use Rattle.pim_down.specs.declared.key.What.{What}
 use Rattle.pim_down.specs.declared.key.What.TheVariants.{Star, Source, Rpt}
+use Rattle.pim_down.specs.declared.key.Key.{Key}
 use Rattle.pim_down.specs.declared.machine.State.TheVariants.{Prune}
 use Rattle.pim_down.specs.declared.machine.Pending.{Pending}
 use Rattle.pim_down.specs.declared.machine.Machine.{Machine}
@@ -10,7 +11,7 @@ use Rattle.pim_down.specs.declared.machine.Record.{Record}
 use Rattle.pim_down.specs.declared.step.Step.{Step}
 use Rattle.pim_down.specs.declared.step.Step.TheVariants.{Echo, Reached}
 use Rattle.pim_down.specs.Tables.{machine_in}
-use Rattle.pim_down.specs.Records.{recorded}
+use Rattle.pim_down.specs.Records.{machine_at, recorded}
 
 -- the machines of a router's ports: how many ports, how many records each may have, the moment in milliseconds, and
 -- the records in key order
@@ -142,6 +143,34 @@ run_within (suc steps) moment state = run_on (step moment state) state (run_with
 pub record Runs (moment : ℕ) (state : Downstream) (answer : Step (List ℕ)) (after : Downstream) : Type 0 where
   pub steps : ℕ
   pub within : run_within steps moment state ≡ Some (answer, after)
+
+-- Some run up to the moment starts here.
+pub record HasRun (moment : ℕ) (state : Downstream) : Type 0 where
+  pub answer : Step (List ℕ)
+  pub after : Downstream
+  pub runs : Runs moment state answer after
+
+-- ---- what a run leaves at one key
+
+-- what the timers that are due make of a machine: ET ends it, else PPT leads it on
+abbrev pub settled_at : What (List ℕ) → Machine → Option Machine
+settled_at what held =
+    if expiry_due held.expiry then None else (if pending_due held.pending then on_ppt what held else Some held)
+
+-- What silence of so many milliseconds makes of a machine: nothing where its ET ends by then, else what its PPT makes of
+-- it where that ends by then, else the machine with so much less time left.
+abbrev pub after_silence : ℕ → Key (List ℕ) → Option Machine → Option Machine
+after_silence passed key None = None
+after_silence passed key (Some held) = settled_at key.what (machine_after passed held)
+
+-- The machine that a PruneEcho names was held; its PPT, started with several neighbours, ends at the moment of the echo;
+-- it is gone behind it.
+pub record IsEchoOf (key : Key (List ℕ)) (state after : Downstream) : Type 0 where
+  pub machine : Machine
+  pub held : machine_at key state.records ≡ Some machine
+  pub timer : machine.pending ≡ Some (record { ends = after.moment - state.moment; several = true })
+  pub echoes : echoes_at key.what true ≡ true
+  pub gone : machine_at key after.records ≡ None
 
 -- ---- the next moment at which a timer fires
 

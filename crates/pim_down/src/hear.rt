@@ -5,7 +5,7 @@ ghost use Rattle.pim_jp.specs.Seen.{entry_seen};
 ghost use Rattle.pim_down.specs.Records.{IsAscending, recorded, each_changed};
 ghost use Rattle.pim_down.specs.Hearing.{is_known, entry_events, start_of, on_own, is_rpt_of, on_rpts, is_star_join, act, at_end};
 ghost use Rattle.pim_down.specs.Running.{start_after, is_over};
-ghost use Rattle.pim_down.specs.Seen.{what_seen, key_seen, record_seen, records_seen, event_seen, events_seen};
+ghost use Rattle.pim_down.specs.Seen.{start_seen, what_seen, key_seen, record_seen, records_seen, event_seen, events_seen};
 
 use crate::edits::{machine_of, put_machine};
 use crate::event::{Event, Timing};
@@ -23,7 +23,7 @@ const FOR_EVER: u16 = 0xffff;
 pub(crate) fn start_at(holdtime: u16, timing: Timing, now: u64) -> Start
     requires moment { now ≤ 1000000000000000 }
     requires interval { timing.override_ms ≤ 98302 }
-    ensures { start_after now result ≡ start_of holdtime timing }
+    ensures { start_after now (start_seen result) ≡ start_of holdtime timing }
 {
     let expiry = if holdtime == FOR_EVER {
         None
@@ -78,7 +78,7 @@ pub(crate) fn event_of<F: Family>(
 
 /// What the event makes of the machine that it names.
 fn on_own<A>(event: &Event<A>, start: Start, held: Option<Machine>) -> Option<Machine>
-    ensures { (bytes_of : A → List ℕ) → result ≡ on_own event.now.joins (what_seen bytes_of event.now.what) start held }
+    ensures { (bytes_of : A → List ℕ) → result ≡ on_own event.now.joins (what_seen bytes_of event.now.what) (start_seen start) held }
 {
     match (&event.what, event.joins) {
         (What::Star | What::Source(_), true) => on_join(start, held),
@@ -133,8 +133,8 @@ pub(crate) fn act<F: Family>(
     event: Event<F::Addr>,
 )
     requires ascending { IsAscending (records_seen F.bytes_of records.old.items) }
-    requires room { length (act port start (event_seen F.bytes_of event) (records_seen F.bytes_of records.old.items)) ≤ vec_capacity records.old }
-    ensures records { records_seen F.bytes_of records.new.items ≡ act port start (event_seen F.bytes_of event) (records_seen F.bytes_of records.old.items) }
+    requires room { length (act port (start_seen start) (event_seen F.bytes_of event) (records_seen F.bytes_of records.old.items)) ≤ vec_capacity records.old }
+    ensures records { records_seen F.bytes_of records.new.items ≡ act port (start_seen start) (event_seen F.bytes_of event) (records_seen F.bytes_of records.old.items) }
     ensures capacity { vec_capacity records.old ≤ vec_capacity records.new }
 {
     let key = Key {

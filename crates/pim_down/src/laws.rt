@@ -2,6 +2,7 @@
 //! called.
 
 ghost use Rattle.pim_down.specs.Laws.{ChangeActsAtItsKey, AMapHasOneList, RunGoesOn, RunHasOneEnd, EventActsAtEachKey, EndActsAtEachKey, HearingKeepsTheOrder, HearingLeavesOtherPorts};
+ghost use Rattle.pim_down.specs.Laws.{EventKeepsTheOrder, RunKeepsSound, HearingKeepsSound, HearingActsAtEachKey, RunKeepsItsBounds, SilenceActsAtEachKey, EveryStateHasARun, EchoNamesAMachine, KeysAreToldApart};
 
 /// A change of one machine leaves the others.
 pub fn change_acts_at_its_key()
@@ -41,4 +42,49 @@ pub fn hearing_keeps_the_order()
 /// Hearing a message on one port leaves the machines of the others.
 pub fn hearing_leaves_other_ports()
     ensures { HearingLeavesOtherPorts }
+{}
+
+/// An event keeps the records in key order.
+pub fn event_keeps_the_order()
+    ensures { EventKeepsTheOrder }
+{}
+
+/// A message makes of each machine what End of Message makes of the effects of its events, one after the other.
+pub fn hearing_acts_at_each_key()
+    ensures { HearingActsAtEachKey }
+{}
+
+/// A run keeps the ports and the limit, and ends between its start and the moment, or at the later of both.
+pub fn run_keeps_its_bounds()
+    ensures { RunKeepsItsBounds }
+{}
+
+/// A run that reaches a moment leaves of each machine what the silence until then makes of it.
+pub fn silence_acts_at_each_key()
+    ensures { SilenceActsAtEachKey }
+{}
+
+/// Every state has a run up to every moment.
+pub fn every_state_has_a_run()
+    ensures { EveryStateHasARun }
+{}
+
+/// An echo names a machine that was held, whose prune-pending timer ended when it was told.
+pub fn echo_names_a_machine()
+    ensures { EchoNamesAMachine }
+{}
+
+/// Two keys compare as equal exactly if they are one.
+pub fn keys_are_told_apart()
+    ensures { KeysAreToldApart }
+{}
+
+/// A run keeps what is true of the machines between calls.
+pub fn run_keeps_sound()
+    ensures { RunKeepsSound }
+{}
+
+/// So does a message that is heard.
+pub fn hearing_keeps_sound()
+    ensures { HearingKeepsSound }
 {}

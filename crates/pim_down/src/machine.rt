@@ -1,6 +1,7 @@
 //! One downstream machine: its state, its timers, and what each event of a message does to it.
 
 ghost use Rattle.std.specs.Prelude.{◌≡◌};
+ghost use Rattle.pim_down.specs.Seen.{start_seen};
 ghost use Rattle.pim_down.specs.Tables.{greater, on_join, on_prune, on_star_join, on_rpt_prune, on_end};
 
 use crate::key::Key;
@@ -71,7 +72,7 @@ fn greater(a: Option<u64>, b: Option<u64>) -> Option<u64>
 /// A Join(*,G) at a (*,G) machine, or a Join(S,G) at an (S,G) machine.
 #[tactic(auto, unfolding(crate::specs::Tables::on_join))]
 pub(crate) fn on_join(start: Start, held: Option<Machine>) -> Option<Machine>
-    ensures { result ≡ on_join start held }
+    ensures { result ≡ on_join (start_seen start) held }
 {
     let Some(machine) = held else {
         return Some(Machine {
@@ -95,7 +96,7 @@ pub(crate) fn on_join(start: Start, held: Option<Machine>) -> Option<Machine>
 /// A Prune(*,G) at a (*,G) machine, or a Prune(S,G) at an (S,G) machine.
 #[tactic(auto, unfolding(crate::specs::Tables::on_prune))]
 pub(crate) fn on_prune(start: Start, held: Option<Machine>) -> Option<Machine>
-    ensures { result ≡ on_prune start held }
+    ensures { result ≡ on_prune (start_seen start) held }
 {
     let machine = held?;
     match machine.state {
@@ -124,7 +125,7 @@ pub(crate) fn on_star_join(machine: Machine) -> Machine
 /// A Prune(S,G,rpt) at its machine.
 #[tactic(auto, unfolding(crate::specs::Tables::on_rpt_prune))]
 pub(crate) fn on_rpt_prune(start: Start, held: Option<Machine>) -> Option<Machine>
-    ensures { result ≡ on_rpt_prune start held }
+    ensures { result ≡ on_rpt_prune (start_seen start) held }
 {
     let Some(machine) = held else {
         return Some(Machine {

@@ -4,9 +4,9 @@ ghost use Rattle.std.specs.Prelude.{◌≡◌, ◌≤◌, ℕ, List, length, opt
 ghost use Rattle.std.specs.List.{flat_map};
 ghost use Rattle.pim_down.specs.Records.{IsAscending, count_on};
 ghost use Rattle.pim_down.specs.Hearing.{list_events, set_events, events_of, act_all, hearing, is_new, count_new, needed, creates};
-ghost use Rattle.pim_down.specs.Heard.{IsWithin};
+ghost use Rattle.pim_down.specs.Heard.{IsWithin, MayWantMemory};
 ghost use Rattle.pim_down.specs.Space.{HasRoom};
-ghost use Rattle.pim_down.specs.Seen.{records_seen, what_seen, event_seen};
+ghost use Rattle.pim_down.specs.Seen.{start_seen, records_seen, what_seen, event_seen};
 
 use crate::edits::machine_of;
 use crate::event::Event;
@@ -14,6 +14,7 @@ use crate::fault::HearFault;
 use crate::hear::{act, end, event_of};
 use crate::key::{Key, What};
 use crate::machine::{Record, Start};
+use crate::walk::count_on;
 use pim_addr::Family;
 use pim_jp::{Entries, JpView, Sets};
 
@@ -76,8 +77,8 @@ fn hear_list<F: Family>(
     entries: Entries<'_, F>,
 )
     requires ascending { IsAscending (records_seen F.bytes_of records.old.items) }
-    requires room { HasRoom port start (vec_capacity records.old) (list_events (option_map F.bytes_of known) joins (F.bytes_of group) entries) (records_seen F.bytes_of records.old.items) }
-    ensures records { records_seen F.bytes_of records.new.items ≡ act_all port start (list_events (option_map F.bytes_of known) joins (F.bytes_of group) entries.entry) (records_seen F.bytes_of records.old.items) }
+    requires room { HasRoom port (start_seen start) (vec_capacity records.old) (list_events (option_map F.bytes_of known) joins (F.bytes_of group) entries) (records_seen F.bytes_of records.old.items) }
+    ensures records { records_seen F.bytes_of records.new.items ≡ act_all port (start_seen start) (list_events (option_map F.bytes_of known) joins (F.bytes_of group) entries.entry) (records_seen F.bytes_of records.old.items) }
     ensures capacity { vec_capacity records.old ≤ vec_capacity records.new }
 {
     for entry in entries {
@@ -119,28 +120,14 @@ pub(crate) fn hear_sets<F: Family>(
     sets: Sets<'_, F>,
 )
     requires ascending { IsAscending (records_seen F.bytes_of records.old.items) }
-    requires room { HasRoom port start (vec_capacity records.old) (flat_map (set_events (option_map F.bytes_of known)) sets) (records_seen F.bytes_of records.old.items) }
-    ensures records { records_seen F.bytes_of records.new.items ≡ act_all port start (flat_map (set_events (option_map F.bytes_of known)) sets.entry) (records_seen F.bytes_of records.old.items) }
+    requires room { HasRoom port (start_seen start) (vec_capacity records.old) (flat_map (set_events (option_map F.bytes_of known)) sets) (records_seen F.bytes_of records.old.items) }
+    ensures records { records_seen F.bytes_of records.new.items ≡ act_all port (start_seen start) (flat_map (set_events (option_map F.bytes_of known)) sets.entry) (records_seen F.bytes_of records.old.items) }
 {
     for set in sets {
         let group = set.group();
         hear_list::<F>(records, port, start, known, true, group, set.joined());
         hear_list::<F>(records, port, start, known, false, group, set.pruned());
     }
-}
-
-/// How many records the port has.
-pub(crate) fn count_on<F: Family>(records: &[Record<F::Addr>], port: usize) -> usize
-    requires { count_on port (records_seen F.bytes_of records.now) ≤ 100000 }
-    ensures { result ≡ count_on port (records_seen F.bytes_of records.now) }
-{
-    let mut count = 0;
-    for held in records {
-        if held.key.port == port {
-            count += 1;
-        }
-    }
-    count
 }
 
 /// Hears a message on a port, or refuses with nothing changed. All growths come before the first change.
@@ -154,8 +141,9 @@ pub(crate) fn hear_message<F: Family>(
 ) -> Result<(), HearFault>
     requires ascending { IsAscending (records_seen F.bytes_of records.old.items) }
     requires within { count_on port (records_seen F.bytes_of records.old.items) ≤ 100000 }
-    ensures ok { OnOk result (records_seen F.bytes_of records.new.items ≡ hearing port start (events_of (option_map F.bytes_of known) message.now) (records_seen F.bytes_of records.old.items)) }
+    ensures ok { OnOk result (records_seen F.bytes_of records.new.items ≡ hearing port (start_seen start) (events_of (option_map F.bytes_of known) message.now) (records_seen F.bytes_of records.old.items)) }
     ensures err { OnErr result (records.new.items ≡ records.old.items) }
+    ensures memory { MayWantMemory (count_new port (records_seen F.bytes_of records.old.items) (events_of (option_map F.bytes_of known) message.now)) result }
     ensures room { IsWithin limit (needed port (records_seen F.bytes_of records.old.items) (events_of (option_map F.bytes_of known) message.now)) result }
 {
     let fresh = count_sets::<F>(records, port, known, message.sets());

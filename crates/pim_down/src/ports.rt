@@ -1,10 +1,11 @@
 //! The downstream machines of a router's ports.
 
-ghost use Rattle.std.specs.Prelude.{◌≡◌, ◌≢◌, ◌≤◌, ◌<◌, ℕ, List, [], max, option_map, OnOk, OnErr};
+ghost use Rattle.std.specs.Prelude.{◌≡◌, ◌≢◌, ◌≤◌, ◌<◌, ℕ, List, [], None, max, option_map, OnOk, OnErr};
+ghost use Rattle.std.specs.List.{filter};
 ghost use Rattle.pim_down.specs.declared.step.Step.TheVariants.{Reached};
 ghost use Rattle.pim_down.specs.declared.key.Key.{Key};
-ghost use Rattle.pim_down.specs.Records.{machine_at, state_at};
-ghost use Rattle.pim_down.specs.Heard.{heard, needed_for, IsWithin};
+ghost use Rattle.pim_down.specs.Records.{machine_at, state_at, is_on, count_on};
+ghost use Rattle.pim_down.specs.Heard.{heard, needed_for, new_for, IsWithin, MayWantMemory};
 ghost use Rattle.pim_down.specs.Time.{Downstream, Runs, IsNextDue};
 ghost use Rattle.pim_down.specs.Seen.{what_seen, step_seen};
 ghost use Rattle.pim_down.specs.Sound.{IsSound};
@@ -19,7 +20,7 @@ use crate::message::hear_message;
 use crate::run::run;
 use crate::step::Step;
 use crate::timers::next_end;
-use crate::walk::Records;
+use crate::walk::{Records, count_on, on_port};
 use pim_addr::Family;
 use pim_jp::JpView;
 use std::alloc::Global;
@@ -46,7 +47,7 @@ impl<F: Family> Model for Ports<F> {
 
     ghost view = { λ p. state_at F.bytes_of p.ports p.limit p.moment p.records.items };
 
-    ghost invariant = { λ p. IsSound (state_at F.bytes_of p.ports p.limit p.moment p.records.items) };
+    ghost invariant = { λ p. IsSound F.family (state_at F.bytes_of p.ports p.limit p.moment p.records.items) };
 }
 
 impl<F: Family> Ports<F> {
@@ -81,6 +82,29 @@ impl<F: Family> Ports<F> {
         self.ports
     }
 
+    /// How many records a port may have.
+    pub fn limit(&self) -> usize
+        ensures { result ≡ self.now.limit }
+    {
+        self.limit
+    }
+
+    /// How many records this port has; a port that isn't there has none.
+    pub fn count_on(&self, port: usize) -> usize
+        ensures { result ≡ count_on port self.now.records }
+    {
+        count_on::<F>(&self.records, port)
+    }
+
+    /// A law: what is true of the machines between calls. Each record's port is there, its group and source are
+    /// those of its kind, its state and its timers go together; the records stand in key order, and no port has more
+    /// than the limit. It does nothing.
+    pub fn is_sound(&self)
+        ensures { IsSound F.family self.now }
+    {
+        let _ports = self.ports;
+    }
+
     /// The first moment, from now on, at which a timer fires; `None` where none ever does.
     pub fn next_due(&self) -> Option<u64>
         ensures { IsNextDue self.now result }
@@ -93,7 +117,8 @@ impl<F: Family> Ports<F> {
 
     /// The state of one machine; `None` is NoInfo.
     pub fn state_of(&self, port: usize, group: F::Addr, what: What<F::Addr>) -> Option<State>
-        ensures { result ≡ state_at (record { port = port; group = F.bytes_of group; what = what_seen F.bytes_of what }) self.now.records }
+        ensures state { result ≡ state_at (record { port = port; group = F.bytes_of group; what = what_seen F.bytes_of what }) self.now.records }
+        ensures absent { self.now.ports ≤ port → result ≡ None }
     {
         let key = Key { port, group, what };
         match machine_of::<F>(&self.records, &key) {
@@ -105,9 +130,17 @@ impl<F: Family> Ports<F> {
     /// The machines that are held, in key order, with what is left of their timers.
     pub fn records(&self) -> Records<'_, F>
         ensures records { result ≡ self.now.records }
-        ensures sound { IsSound self.now }
+        ensures sound { IsSound F.family self.now }
     {
         Records::new(&self.records, self.moment)
+    }
+
+    /// The machines of one port that are held, in key order, with what is left of their timers; none where the port
+    /// isn't there.
+    pub fn records_on(&self, port: usize) -> Records<'_, F>
+        ensures { result ≡ filter (is_on port) self.now.records }
+    {
+        Records::new(on_port::<F>(&self.records, port), self.moment)
     }
 
     /// Hears a message on a port, where this RP is known. No timer fires, and the machines of other ports stay. A refusal
@@ -124,9 +157,11 @@ impl<F: Family> Ports<F> {
         ensures ok { OnOk result (self.new ≡ heard port message.now (option_map F.bytes_of rp) timing self.old) }
         ensures err { OnErr result (self.new ≡ self.old) }
         ensures room { IsWithin self.old.limit (needed_for port message.now (option_map F.bytes_of rp) self.old) result }
+        ensures memory { MayWantMemory (new_for port message.now (option_map F.bytes_of rp) self.old) result }
         ensures ports { self.new.ports ≡ self.old.ports }
         ensures others { (key : Key (List ℕ)) → key.port ≢ port → machine_at key self.new.records ≡ machine_at key self.old.records }
     {
+        message.is_legal();
         let start = start_at(message.holdtime(), timing, self.moment);
         hear_message::<F>(&mut self.records, self.limit, port, start, rp, message)
     }

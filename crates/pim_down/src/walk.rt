@@ -1,9 +1,11 @@
 //! The records, one after another.
 
 ghost use Rattle.std.specs.Prelude.{◌≡◌, ℕ, List};
+ghost use Rattle.std.specs.List.{filter};
 ghost use Rattle.std.specs.Iterator.{YieldsFirstBy, item_count};
+ghost use Rattle.pim_down.specs.Records.{IsAscending, is_on, count_on};
 ghost use Rattle.pim_down.specs.Time.{machine_after, record_after};
-ghost use Rattle.pim_down.specs.Seen.{record_seen, shown};
+ghost use Rattle.pim_down.specs.Seen.{record_seen, records_seen, shown};
 
 use crate::machine::{Machine, Pending, Record};
 use pim_addr::Family;
@@ -39,6 +41,26 @@ fn record_at<A: Copy>(held: &Record<A>, now: u64) -> Record<A>
         key: held.key,
         machine: machine_at(&held.machine, now),
     }
+}
+
+/// The records of one port, which stand together.
+pub(crate) fn on_port<F: Family>(records: &[Record<F::Addr>], port: usize) -> &[Record<F::Addr>]
+    requires { IsAscending (records_seen F.bytes_of records.now) }
+    ensures { records_seen F.bytes_of result.now ≡ filter (is_on port) (records_seen F.bytes_of records.now) }
+{
+    let first = records.partition_point(|held| held.key.port < port);
+    let (_, from) = records.split_at(first);
+    let count = from.partition_point(|held| held.key.port <= port);
+    let (here, _) = from.split_at(count);
+    here
+}
+
+/// How many records the port has.
+pub(crate) fn count_on<F: Family>(records: &[Record<F::Addr>], port: usize) -> usize
+    requires { IsAscending (records_seen F.bytes_of records.now) }
+    ensures { result ≡ count_on port (records_seen F.bytes_of records.now) }
+{
+    on_port::<F>(records, port).len()
 }
 
 /// The records in key order, with what is left of their timers. Contracts see those that are left.

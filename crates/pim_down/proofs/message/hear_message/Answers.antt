@@ -3,7 +3,7 @@ use Rattle.std.specs.Prelude.{option_map, is_err}
 use Rattle.std.specs.List.{flat_map}
 use Rattle.std.proofs.lemmas.List.{length-map}
 use Rattle.pim_down.specs.Hearing.{set_events}
-use Rattle.pim_down.specs.Seen.{records_seen}
+use Rattle.pim_down.specs.Seen.{start_seen, records_seen}
 use Rattle.pim_down.proofs.Events.{room_for}
 use Rattle.pim_down.proofs.message.hear_message.Goals as goal
 
@@ -20,5 +20,5 @@ hear_sets-requires-clause-room g c =
     let items = rw c.deref.ensures.value at c.deref.ensures.len in
     let long : length held ≡ length c.args.records.now.items = simp length-map in
     let space = ok_then c.reserve.result (vec_len c.reserve.new.self + c.count_sets-fresh.result ≤ vec_capacity c.reserve.new.self) (sym c.is_err.ensures.value ∙ c.if-is_err.false) c.reserve.ensures.ok in
-    let room = room_for c.args.port c.args.start (vec_capacity c.reserve.new.self) events held c.requires.ascending (omega (arith, c.reserve.ensures.len)) in
+    let room = room_for c.args.port (start_seen c.args.start) (vec_capacity c.reserve.new.self) events held c.requires.ascending (omega (arith, c.reserve.ensures.len)) in
     rw (c.reserve.ensures.items, c.sets-2.ensures) room

@@ -3,7 +3,7 @@ use Rattle.std.specs.Prelude.{option_map}
 use Rattle.pim_down.specs.Records.{IsAscending}
 use Rattle.pim_down.specs.Hearing.{act_all}
 use Rattle.pim_down.specs.Space.{HasRoom}
-use Rattle.pim_down.specs.Seen.{records_seen}
+use Rattle.pim_down.specs.Seen.{start_seen, records_seen}
 use Rattle.pim_down.proofs.Events.{sets_events}
 use Rattle.pim_down.proofs.message.hear_sets.Given as goal
 
@@ -11,6 +11,6 @@ use Rattle.pim_down.proofs.message.hear_sets.Given as goal
 abbrev pub invariant-loop-set : goal.invariant-loop-set
 invariant-loop-set g l = record {
   ascending : IsAscending (records_seen g.F.Family.bytes_of l.records.items);
-  room : HasRoom l.port l.start (vec_capacity l.records) (sets_events (option_map g.F.Family.bytes_of l.known) l.set-iterator) (records_seen g.F.Family.bytes_of l.records.items);
-  left : act_all l.port l.start (sets_events (option_map g.F.Family.bytes_of l.known) l.set-iterator) (records_seen g.F.Family.bytes_of l.records.items) ≡ act_all l.port l.start (sets_events (option_map g.F.Family.bytes_of l.known) l.fn.sets) (records_seen g.F.Family.bytes_of l.fn.records.items);
+  room : HasRoom l.port (start_seen l.start) (vec_capacity l.records) (sets_events (option_map g.F.Family.bytes_of l.known) l.set-iterator) (records_seen g.F.Family.bytes_of l.records.items);
+  left : act_all l.port (start_seen l.start) (sets_events (option_map g.F.Family.bytes_of l.known) l.set-iterator) (records_seen g.F.Family.bytes_of l.records.items) ≡ act_all l.port (start_seen l.start) (sets_events (option_map g.F.Family.bytes_of l.known) l.fn.sets) (records_seen g.F.Family.bytes_of l.fn.records.items);
 }

@@ -1,0 +1,126 @@
+-- The records of one port stand together.
+use Rattle.std.proofs.Common.{◌≡◌, ℕ, zero, suc, ◌+◌, ◌<◌, ◌≤◌, Bool, true, false, cond, List, [], ◌∷◌, map, length, take, drop, get_or, eqb, leb, ltb, refl, sym, ap, subst, ◌∙◌, arith}
+use Rattle.std.specs.declared.cmp.Ordering.{Ordering}
+use Rattle.std.specs.declared.cmp.Ordering.TheVariants.{Less, Equal, Greater}
+use Rattle.std.specs.Ordering.{ordering_then, nat_cmp}
+use Rattle.std.specs.Cmp.{nat_cmp_is}
+use Rattle.std.specs.List.{filter}
+use Rattle.std.specs.List.Sorted.{IsNonDecreasingBy, IsPartitionPoint}
+use Rattle.std.proofs.lemmas.Bool.{false≢true, ltb-true, ltb-false, leb-true, eq-eqb}
+use Rattle.std.proofs.lemmas.Bool.Decides.{nat_tests}
+use Rattle.std.proofs.lemmas.List.{get_or-drop, length-drop, length-map}
+use Rattle.pim_down.specs.declared.key.Key.{Key}
+use Rattle.pim_down.specs.declared.machine.Record.{Record}
+use Rattle.pim_down.specs.Key.{address_cmp, what_cmp, key_cmp}
+use Rattle.pim_down.specs.Records.{IsBelow, IsAscending, count_on, is_on}
+use Rattle.pim_down.specs.Time.{record_after}
+use Rattle.pim_down.specs.Seen.{records_seen}
+use Rattle.pim_down.proofs.Each.{seen_filter}
+
+-- ---- ports don't fall
+
+not_greater : (r s : Ordering) → ordering_then r s ≡ Less → r ≡ Greater → ⊥
+not_greater r s e g = cc
+
+ports_rise : (a b : Key (List ℕ)) → key_cmp a b ≡ Less → a.port ≤ b.port
+unfolding key_cmp
+ports_rise a b e = by (ltb b.port a.port) refl
+  where
+    by : (t : Bool) → ltb b.port a.port ≡ t → a.port ≤ b.port
+    by true t =
+        let lt : b.port < a.port = ltb-true b.port a.port t in
+        let greater : nat_cmp a.port b.port ≡ Greater = sym (nat_cmp_is a.port b.port Greater lt) in
+        absurd (not_greater (ordering_then (nat_cmp a.port b.port) (address_cmp a.group b.group)) (what_cmp a.what b.what) e (ap (λ r. ordering_then r (address_cmp a.group b.group)) greater))
+    by false t = ltb-false b.port a.port t
+
+module _ {A : Type 0} (bytes_of : A → List ℕ) where
+  below_at : (key : Key (List ℕ)) (records : List (Record A)) → IsBelow key (records_seen bytes_of records) → (j : ℕ) (d : Record A) → j < length records → key.port ≤ (get_or records j d).key.port
+  unfolding IsBelow
+  below_at key [] below j d within = absurd (omega arith)
+  below_at key (held ∷ records) below zero d within = ports_rise key _ below.0
+  below_at key (held ∷ records) below (suc j) d within = below_at key records below.1 j d (omega arith)
+
+  pub rising : (records : List (Record A)) → IsAscending (records_seen bytes_of records) → IsNonDecreasingBy (λ (held : Record A). held.key.port) records
+  unfolding IsAscending
+  rising [] a i j d le within = absurd (omega arith)
+  rising (held ∷ records) a zero zero d le within = omega arith
+  rising (held ∷ records) a zero (suc j) d le within = below_at _ records a.0 j d (omega arith)
+  rising (held ∷ records) a (suc i) zero d le within = absurd (omega arith)
+  rising (held ∷ records) a (suc i) (suc j) d le within = rising records a.1 i j d (omega arith) (omega arith)
+
+-- ---- what passes stands together
+
+module _ {X : Type 0} (p : X → Bool) where
+  no_more : (xs : List X) → ((k : ℕ) (d : X) → k < length xs → p (get_or xs k d) ≡ false) → filter p xs ≡ []
+  no_more [] fails = refl
+  no_more (x ∷ xs) fails = let first : p x ≡ false = fails 0 x (omega arith) in rw first (no_more xs (λ k d h. fails (suc k) d (omega arith)))
+
+  front : (xs : List X) (count : ℕ) → ((k : ℕ) (d : X) → k < count → k < length xs → p (get_or xs k d) ≡ true) → ((k : ℕ) (d : X) → count ≤ k → k < length xs → p (get_or xs k d) ≡ false) → take count xs ≡ filter p xs
+  front [] zero passes fails = refl
+  front [] (suc count) passes fails = refl
+  front (x ∷ xs) zero passes fails = sym (no_more (x ∷ xs) (λ k d h. fails k d (omega arith) h))
+  front (x ∷ xs) (suc count) passes fails =
+      let first : p x ≡ true = passes 0 x (omega arith) (omega arith) in
+      rw first (ap (λ (ys : List X). x ∷ ys) (front xs count (λ k d h w. passes (suc k) d (omega arith) (omega arith)) (λ k d h w. fails (suc k) d (omega arith) (omega arith))))
+
+  behind : (xs : List X) (first : ℕ) → ((k : ℕ) (d : X) → k < first → k < length xs → p (get_or xs k d) ≡ false) → filter p (drop first xs) ≡ filter p xs
+  behind xs zero fails = refl
+  behind [] (suc first) fails = refl
+  behind (x ∷ xs) (suc first) fails =
+      let none : p x ≡ false = fails 0 x (omega arith) (omega arith) in
+      rw none (behind xs first (λ k d h w. fails (suc k) d (omega arith) (omega arith)))
+
+-- ---- the records of a port
+
+apart : (a b : ℕ) → ltb a b ≡ true → eqb a b ≡ false
+apart a b e = grind (arith, nat_tests)
+
+apart_above : (a b : ℕ) → leb a b ≡ false → eqb a b ≡ false
+apart_above a b e = grind (arith, nat_tests)
+
+equal_between : (a b : ℕ) → ltb a b ≡ false → leb a b ≡ true → eqb a b ≡ true
+equal_between a b e f = grind (arith, nat_tests)
+
+module _ {A : Type 0} (bytes_of : A → List ℕ) (port : ℕ) where
+  pub together : (records : List (Record A)) (first count : ℕ) →
+      IsPartitionPoint (λ (held : Record A). ltb held.key.port port ≡ true) (λ (held : Record A). ltb held.key.port port ≡ false) records first →
+      IsPartitionPoint (λ (held : Record A). leb held.key.port port ≡ true) (λ (held : Record A). leb held.key.port port ≡ false) (drop first records) count →
+      records_seen bytes_of (take count (drop first records)) ≡ filter (is_on port) (records_seen bytes_of records)
+  together records first count before after =
+      let p : Record A → Bool = λ (held : Record A). eqb held.key.port port in
+      let from = drop first records in
+      let long = length-drop first records in
+      let passes : (k : ℕ) (d : Record A) → k < count → k < length from → p (get_or from k d) ≡ true = λ k d h w.
+          equal_between _ _
+          (subst (λ (held : Record A). ltb held.key.port port ≡ false) (sym (get_or-drop first records k d)) (before.1 (first + k) d (omega arith) (omega arith)))
+          (after.0 k d (omega arith) h) in
+      let fails : (k : ℕ) (d : Record A) → count ≤ k → k < length from → p (get_or from k d) ≡ false = λ k d h w. apart_above _ _ (after.1 k d h w) in
+      let here : take count from ≡ filter p records = front p from count passes fails ∙ behind p records first (λ k d h w. apart _ _ (before.0 k d (omega arith) h)) in
+      ap (records_seen bytes_of) here ∙ seen_filter bytes_of (is_on port) records
+
+pub on_later : (k port : ℕ) (records : List (Record (List ℕ))) → map (record_after k) (filter (is_on port) records) ≡ filter (is_on port) (map (record_after k) records)
+on_later k port [] = refl
+on_later k port (held ∷ records) =
+    elim (is_on port held) as (λ b. map (record_after k) (cond b (held ∷ filter (is_on port) records) (filter (is_on port) records)) ≡ cond b (record_after k held ∷ filter (is_on port) (map (record_after k) records)) (filter (is_on port) (map (record_after k) records))) [
+      | true ↦ ap (λ (rs : List (Record (List ℕ))). record_after k held ∷ rs) (on_later k port records)
+      | false ↦ on_later k port records
+    ]
+
+-- so many there are
+pub count_filter : (port : ℕ) (records : List (Record (List ℕ))) → count_on port records ≡ length (filter (is_on port) records)
+unfolding count_on
+count_filter port [] = refl
+count_filter port (held ∷ records) =
+    elim (is_on port held) as (λ b. cond b 1 0 + count_on port records ≡ length (cond b (held ∷ filter (is_on port) records) (filter (is_on port) records))) [
+      | true ↦ let rest = count_filter port records in omega arith
+      | false ↦ let rest = count_filter port records in omega arith
+    ]
+
+module _ {A : Type 0} (bytes_of : A → List ℕ) (port : ℕ) (records : List (Record (List ℕ))) (here : List (Record A)) (is : records_seen bytes_of here ≡ filter (is_on port) records) where
+  pub counted : length here ≡ count_on port records
+  counted =
+      let long : length (records_seen bytes_of here) ≡ length here = simp length-map in
+      sym long ∙ ap length is ∙ sym (count_filter port records)
+
+  pub shown_later : (k : ℕ) (later : List (Record (List ℕ))) → later ≡ map (record_after k) records → map (record_after k) (records_seen bytes_of here) ≡ filter (is_on port) later
+  shown_later k later e = ap (map (record_after k)) is ∙ on_later k port records ∙ ap (filter (is_on port)) (sym e)

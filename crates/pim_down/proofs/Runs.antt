@@ -1,0 +1,114 @@
+-- What a run leaves: by induction on its steps.
+use Rattle.std.proofs.Common.{◌≡◌, ℕ, zero, suc, ◌+◌, ◌-◌, ◌<◌, ◌≤◌, Bool, true, false, cond, List, [], ◌∷◌, ◌++◌, Option, Some, None, map, ltb, max, refl, sym, ap, subst, ◌∙◌, arith}
+use Rattle.std.specs.Option.{is_some}
+use Rattle.std.proofs.lemmas.Bool.{false≢true, ltb-true, ltb-false}
+use Rattle.pim_down.specs.declared.key.What.{What}
+use Rattle.pim_down.specs.declared.key.What.TheVariants.{Star, Source, Rpt}
+use Rattle.pim_down.specs.declared.key.Key.{Key}
+use Rattle.pim_down.specs.declared.machine.State.TheVariants.{Prune}
+use Rattle.pim_down.specs.declared.machine.Pending.{Pending}
+use Rattle.pim_down.specs.declared.machine.Machine.{Machine}
+use Rattle.pim_down.specs.declared.machine.Record.{Record}
+use Rattle.pim_down.specs.declared.step.Step.{Step}
+use Rattle.pim_down.specs.declared.step.Step.TheVariants.{Reached, Echo}
+use Rattle.pim_down.specs.Key.{same_key}
+use Rattle.pim_down.specs.Records.{IsBelow, IsAscending, machine_at, recorded}
+use Rattle.pim_down.specs.Time.{Downstream, expiry_after, pending_after, machine_after, record_after, tick, expiry_due, pending_due, et_due, ppt_due, on_ppt, after_et, after_ppt, had_several, echoes_at, echo_of, first_due, with_first, fire_et, fire_ppt, fired, rests, moves, echoes, with_records, step, run_within, Runs, HasRun, settled_at, after_silence, IsEchoOf}
+use Rattle.pim_down.specs.Ends.{weight}
+use Rattle.pim_down.proofs.Order.{same_keys, same_itself}
+use Rattle.pim_down.proofs.Map.{none_below, at_recorded, at_other_recorded}
+use Rattle.pim_down.proofs.Time.{Answer, machine_more, machine_none, run_more, run_echo, run_rest}
+use Rattle.pim_down.proofs.Firing.{weight_fired, weight_later}
+use Rattle.pim_down.proofs.Kept.{kept_later, kept_fired}
+
+-- ---- one step
+
+data Stepped (moment : ℕ) (state : Downstream) : Type 0 where
+  resting : fired state.records ≡ None → moment ≤ state.moment → step moment state ≡ rests → Stepped moment state
+  passing : fired state.records ≡ None → state.moment < moment → step moment state ≡ moves (tick state) → Stepped moment state
+  firing : (records : List (Record (List ℕ))) → fired state.records ≡ Some (Reached, records) → step moment state ≡ moves (with_records state records) → Stepped moment state
+  telling : (port : ℕ) (group : List ℕ) (what : What (List ℕ)) (records : List (Record (List ℕ))) → fired state.records ≡ Some (Echo port group what, records) → step moment state ≡ echoes (Echo port group what) (with_records state records) → Stepped moment state
+
+stepped_fired : (moment : ℕ) (state : Downstream) (answer : Step (List ℕ)) (records : List (Record (List ℕ))) → fired state.records ≡ Some (answer, records) → Stepped moment state
+unfolding step
+stepped_fired moment state Reached records e = firing records e (rw e refl)
+stepped_fired moment state (Echo port group what) records e = telling port group what records e (rw e refl)
+
+stepped_quiet : (moment : ℕ) (state : Downstream) → fired state.records ≡ None → Stepped moment state
+unfolding step
+stepped_quiet moment state e =
+    elim (ltb state.moment moment) as (λ b. ltb state.moment moment ≡ b → Stepped moment state) [
+      | true ↦ λ t. passing e (ltb-true state.moment moment t) (rw (e, t) refl)
+      | false ↦ λ t. resting e (ltb-false state.moment moment t) (rw (e, t) refl)
+    ] refl
+
+stepped : (moment : ℕ) (state : Downstream) → Stepped moment state
+stepped moment state =
+    elim (fired state.records) as (λ o. fired state.records ≡ o → Stepped moment state) [
+      | None ↦ λ e. stepped_quiet moment state e
+      | Some fire ↦ λ e. stepped_fired moment state fire.0 fire.1 e
+    ] refl
+
+-- ---- induction on runs
+
+pair_of : (told answer : Step (List ℕ)) (end after : Downstream) → ◌≡◌ {A = Answer} (Some (told, end)) (Some (answer, after)) → ◌≡◌ {A = Step (List ℕ) × Downstream} (told, end) (answer, after)
+pair_of told answer end after e = cc
+
+no_run : (answer : Step (List ℕ)) (after : Downstream) → ◌≡◌ {A = Answer} None (Some (answer, after)) → ⊥
+no_run answer after e = cc
+
+module _ (moment : ℕ) (P : Downstream → Step (List ℕ) → Downstream → Type 0) (rested : (state : Downstream) → fired state.records ≡ None → moment ≤ state.moment → P state Reached state) (passed : (state after : Downstream) (answer : Step (List ℕ)) → fired state.records ≡ None → state.moment < moment → P (tick state) answer after → P state answer after) (went : (state after : Downstream) (answer : Step (List ℕ)) (records : List (Record (List ℕ))) → fired state.records ≡ Some (Reached, records) → P (with_records state records) answer after → P state answer after) (said : (state : Downstream) (port : ℕ) (group : List ℕ) (what : What (List ℕ)) (records : List (Record (List ℕ))) → fired state.records ≡ Some (Echo port group what, records) → P state (Echo port group what) (with_records state records)) where
+  by_steps : (steps : ℕ) (state after : Downstream) (answer : Step (List ℕ)) → run_within steps moment state ≡ Some (answer, after) → P state answer after
+  unfolding run_within
+  by_steps zero state after answer e = absurd (no_run answer after e)
+  by_steps (suc steps) state after answer e =
+      elim (stepped moment state) [
+        | resting quiet reached s ↦ subst (λ (x : Step (List ℕ) × Downstream). P state x.0 x.1) (pair_of Reached answer state after (rw s at e)) (rested state quiet reached)
+        | passing quiet before s ↦ passed state after answer quiet before (by_steps steps (tick state) after answer (rw s at e))
+        | firing records f s ↦ went state after answer records f (by_steps steps (with_records state records) after answer (rw s at e))
+        | telling port group what records f s ↦ subst (λ (x : Step (List ℕ) × Downstream). P state x.0 x.1) (pair_of (Echo port group what) answer (with_records state records) after (rw s at e)) (said state port group what records f)
+      ]
+
+  pub by_run : (state after : Downstream) (answer : Step (List ℕ)) → Runs moment state answer after → P state answer after
+  by_run state after answer runs = by_steps runs.steps state after answer runs.within
+
+-- ---- each state has a run
+
+has_run : (n moment : ℕ) (state : Downstream) → (moment - state.moment) + weight state.records < n → HasRun moment state
+has_run zero moment state less = absurd (omega arith)
+has_run (suc n) moment state less =
+    elim (stepped moment state) [
+      | resting quiet reached s ↦ record { answer = Reached; after = state; runs = run_rest moment state s }
+      | passing quiet before s ↦
+          let w = weight_later 1 state.records in
+          let more = has_run n moment (tick state) (omega arith) in
+          record { answer = more.answer; after = more.after; runs = run_more moment state (tick state) more.after more.answer s more.runs }
+      | firing records f s ↦
+          let w = weight_fired state.records records Reached f in
+          let more = has_run n moment (with_records state records) (omega arith) in
+          record { answer = more.answer; after = more.after; runs = run_more moment state (with_records state records) more.after more.answer s more.runs }
+      | telling port group what records f s ↦ record { answer = Echo port group what; after = with_records state records; runs = run_echo moment state (with_records state records) (Echo port group what) s }
+    ]
+
+pub every_run : (moment : ℕ) (state : Downstream) → HasRun moment state
+every_run moment state = has_run (suc ((moment - state.moment) + weight state.records)) moment state (omega arith)
+
+-- ---- ports, limit and moment
+
+abbrev is_echo : Step (List ℕ) → Bool
+is_echo Reached = false
+is_echo (Echo port group what) = true
+
+pub no_echo : (port : ℕ) (group : List ℕ) (what : What (List ℕ)) → Echo port group what ≡ Reached → ⊥
+no_echo port group what e = false≢true (sym (ap is_echo e))
+
+abbrev Bounds : ℕ → Downstream → Step (List ℕ) → Downstream → Type 0
+Bounds moment state answer after = (after.ports ≡ state.ports) × (after.limit ≡ state.limit) × (state.moment ≤ after.moment) × (after.moment ≤ max state.moment moment) × (answer ≡ Reached → after.moment ≡ max state.moment moment)
+
+pub bounds : (moment : ℕ) (state after : Downstream) (answer : Step (List ℕ)) → Runs moment state answer after → Bounds moment state answer after
+bounds moment =
+    by_run moment (Bounds moment)
+    (λ state quiet reached. (refl, refl, omega arith, omega arith, λ e. omega arith))
+    (λ state after answer quiet before more. (more.0, more.1, omega (arith, more.2), omega (arith, more.3), λ e. let r = more.4 e in omega arith))
+    (λ state after answer records f more. more)
+    (λ state port group what records f. (refl, refl, omega arith, omega arith, λ e. absurd (no_echo port group what e)))
