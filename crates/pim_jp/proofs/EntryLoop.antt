@@ -1,30 +1,24 @@
 -- How the reader goes over the entries of one list.
-use Rattle.std.proofs.Common.{◌≡◌, ◌∙◌, sym, ap, ℕ, zero, suc, ◌+◌, ◌-◌, ◌*◌, ◌≤◌, ◌<◌, Bool, true, false, ◌||◌, ◌&&◌, not, List, [], ◌∷◌, ◌++◌, length, drop, nat_lt, refl, arith, length-drop, append_assoc, append-nil, add-one, map, if◌then◌else◌}
+use Rattle.std.proofs.Common.{◌≡◌, ◌∙◌, sym, ap, ℕ, zero, suc, ◌+◌, ◌*◌, ◌≤◌, ◌<◌, Bool, true, false, ◌||◌, List, [], ◌∷◌, ◌++◌, length, drop, refl, ⊎_elim, arith, length-drop}
 use Rattle.std.specs.List.{list_any}
 use Rattle.std.proofs.lemmas.List.{drop-drop}
 use Rattle.std.proofs.lemmas.List.Folds.{list_any-append}
+use Rattle.std.proofs.lemmas.Bool.{cases_lt}
 use Rattle.pim_addr.specs.declared.family.AddressFamily.{AddressFamily}
-use Rattle.pim_addr.specs.Address.{is_source}
-use Rattle.pim_addr.specs.Faults.{fault_if, judged}
-use Rattle.pim_addr.specs.Encoded.{source_faults, source_length, source_value}
+use Rattle.pim_addr.specs.Encoded.{source_length, source_value}
 use Rattle.pim_jp.specs.declared.entry.Entry.{Entry}
-use Rattle.pim_jp.specs.declared.fault.JpKind.TheVariants.{Flags, NotSource, SecondStar, BothLists}
-use Rattle.pim_jp.specs.declared.fault.JpFault.{JpFault}
+use Rattle.pim_jp.specs.declared.fault.JpKind.{JpKind}
 use Rattle.pim_jp.specs.Message.{entry_of, entries_of}
-use Rattle.pim_jp.specs.Spelling.{is_star, same_source}
-use Rattle.pim_jp.specs.Parts.{Part, entry, entry_parts, is_kindless, kind_of}
-use Rattle.pim_jp.specs.Faults.{address_kind, kinds_at, part_faults, faults_of}
-use Rattle.pim_jp.specs.Reading.{Tells, Stops, kinds_at_entry, EntriesPass}
-use Rattle.pim_jp.proofs.Parts.{part_passes, part_stops}
+use Rattle.pim_jp.specs.Spelling.{is_star}
+use Rattle.pim_jp.specs.Reading.{Tells, lone_kinds, kinds_at_place, entry_at, AreClean, StopsAt, is_source_entry, is_rpt_entry}
 
-drop_no : (size : ℕ) (bytes : List ℕ) → bytes ≡ drop (0 * size) bytes
+pub drop_no : (size : ℕ) (bytes : List ℕ) → bytes ≡ drop (0 * size) bytes
 drop_no size bytes = let none : 0 * size ≡ 0 = omega arith in rw none refl
 
 pub drop_more : (size done : ℕ) (bytes : List ℕ) → drop size (drop (done * size) bytes) ≡ drop ((done + 1) * size) bytes
 drop_more size done bytes = drop-drop size (done * size) bytes ∙ ap (λ n. drop n bytes) (omega arith)
 
-entries_more : (family : AddressFamily) (done : ℕ) (bytes : List ℕ)
-    → entries_of family (suc done) bytes ≡ entries_of family done bytes ++ entry_of (source_value family (drop (done * source_length family) bytes)) ∷ []
+pub entries_more : (family : AddressFamily) (done : ℕ) (bytes : List ℕ) → entries_of family (suc done) bytes ≡ entries_of family done bytes ++ entry_at family done bytes ∷ []
 unfolding entries_of
 entries_more family zero bytes = ap (λ b. entry_of (source_value family b) ∷ []) (drop_no (source_length family) bytes)
 entries_more family (suc done) bytes =
@@ -34,121 +28,78 @@ entries_more family (suc done) bytes =
     (entries_more family done (drop (source_length family) bytes)
     ∙ ap (λ b. entries_of family done (drop (source_length family) bytes) ++ entry_of (source_value family b) ∷ []) far)
 
-kept : {K : Type 0} (short : Bool) (a b c d e : List K)
-    → a ++ (if short then [] else b ++ c ++ d ++ e) ≡ (a ++ (if short then [] else b ++ c)) ++ (if short then [] else d ++ e)
-kept true a b c d e = grind (arith, append_assoc, append-nil)
-kept false a b c d e = simp append_assoc refl
-
--- the kinds at an entry are those that it has by what the reader keeps of the entries before it
-entry_kinds_kept : (family : AddressFamily) (earlier other : List (Entry (List ℕ))) (bytes : List ℕ)
-    → kinds_at family (entry earlier other) bytes ≡ kinds_at_entry family (list_any is_star earlier) other bytes
-entry_kinds_kept family earlier other bytes =
-    kept (nat_lt (length bytes) (source_length family)) (map address_kind (source_faults family bytes))
-    (fault_if (is_kindless (source_value family bytes)) Flags)
-    (fault_if (not (is_source family (source_value family bytes).address)) NotSource)
-    (fault_if (list_any is_star (kind_of (source_value family bytes)) && list_any is_star earlier) SecondStar)
-    (fault_if (list_any (λ this. list_any (same_source this) other) (kind_of (source_value family bytes))) BothLists)
-
-abbrev pub entry_faults : AddressFamily → ℕ → Bool → List (Entry (List ℕ)) → List ℕ → List JpFault
-entry_faults family at starred other bytes = map (λ kind. record { at = at; kind = kind }) (kinds_at_entry family starred other bytes)
-
-entry_faults_kept : (family : AddressFamily) (earlier other : List (Entry (List ℕ))) (at : ℕ) (bytes : List ℕ) (starred : Bool) → list_any is_star earlier ≡ starred
-    → part_faults family (record { shape = entry earlier other; at = at; bytes = bytes }) ≡ entry_faults family at starred other bytes
-entry_faults_kept family earlier other at bytes starred star =
-    ap (λ kinds. map (λ kind. record { at = at; kind = kind }) kinds) (entry_kinds_kept family earlier other bytes ∙ ap (λ s. kinds_at_entry family s other bytes) star)
-
--- so many of the entries are done
-pub record Reached (family : AddressFamily) (count : ℕ) (joined : List (Entry (List ℕ))) (start : ℕ) (bytes : List ℕ) (done : ℕ) (starred : Bool) (at : ℕ) (rest : List ℕ) : Type 0 where
-  pub place : at ≡ start + done * source_length family
-  pub left : rest ≡ drop (done * source_length family) bytes
-  pub whole : done * source_length family ≤ length bytes
-  pub star : list_any is_star (joined ++ entries_of family done bytes) ≡ starred
-  pub passes : (next : List (Entry (List ℕ)) → ℕ → List ℕ → List Part)
-      → faults_of family (entry_parts family count joined joined start bytes next)
-      ≡ faults_of family (entry_parts family (count - done) (joined ++ entries_of family done bytes) joined at rest next)
-
-pub reached_none : (family : AddressFamily) (count : ℕ) (joined : List (Entry (List ℕ))) (start : ℕ) (bytes : List ℕ) (starred : Bool)
-    → list_any is_star joined ≡ starred → Reached family count joined start bytes 0 starred start bytes
-unfolding entries_of
-reached_none family count joined start bytes starred star = record {
-  place = omega arith;
-  left = drop_no _ bytes;
-  whole = omega arith;
-  star = rw append-nil star;
-  passes = λ next. let all : count - 0 ≡ count = omega arith in rw (all, append-nil) refl;
-}
-
-entry_step : (family : AddressFamily) (count : ℕ) (earlier other : List (Entry (List ℕ))) (at : ℕ) (bytes : List ℕ) (next : List (Entry (List ℕ)) → ℕ → List ℕ → List Part)
-    → part_faults family (record { shape = entry earlier other; at = at; bytes = bytes }) ≡ []
-    → is_kindless (source_value family bytes) ≡ false → source_length family ≤ length bytes
-    → faults_of family (entry_parts family (suc count) earlier other at bytes next)
-    ≡ faults_of family (entry_parts family count (earlier ++ entry_of (source_value family bytes) ∷ []) other (at + source_length family) (drop (source_length family) bytes) next)
-unfolding entry_parts
-entry_step family count earlier other at bytes next none kind whole =
-    let named : kind_of (source_value family bytes) ≡ entry_of (source_value family bytes) ∷ [] = rw kind refl in
-    part_passes family (entry earlier other) (source_length family) at bytes
-    (λ at bytes'. entry_parts family count (earlier ++ kind_of (source_value family bytes)) other at bytes' next) none whole
-    ∙ ap (λ kinds. faults_of family (entry_parts family count (earlier ++ kinds) other (at + source_length family) (drop (source_length family) bytes) next)) named
-
-entry_stop : (family : AddressFamily) (count : ℕ) (earlier other : List (Entry (List ℕ))) (at : ℕ) (bytes : List ℕ) (next : List (Entry (List ℕ)) → ℕ → List ℕ → List Part) (fault : JpFault)
-    → Tells (part_faults family (record { shape = entry earlier other; at = at; bytes = bytes })) fault
-    → Tells (faults_of family (entry_parts family (suc count) earlier other at bytes next)) fault
-unfolding entry_parts
-entry_stop family count earlier other at bytes next fault told =
-    part_stops family (entry earlier other) (source_length family) at bytes
-    (λ at bytes'. entry_parts family count (earlier ++ kind_of (source_value family bytes)) other at bytes' next) fault told
-
-entry_end : (family : AddressFamily) (count : ℕ) (earlier other : List (Entry (List ℕ))) (at : ℕ) (bytes : List ℕ) (next : List (Entry (List ℕ)) → ℕ → List ℕ → List Part)
-    → count ≡ 0 → entry_parts family count earlier other at bytes next ≡ next earlier at bytes
-unfolding entry_parts
-entry_end family count earlier other at bytes next none = rw none refl
-
 or_false : (b : Bool) → (b || false) ≡ b
 or_false true = refl
 or_false false = refl
 
-pub reached_more : (family : AddressFamily) (count : ℕ) (joined : List (Entry (List ℕ))) (start : ℕ) (bytes : List ℕ) (done : ℕ) (starred : Bool) (at : ℕ) (rest : List ℕ) (more : Bool)
-    → Reached family count joined start bytes done starred at rest → done < count
-    → entry_faults family at starred joined rest ≡ []
-    → is_kindless (source_value family rest) ≡ false → source_length family ≤ length rest
-    → more ≡ (starred || is_star (entry_of (source_value family rest)))
-    → Reached family count joined start bytes (done + 1) more (at + source_length family) (drop (source_length family) rest)
-reached_more family count joined start bytes done starred at rest more reached some none kind whole star =
-    let step : count - done ≡ suc (count - (done + 1)) = omega arith in
-    let kept_faults = entry_faults_kept family (joined ++ entries_of family done bytes) joined at rest starred reached.star in
-    let this : Entry (List ℕ) = entry_of (source_value family rest) in
-    let grown : joined ++ entries_of family (done + 1) bytes ≡ (joined ++ entries_of family done bytes) ++ this ∷ [] =
-    ap (λ n. joined ++ entries_of family n bytes) (add-one done)
-    ∙ ap (λ es. joined ++ es) (entries_more family done bytes)
-    ∙ ap (λ b. joined ++ (entries_of family done bytes ++ entry_of (source_value family b) ∷ [])) (sym reached.left)
-    ∙ sym (append_assoc joined (entries_of family done bytes) (this ∷ [])) in
+or_or : (a b c : Bool) → (a || b) || c ≡ a || (b || c)
+or_or true b c = refl
+or_or false b c = refl
+
+-- whether a kind is among the entries, with one more
+any_more : (family : AddressFamily) (is : Entry (List ℕ) → Bool) (done : ℕ) (bytes : List ℕ)
+    → list_any is (entries_of family (done + 1) bytes) ≡ (list_any is (entries_of family done bytes) || is (entry_at family done bytes))
+any_more family is done bytes =
+    let one : done + 1 ≡ suc done = omega arith in
+    ap (λ n. list_any is (entries_of family n bytes)) one ∙ ap (list_any is) (entries_more family done bytes)
+    ∙ list_any-append is (entries_of family done bytes) (entry_at family done bytes ∷ [])
+    ∙ ap (λ b. list_any is (entries_of family done bytes) || b) (or_false (is (entry_at family done bytes)))
+
+-- so many of the entries are done
+pub record Reached (family : AddressFamily) (has_star : Bool) (bytes : List ℕ) (done : ℕ) (star source rpt : Bool) (rest : List ℕ) : Type 0 where
+  pub left : rest ≡ drop (done * source_length family) bytes
+  pub whole : done * source_length family ≤ length bytes
+  pub clean : AreClean family has_star done bytes
+  pub star_is : star ≡ (has_star || list_any is_star (entries_of family done bytes))
+  pub source_is : source ≡ list_any is_source_entry (entries_of family done bytes)
+  pub rpt_is : rpt ≡ list_any is_rpt_entry (entries_of family done bytes)
+
+pub reached_none : (family : AddressFamily) (has_star : Bool) (bytes : List ℕ) → Reached family has_star bytes 0 has_star false false bytes
+unfolding entries_of
+reached_none family has_star bytes = record {
+  left = drop_no _ bytes;
+  whole = omega arith;
+  clean = λ place below. absurd (omega arith);
+  star_is = sym (or_false has_star);
+  source_is = refl;
+  rpt_is = refl;
+}
+
+-- what is told of the next entry is told of that place
+at_place : (family : AddressFamily) (has_star : Bool) (bytes : List ℕ) (done : ℕ) (star source rpt : Bool) (rest : List ℕ)
+    → Reached family has_star bytes done star source rpt rest → lone_kinds family star rest ≡ kinds_at_place family has_star done bytes
+at_place family has_star bytes done star source rpt rest reached =
+    ap (λ s. lone_kinds family s rest) reached.star_is ∙ ap (lone_kinds family (has_star || list_any is_star (entries_of family done bytes))) reached.left
+
+pub reached_more : (family : AddressFamily) (has_star : Bool) (bytes : List ℕ) (done : ℕ) (star source rpt : Bool) (rest : List ℕ) (this_star this_source this_rpt : Bool)
+    → Reached family has_star bytes done star source rpt rest
+    → lone_kinds family star rest ≡ [] → source_length family ≤ length rest
+    → this_star ≡ is_star (entry_of (source_value family rest))
+    → this_source ≡ is_source_entry (entry_of (source_value family rest))
+    → this_rpt ≡ is_rpt_entry (entry_of (source_value family rest))
+    → Reached family has_star bytes (done + 1) (star || this_star) (source || this_source) (rpt || this_rpt) (drop (source_length family) rest)
+reached_more family has_star bytes done star source rpt rest this_star this_source this_rpt reached none whole star' source' rpt' =
+    let here : (is : Entry (List ℕ) → Bool) → is (entry_of (source_value family rest)) ≡ is (entry_at family done bytes) =
+    λ is. ap (λ b. is (entry_of (source_value family b))) reached.left in
     record {
-      place = omega (arith, reached.place);
       left = ap (λ b. drop (source_length family) b) reached.left ∙ drop_more (source_length family) done bytes;
       whole = omega (arith, ap length reached.left, length-drop (done * source_length family) bytes, reached.whole);
-      star = ap (list_any is_star) grown ∙ list_any-append is_star (joined ++ entries_of family done bytes) (this ∷ [])
-          ∙ ap (λ b. b || (is_star this || false)) reached.star ∙ ap (λ b. starred || b) (or_false (is_star this)) ∙ sym star;
-      passes = λ next. reached.passes next
-          ∙ ap (λ n. faults_of family (entry_parts family n (joined ++ entries_of family done bytes) joined at rest next)) step
-          ∙ entry_step family (count - (done + 1)) (joined ++ entries_of family done bytes) joined at rest next (kept_faults ∙ none) kind whole
-          ∙ ap (λ es. faults_of family (entry_parts family (count - (done + 1)) es joined (at + source_length family) (drop (source_length family) rest) next)) (sym grown);
+      clean = λ place below.
+          ⊎_elim
+          (λ (before : place < done). reached.clean place before)
+          (λ (not_before : done ≤ place). let same : place ≡ done = omega arith in
+          rw same (sym (at_place family has_star bytes done star source rpt rest reached) ∙ none))
+          (cases_lt place done);
+      star_is = ap (λ b. b || this_star) reached.star_is ∙ or_or has_star _ this_star
+          ∙ ap (λ b. has_star || (list_any is_star (entries_of family done bytes) || b)) (star' ∙ here is_star)
+          ∙ ap (λ b. has_star || b) (sym (any_more family is_star done bytes));
+      source_is = ap (λ b. b || this_source) reached.source_is
+          ∙ ap (λ b. list_any is_source_entry (entries_of family done bytes) || b) (source' ∙ here is_source_entry) ∙ sym (any_more family is_source_entry done bytes);
+      rpt_is = ap (λ b. b || this_rpt) reached.rpt_is
+          ∙ ap (λ b. list_any is_rpt_entry (entries_of family done bytes) || b) (rpt' ∙ here is_rpt_entry) ∙ sym (any_more family is_rpt_entry done bytes);
     }
 
-pub reached_stop : (family : AddressFamily) (count : ℕ) (joined : List (Entry (List ℕ))) (start : ℕ) (bytes : List ℕ) (done : ℕ) (starred : Bool) (at : ℕ) (rest : List ℕ) (fault : JpFault)
-    → Reached family count joined start bytes done starred at rest → done < count
-    → Tells (entry_faults family at starred joined rest) fault
-    → Stops family (entry_parts family count joined joined start bytes) fault
-reached_stop family count joined start bytes done starred at rest fault reached some told = λ next.
-    let step : count - done ≡ suc (count - (done + 1)) = omega arith in
-    ap (λ faults. judged faults tt)
-    (reached.passes next ∙ ap (λ n. faults_of family (entry_parts family n (joined ++ entries_of family done bytes) joined at rest next)) step)
-    ∙ entry_stop family (count - (done + 1)) (joined ++ entries_of family done bytes) joined at rest next fault
-    (ap (λ faults. judged faults tt) (entry_faults_kept family (joined ++ entries_of family done bytes) joined at rest starred reached.star) ∙ told)
-
-pub reached_all : (family : AddressFamily) (count : ℕ) (joined : List (Entry (List ℕ))) (start : ℕ) (bytes : List ℕ) (done : ℕ) (starred : Bool) (at : ℕ) (rest : List ℕ)
-    → Reached family count joined start bytes done starred at rest → done ≡ count → EntriesPass family count joined start bytes
-reached_all family count joined start bytes done starred at rest reached all = λ next.
-    let none : count - done ≡ 0 = omega arith in
-    reached.passes next
-    ∙ ap (faults_of family) (entry_end family (count - done) (joined ++ entries_of family done bytes) joined at rest next none)
-    ∙ (rw (reached.place, reached.left, all) refl)
+pub reached_stop : (family : AddressFamily) (has_star : Bool) (count : ℕ) (bytes : List ℕ) (done : ℕ) (star source rpt : Bool) (rest : List ℕ) (kind : JpKind)
+    → Reached family has_star bytes done star source rpt rest → done < count → Tells (lone_kinds family star rest) kind → StopsAt family has_star count bytes done kind
+reached_stop family has_star count bytes done star source rpt rest kind reached below told =
+    (below, reached.clean, rw (at_place family has_star bytes done star source rpt rest reached) at told)

@@ -14,4 +14,5 @@ pub mod Judged
 pub mod Parts
 pub mod EntryPlaces
 pub mod EntryLoop
+pub mod EntryPass
 pub mod SetLoop

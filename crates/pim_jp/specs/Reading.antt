@@ -1,6 +1,6 @@
 -- What the steps of the reader promise. One that looks at a part speaks of the part's kinds; one that passes over
 -- several speaks of the faults of all the parts from there on, whatever parts `next` gives behind them.
-use Rattle.std.specs.Prelude.{◌≡◌, ℕ, ◌+◌, ◌*◌, Bool, ◌&&◌, not, List, [], ◌++◌, Result, Ok, Err, length, map, drop, nat_lt, if◌then◌else◌}
+use Rattle.std.specs.Prelude.{◌≡◌, ℕ, ◌+◌, ◌*◌, ◌<◌, Bool, true, false, ◌&&◌, ◌||◌, not, List, [], ◌++◌, Result, Ok, Err, length, map, drop, nat_lt, if◌then◌else◌}
 use Rattle.std.specs.List.{list_any}
 use Rattle.byteorder.specs.Endian.{big_number}
 use Rattle.pim_addr.specs.declared.family.AddressFamily.{AddressFamily}
@@ -8,10 +8,11 @@ use Rattle.pim_addr.specs.Address.{is_source}
 use Rattle.pim_addr.specs.Faults.{fault_if, judged}
 use Rattle.pim_addr.specs.Encoded.{source_faults, group_length, source_length, source_value}
 use Rattle.pim_jp.specs.declared.entry.Entry.{Entry}
+use Rattle.pim_jp.specs.declared.entry.Entry.TheVariants.{Star, Source, Rpt}
 use Rattle.pim_jp.specs.declared.fault.JpKind.{JpKind}
-use Rattle.pim_jp.specs.declared.fault.JpKind.TheVariants.{Flags, NotSource, SecondStar, BothLists}
+use Rattle.pim_jp.specs.declared.fault.JpKind.TheVariants.{Flags, NotSource, SecondStar}
 use Rattle.pim_jp.specs.declared.fault.JpFault.{JpFault}
-use Rattle.pim_jp.specs.Message.{entries_of}
+use Rattle.pim_jp.specs.Message.{entry_of, entries_of}
 use Rattle.pim_jp.specs.Spelling.{is_star, same_source}
 use Rattle.pim_jp.specs.Parts.{Part, group, counts, part_then, entry_parts, is_kindless, kind_of}
 use Rattle.pim_jp.specs.Faults.{address_kind, faults_of}
@@ -32,16 +33,49 @@ own_kinds family bytes =
     ++ (if nat_lt (length bytes) (source_length family) then [] else
     fault_if (is_kindless (source_value family bytes)) Flags ++ fault_if (not (is_source family (source_value family bytes).address)) NotSource)
 
--- those that it has by the entries before it: of these only whether a (*,G) is among them, and the other list
-abbrev pub set_kinds : Bool → List (Entry (List ℕ)) → List (Entry (List ℕ)) → List JpKind
-set_kinds has_star other entries =
-    fault_if (list_any is_star entries && has_star) SecondStar
-    ++ fault_if (list_any (λ this. list_any (same_source this) other) entries) BothLists
-
-abbrev pub kinds_at_entry : AddressFamily → Bool → List (Entry (List ℕ)) → List ℕ → List JpKind
-kinds_at_entry family has_star other bytes =
+-- those that it has but for the other list; `has_star` says whether a (*,G) stands before it in its set
+abbrev pub lone_kinds : AddressFamily → Bool → List ℕ → List JpKind
+lone_kinds family has_star bytes =
     own_kinds family bytes
-    ++ (if nat_lt (length bytes) (source_length family) then [] else set_kinds has_star other (kind_of (source_value family bytes)))
+    ++ (if nat_lt (length bytes) (source_length family) then [] else
+    fault_if (list_any is_star (kind_of (source_value family bytes)) && has_star) SecondStar)
+
+-- the entry at this place of a list
+abbrev pub entry_at : AddressFamily → ℕ → List ℕ → Entry (List ℕ)
+entry_at family place bytes = entry_of (source_value family (drop (place * source_length family) bytes))
+
+abbrev pub kinds_at_place : AddressFamily → Bool → ℕ → List ℕ → List JpKind
+kinds_at_place family has_star place bytes =
+    lone_kinds family (has_star || list_any is_star (entries_of family place bytes)) (drop (place * source_length family) bytes)
+
+-- So many entries of a list have no fault but for the other list.
+abbrev pub AreClean : AddressFamily → Bool → ℕ → List ℕ → Type 0
+AreClean family has_star count bytes = (place : ℕ) → place < count → kinds_at_place family has_star place bytes ≡ []
+
+-- The first that has one stands at this place, and this is told of it.
+abbrev pub StopsAt : AddressFamily → Bool → ℕ → List ℕ → ℕ → JpKind → Type 0
+StopsAt family has_star count bytes place kind =
+    (place < count) × AreClean family has_star place bytes × Tells (kinds_at_place family has_star place bytes) kind
+
+-- the entry has its source in the other list too, as the same kind
+abbrev pub is_in : List (Entry (List ℕ)) → Entry (List ℕ) → Bool
+is_in other this = list_any (same_source this) other
+
+-- none of so many entries has its source in the other list too
+abbrev pub AreApart : AddressFamily → List (Entry (List ℕ)) → ℕ → List ℕ → Type 0
+AreApart family other count bytes = (place : ℕ) → place < count → is_in other (entry_at family place bytes) ≡ false
+
+-- (S,G)
+abbrev pub is_source_entry : Entry (List ℕ) → Bool
+is_source_entry (Star rp) = false
+is_source_entry (Source source) = true
+is_source_entry (Rpt source) = false
+
+-- (S,G,rpt)
+abbrev pub is_rpt_entry : Entry (List ℕ) → Bool
+is_rpt_entry (Star rp) = false
+is_rpt_entry (Source source) = false
+is_rpt_entry (Rpt source) = true
 
 -- ---- runs of parts, behind which `next` goes on
 

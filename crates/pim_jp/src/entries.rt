@@ -13,7 +13,7 @@ use pim_addr::{Family, SourceAddress, SourceBits};
 use std::marker::{Model, PhantomData};
 
 /// The entry that a source and its bits name. W without R, which no legal message has, counts as neither.
-pub(crate) fn entry_named<A>(source: SourceAddress<A>) -> Entry<A>
+fn entry_named<A>(source: SourceAddress<A>) -> Entry<A>
     ensures { (bytes_of : A → List ℕ) → entry_seen bytes_of result ≡ entry_of (source_seen bytes_of source) }
 {
     let SourceAddress { address, bits } = source;
@@ -25,7 +25,7 @@ pub(crate) fn entry_named<A>(source: SourceAddress<A>) -> Entry<A>
 }
 
 /// The entry at the front, whatever else its bytes say.
-fn first_entry<F: Family>(bytes: &[u8]) -> Entry<F::Addr>
+pub(crate) fn first_entry<F: Family>(bytes: &[u8]) -> Entry<F::Addr>
     requires { source_length F.family ≤ length bytes.now }
     ensures { entry_seen F.bytes_of result ≡ entry_of (source_value F.family bytes.now) }
 {

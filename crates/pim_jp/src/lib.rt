@@ -1,6 +1,7 @@
 //! Join/Prune messages of PIM sparse mode (RFC 7761, 4.9.5), read in place and written part by part.
 #![tactic(auto)]
 
+mod clashes;
 mod entries;
 mod entry;
 mod fault;
@@ -12,6 +13,7 @@ mod slow;
 #[cfg(test)]
 mod tests;
 mod view;
+mod walking;
 mod writing;
 
 pub use entries::Entries;

@@ -2,7 +2,7 @@ use Rattle.std.proofs.Common.{◌≡◌}
 use Rattle.std.specs.List.{list_any}
 use Rattle.pim_jp.specs.Spelling.{same_source}
 use Rattle.pim_jp.specs.Seen.{entry_seen}
-use Rattle.pim_jp.proofs.reading.is_among.Given as goal
+use Rattle.pim_jp.proofs.clashes.is_among.Given as goal
 
 abbrev pub invariant-loop-other : goal.invariant-loop-other
 invariant-loop-other g l =

@@ -1,0 +1,10 @@
+use Rattle.std.proofs.Common.{◌≡◌, ◌*◌, drop}
+use Rattle.pim_addr.specs.Encoded.{source_length}
+use Rattle.pim_jp.specs.Reading.{AreApart}
+use Rattle.pim_jp.proofs.clashes.first_clash.Given as goal
+
+abbrev pub invariant-loop-place : goal.invariant-loop-place
+invariant-loop-place g l = record {
+  left : l.rest ≡ drop (l.place * source_length g.F.Family.family) l.fn.bytes;
+  apart : AreApart g.F.Family.family l.fn.joined l.place l.fn.bytes;
+}

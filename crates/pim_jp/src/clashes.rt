@@ -1,0 +1,53 @@
+//! Sources that are in both lists of a set as the same kind.
+
+ghost use Rattle.std.specs.Prelude.{◌≡◌, ◌*◌, ◌≤◌, ◌<◌, true, length};
+ghost use Rattle.std.specs.List.{list_any};
+ghost use Rattle.pim_addr.specs.Encoded.{source_length};
+ghost use Rattle.pim_jp.specs.Spelling.{same_source};
+ghost use Rattle.pim_jp.specs.Seen.{entry_seen};
+ghost use Rattle.pim_jp.specs.Reading.{is_in, entry_at, AreApart};
+
+use crate::entries::{Entries, first_entry};
+use crate::entry::Entry;
+use pim_addr::Family;
+
+/// Whether two entries have the same source, and are both (S,G) or both (S,G,rpt).
+fn same_source<F: Family>(this: Entry<F::Addr>, that: Entry<F::Addr>) -> bool
+    ensures { result ≡ same_source (entry_seen F.bytes_of this) (entry_seen F.bytes_of that) }
+{
+    match (this, that) {
+        (Entry::Source(s), Entry::Source(t)) | (Entry::Rpt(s), Entry::Rpt(t)) => s == t,
+        _ => false,
+    }
+}
+
+/// Whether the entry's source is among the entries of the other list, as the same kind.
+fn is_among<F: Family>(entry: Entry<F::Addr>, others: Entries<'_, F>) -> bool
+    ensures { result ≡ list_any (same_source (entry_seen F.bytes_of entry)) others.entry }
+{
+    for other in others {
+        if same_source::<F>(entry, other) {
+            return true;
+        }
+    }
+    false
+}
+
+/// The place of the first of so many pruned entries whose source is among the joined ones, as the same kind; their
+/// number if there is none.
+pub(crate) fn first_clash<F: Family>(count: u16, bytes: &[u8], joined: &Entries<'_, F>) -> u16
+    requires { count * source_length F.family ≤ length bytes.now }
+    ensures bound { result ≤ count }
+    ensures apart { AreApart F.family joined.now result bytes.now }
+    ensures clash { result < count → is_in joined.now (entry_at F.family result bytes.now) ≡ true }
+{
+    let mut rest = bytes;
+    for place in 0..count {
+        if is_among(first_entry::<F>(rest), joined.again()) {
+            return place;
+        }
+        let (_, others) = rest.split_at(4 + F::LEN);
+        rest = others;
+    }
+    count
+}

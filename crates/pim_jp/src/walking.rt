@@ -1,0 +1,142 @@
+//! The entries of one list, looked at one by one, to the first fault.
+
+ghost use Rattle.std.specs.Prelude.{◌≡◌, ◌*◌, ◌≤◌, ◌&&◌, ◌||◌, false, length, IfOk, IfErr};
+ghost use Rattle.std.specs.List.{list_any};
+ghost use Rattle.pim_addr.specs.Encoded.{source_length, source_value};
+ghost use Rattle.pim_jp.specs.Message.{entry_of, entries_of};
+ghost use Rattle.pim_jp.specs.Spelling.{is_star};
+ghost use Rattle.pim_jp.specs.Parts.{is_kindless};
+ghost use Rattle.pim_jp.specs.Reading.{Judges, own_kinds, lone_kinds, AreClean, StopsAt, is_source_entry, is_rpt_entry};
+
+use crate::fault::JpKind;
+use bitflags::Flags;
+use pim_addr::{Family, SourceBits};
+
+/// Which kinds of entries are among some.
+#[derive(Clone, Copy)]
+pub(crate) struct Kinds {
+    /// (*,G).
+    pub star: bool,
+    /// (S,G).
+    pub source: bool,
+    /// (S,G,rpt).
+    pub rpt: bool,
+}
+
+impl Kinds {
+    /// Whether a source may be among these and among the others as the same kind.
+    pub fn may_clash(self, others: Kinds) -> bool
+        ensures { result ≡ ((self.source && others.source) || (self.rpt && others.rpt)) }
+    {
+        self.source && others.source || self.rpt && others.rpt
+    }
+}
+
+/// Where a list has its first fault: at which of its entries, and what is wrong with it.
+#[derive(Clone, Copy)]
+pub(crate) struct Stop {
+    pub place: u16,
+    pub kind: JpKind,
+}
+
+/// How many bytes so many entries have.
+pub(crate) fn entries_size<F: Family>(count: u16) -> usize
+    ensures { result ≡ count * source_length F.family }
+{
+    usize::from(count) * (4 + F::LEN)
+}
+
+/// Looks at what an entry is by itself.
+fn check_form<F: Family>(bytes: &[u8]) -> Result<(), JpKind>
+    ensures told { Judges result (own_kinds F.family bytes.now) }
+    ensures whole { IfOk result (λ _. source_length F.family ≤ length bytes.now) }
+    ensures kind { IfOk result (λ _. is_kindless (source_value F.family bytes.now) ≡ false) }
+{
+    if bytes.len() < 4 + F::LEN {
+        return Err(JpKind::Short);
+    }
+    if bytes[0] != F::AFI {
+        return Err(JpKind::Family);
+    }
+    if bytes[1] != 0 {
+        return Err(JpKind::Encoding);
+    }
+    if bytes[3] != F::FULL {
+        return Err(JpKind::Mask);
+    }
+    let bits = SourceBits::from_bits_retain(bytes[2]);
+    if bits.is_wildcard() && !bits.is_rpt() {
+        return Err(JpKind::Flags);
+    }
+    let (_, address) = bytes.split_at(4);
+    if !F::is_source(F::take(address)) {
+        return Err(JpKind::NotSource);
+    }
+    Ok(())
+}
+
+/// Of which kind a whole entry is; one with W and without R counts as (*,G).
+fn kind_of<F: Family>(bytes: &[u8]) -> Kinds
+    requires whole { source_length F.family ≤ length bytes.now }
+    requires kind { is_kindless (source_value F.family bytes.now) ≡ false }
+    ensures star { result.star ≡ is_star (entry_of (source_value F.family bytes.now)) }
+    ensures source { result.source ≡ is_source_entry (entry_of (source_value F.family bytes.now)) }
+    ensures rpt { result.rpt ≡ is_rpt_entry (entry_of (source_value F.family bytes.now)) }
+{
+    let bits = SourceBits::from_bits_retain(bytes[2]);
+    Kinds {
+        star: bits.is_wildcard(),
+        source: !bits.is_rpt(),
+        rpt: bits.is_rpt() && !bits.is_wildcard(),
+    }
+}
+
+/// Looks at an entry beside those before it in its set, but for the other list, and says of which kind it is.
+/// `has_star` says whether a (*,G) entry is before it.
+fn check_entry<F: Family>(bytes: &[u8], has_star: bool) -> Result<Kinds, JpKind>
+    ensures told { Judges result (lone_kinds F.family has_star bytes.now) }
+    ensures star { IfOk result (λ kinds. kinds.star ≡ is_star (entry_of (source_value F.family bytes.now))) }
+    ensures source { IfOk result (λ kinds. kinds.source ≡ is_source_entry (entry_of (source_value F.family bytes.now))) }
+    ensures rpt { IfOk result (λ kinds. kinds.rpt ≡ is_rpt_entry (entry_of (source_value F.family bytes.now))) }
+    ensures whole { IfOk result (λ _. source_length F.family ≤ length bytes.now) }
+{
+    check_form::<F>(bytes)?;
+    let kinds = kind_of::<F>(bytes);
+    if kinds.star && has_star {
+        return Err(JpKind::SecondStar);
+    }
+    Ok(kinds)
+}
+
+/// Looks at so many entries of one list, but for the other list, and says which kinds are among them. `has_star` says
+/// whether a (*,G) entry is in their set before them, and the answer counts it.
+pub(crate) fn check_entries<F: Family>(
+    count: u16,
+    bytes: &[u8],
+    has_star: bool,
+) -> Result<Kinds, Stop>
+    ensures clean { IfOk result (λ _. AreClean F.family has_star count bytes.now) }
+    ensures star { IfOk result (λ kinds. kinds.star ≡ (has_star || list_any is_star (entries_of F.family count bytes.now))) }
+    ensures source { IfOk result (λ kinds. kinds.source ≡ list_any is_source_entry (entries_of F.family count bytes.now)) }
+    ensures rpt { IfOk result (λ kinds. kinds.rpt ≡ list_any is_rpt_entry (entries_of F.family count bytes.now)) }
+    ensures whole { IfOk result (λ _. count * source_length F.family ≤ length bytes.now) }
+    ensures stop { IfErr result (λ stop. StopsAt F.family has_star count bytes.now stop.place stop.kind) }
+    ensures before { IfErr result (λ stop. stop.place * source_length F.family ≤ length bytes.now) }
+{
+    let mut star = has_star;
+    let mut source = false;
+    let mut rpt = false;
+    let mut rest = bytes;
+    for place in 0..count {
+        let kinds = match check_entry::<F>(rest, star) {
+            Ok(kinds) => kinds,
+            Err(kind) => return Err(Stop { place, kind }),
+        };
+        star |= kinds.star;
+        source |= kinds.source;
+        rpt |= kinds.rpt;
+        let (_, others) = rest.split_at(4 + F::LEN);
+        rest = others;
+    }
+    Ok(Kinds { star, source, rpt })
+}
