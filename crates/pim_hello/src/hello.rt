@@ -30,7 +30,7 @@ use byteorder::{BigEndian, ByteOrder};
 use pim_addr::Family;
 
 /// A Hello message over the family `F` (RFC 7761, 4.9.2). Each option may be absent.
-#[derive_where(Clone, Copy)]
+#[derive_where(Clone, Copy, Debug)]
 pub struct Hello<'a, F> {
     /// How long the sender is to be kept as a neighbour, in seconds. 65,535 is for ever, and 0 says goodbye.
     pub holdtime: Option<u16>,

@@ -73,10 +73,7 @@ fn tells_what_a_hello_means(rt: HostRuntime) {
 
 #[test]
 fn makes_the_override_interval(rt: HostRuntime) -> Result<(), Fail> {
-    let own = PortDelays {
-        propagation: 500,
-        override_ms: 2500,
-    };
+    let own = PortDelays::default();
     let mut neighbours: Neighbours<V4> = Neighbours::new(rt.alloc());
     assert_eq!(rt; neighbours.override_interval(own), 3000);
     neighbours.hear_parameters(SENDER, &with_delays(700, 2000), 0)?;
