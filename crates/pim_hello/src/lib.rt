@@ -21,6 +21,7 @@ mod roster;
 mod row;
 #[cfg(test)]
 mod tests;
+mod walk;
 mod writing;
 
 pub use addresses::Addresses;
@@ -35,3 +36,4 @@ pub use laws::{
 };
 pub use neighbours::Neighbours;
 pub use parameters::Parameters;
+pub use walk::{KnownNeighbour, KnownNeighbours};

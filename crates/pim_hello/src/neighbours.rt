@@ -15,6 +15,7 @@ use crate::hello::Hello;
 use crate::interval::PortDelays;
 use crate::parameters::{Kept, Parameters};
 use crate::roster::Roster;
+use crate::walk::KnownNeighbours;
 use pim_addr::Family;
 use std::alloc::Global;
 use std::marker::Model;
@@ -77,6 +78,13 @@ impl<F: Family> Neighbours<F> {
         ensures ascending { IsAscending self.now }
     {
         self.roster.len()
+    }
+
+    /// The neighbours in address order, with the time that is left to each.
+    pub fn entries(&self) -> KnownNeighbours<'_, F>
+        ensures { result ≡ self.now.entries }
+    {
+        KnownNeighbours::new(self.roster.iter(), self.moment)
     }
 
     /// Whether this address is a neighbour.

@@ -64,7 +64,8 @@ pub(crate) fn first_option(bytes: &[u8]) -> Option<FirstOption<'_>>
 
 /// A value of 16 bits.
 pub(crate) fn read_number16(value: &[u8]) -> Result<u16, HelloKind>
-    ensures { Answers (λ n. n) result (judged (fault_if (not (length value.now == 2)) OptionLength) (big_number 2 value.now)) }
+    ensures { Answers (λ n. n) result
+        (judged (fault_if (not (length value.now == 2)) OptionLength) (big_number 2 value.now)) }
 {
     if value.len() != 2 {
         return Err(HelloKind::OptionLength);
@@ -74,7 +75,8 @@ pub(crate) fn read_number16(value: &[u8]) -> Result<u16, HelloKind>
 
 /// A value of 32 bits.
 pub(crate) fn read_number32(value: &[u8]) -> Result<u32, HelloKind>
-    ensures { Answers (λ n. n) result (judged (fault_if (not (length value.now == 4)) OptionLength) (big_number 4 value.now)) }
+    ensures { Answers (λ n. n) result
+        (judged (fault_if (not (length value.now == 4)) OptionLength) (big_number 4 value.now)) }
 {
     if value.len() != 4 {
         return Err(HelloKind::OptionLength);
