@@ -62,10 +62,12 @@ impl<R: Feed> Capture<R> {
         // Where the reader tells its bytes, the answers are those of the file, one after the other.
         ensures answer { IsRefusal (R.failures (reader_of self.old)) (R.failures (reader_of self.new)) result
             ⊎ IsNext (coming R.remaining self.old) (seen buffer.new.items result) (coming R.remaining self.new) }
-        ensures reads { CountsReads (records_left (state_of self.old) ≡ 0) (R.failures (reader_of self.old)) (R.failures (reader_of self.new)) result }
+        ensures reads { CountsReads (records_left (state_of self.old) ≡ 0)
+            (R.failures (reader_of self.old)) (R.failures (reader_of self.new)) result }
         ensures record { CountsRecord result (records_left (state_of self.old)) (records_left (state_of self.new)) }
         // A record that is too long is told before its bytes are read.
-        ensures taken { ConsumesAtMost (most_taken 40 result) (R.remaining (reader_of self.old)) (R.remaining (reader_of self.new)) }
+        ensures taken { ConsumesAtMost (most_taken 40 result)
+            (R.remaining (reader_of self.old)) (R.remaining (reader_of self.new)) }
         // Memory is refused only behind a whole header, and where the buffer has less room than the record needs.
         ensures memory { OnMemory result (LacksRoom (vec_capacity buffer.old) (named R.remaining self.old)) }
         ensures length { FitsRecord result (vec_len buffer.old) (vec_len buffer.new) (named R.remaining self.old) }

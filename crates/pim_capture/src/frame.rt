@@ -64,7 +64,8 @@ fn is_fragment(packet: &[u8]) -> bool
 /// Judges the IPv4 packet (RFC 791, 3.1) that begins at this place of the frame.
 fn judge_v4(frame: &[u8], at: usize) -> Result<Ip, Why>
     requires { at ≤ length frame.now }
-    ensures answer { Answers (ip_seen frame.now) result (judged (packet_whys Ipv4 (drop at frame.now)) (datagram_of Ipv4 (drop at frame.now))) }
+    ensures answer { Answers (ip_seen frame.now) result
+        (judged (packet_whys Ipv4 (drop at frame.now)) (datagram_of Ipv4 (drop at frame.now))) }
     ensures range { IfOk result (LiesIn frame.now) }
 {
     let (_, packet) = frame.split_at(at);
@@ -96,7 +97,8 @@ fn judge_v4(frame: &[u8], at: usize) -> Result<Ip, Why>
 #[tactic(auto, using(crate::proofs::Ranges::range_drop))]
 fn judge_v6(frame: &[u8], at: usize) -> Result<Ip, Why>
     requires { at ≤ length frame.now }
-    ensures answer { Answers (ip_seen frame.now) result (judged (packet_whys Ipv6 (drop at frame.now)) (datagram_of Ipv6 (drop at frame.now))) }
+    ensures answer { Answers (ip_seen frame.now) result
+        (judged (packet_whys Ipv6 (drop at frame.now)) (datagram_of Ipv6 (drop at frame.now))) }
     ensures range { IfOk result (LiesIn frame.now) }
 {
     let (_, packet) = frame.split_at(at);

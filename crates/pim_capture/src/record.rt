@@ -107,10 +107,13 @@ pub fn next_record<R: Feed>(
     buffer: &mut Vec<u8>,
 ) -> Result<Event, CaptureFault>
     ensures answer { IsRefusal (R.failures reader.old) (R.failures reader.new) result
-        ⊎ IsNext (option_map (records left format) (R.remaining reader.old)) (seen buffer.new.items result) (option_map (records (left - 1) format) (R.remaining reader.new)) }
+        ⊎ IsNext (option_map (records left format) (R.remaining reader.old)) (seen buffer.new.items result)
+        (option_map (records (left - 1) format) (R.remaining reader.new)) }
     ensures reads { CountsReads (left ≡ 0) (R.failures reader.old) (R.failures reader.new) result }
-    ensures memory { OnMemory result (LacksRoom (vec_capacity buffer.old) (option_map (length_named left format) (R.remaining reader.old))) }
-    ensures length { FitsRecord result (vec_len buffer.old) (vec_len buffer.new) (option_map (length_named left format) (R.remaining reader.old)) }
+    ensures memory { OnMemory result
+        (LacksRoom (vec_capacity buffer.old) (option_map (length_named left format) (R.remaining reader.old))) }
+    ensures length { FitsRecord result (vec_len buffer.old) (vec_len buffer.new)
+        (option_map (length_named left format) (R.remaining reader.old)) }
     ensures capacity { vec_capacity buffer.new ≡ max (vec_capacity buffer.old) (vec_len buffer.new) }
     ensures payload { IfOk result (PayloadLiesIn buffer.new.items) }
     ensures moment { IfOk result (IsBy latest_moment) }

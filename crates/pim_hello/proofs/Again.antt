@@ -67,6 +67,10 @@ addresses_again : (family : AddressFamily) (addresses : List (List ℕ)) → Are
 addresses_again family [] all = ap (flat_map (if_of family)) (row_empty [] refl)
 addresses_again family (a ∷ others) all = ap (flat_map (if_of family)) (row_again family (a ∷ others) all) ∙ natives_of family (a ∷ others)
 
+-- the addresses in a row that was written
+pub addresses_in_row : (family : AddressFamily) (addresses : List (List ℕ)) → AreAddresses family addresses → addresses_of family (row_spelled family addresses) ≡ addresses
+addresses_in_row family addresses all = ap (flat_map (if_of family)) (row_again family addresses all) ∙ natives_of family addresses
+
 -- ---- a row of options
 
 -- an option that is spelled, and has no fault

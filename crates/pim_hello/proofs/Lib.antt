@@ -6,3 +6,5 @@ pub mod Index
 pub mod Kept
 pub mod OneNeighbour
 pub mod Order
+pub mod WholeTable
+pub mod Each

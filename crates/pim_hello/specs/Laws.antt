@@ -1,6 +1,6 @@
--- What the definitions mean: the first fault is the least; and for one address, time passes for all alike, and a Hello
--- changes what is kept of its sender alone.
-use Rattle.std.specs.Prelude.{◌≡◌, ℕ, ◌-◌, ◌<◌, ◌⊎◌, List, ◌∷◌, Option, Some, None, option_map, if◌then◌else◌}
+-- What the definitions mean: the first fault is the least; for one address, time passes for all alike, and a Hello
+-- changes what is kept of its sender alone; and what a table holds at each address is the whole of it.
+use Rattle.std.specs.Prelude.{◌≡◌, ℕ, ◌-◌, ◌<◌, max, ◌⊎◌, List, ◌∷◌, Option, Some, None, option_map, if◌then◌else◌}
 use Rattle.std.specs.List.{AllByRecursion}
 use Rattle.pim_hello.specs.declared.fault.HelloFault.{HelloFault}
 use Rattle.pim_hello.specs.Faults.{number_of, faults}
@@ -37,3 +37,15 @@ TimePassesForAll = (table : Table) (now : ℕ) (address : List ℕ) →
 abbrev pub ExactlyTheEndedGo : Type 0
 ExactlyTheEndedGo = (table : Table) (address : List ℕ) → IsAscending table →
     neighbour_at address (without_ended table) ≡ unless_ended (neighbour_at address table)
+
+-- the table after expiry at this moment
+abbrev pub expired_at : ℕ → Table → Table
+expired_at now table = without_ended (passed_to now table)
+
+-- Expiry at one moment and then at another is expiry at the later one.
+abbrev pub ExpiringTwiceIsExpiringOnce : Type 0
+ExpiringTwiceIsExpiringOnce = (table : Table) (first second : ℕ) → expired_at second (expired_at first table) ≡ expired_at (max first second) table
+
+abbrev pub TablesThatAgreeAreOne : Type 0
+TablesThatAgreeAreOne = (one other : Table) → IsAscending one → IsAscending other → one.moment ≡ other.moment →
+    ((address : List ℕ) → neighbour_at address one ≡ neighbour_at address other) → one ≡ other

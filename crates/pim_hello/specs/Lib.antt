@@ -12,3 +12,4 @@ pub mod Laws
 pub mod Interval
 pub mod Kept
 pub mod Index
+pub mod Walk

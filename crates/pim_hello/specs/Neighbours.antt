@@ -1,6 +1,6 @@
 -- The neighbours of one port (RFC 7761, 4.3.1, 4.3.2 and 4.9.2): a finite map from an address, as its list of
 -- bytes, to what its last accepted Hello said and the time that is left to it.
-use Rattle.std.specs.Prelude.{ℕ, ◌+◌, ◌-◌, ◌*◌, Bool, false, not, ◌&&◌, ◌||◌, ◌==◌, nat_le, nat_eq, List, [], length, map, filter, Option, Some, None, option_map, is_some, if◌then◌else◌}
+use Rattle.std.specs.Prelude.{◌≡◌, ◌↔◌, ℕ, ◌+◌, ◌-◌, ◌*◌, ◌^◌, ◌≤◌, Bool, false, not, ◌&&◌, ◌||◌, ◌==◌, nat_le, nat_eq, List, [], length, map, filter, Option, Some, None, option_map, is_some, Result, Err, IfOk, IsOk, OnOk, OnErr, IsTrue, if◌then◌else◌}
 use Rattle.std.specs.Option.{option_eq}
 use Rattle.std.specs.Ordering.{nat_cmp}
 use Rattle.std.specs.Cmp.Lexicographic.{slice_cmp}
@@ -10,6 +10,8 @@ use Rattle.std.specs.List.Sorted.{IsStrictlySortedBy}
 use Rattle.pim_hello.specs.Hello.{Parameters}
 use Rattle.pim_hello.specs.declared.heard.Heard.{Heard}
 use Rattle.pim_hello.specs.declared.heard.Heard.TheVariants.{New, Same, Restarted, Gone}
+use Rattle.pim_hello.specs.declared.heard.NeighbourFault.{NeighbourFault}
+use Rattle.pim_hello.specs.declared.heard.NeighbourFault.TheVariants.{Full}
 
 -- one neighbour; `left` is its time in milliseconds, none where it never ends
 pub record Neighbour : Type 0 where
@@ -102,6 +104,22 @@ is_full sender hello table = not (says_goodbye hello) && not (is_some (neighbour
 abbrev pub needs_no_memory : List ℕ → Parameters → Table → Bool
 needs_no_memory sender hello table = says_goodbye hello || (is_some (neighbour_at sender table) && not (is_some (lifetime hello.holdtime)))
 
+-- What a call that hears a Hello answers, and the table that it leaves.
+pub record Hears (sender : List ℕ) (hello : Parameters) (now : ℕ) (old : Table) (result : Result Heard NeighbourFault) (new : Table) : Type 0 where
+  pub answer : IfOk result (λ heard. heard ≡ told (neighbour_at sender old) hello)
+  pub table : OnOk result (new ≡ heard_from sender hello (passed_to now old))
+  pub full : (result ≡ Err Full) ↔ IsTrue (is_full sender hello old)
+  pub memory : IsTrue (needs_no_memory sender hello old) → IsOk result
+  pub unchanged : OnErr result (new ≡ old)
+
+-- ---- between calls
+
 -- the addresses ascend, so that each stands once
 abbrev pub IsAscending : Table → Type 0
 IsAscending table = IsStrictlySortedBy (slice_cmp nat_cmp) (keys_of table.entries)
+
+-- what holds of each table: its moment in milliseconds, how many neighbours it has, and their order
+pub record IsSound (table : Table) : Type 0 where
+  pub moment : table.moment ≤ 10 ^ 15
+  pub limit : length table.entries ≤ neighbour_limit
+  pub ascending : IsAscending table

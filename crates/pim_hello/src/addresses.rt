@@ -3,12 +3,14 @@
 ghost use Rattle.std.specs.Prelude.{◌≡◌, ◌<◌, ◌^◌, ⊤, [], length};
 
 use crate::row::{is_row, native_size};
+use crate::writing::{put_each, size_unicast};
 use pim_addr::{Family, read_unicast};
 use std::alloc::AllocError;
 use std::marker::PhantomData;
 
 /// The addresses of the family `F` in an Address List (RFC 7761, 4.9.2, option 24), in their order. Those of
 /// the other family are passed over.
+#[derive_where(Debug)]
 pub struct Addresses<'a, F> {
     pub(crate) row: &'a [u8],
     pub(crate) family: PhantomData<F>,
@@ -28,7 +30,8 @@ impl<'a, F> Clone for Addresses<'a, F> {
 impl<'a, F> Copy for Addresses<'a, F> {}
 
 impl<'a, F: Family> Addresses<'a, F> {
-    ghost use Rattle.std.specs.Prelude.{◌≡◌, ◌==◌, ◌&&◌, ◌<◌, ◌^◌, [], nat_lt, length};
+    ghost use Rattle.std.specs.Prelude.{◌≡◌, ◌==◌, ◌&&◌, ◌<◌, ◌*◌, ◌^◌, [], nat_lt, map, length};
+    ghost use Rattle.pim_addr.specs.Encoded.{unicast_length};
     ghost use Rattle.std.specs.Option.{IfSome, is_some};
     ghost use Rattle.pim_hello.specs.Row.{is_row, addresses_of};
     ghost use Rattle.pim_hello.specs.Seen.{addresses_seen};
@@ -40,6 +43,28 @@ impl<'a, F: Family> Addresses<'a, F> {
     {
         Addresses {
             row: &[],
+            family: PhantomData,
+        }
+    }
+
+    /// How many bytes so many addresses take in a row.
+    pub fn row_length(count: u16) -> usize
+        ensures { result ≡ count * unicast_length F.family }
+    {
+        usize::from(count) * size_unicast::<F>()
+    }
+
+    /// Writes these addresses into a row, one encoded unicast address (RFC 7761, 4.9.1) after the other, and gives
+    /// the walk over them.
+    pub fn put(addresses: &[F::Addr], row: &'a mut [u8]) -> Addresses<'a, F>
+        requires length { length row.old ≡ length addresses.now * unicast_length F.family }
+        requires fits_an_option { length row.old < 2 ^ 16 }
+        ensures { addresses_seen F.family result ≡ map F.bytes_of addresses.now }
+    {
+        put_each::<F>(addresses, row);
+        let row: &'a [u8] = row;
+        Addresses {
+            row,
             family: PhantomData,
         }
     }

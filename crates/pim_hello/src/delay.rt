@@ -9,7 +9,8 @@ pub struct LanDelay {
     pub t: bool,
     /// The propagation delay, in milliseconds: 15 bits, at most 32,767.
     pub propagation: u16,
-    /// The override interval, in milliseconds.
+    /// The sender's override delay, in milliseconds: one of the two parts of a port's override interval, the other of
+    /// which is the propagation delay (RFC 7761, 4.3.3).
     pub override_ms: u16,
     ghost fits_15_bits: { propagation ≤ 32767 },
 }

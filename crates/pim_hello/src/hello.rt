@@ -30,7 +30,7 @@ use byteorder::{BigEndian, ByteOrder};
 use pim_addr::Family;
 
 /// A Hello message over the family `F` (RFC 7761, 4.9.2). Each option may be absent.
-#[derive_where(Clone, Copy)]
+#[derive_where(Clone, Copy, Debug)]
 pub struct Hello<'a, F> {
     /// How long the sender is to be kept as a neighbour, in seconds. 65,535 is for ever, and 0 says goodbye.
     pub holdtime: Option<u16>,
@@ -49,7 +49,8 @@ const DEFAULT_HOLDTIME: u16 = 105;
 
 /// A value of the LAN Prune Delay option.
 fn read_delays(value: &[u8]) -> Result<LanDelay, HelloKind>
-    ensures { Answers delays_seen result (judged (fault_if (not (length value.now == 4)) OptionLength) (delays_of value.now)) }
+    ensures { Answers delays_seen result
+        (judged (fault_if (not (length value.now == 4)) OptionLength) (delays_of value.now)) }
 {
     if value.len() != 4 {
         return Err(HelloKind::OptionLength);
@@ -66,7 +67,10 @@ fn read_delays(value: &[u8]) -> Result<LanDelay, HelloKind>
 impl<'a, F: Family> Hello<'a, F> {
     /// A message with no option.
     pub fn empty() -> Hello<'a, F>
-        ensures { hello_seen F.family result ≡ record { parameters = record { holdtime = None; lan = None; priority = None; generation = None }; addresses = [] } }
+        ensures { hello_seen F.family result ≡ record {
+          parameters = record { holdtime = None; lan = None; priority = None; generation = None };
+          addresses = [];
+        } }
     {
         Hello {
             holdtime: None,
@@ -81,7 +85,9 @@ impl<'a, F: Family> Hello<'a, F> {
     #[tactic(auto, unfolding(crate::specs::Steps::with_option))]
     fn with_option(mut self, kind: u16, value: &'a [u8]) -> Result<Hello<'a, F>, HelloKind>
         requires { length value.now < 2 ^ 16 }
-        ensures { Answers (hello_seen F.family) result (judged (kinds_at (whole kind value.now)) (with_option F.family (whole kind value.now) (hello_seen F.family self.entry))) }
+        ensures { Answers (hello_seen F.family) result
+            (judged (kinds_at (whole kind value.now))
+            (with_option F.family (whole kind value.now) (hello_seen F.family self.entry))) }
     {
         match kind {
             HOLDTIME => self.holdtime = Some(read_number16(value)?),
@@ -96,7 +102,9 @@ impl<'a, F: Family> Hello<'a, F> {
 
     /// Takes in the option at the front, which stands at this offset of the body, and gives what stands behind it.
     fn take_option(&mut self, at: usize, bytes: &'a [u8]) -> Result<&'a [u8], HelloFault>
-        ensures answer { Answers (λ _. hello_seen F.family self.new) result (judged (part_faults (record { at = at; content = content_at bytes.now })) (with_option F.family (content_at bytes.now) (hello_seen F.family self.old))) }
+        ensures answer { Answers (λ _. hello_seen F.family self.new) result
+            (judged (part_faults (record { at = at; content = content_at bytes.now }))
+            (with_option F.family (content_at bytes.now) (hello_seen F.family self.old))) }
         ensures behind { IfOk result (λ behind. behind.now ≡ behind_option bytes.now) }
     {
         let short = HelloFault {

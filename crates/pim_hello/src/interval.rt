@@ -7,14 +7,26 @@ use crate::delay::LanDelay;
 /// The override interval where a neighbour doesn't tell its delays, in milliseconds: 500 and 2,500.
 pub(crate) const DEFAULT_OVERRIDE_INTERVAL: u32 = 3000;
 
-/// A port's own delays, in milliseconds. A port has 500 and 2,500 unless it is told otherwise.
+/// A port's own delays, in milliseconds. `default` gives those of a port that isn't told otherwise.
 #[derive(Clone, Copy, Debug, PartialEq, Eq)]
 pub struct PortDelays {
     /// The propagation delay: at most 32,767.
     pub propagation: u16,
-    /// The override interval.
+    /// The override delay: the other part of the port's override interval.
     pub override_ms: u16,
     ghost fits_15_bits: { propagation ≤ 32767 },
+}
+
+impl Default for PortDelays {
+    ghost is_default = { λ delays. (delays.propagation ≡ 500) × (delays.override_ms ≡ 2500) };
+
+    /// The propagation delay of 500 ms and the override delay of 2,500 ms of RFC 7761, 4.11.
+    fn default() -> PortDelays {
+        PortDelays {
+            propagation: 500,
+            override_ms: 2500,
+        }
+    }
 }
 
 impl PortDelays {

@@ -1,7 +1,7 @@
 //! What the definitions mean: the fault that is told is the least, and a change of the table of neighbours is one of
 //! one address. Nothing here is to be called.
 
-ghost use Rattle.pim_hello.specs.Laws.{FirstFaultIsLeast, HearingChangesItsSenderAlone, TimePassesForAll, ExactlyTheEndedGo};
+ghost use Rattle.pim_hello.specs.Laws.{FirstFaultIsLeast, HearingChangesItsSenderAlone, TimePassesForAll, ExactlyTheEndedGo, ExpiringTwiceIsExpiringOnce, TablesThatAgreeAreOne};
 
 /// Of all the faults of a body the first has the least offset, and of those at its offset the least number.
 pub fn first_fault_is_least()
@@ -22,4 +22,14 @@ pub fn time_passes_for_all()
 /// Those whose time has ended go, and no others.
 pub fn exactly_the_ended_go()
     ensures { ExactlyTheEndedGo }
+{}
+
+/// Expiry at one moment and then at another is expiry at the later of the two.
+pub fn expiring_twice_is_expiring_once()
+    ensures { ExpiringTwiceIsExpiringOnce }
+{}
+
+/// Two tables of one moment, in address order, that agree at every address are one.
+pub fn tables_that_agree_are_one()
+    ensures { TablesThatAgreeAreOne }
 {}

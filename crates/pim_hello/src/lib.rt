@@ -21,6 +21,7 @@ mod roster;
 mod row;
 #[cfg(test)]
 mod tests;
+mod walk;
 mod writing;
 
 pub use addresses::Addresses;
@@ -30,8 +31,9 @@ pub use heard::{Heard, NeighbourFault};
 pub use hello::{Hello, reads_back};
 pub use interval::PortDelays;
 pub use laws::{
-    exactly_the_ended_go, first_fault_is_least, hearing_changes_its_sender_alone,
-    time_passes_for_all,
+    exactly_the_ended_go, expiring_twice_is_expiring_once, first_fault_is_least,
+    hearing_changes_its_sender_alone, tables_that_agree_are_one, time_passes_for_all,
 };
 pub use neighbours::Neighbours;
 pub use parameters::Parameters;
+pub use walk::{KnownNeighbour, KnownNeighbours};

@@ -1,11 +1,10 @@
 //! The neighbours of one port (RFC 7761, 4.3.1 and 4.3.2).
 
-ghost use Rattle.std.specs.Prelude.{◌≡◌, ◌↔◌, ◌≤◌, ◌^◌, length, is_some, IfOk, IsOk, OnOk, OnErr, Err, IsTrue, not, ◌&&◌, nat_le};
+ghost use Rattle.std.specs.Prelude.{◌≡◌, ◌≤◌, ◌^◌, length, is_some, not, ◌&&◌, nat_le};
 ghost use Rattle.pim_hello.specs.Interval.{override_interval};
 ghost use Rattle.pim_hello.specs.Kept.{parameters_seen};
 ghost use Rattle.pim_hello.specs.Seen.{hello_seen};
-ghost use Rattle.pim_hello.specs.Neighbours.{no_neighbours, neighbour_at, passed_to, without_ended, heard_from, told, is_full, needs_no_memory, hellos_of, IsAscending};
-ghost use Rattle.pim_hello.specs.declared.heard.NeighbourFault.TheVariants.{Full};
+ghost use Rattle.pim_hello.specs.Neighbours.{no_neighbours, neighbour_at, passed_to, without_ended, hellos_of, Hears, IsAscending, IsSound};
 
 #[cfg(test)]
 mod tests;
@@ -16,6 +15,7 @@ use crate::hello::Hello;
 use crate::interval::PortDelays;
 use crate::parameters::{Kept, Parameters};
 use crate::roster::Roster;
+use crate::walk::KnownNeighbours;
 use pim_addr::Family;
 use std::alloc::Global;
 use std::marker::Model;
@@ -62,6 +62,15 @@ impl<F: Family> Neighbours<F> {
         }
     }
 
+    /// A law: the moment is at most 10^15, there are at most 1,024 neighbours, and their addresses ascend. It does
+    /// nothing.
+    pub fn is_sound(&self)
+        ensures { IsSound self.now }
+    {
+        // It is read, so that what holds of its fields is known.
+        let _moment = self.moment;
+    }
+
     /// How many neighbours there are, with those whose time has ended and that aren't removed yet.
     pub fn count(&self) -> usize
         ensures count { result ≡ length self.now.entries }
@@ -69,6 +78,13 @@ impl<F: Family> Neighbours<F> {
         ensures ascending { IsAscending self.now }
     {
         self.roster.len()
+    }
+
+    /// The neighbours in address order, with the time that is left to each.
+    pub fn entries(&self) -> KnownNeighbours<'_, F>
+        ensures { result ≡ self.now.entries }
+    {
+        KnownNeighbours::new(self.roster.iter(), self.moment)
     }
 
     /// Whether this address is a neighbour.
@@ -80,6 +96,10 @@ impl<F: Family> Neighbours<F> {
 
     /// Takes a Hello at this moment, in milliseconds: its sender's neighbour is replaced, or removed by a
     /// goodbye. Nobody's time ends here.
+    ///
+    /// # Errors
+    /// `Full` exactly where the sender is new and there are 1,024 neighbours, else `Memory`. Then nothing changes.
+    /// A goodbye is never refused, nor a known sender that is now kept for ever.
     pub fn hear(
         &mut self,
         from: F::Addr,
@@ -87,11 +107,7 @@ impl<F: Family> Neighbours<F> {
         now: u64,
     ) -> Result<Heard, NeighbourFault>
         requires { now ≤ 10 ^ 15 }
-        ensures answer { IfOk result (λ heard. heard ≡ told (neighbour_at (F.bytes_of from) self.old) (hello_seen F.family hello.now).parameters) }
-        ensures table { OnOk result (self.new ≡ heard_from (F.bytes_of from) (hello_seen F.family hello.now).parameters (passed_to now self.old)) }
-        ensures full { (result ≡ Err Full) ↔ IsTrue (is_full (F.bytes_of from) (hello_seen F.family hello.now).parameters self.old) }
-        ensures memory { IsTrue (needs_no_memory (F.bytes_of from) (hello_seen F.family hello.now).parameters self.old) → IsOk result }
-        ensures unchanged { OnErr result (self.new ≡ self.old) }
+        ensures { Hears (F.bytes_of from) (hello_seen F.family hello.now).parameters now self.old result self.new }
     {
         self.hear_parameters(from, &hello.parameters(), now)
     }
@@ -104,11 +120,7 @@ impl<F: Family> Neighbours<F> {
         now: u64,
     ) -> Result<Heard, NeighbourFault>
         requires { now ≤ 10 ^ 15 }
-        ensures answer { IfOk result (λ heard. heard ≡ told (neighbour_at (F.bytes_of from) self.old) (parameters_seen hello.now)) }
-        ensures table { OnOk result (self.new ≡ heard_from (F.bytes_of from) (parameters_seen hello.now) (passed_to now self.old)) }
-        ensures full { (result ≡ Err Full) ↔ IsTrue (is_full (F.bytes_of from) (parameters_seen hello.now) self.old) }
-        ensures memory { IsTrue (needs_no_memory (F.bytes_of from) (parameters_seen hello.now) self.old) → IsOk result }
-        ensures unchanged { OnErr result (self.new ≡ self.old) }
+        ensures { Hears (F.bytes_of from) (parameters_seen hello.now) now self.old result self.new }
     {
         let moment = self.moment.max(now);
         if says_goodbye(hello) {

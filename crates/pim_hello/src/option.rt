@@ -10,6 +10,9 @@ ghost use Rattle.pim_hello.specs.Options.{is_whole, option_type, option_value, b
 use crate::fault::HelloKind;
 use byteorder::{BigEndian, ByteOrder};
 
+/// How many bytes an option's type and length take, before its value.
+pub(crate) const HEADER_LENGTH: usize = 4;
+
 /// Type 1: how long the sender is to be kept as a neighbour.
 pub(crate) const HOLDTIME: u16 = 1;
 
@@ -41,13 +44,13 @@ pub(crate) fn first_option(bytes: &[u8]) -> Option<FirstOption<'_>>
     ensures behind { IfSome result (λ o. o.behind.now ≡ behind_option bytes.now) }
     ensures size { IfSome result (λ o. length o.value.now < 2 ^ 16) }
 {
-    if bytes.len() < 4 {
+    if bytes.len() < HEADER_LENGTH {
         return None;
     }
     let kind = BigEndian::read_u16(bytes);
     let (_, length) = bytes.split_at(2);
     let size = usize::from(BigEndian::read_u16(length));
-    let (_, rest) = bytes.split_at(4);
+    let (_, rest) = bytes.split_at(HEADER_LENGTH);
     if rest.len() < size {
         return None;
     }
@@ -61,7 +64,8 @@ pub(crate) fn first_option(bytes: &[u8]) -> Option<FirstOption<'_>>
 
 /// A value of 16 bits.
 pub(crate) fn read_number16(value: &[u8]) -> Result<u16, HelloKind>
-    ensures { Answers (λ n. n) result (judged (fault_if (not (length value.now == 2)) OptionLength) (big_number 2 value.now)) }
+    ensures { Answers (λ n. n) result
+        (judged (fault_if (not (length value.now == 2)) OptionLength) (big_number 2 value.now)) }
 {
     if value.len() != 2 {
         return Err(HelloKind::OptionLength);
@@ -71,7 +75,8 @@ pub(crate) fn read_number16(value: &[u8]) -> Result<u16, HelloKind>
 
 /// A value of 32 bits.
 pub(crate) fn read_number32(value: &[u8]) -> Result<u32, HelloKind>
-    ensures { Answers (λ n. n) result (judged (fault_if (not (length value.now == 4)) OptionLength) (big_number 4 value.now)) }
+    ensures { Answers (λ n. n) result
+        (judged (fault_if (not (length value.now == 4)) OptionLength) (big_number 4 value.now)) }
 {
     if value.len() != 4 {
         return Err(HelloKind::OptionLength);

@@ -12,6 +12,7 @@ ghost use Rattle.pim_hello.specs.Index.{AddsEnd, RemovesEnd, IndexesEnds, NoneEn
 use crate::interval::{DEFAULT_OVERRIDE_INTERVAL, PortDelays};
 use crate::parameters::Kept;
 use std::alloc::{AllocError, Global};
+use std::collections::btree_map::Iter;
 use std::collections::{BTreeMap, BTreeSet};
 
 /// The neighbours of one port by their addresses, and beside them the ends of their times in ascending
@@ -67,6 +68,13 @@ impl<A: Ord + Copy> Roster<A> {
         self.neighbours.len()
     }
 
+    /// What is kept of each, in address order.
+    pub(crate) fn iter(&self) -> Iter<'_, A, Kept>
+        ensures { result ≡ self.now.neighbours.entries }
+    {
+        self.neighbours.iter()
+    }
+
     /// What is kept of this address.
     pub(crate) fn get(&self, address: A) -> Option<Kept>
         ensures { result ≡ get A.cmp self.now.neighbours address }
@@ -84,10 +92,13 @@ impl<A: Ord + Copy> Roster<A> {
 
     /// Keeps this of an address, in the place of what was kept of it.
     pub(crate) fn insert(&mut self, address: A, kept: Kept) -> Result<(), AllocError>
-        ensures kept { OnOk result (self.new.neighbours.entries ≡ insert_entry A.cmp self.old.neighbours.entries address kept) }
-        ensures count { OnOk result (length self.new.neighbours.entries ≡ length self.old.neighbours.entries + (if is_some (get A.cmp self.old.neighbours address) then 0 else 1)) }
+        ensures kept { OnOk result
+            (self.new.neighbours.entries ≡ insert_entry A.cmp self.old.neighbours.entries address kept) }
+        ensures count { OnOk result (length self.new.neighbours.entries ≡ length self.old.neighbours.entries
+            + (if is_some (get A.cmp self.old.neighbours address) then 0 else 1)) }
         ensures unchanged { OnErr result (self.new.neighbours.entries ≡ self.old.neighbours.entries) }
-        ensures refused { OnErr result ((is_some (get A.cmp self.old.neighbours address) && not (is_some kept.end)) ≡ false) }
+        ensures refused { OnErr result
+            ((is_some (get A.cmp self.old.neighbours address) && not (is_some kept.end)) ≡ false) }
     {
         let old_end = self.end_of(address);
         add_end(&mut self.ends, kept.end, address)?;
@@ -104,8 +115,10 @@ impl<A: Ord + Copy> Roster<A> {
 
     /// Removes what is kept of an address.
     pub(crate) fn remove(&mut self, address: A)
-        ensures removed { self.new.neighbours.entries ≡ remove_entry (is_at (A.cmp address)) self.old.neighbours.entries }
-        ensures count { length self.new.neighbours.entries + (if is_some (get A.cmp self.old.neighbours address) then 1 else 0) ≡ length self.old.neighbours.entries }
+        ensures removed { self.new.neighbours.entries
+            ≡ remove_entry (is_at (A.cmp address)) self.old.neighbours.entries }
+        ensures count { length self.new.neighbours.entries
+            + (if is_some (get A.cmp self.old.neighbours address) then 1 else 0) ≡ length self.old.neighbours.entries }
     {
         let end = self.end_of(address);
         remove_end(&mut self.ends, end, address);
@@ -114,8 +127,10 @@ impl<A: Ord + Copy> Roster<A> {
 
     /// Removes the neighbour whose time ends first, where it has ended by this moment.
     pub(crate) fn remove_ended(&mut self, moment: u64) -> Option<A>
-        ensures ended { IfSome result (λ address. ended_by moment (end_kept (get A.cmp self.old.neighbours address)) ≡ true) }
-        ensures removed { IfSome result (λ address. self.new.neighbours.entries ≡ remove_entry (is_at (A.cmp address)) self.old.neighbours.entries) }
+        ensures ended { IfSome result
+            (λ address. ended_by moment (end_kept (get A.cmp self.old.neighbours address)) ≡ true) }
+        ensures removed { IfSome result (λ address.
+            self.new.neighbours.entries ≡ remove_entry (is_at (A.cmp address)) self.old.neighbours.entries) }
         ensures shorter { OnSome result (length self.new.neighbours.entries < length self.old.neighbours.entries) }
         ensures unchanged { IfNone result (self.new.neighbours.entries ≡ self.old.neighbours.entries) }
         ensures none_ended { IfNone result (NoneEnded A.cmp moment self.old.neighbours.entries) }
@@ -130,7 +145,8 @@ impl<A: Ord + Copy> Roster<A> {
 
     /// The override interval of a port with these delays of its own, in milliseconds (RFC 7761, 4.3.3).
     pub(crate) fn override_interval(&self, own: PortDelays) -> u32
-        ensures interval { result ≡ override_interval own.propagation own.override_ms (map hello_of_kept (values self.now.neighbours)) }
+        ensures interval { result ≡ override_interval own.propagation own.override_ms
+            (map hello_of_kept (values self.now.neighbours)) }
         ensures bound { result ≤ 98302 }
     {
         let mut greatest = own;

@@ -5,6 +5,7 @@ ghost use Rattle.std.specs.Option.{option_map};
 ghost use Rattle.pim_addr.specs.Encoded.{unicast_length};
 ghost use Rattle.pim_hello.specs.Row.{first_family, is_row};
 
+use crate::writing::size_unicast;
 use pim_addr::{V4, V6, read_unicast};
 
 /// How many bytes the address at the front takes, or `None` if no whole native address stands there.
@@ -12,9 +13,9 @@ pub(crate) fn native_size(bytes: &[u8]) -> Option<usize>
     ensures { result ≡ option_map unicast_length (first_family bytes.now) }
 {
     if read_unicast::<V4>(bytes).is_ok() {
-        Some(6)
+        Some(size_unicast::<V4>())
     } else if read_unicast::<V6>(bytes).is_ok() {
-        Some(18)
+        Some(size_unicast::<V6>())
     } else {
         None
     }

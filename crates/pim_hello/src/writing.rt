@@ -1,16 +1,16 @@
 //! Options, written (RFC 7761, 4.9.2). An option that is absent takes no bytes.
 
-ghost use Rattle.std.specs.Prelude.{◌≡◌, ℕ, ◌+◌, ◌<◌, ◌≤◌, ◌^◌, ◌++◌, length};
+ghost use Rattle.std.specs.Prelude.{◌≡◌, ℕ, ◌+◌, ◌*◌, ◌<◌, ◌≤◌, ◌^◌, ◌++◌, map, length};
 ghost use Rattle.std.specs.Option.{IfSome, option_map};
 ghost use Rattle.byteorder.specs.Endian.{big_bytes};
 ghost use Rattle.pim_addr.specs.Encoded.{unicast_length};
 ghost use Rattle.pim_hello.specs.Delays.{delays_seen};
 ghost use Rattle.pim_hello.specs.Seen.{addresses_seen};
-ghost use Rattle.pim_hello.specs.Spelling.{if_there, delays_spelled, address_spelled, row_spelled, row_there};
+ghost use Rattle.pim_hello.specs.Spelling.{if_there, delays_spelled, address_spelled, row_spelled, row_there, AreAddresses};
 
 use crate::addresses::Addresses;
 use crate::delay::{LanDelay, T_BIT};
-use crate::option::{ADDRESS_LIST, LAN_PRUNE_DELAY};
+use crate::option::{ADDRESS_LIST, HEADER_LENGTH, LAN_PRUNE_DELAY};
 use byteorder::{BigEndian, ByteOrder};
 use pim_addr::Family;
 
@@ -29,7 +29,11 @@ pub(crate) fn size_number16(number: Option<u16>) -> usize
     ensures size { (kind : ℕ) → result ≡ length (if_there kind (option_map (big_bytes 2) number)) }
     ensures small { result ≤ 8 }
 {
-    if number.is_some() { 6 } else { 0 }
+    if number.is_some() {
+        HEADER_LENGTH + 2
+    } else {
+        0
+    }
 }
 
 /// Writes an option of 16 bits.
@@ -39,7 +43,7 @@ pub(crate) fn put_number16(kind: u16, number: Option<u16>, out: &mut [u8])
     ensures fits { IfSome number (λ n. n < 2 ^ 16) }
 {
     if let Some(number) = number {
-        let (header, value) = out.split_at_mut(4);
+        let (header, value) = out.split_at_mut(HEADER_LENGTH);
         put_header(kind, 2, header);
         BigEndian::write_u16(value, number);
     }
@@ -50,7 +54,11 @@ pub(crate) fn size_number32(number: Option<u32>) -> usize
     ensures size { (kind : ℕ) → result ≡ length (if_there kind (option_map (big_bytes 4) number)) }
     ensures small { result ≤ 8 }
 {
-    if number.is_some() { 8 } else { 0 }
+    if number.is_some() {
+        HEADER_LENGTH + 4
+    } else {
+        0
+    }
 }
 
 /// Writes an option of 32 bits.
@@ -60,7 +68,7 @@ pub(crate) fn put_number32(kind: u16, number: Option<u32>, out: &mut [u8])
     ensures fits { IfSome number (λ n. n < 2 ^ 32) }
 {
     if let Some(number) = number {
-        let (header, value) = out.split_at_mut(4);
+        let (header, value) = out.split_at_mut(HEADER_LENGTH);
         put_header(kind, 4, header);
         BigEndian::write_u32(value, number);
     }
@@ -71,7 +79,7 @@ pub(crate) fn size_delays(lan: Option<LanDelay>) -> usize
     ensures size { result ≡ length (if_there 2 (option_map delays_spelled (option_map delays_seen lan))) }
     ensures small { result ≤ 8 }
 {
-    if lan.is_some() { 8 } else { 0 }
+    if lan.is_some() { HEADER_LENGTH + 4 } else { 0 }
 }
 
 /// Writes the LAN Prune Delay.
@@ -81,7 +89,7 @@ pub(crate) fn put_delays(lan: Option<LanDelay>, out: &mut [u8])
     ensures fits { IfSome (option_map delays_seen lan) (λ d. (d.propagation < 2 ^ 15) × (d.override_ms < 2 ^ 16)) }
 {
     if let Some(delays) = lan {
-        let (header, value) = out.split_at_mut(4);
+        let (header, value) = out.split_at_mut(HEADER_LENGTH);
         put_header(LAN_PRUNE_DELAY, 4, header);
         let (propagation, interval) = value.split_at_mut(2);
         let t_bit = if delays.t { T_BIT } else { 0 };
@@ -101,7 +109,7 @@ fn put_unicast<F: Family>(address: F::Addr, out: &mut [u8])
 }
 
 /// How many bytes an encoded unicast address takes.
-fn size_unicast<F: Family>() -> usize
+pub(crate) fn size_unicast<F: Family>() -> usize
     ensures { result ≡ unicast_length F.family }
 {
     2 + F::LEN
@@ -130,6 +138,22 @@ fn put_row<F: Family>(addresses: Addresses<'_, F>, row: &mut [u8])
     }
 }
 
+/// Writes these addresses, one after the other.
+pub(crate) fn put_each<F: Family>(addresses: &[F::Addr], row: &mut [u8])
+    requires { length row.old ≡ length addresses.now * unicast_length F.family }
+    ensures row { row.new ≡ row_spelled F.family (map F.bytes_of addresses.now) }
+    ensures addresses { AreAddresses F.family (map F.bytes_of addresses.now) }
+{
+    let size = size_unicast::<F>();
+    let mut at = 0;
+    for address in addresses {
+        let (_, rest) = row.split_at_mut(at);
+        let (first, _) = rest.split_at_mut(size);
+        put_unicast::<F>(*address, first);
+        at += size;
+    }
+}
+
 /// How many bytes the Address List takes. There is none without an address.
 #[tactic(auto, using(crate::proofs::Spelled::nothing_written))]
 pub(crate) fn size_addresses<F: Family>(addresses: Addresses<'_, F>) -> usize
@@ -138,7 +162,7 @@ pub(crate) fn size_addresses<F: Family>(addresses: Addresses<'_, F>) -> usize
 {
     match size_row(addresses) {
         0 => 0,
-        size => 4 + size,
+        size => HEADER_LENGTH + size,
     }
 }
 
@@ -150,7 +174,7 @@ pub(crate) fn put_addresses<F: Family>(addresses: Addresses<'_, F>, out: &mut [u
 {
     let size = size_row(addresses);
     if size != 0 {
-        let (header, row) = out.split_at_mut(4);
+        let (header, row) = out.split_at_mut(HEADER_LENGTH);
         put_header(ADDRESS_LIST, size as u16, header);
         put_row(addresses, row);
     }

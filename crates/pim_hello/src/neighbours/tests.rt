@@ -1,6 +1,8 @@
 ghost use Rattle.std.specs.Prelude.{◌≤◌};
 
-use crate::{Heard, Hello, LanDelay, NeighbourFault, Neighbours, Parameters, PortDelays};
+use crate::{
+    Heard, Hello, KnownNeighbour, LanDelay, NeighbourFault, Neighbours, Parameters, PortDelays,
+};
 use pim_addr::V4;
 use std::test::Fail;
 
@@ -73,10 +75,7 @@ fn tells_what_a_hello_means(rt: HostRuntime) {
 
 #[test]
 fn makes_the_override_interval(rt: HostRuntime) -> Result<(), Fail> {
-    let own = PortDelays {
-        propagation: 500,
-        override_ms: 2500,
-    };
+    let own = PortDelays::default();
     let mut neighbours: Neighbours<V4> = Neighbours::new(rt.alloc());
     assert_eq!(rt; neighbours.override_interval(own), 3000);
     neighbours.hear_parameters(SENDER, &with_delays(700, 2000), 0)?;
@@ -113,6 +112,29 @@ fn ends_times(rt: HostRuntime) -> Result<(), Fail> {
     neighbours.expire(1_000_000_000_000_000);
     assert!(rt; neighbours.knows(OTHER));
     assert_eq!(rt; neighbours.count(), 1);
+    Ok(())
+}
+
+#[test]
+fn walks_in_address_order(rt: HostRuntime) -> Result<(), Fail> {
+    let mut neighbours: Neighbours<V4> = Neighbours::new(rt.alloc());
+    neighbours.hear_parameters(OTHER, &with_holdtime(0xffff), 1_000)?;
+    neighbours.hear_parameters(SENDER, &with_generation(7), 1_000)?;
+    neighbours.expire(6_000);
+    let mut entries = neighbours.entries();
+    let first = KnownNeighbour {
+        address: SENDER,
+        parameters: with_generation(7),
+        left: Some(100_000),
+    };
+    let second = KnownNeighbour {
+        address: OTHER,
+        parameters: with_holdtime(0xffff),
+        left: None,
+    };
+    assert_eq!(rt; entries.next(), Some(first));
+    assert_eq!(rt; entries.next(), Some(second));
+    assert_eq!(rt; entries.next(), None);
     Ok(())
 }
 

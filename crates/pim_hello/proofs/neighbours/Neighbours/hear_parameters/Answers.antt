@@ -1,4 +1,4 @@
-use Rattle.std.proofs.Common.{◌∙◌, sym, ap, refl}
+use Rattle.std.proofs.Common.{◌∙◌, sym, ap, refl, rules}
 use Rattle.std.specs.Prelude.{option_map}
 use Rattle.std.proofs.lemmas.Bool.{false≢true}
 use Rattle.pim_hello.specs.Kept.{parameters_seen, kept_seen}
@@ -6,47 +6,52 @@ use Rattle.pim_hello.specs.Neighbours.{told_unless_goodbye}
 use Rattle.pim_hello.proofs.Kept.{goodbye_seen, keeps_seen, told_seen, full_seen, memory_seen, no_room_seen}
 use Rattle.pim_hello.proofs.neighbours.Neighbours.hear_parameters.Goals as goal
 
-pub returns-then-says_goodbye-clause-table : goal.returns-then-says_goodbye-clause-table
-returns-then-says_goodbye-clause-table g c = rw (← c.self.view_is)
-    (goodbye_seen g.F.Addr.Ord.cmp g.F.Family.bytes_of g.met.F.Family.order_of_bytes c.self.inside.moment c.args.now c.max-moment.result c.max-moment.ensures
-    c.args.from c.args.hello.now c.self.inside.roster.neighbours.entries _ (sym c.says_goodbye.ensures ∙ c.if-says_goodbye.true) c.remove.ensures.removed)
+pub returns-then-says_goodbye : goal.returns-then-says_goodbye
+returns-then-says_goodbye g c = rw (← c.self.view_is) (record {
+  answer = search rules;
+  table = (goodbye_seen g.F.Addr.Ord.cmp g.F.Family.bytes_of g.met.F.Family.order_of_bytes c.self.inside.moment c.args.now c.max-moment.result c.max-moment.ensures
+      c.args.from c.args.hello.now c.self.inside.roster.neighbours.entries _ (sym c.says_goodbye.ensures ∙ c.if-says_goodbye.true) c.remove.ensures.removed);
+  full = search rules;
+  memory = search rules;
+  unchanged = search rules;
+})
 
-pub returns-then-lacks_room-clause-full : goal.returns-then-lacks_room-clause-full
-returns-then-lacks_room-clause-full g c = rw (← c.self.view_is) (
-  λ _. full_seen g.F.Addr.Ord.cmp g.F.Family.bytes_of g.met.F.Family.order_of_bytes c.self.inside.moment c.args.from c.self.inside.roster.neighbours.entries (parameters_seen c.args.hello.now)
-      _ _ _ (sym c.says_goodbye.ensures ∙ c.if-says_goodbye.false) c.get-known.ensures c.len.ensures c.lacks_room.ensures ∙ c.if-lacks_room.true,
-  λ _. refl,
-)
+pub returns-then-lacks_room : goal.returns-then-lacks_room
+returns-then-lacks_room g c = rw (← c.self.view_is) (record {
+  answer = search rules;
+  table = search rules;
+  full = (
+    λ _. full_seen g.F.Addr.Ord.cmp g.F.Family.bytes_of g.met.F.Family.order_of_bytes c.self.inside.moment c.args.from c.self.inside.roster.neighbours.entries (parameters_seen c.args.hello.now)
+        _ _ _ (sym c.says_goodbye.ensures ∙ c.if-says_goodbye.false) c.get-known.ensures c.len.ensures c.lacks_room.ensures ∙ c.if-lacks_room.true,
+    λ _. refl,
+  );
+  memory = (λ t. absurd (false≢true (sym (no_room_seen g.F.Addr.Ord.cmp g.F.Family.bytes_of g.met.F.Family.order_of_bytes c.self.inside.moment c.args.from c.self.inside.roster.neighbours.entries
+      (parameters_seen c.args.hello.now) _ _ (sym c.says_goodbye.ensures ∙ c.if-says_goodbye.false) c.get-known.ensures (sym c.lacks_room.ensures ∙ c.if-lacks_room.true)) ∙ t)));
+  unchanged = search rules;
+})
 
-pub returns-in_default-clause-full : goal.returns-in_default-clause-full
-returns-in_default-clause-full g c = rw (← c.self.view_is)
-    (let full = full_seen g.F.Addr.Ord.cmp g.F.Family.bytes_of g.met.F.Family.order_of_bytes c.self.inside.moment c.args.from c.self.inside.roster.neighbours.entries (parameters_seen c.args.hello.now)
-    _ _ _ (sym c.says_goodbye.ensures ∙ c.if-says_goodbye.false) c.get-known.ensures c.len.ensures c.lacks_room.ensures ∙ c.if-lacks_room.false in
-    (λ p. cc, λ t. absurd (false≢true (sym full ∙ t))))
+pub returns-in_default : goal.returns-in_default
+returns-in_default g c = rw (← c.self.view_is) (record {
+  answer = search rules;
+  table = search rules;
+  full = (let full = full_seen g.F.Addr.Ord.cmp g.F.Family.bytes_of g.met.F.Family.order_of_bytes c.self.inside.moment c.args.from c.self.inside.roster.neighbours.entries (parameters_seen c.args.hello.now)
+      _ _ _ (sym c.says_goodbye.ensures ∙ c.if-says_goodbye.false) c.get-known.ensures c.len.ensures c.lacks_room.ensures ∙ c.if-lacks_room.false in
+      (λ p. cc, λ t. absurd (false≢true (sym full ∙ t))));
+  memory = (λ t. absurd (false≢true (sym (memory_seen g.F.Addr.Ord.cmp g.F.Family.bytes_of g.met.F.Family.order_of_bytes c.self.inside.moment c.args.from c.self.inside.roster.neighbours.entries
+      c.args.hello.now c.end_of_time.result c.max-moment.result (sym c.says_goodbye.ensures ∙ c.if-says_goodbye.false) c.end_of_time.ensures c.in_default.ensures.refused) ∙ t)));
+  unchanged = search rules;
+})
 
-pub returns-clause-answer : goal.returns-clause-answer
-returns-clause-answer g c = rw (← c.self.view_is)
-    (c.told.ensures ∙ ap (λ o. told_unless_goodbye (option_map (kept_seen 0) o) (parameters_seen c.args.hello.now)) c.get-known.ensures
-    ∙ told_seen g.F.Addr.Ord.cmp g.F.Family.bytes_of g.met.F.Family.order_of_bytes c.self.inside.moment c.args.from c.self.inside.roster.neighbours.entries (parameters_seen c.args.hello.now)
-    (sym c.says_goodbye.ensures ∙ c.if-says_goodbye.false))
-
-pub returns-clause-table : goal.returns-clause-table
-returns-clause-table g c = rw (← c.self.view_is)
-    (keeps_seen g.F.Addr.Ord.cmp g.F.Family.bytes_of g.met.F.Family.order_of_bytes c.self.inside.moment c.args.now c.max-moment.result c.max-moment.ensures
-    c.args.from c.args.hello.now c.end_of_time.result c.self.inside.roster.neighbours.entries _ (sym c.says_goodbye.ensures ∙ c.if-says_goodbye.false) c.end_of_time.ensures c.in-Ok.ensures.kept)
-
-pub returns-clause-full : goal.returns-clause-full
-returns-clause-full g c = rw (← c.self.view_is)
-    (let full = full_seen g.F.Addr.Ord.cmp g.F.Family.bytes_of g.met.F.Family.order_of_bytes c.self.inside.moment c.args.from c.self.inside.roster.neighbours.entries (parameters_seen c.args.hello.now)
-    _ _ _ (sym c.says_goodbye.ensures ∙ c.if-says_goodbye.false) c.get-known.ensures c.len.ensures c.lacks_room.ensures ∙ c.if-lacks_room.false in
-    (λ p. cc, λ t. absurd (false≢true (sym full ∙ t))))
-
-pub returns-then-lacks_room-clause-memory : goal.returns-then-lacks_room-clause-memory
-returns-then-lacks_room-clause-memory g c = rw (← c.self.view_is)
-    (λ t. absurd (false≢true (sym (no_room_seen g.F.Addr.Ord.cmp g.F.Family.bytes_of g.met.F.Family.order_of_bytes c.self.inside.moment c.args.from c.self.inside.roster.neighbours.entries
-    (parameters_seen c.args.hello.now) _ _ (sym c.says_goodbye.ensures ∙ c.if-says_goodbye.false) c.get-known.ensures (sym c.lacks_room.ensures ∙ c.if-lacks_room.true)) ∙ t)))
-
-pub returns-in_default-clause-memory : goal.returns-in_default-clause-memory
-returns-in_default-clause-memory g c = rw (← c.self.view_is)
-    (λ t. absurd (false≢true (sym (memory_seen g.F.Addr.Ord.cmp g.F.Family.bytes_of g.met.F.Family.order_of_bytes c.self.inside.moment c.args.from c.self.inside.roster.neighbours.entries
-    c.args.hello.now c.end_of_time.result c.max-moment.result (sym c.says_goodbye.ensures ∙ c.if-says_goodbye.false) c.end_of_time.ensures c.in_default.ensures.refused) ∙ t)))
+pub returns : goal.returns
+returns g c = rw (← c.self.view_is) (record {
+  answer = (c.told.ensures ∙ ap (λ o. told_unless_goodbye (option_map (kept_seen 0) o) (parameters_seen c.args.hello.now)) c.get-known.ensures
+      ∙ told_seen g.F.Addr.Ord.cmp g.F.Family.bytes_of g.met.F.Family.order_of_bytes c.self.inside.moment c.args.from c.self.inside.roster.neighbours.entries (parameters_seen c.args.hello.now)
+      (sym c.says_goodbye.ensures ∙ c.if-says_goodbye.false));
+  table = (keeps_seen g.F.Addr.Ord.cmp g.F.Family.bytes_of g.met.F.Family.order_of_bytes c.self.inside.moment c.args.now c.max-moment.result c.max-moment.ensures
+      c.args.from c.args.hello.now c.end_of_time.result c.self.inside.roster.neighbours.entries _ (sym c.says_goodbye.ensures ∙ c.if-says_goodbye.false) c.end_of_time.ensures c.in-Ok.ensures.kept);
+  full = (let full = full_seen g.F.Addr.Ord.cmp g.F.Family.bytes_of g.met.F.Family.order_of_bytes c.self.inside.moment c.args.from c.self.inside.roster.neighbours.entries (parameters_seen c.args.hello.now)
+      _ _ _ (sym c.says_goodbye.ensures ∙ c.if-says_goodbye.false) c.get-known.ensures c.len.ensures c.lacks_room.ensures ∙ c.if-lacks_room.false in
+      (λ p. cc, λ t. absurd (false≢true (sym full ∙ t))));
+  memory = search rules;
+  unchanged = search rules;
+})
