@@ -53,7 +53,7 @@ first_hit due change (held ∷ records) found a e =
       | false ↦ λ d f.
           let more = first_hit due change records found a.1 f in
           let apart : same_key found.key held.key ≡ false = greater_differs found.key held.key (less_back held.key found.key (below_first due held.key records found a.0 f)) in
-          record { is_due = more.is_due; stood = rw apart more.stood; stands = rw (d, apart) more.stands; }
+          record { is_due = more.is_due; stood = rw apart more.stood; stands = rw (d, apart) more.stands }
     ] refl e
 
 -- ---- what is told
@@ -161,14 +161,16 @@ named_tick state after answer quiet more a port group what e =
     let key : Key (List ℕ) = record { port = port; group = group; what = what } in
     let due = quiet_timers state.records quiet in
     let before = ticked (machine_at key state.records) rest.1.machine (after.moment - (state.moment + 1)) (λ m at. (quiet_at state.records key m due.0 due.1 at).0) (sym (at_later 1 key state.records) ∙ rest.1.held) rest.1.timer in
-    let passed : after.moment - (state.moment + 1) + 1 ≡ after.moment - state.moment = omega (arith, rest.0) in
-    (omega (arith, rest.0), record {
-      machine = before.machine;
-      held = before.held;
-      timer = before.timer ∙ ap (λ n. Some (record { ends = n; several = true })) passed;
-      echoes = rest.1.echoes;
-      gone = rest.1.gone;
-    })
+    let passed : after.moment - (state.moment + 1) + 1 ≡ after.moment - state.moment = omega (arith, rest.0) in (
+      omega (arith, rest.0),
+      record {
+        machine = before.machine;
+        held = before.held;
+        timer = before.timer ∙ ap (λ n. Some (record { ends = n; several = true })) passed;
+        echoes = rest.1.echoes;
+        gone = rest.1.gone;
+      },
+    )
 
 -- a machine with a prune-pending timer that is held behind one that fired was held before it
 waits_first : (due : Record (List ℕ) → Bool) (change : Record (List ℕ) → Option Machine) (key : Key (List ℕ)) (records : List (Record (List ℕ))) (machine : Machine) → ((held : Record (List ℕ)) (m : Machine) → change held ≡ Some m → is_some m.pending ≡ false) → AtFirst due change key records → machine_at key (with_first due (λ (h : Record (List ℕ)). recorded h.key (change h)) records) ≡ Some machine → is_some machine.pending ≡ true → machine_at key records ≡ Some machine
@@ -198,20 +200,22 @@ waits_before records after answer key machine a e at waits = by_ppt (first_due p
 
 named_fire : (state after : Downstream) (answer : Step (List ℕ)) (records : List (Record (List ℕ))) → fired state.records ≡ Some (Reached, records) → Named (with_records state records) answer after → Named state answer after
 named_fire state after answer records f more a port group what e =
-    let rest = more ((kept_fired state.records records Reached f).ascending a) port group what e in
-    (rest.0, record {
-      machine = rest.1.machine;
-      held = waits_before state.records records Reached (record { port = port; group = group; what = what }) rest.1.machine a f rest.1.held (ap is_some rest.1.timer);
-      timer = rest.1.timer;
-      echoes = rest.1.echoes;
-      gone = rest.1.gone;
-    })
+    let rest = more ((kept_fired state.records records Reached f).ascending a) port group what e in (
+      rest.0,
+      record {
+        machine = rest.1.machine;
+        held = waits_before state.records records Reached (record { port = port; group = group; what = what }) rest.1.machine a f rest.1.held (ap is_some rest.1.timer);
+        timer = rest.1.timer;
+        echoes = rest.1.echoes;
+        gone = rest.1.gone;
+      },
+    )
 
 pub echo_names : (moment : ℕ) (state after : Downstream) (port : ℕ) (group : List ℕ) (what : What (List ℕ)) → IsAscending state.records → Runs moment state (Echo port group what) after → IsEchoOf (record { port = port; group = group; what = what }) state after
 echo_names moment state after port group what a runs =
     (by_run moment Named
-      (λ s quiet reached a p g w e. absurd (not_reached p g w e))
-      (λ s t answer quiet before more. named_tick s t answer quiet more)
-      (λ s t answer records f more. named_fire s t answer records f more)
-      (λ s p g w records f a q h v e. (omega arith, subst (λ (k : Key (List ℕ)). IsEchoOf k s (with_records s records)) (same_answer p g w q h v e) (named_now s p g w records f a)))
-      state after (Echo port group what) runs a port group what refl).1
+    (λ s quiet reached a p g w e. absurd (not_reached p g w e))
+    (λ s t answer quiet before more. named_tick s t answer quiet more)
+    (λ s t answer records f more. named_fire s t answer records f more)
+    (λ s p g w records f a q h v e. (omega arith, subst (λ (k : Key (List ℕ)). IsEchoOf k s (with_records s records)) (same_answer p g w q h v e) (named_now s p g w records f a)))
+    state after (Echo port group what) runs a port group what refl).1

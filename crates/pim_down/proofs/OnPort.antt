@@ -91,9 +91,9 @@ module _ {A : Type 0} (bytes_of : A → List ℕ) (port : ℕ) where
       let from = drop first records in
       let long = length-drop first records in
       let passes : (k : ℕ) (d : Record A) → k < count → k < length from → p (get_or from k d) ≡ true = λ k d h w.
-          equal_between _ _
-          (subst (λ (held : Record A). ltb held.key.port port ≡ false) (sym (get_or-drop first records k d)) (before.1 (first + k) d (omega arith) (omega arith)))
-          (after.0 k d (omega arith) h) in
+      equal_between _ _
+      (subst (λ (held : Record A). ltb held.key.port port ≡ false) (sym (get_or-drop first records k d)) (before.1 (first + k) d (omega arith) (omega arith)))
+      (after.0 k d (omega arith) h) in
       let fails : (k : ℕ) (d : Record A) → count ≤ k → k < length from → p (get_or from k d) ≡ false = λ k d h w. apart_above _ _ (after.1 k d h w) in
       let here : take count from ≡ filter p records = front p from count passes fails ∙ behind p records first (λ k d h w. apart _ _ (before.0 k d (omega arith) h)) in
       ap (records_seen bytes_of) here ∙ seen_filter bytes_of (is_on port) records

@@ -126,13 +126,16 @@ real_state (Rpt source) PrunePendingTmp e s = absurd (false≢true (sym s))
 module _ (family : AddressFamily) (ports : ℕ) where
   fits_all : (records : List (Record (List ℕ))) → AllByRecursion (IsReal family ports) records → AllByRecursion (Fits family ports) records
   fits_all [] r = tt
-  fits_all (held ∷ records) r = (record {
-    port = r.0.port;
-    group = r.0.group;
-    source = r.0.source;
-    state = fits_state held.key.what held.machine.state r.0.state;
-    timer = r.0.timer ∙ fits_timer held.key.what held.machine.state r.0.state;
-  }, fits_all records r.1)
+  fits_all (held ∷ records) r = (
+    record {
+      port = r.0.port;
+      group = r.0.group;
+      source = r.0.source;
+      state = fits_state held.key.what held.machine.state r.0.state;
+      timer = r.0.timer ∙ fits_timer held.key.what held.machine.state r.0.state;
+    },
+    fits_all records r.1,
+  )
 
   real_all : (records : List (Record (List ℕ))) → AllByRecursion (Fits family ports) records → IsSettled records → AllByRecursion (IsReal family ports) records
   unfolding IsSettled
@@ -293,13 +296,16 @@ module _ (family : AddressFamily) (ports : ℕ) where
 
   pub real_later : (k : ℕ) (records : List (Record (List ℕ))) → AllByRecursion (IsReal family ports) records → AllByRecursion (IsReal family ports) (map (record_after k) records)
   real_later k [] rs = tt
-  real_later k (held ∷ records) rs = (record {
-    port = rs.0.port;
-    group = rs.0.group;
-    source = rs.0.source;
-    state = rs.0.state;
-    timer = still_waits k held.machine.pending ∙ rs.0.timer;
-  }, real_later k records rs.1)
+  real_later k (held ∷ records) rs = (
+    record {
+      port = rs.0.port;
+      group = rs.0.group;
+      source = rs.0.source;
+      state = rs.0.state;
+      timer = still_waits k held.machine.pending ∙ rs.0.timer;
+    },
+    real_later k records rs.1,
+  )
 
   -- a record that a timer leaves
   pub real_ppt : (held : Record (List ℕ)) → IsReal family ports held → (records : List (Record (List ℕ))) → AllByRecursion (IsReal family ports) records → AllByRecursion (IsReal family ports) (recorded held.key (on_ppt held.key.what held.machine) ++ records)

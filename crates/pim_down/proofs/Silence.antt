@@ -185,11 +185,13 @@ silent_rest moment state quiet reached a e =
 silent_tick : (moment : ℕ) (state after : Downstream) (answer : Step (List ℕ)) → fired state.records ≡ None → state.moment ≤ moment → Silent (tick state) answer after → Silent state answer after
 silent_tick moment state after answer quiet before more a e =
     let rest = more ((kept_later 1 state.records).ascending a) e in
-    let passed : 1 + (after.moment - (state.moment + 1)) ≡ after.moment - state.moment = omega (arith, rest.0) in
-    (omega (arith, rest.0), λ key. rest.1 key
-    ∙ ap (after_silence (after.moment - (state.moment + 1)) key) (at_later 1 key state.records)
-    ∙ silence_more 1 (after.moment - (state.moment + 1)) key (machine_at key state.records)
-    ∙ ap (λ n. after_silence n key (machine_at key state.records)) passed)
+    let passed : 1 + (after.moment - (state.moment + 1)) ≡ after.moment - state.moment = omega (arith, rest.0) in (
+      omega (arith, rest.0),
+      λ key. rest.1 key
+          ∙ ap (after_silence (after.moment - (state.moment + 1)) key) (at_later 1 key state.records)
+          ∙ silence_more 1 (after.moment - (state.moment + 1)) key (machine_at key state.records)
+          ∙ ap (λ n. after_silence n key (machine_at key state.records)) passed,
+    )
 
 silent_fire : (state after : Downstream) (answer : Step (List ℕ)) (records : List (Record (List ℕ))) → fired state.records ≡ Some (Reached, records) → Silent (with_records state records) answer after → Silent state answer after
 silent_fire state after answer records f more a e =
@@ -199,7 +201,7 @@ silent_fire state after answer records f more a e =
 pub silence : (moment : ℕ) (state after : Downstream) → IsAscending state.records → Runs moment state Reached after → (key : Key (List ℕ)) → machine_at key after.records ≡ after_silence (after.moment - state.moment) key (machine_at key state.records)
 silence moment state after a runs =
     (by_run moment Silent (silent_rest moment)
-      (λ s t answer quiet before more. silent_tick moment s t answer quiet (omega arith) more)
-      (λ s t answer records f more. silent_fire s t answer records f more)
-      (λ s port group what records f a e. absurd (no_echo port group what e))
-      state after Reached runs a refl).1
+    (λ s t answer quiet before more. silent_tick moment s t answer quiet (omega arith) more)
+    (λ s t answer records f more. silent_fire s t answer records f more)
+    (λ s port group what records f a e. absurd (no_echo port group what e))
+    state after Reached runs a refl).1
