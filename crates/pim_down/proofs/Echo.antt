@@ -103,9 +103,9 @@ gone_by Star machine e = refl
 gone_by (Source source) machine e = refl
 gone_by (Rpt source) machine e = absurd (false≢true e)
 
-timer_by : (p : Option Pending) → pending_due p ≡ true → had_several p ≡ true → p ≡ Some (record { ends = 0; several = true })
+timer_by : (p : Option Pending) → pending_due p ≡ true → had_several p ≡ true → p ≡ Some (record { ends_in = 0; several = true })
 timer_by None due several = absurd (false≢true due)
-timer_by (Some timer) due several = let zero = eqb-true timer.ends 0 due in λ i. Some (record { ends = zero i; several = several i })
+timer_by (Some timer) due several = let zero = eqb-true timer.ends_in 0 due in λ i. Some (record { ends_in = zero i; several = several i })
 
 abbrev Named : Downstream → Step (List ℕ) → Downstream → Type 0
 Named state answer after = IsAscending state.records → (port : ℕ) (group : List ℕ) (what : What (List ℕ)) → answer ≡ Echo port group what → (state.moment ≤ after.moment) × IsEchoOf (record { port = port; group = group; what = what }) state after
@@ -121,7 +121,7 @@ named_now state port group what records f a =
     subst (λ (k : Key (List ℕ)). IsEchoOf k state (with_records state records)) is.1 (record {
       machine = held.machine;
       held = hit.stood;
-      timer = timer_by held.machine.pending hit.is_due kind.1 ∙ ap (λ n. Some (record { ends = n; several = true })) zero;
+      timer = timer_by held.machine.pending hit.is_due kind.1 ∙ ap (λ n. Some (record { ends_in = n; several = true })) zero;
       echoes = kind.0;
       gone = ap (machine_at held.key) (sym told.left) ∙ hit.stands ∙ gone_by held.key.what held.machine kind.0;
     })
@@ -135,9 +135,9 @@ same_answer port group what p g w e = ap (λ (s : Step (List ℕ)). step_key s (
 record Before (o : Option Machine) (ends : ℕ) : Type 0 where
   machine : Machine
   held : o ≡ Some machine
-  timer : machine.pending ≡ Some (record { ends = ends; several = true })
+  timer : machine.pending ≡ Some (record { ends_in = ends; several = true })
 
-ticked : (o : Option Machine) (later : Machine) (left : ℕ) → ((m : Machine) → o ≡ Some m → pending_due m.pending ≡ false) → option_after 1 o ≡ Some later → later.pending ≡ Some (record { ends = left; several = true }) → Before o (left + 1)
+ticked : (o : Option Machine) (later : Machine) (left : ℕ) → ((m : Machine) → o ≡ Some m → pending_due m.pending ≡ false) → option_after 1 o ≡ Some later → later.pending ≡ Some (record { ends_in = left; several = true }) → Before o (left + 1)
 ticked None later left quiet e t = absurd (false≢true (ap is_some e))
 ticked (Some machine) later left quiet e t =
     let same : machine_after 1 machine ≡ later = cc in
@@ -146,14 +146,14 @@ ticked (Some machine) later left quiet e t =
     some_timer : (a b : Pending) → Some a ≡ Some b → a ≡ b
     some_timer a b e = cc
 
-    by : (p : Option Pending) → pending_due p ≡ false → pending_after 1 p ≡ Some (record { ends = left; several = true }) → p ≡ Some (record { ends = left + 1; several = true })
+    by : (p : Option Pending) → pending_due p ≡ false → pending_after 1 p ≡ Some (record { ends_in = left; several = true }) → p ≡ Some (record { ends_in = left + 1; several = true })
     by None quiet e = absurd (false≢true (ap is_some e))
     by (Some timer) quiet e =
         let same = some_timer _ _ e in
-        let less : timer.ends - 1 ≡ left = ap (λ (p : Pending). p.ends) same in
+        let less : timer.ends_in - 1 ≡ left = ap (λ (p : Pending). p.ends_in) same in
         let some : timer.several ≡ true = ap (λ (p : Pending). p.several) same in
-        let ends : timer.ends ≡ left + 1 = grind (arith, nat_tests) in
-        λ i. Some (record { ends = ends i; several = some i })
+        let ends : timer.ends_in ≡ left + 1 = grind (arith, nat_tests) in
+        λ i. Some (record { ends_in = ends i; several = some i })
 
 named_tick : (state after : Downstream) (answer : Step (List ℕ)) → fired state.records ≡ None → Named (tick state) answer after → Named state answer after
 named_tick state after answer quiet more a port group what e =
@@ -166,7 +166,7 @@ named_tick state after answer quiet more a port group what e =
       record {
         machine = before.machine;
         held = before.held;
-        timer = before.timer ∙ ap (λ n. Some (record { ends = n; several = true })) passed;
+        timer = before.timer ∙ ap (λ n. Some (record { ends_in = n; several = true })) passed;
         echoes = rest.1.echoes;
         gone = rest.1.gone;
       },
@@ -180,7 +180,7 @@ waits_first due change key records machine none (here held k d m e) at waits = a
 no_timer : (what : What (List ℕ)) (held m : Machine) → on_ppt what held ≡ Some m → is_some m.pending ≡ false
 no_timer Star held m e = absurd (false≢true (ap is_some e))
 no_timer (Source source) held m e = absurd (false≢true (ap is_some e))
-no_timer (Rpt source) held m e = let same : record { state = Prune; expiry = held.expiry; pending = None } ≡ m = cc in ap (λ (x : Machine). is_some x.pending) (sym same)
+no_timer (Rpt source) held m e = let same : record { state = Prune; expires_in = held.expires_in; pending = None } ≡ m = cc in ap (λ (x : Machine). is_some x.pending) (sym same)
 
 waits_before : (records after : List (Record (List ℕ))) (answer : Step (List ℕ)) (key : Key (List ℕ)) (machine : Machine) → IsAscending records → fired records ≡ Some (answer, after) → machine_at key after ≡ Some machine → is_some machine.pending ≡ true → machine_at key records ≡ Some machine
 unfolding fired

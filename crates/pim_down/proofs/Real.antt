@@ -177,7 +177,7 @@ module _ (family : AddressFamily) (ports : ℕ) where
       fits_recorded held.key (change held.key (Some held.machine)) (each_changed change records) (keeps held.key (Some held.machine) fs.0) (fits_each change keeps records fs.1)
 
   -- another state and other timers for the machine of a key
-  fits_with : (key : Key (List ℕ)) (machine : Machine) (state : State) (expiry : Option ℕ) (pending : Option Pending) → Fits family ports (record { key = key; machine = machine }) → may_have key.what state ≡ true → is_some pending ≡ waits state → MayFit key (Some (record { state = state; expiry = expiry; pending = pending }))
+  fits_with : (key : Key (List ℕ)) (machine : Machine) (state : State) (expiry : Option ℕ) (pending : Option Pending) → Fits family ports (record { key = key; machine = machine }) → may_have key.what state ≡ true → is_some pending ≡ waits state → MayFit key (Some (record { state = state; expires_in = expiry; pending = pending }))
   fits_with key machine state expiry pending f s t = record { port = f.port; group = f.group; source = f.source; state = s; timer = t }
 
   fits_join : (key : Key (List ℕ)) → ((s : State) → may_have key.what s ≡ joined_or_pending s) → key.port < ports → IsGroup family key.group → HasSource family key.what → (start : Start) (m : Option Machine) → MayFit key m → MayFit key (on_join start m)
@@ -198,7 +198,7 @@ module _ (family : AddressFamily) (ports : ℕ) where
   fits_prune key is start (Some held) f = by held.state
     where
       by : (s : State) → MayFit key (prune_in s start held)
-      by Join = fits_with key held PrunePending held.expiry (Some start.pending) f (is PrunePending) refl
+      by Join = fits_with key held PrunePending held.expires_in (Some start.pending) f (is PrunePending) refl
       by PrunePending = f
       by Prune = f
       by PruneTmp = f
@@ -236,8 +236,8 @@ module _ (family : AddressFamily) (ports : ℕ) where
     where
       by : (s : State) → held.state ≡ s → MayFit key (star_join_in s held)
       by Join e = f
-      by PrunePending e = fits_with key held PrunePendingTmp held.expiry held.pending f (is PrunePendingTmp refl) (f.timer ∙ ap waits e)
-      by Prune e = fits_with key held PruneTmp held.expiry held.pending f (is PruneTmp refl) (f.timer ∙ ap waits e)
+      by PrunePending e = fits_with key held PrunePendingTmp held.expires_in held.pending f (is PrunePendingTmp refl) (f.timer ∙ ap waits e)
+      by Prune e = fits_with key held PruneTmp held.expires_in held.pending f (is PruneTmp refl) (f.timer ∙ ap waits e)
       by PruneTmp e = f
       by PrunePendingTmp e = f
 

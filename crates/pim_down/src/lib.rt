@@ -11,6 +11,7 @@ mod edits;
 mod event;
 mod fault;
 mod hear;
+mod held;
 mod key;
 mod laws;
 mod machine;

@@ -121,7 +121,7 @@ fn record(
     port: usize,
     what: What<[u8; 4]>,
     state: State,
-    expiry: Option<u64>,
+    expires_in: Option<u64>,
     pending: Option<Pending>,
 ) -> Record<[u8; 4]> {
     let group = GROUP;
@@ -129,25 +129,25 @@ fn record(
         key: Key { port, group, what },
         machine: Machine {
             state,
-            expiry,
+            expires_in,
             pending,
         },
     }
 }
 
-fn joined(port: usize, what: What<[u8; 4]>, expiry: u64) -> Record<[u8; 4]> {
-    record(port, what, State::Join, Some(expiry), None)
+fn joined(port: usize, what: What<[u8; 4]>, expires_in: u64) -> Record<[u8; 4]> {
+    record(port, what, State::Join, Some(expires_in), None)
 }
 
-fn pruned(port: usize, source: [u8; 4], expiry: u64) -> Record<[u8; 4]> {
-    record(port, What::Rpt(source), State::Prune, Some(expiry), None)
+fn pruned(port: usize, source: [u8; 4], expires_in: u64) -> Record<[u8; 4]> {
+    record(port, What::Rpt(source), State::Prune, Some(expires_in), None)
 }
 
 /// A machine of the first port whose prune-pending timer started with several neighbours.
-fn waiting(what: What<[u8; 4]>, expiry: u64, ends: u64) -> Record<[u8; 4]> {
+fn waiting(what: What<[u8; 4]>, expires_in: u64, ends_in: u64) -> Record<[u8; 4]> {
     let several = true;
-    let pending = Pending { ends, several };
-    record(0, what, State::PrunePending, Some(expiry), Some(pending))
+    let pending = Pending { ends_in, several };
+    record(0, what, State::PrunePending, Some(expires_in), Some(pending))
 }
 
 fn small(number: usize) -> u8 {
