@@ -3,6 +3,7 @@ use Rattle.std.proofs.Common.{◌≡◌, ℕ, ◌+◌, ◌<◌, ◌≤◌, Bool,
 use Rattle.std.specs.declared.cmp.Ordering.TheVariants.{Less, Equal, Greater}
 use Rattle.std.specs.List.{filter}
 use Rattle.std.proofs.lemmas.List.{drop_more, take_more, take_all, drop_all, take_at, drop_at, append_assoc, append-nil}
+use Rattle.pim_down.specs.declared.held.Held.{Held}
 use Rattle.pim_down.specs.declared.key.Key.{Key}
 use Rattle.pim_down.specs.declared.machine.State.{State}
 use Rattle.pim_down.specs.declared.machine.State.TheVariants.{Join, PrunePending, Prune, PruneTmp, PrunePendingTmp}
@@ -125,14 +126,14 @@ end_filter port (held ∷ records) =
     by true = refl
     by false = refl
 
-seen_cond : {A : Type 0} (bytes_of : A → List ℕ) (b : Bool) (held : Record A) (rest : List (Record A)) (seen : List (Record (List ℕ))) → records_seen bytes_of rest ≡ seen → records_seen bytes_of (cond b (held ∷ rest) rest) ≡ cond b (record_seen bytes_of held ∷ seen) seen
+seen_cond : {A : Type 0} (bytes_of : A → List ℕ) (b : Bool) (held : Held A) (rest : List (Held A)) (seen : List (Record (List ℕ))) → records_seen bytes_of rest ≡ seen → records_seen bytes_of (cond b (held ∷ rest) rest) ≡ cond b (record_seen bytes_of held ∷ seen) seen
 seen_cond bytes_of true held rest seen e = ap (λ (rs : List (Record (List ℕ))). record_seen bytes_of held ∷ rs) e
 seen_cond bytes_of false held rest seen e = e
 
-pub seen_filter : {A : Type 0} (bytes_of : A → List ℕ) (test : Record (List ℕ) → Bool) (records : List (Record A)) → records_seen bytes_of (filter (λ (held : Record A). test (record_seen bytes_of held)) records) ≡ filter test (records_seen bytes_of records)
+pub seen_filter : {A : Type 0} (bytes_of : A → List ℕ) (test : Record (List ℕ) → Bool) (records : List (Held A)) → records_seen bytes_of (filter (λ (held : Held A). test (record_seen bytes_of held)) records) ≡ filter test (records_seen bytes_of records)
 seen_filter bytes_of test [] = refl
 seen_filter {A} bytes_of test (held ∷ records) =
-    seen_cond bytes_of (test (record_seen bytes_of held)) held (filter (λ (h : Record A). test (record_seen bytes_of h)) records) (filter test (records_seen bytes_of records)) (seen_filter bytes_of test records)
+    seen_cond bytes_of (test (record_seen bytes_of held)) held (filter (λ (h : Held A). test (record_seen bytes_of h)) records) (filter test (records_seen bytes_of records)) (seen_filter bytes_of test records)
 
 pub act_star : (port : ℕ) (start : Start) (event : Event) (records : List (Record (List ℕ))) → is_star_join event ≡ true → act port start event records ≡ each_changed (on_rpts port event.group) (changed (key_of port event) (on_own event.joins event.what start) records)
 act_star port start event records star = rw star refl

@@ -53,7 +53,7 @@ first_hit due change (held ∷ records) found a e =
       | false ↦ λ d f.
           let more = first_hit due change records found a.1 f in
           let apart : same_key found.key held.key ≡ false = greater_differs found.key held.key (less_back held.key found.key (below_first due held.key records found a.0 f)) in
-          record { is_due = more.is_due; stood = rw apart more.stood; stands = rw (d, apart) more.stands; }
+          record { is_due = more.is_due; stood = rw apart more.stood; stands = rw (d, apart) more.stands }
     ] refl e
 
 -- ---- what is told
@@ -103,9 +103,9 @@ gone_by Star machine e = refl
 gone_by (Source source) machine e = refl
 gone_by (Rpt source) machine e = absurd (false≢true e)
 
-timer_by : (p : Option Pending) → pending_due p ≡ true → had_several p ≡ true → p ≡ Some (record { ends = 0; several = true })
+timer_by : (p : Option Pending) → pending_due p ≡ true → had_several p ≡ true → p ≡ Some (record { ends_in = 0; several = true })
 timer_by None due several = absurd (false≢true due)
-timer_by (Some timer) due several = let zero = eqb-true timer.ends 0 due in λ i. Some (record { ends = zero i; several = several i })
+timer_by (Some timer) due several = let zero = eqb-true timer.ends_in 0 due in λ i. Some (record { ends_in = zero i; several = several i })
 
 abbrev Named : Downstream → Step (List ℕ) → Downstream → Type 0
 Named state answer after = IsAscending state.records → (port : ℕ) (group : List ℕ) (what : What (List ℕ)) → answer ≡ Echo port group what → (state.moment ≤ after.moment) × IsEchoOf (record { port = port; group = group; what = what }) state after
@@ -121,7 +121,7 @@ named_now state port group what records f a =
     subst (λ (k : Key (List ℕ)). IsEchoOf k state (with_records state records)) is.1 (record {
       machine = held.machine;
       held = hit.stood;
-      timer = timer_by held.machine.pending hit.is_due kind.1 ∙ ap (λ n. Some (record { ends = n; several = true })) zero;
+      timer = timer_by held.machine.pending hit.is_due kind.1 ∙ ap (λ n. Some (record { ends_in = n; several = true })) zero;
       echoes = kind.0;
       gone = ap (machine_at held.key) (sym told.left) ∙ hit.stands ∙ gone_by held.key.what held.machine kind.0;
     })
@@ -135,9 +135,9 @@ same_answer port group what p g w e = ap (λ (s : Step (List ℕ)). step_key s (
 record Before (o : Option Machine) (ends : ℕ) : Type 0 where
   machine : Machine
   held : o ≡ Some machine
-  timer : machine.pending ≡ Some (record { ends = ends; several = true })
+  timer : machine.pending ≡ Some (record { ends_in = ends; several = true })
 
-ticked : (o : Option Machine) (later : Machine) (left : ℕ) → ((m : Machine) → o ≡ Some m → pending_due m.pending ≡ false) → option_after 1 o ≡ Some later → later.pending ≡ Some (record { ends = left; several = true }) → Before o (left + 1)
+ticked : (o : Option Machine) (later : Machine) (left : ℕ) → ((m : Machine) → o ≡ Some m → pending_due m.pending ≡ false) → option_after 1 o ≡ Some later → later.pending ≡ Some (record { ends_in = left; several = true }) → Before o (left + 1)
 ticked None later left quiet e t = absurd (false≢true (ap is_some e))
 ticked (Some machine) later left quiet e t =
     let same : machine_after 1 machine ≡ later = cc in
@@ -146,14 +146,14 @@ ticked (Some machine) later left quiet e t =
     some_timer : (a b : Pending) → Some a ≡ Some b → a ≡ b
     some_timer a b e = cc
 
-    by : (p : Option Pending) → pending_due p ≡ false → pending_after 1 p ≡ Some (record { ends = left; several = true }) → p ≡ Some (record { ends = left + 1; several = true })
+    by : (p : Option Pending) → pending_due p ≡ false → pending_after 1 p ≡ Some (record { ends_in = left; several = true }) → p ≡ Some (record { ends_in = left + 1; several = true })
     by None quiet e = absurd (false≢true (ap is_some e))
     by (Some timer) quiet e =
         let same = some_timer _ _ e in
-        let less : timer.ends - 1 ≡ left = ap (λ (p : Pending). p.ends) same in
+        let less : timer.ends_in - 1 ≡ left = ap (λ (p : Pending). p.ends_in) same in
         let some : timer.several ≡ true = ap (λ (p : Pending). p.several) same in
-        let ends : timer.ends ≡ left + 1 = grind (arith, nat_tests) in
-        λ i. Some (record { ends = ends i; several = some i })
+        let ends : timer.ends_in ≡ left + 1 = grind (arith, nat_tests) in
+        λ i. Some (record { ends_in = ends i; several = some i })
 
 named_tick : (state after : Downstream) (answer : Step (List ℕ)) → fired state.records ≡ None → Named (tick state) answer after → Named state answer after
 named_tick state after answer quiet more a port group what e =
@@ -161,14 +161,16 @@ named_tick state after answer quiet more a port group what e =
     let key : Key (List ℕ) = record { port = port; group = group; what = what } in
     let due = quiet_timers state.records quiet in
     let before = ticked (machine_at key state.records) rest.1.machine (after.moment - (state.moment + 1)) (λ m at. (quiet_at state.records key m due.0 due.1 at).0) (sym (at_later 1 key state.records) ∙ rest.1.held) rest.1.timer in
-    let passed : after.moment - (state.moment + 1) + 1 ≡ after.moment - state.moment = omega (arith, rest.0) in
-    (omega (arith, rest.0), record {
-      machine = before.machine;
-      held = before.held;
-      timer = before.timer ∙ ap (λ n. Some (record { ends = n; several = true })) passed;
-      echoes = rest.1.echoes;
-      gone = rest.1.gone;
-    })
+    let passed : after.moment - (state.moment + 1) + 1 ≡ after.moment - state.moment = omega (arith, rest.0) in (
+      omega (arith, rest.0),
+      record {
+        machine = before.machine;
+        held = before.held;
+        timer = before.timer ∙ ap (λ n. Some (record { ends_in = n; several = true })) passed;
+        echoes = rest.1.echoes;
+        gone = rest.1.gone;
+      },
+    )
 
 -- a machine with a prune-pending timer that is held behind one that fired was held before it
 waits_first : (due : Record (List ℕ) → Bool) (change : Record (List ℕ) → Option Machine) (key : Key (List ℕ)) (records : List (Record (List ℕ))) (machine : Machine) → ((held : Record (List ℕ)) (m : Machine) → change held ≡ Some m → is_some m.pending ≡ false) → AtFirst due change key records → machine_at key (with_first due (λ (h : Record (List ℕ)). recorded h.key (change h)) records) ≡ Some machine → is_some machine.pending ≡ true → machine_at key records ≡ Some machine
@@ -178,7 +180,7 @@ waits_first due change key records machine none (here held k d m e) at waits = a
 no_timer : (what : What (List ℕ)) (held m : Machine) → on_ppt what held ≡ Some m → is_some m.pending ≡ false
 no_timer Star held m e = absurd (false≢true (ap is_some e))
 no_timer (Source source) held m e = absurd (false≢true (ap is_some e))
-no_timer (Rpt source) held m e = let same : record { state = Prune; expiry = held.expiry; pending = None } ≡ m = cc in ap (λ (x : Machine). is_some x.pending) (sym same)
+no_timer (Rpt source) held m e = let same : record { state = Prune; expires_in = held.expires_in; pending = None } ≡ m = cc in ap (λ (x : Machine). is_some x.pending) (sym same)
 
 waits_before : (records after : List (Record (List ℕ))) (answer : Step (List ℕ)) (key : Key (List ℕ)) (machine : Machine) → IsAscending records → fired records ≡ Some (answer, after) → machine_at key after ≡ Some machine → is_some machine.pending ≡ true → machine_at key records ≡ Some machine
 unfolding fired
@@ -198,20 +200,22 @@ waits_before records after answer key machine a e at waits = by_ppt (first_due p
 
 named_fire : (state after : Downstream) (answer : Step (List ℕ)) (records : List (Record (List ℕ))) → fired state.records ≡ Some (Reached, records) → Named (with_records state records) answer after → Named state answer after
 named_fire state after answer records f more a port group what e =
-    let rest = more ((kept_fired state.records records Reached f).ascending a) port group what e in
-    (rest.0, record {
-      machine = rest.1.machine;
-      held = waits_before state.records records Reached (record { port = port; group = group; what = what }) rest.1.machine a f rest.1.held (ap is_some rest.1.timer);
-      timer = rest.1.timer;
-      echoes = rest.1.echoes;
-      gone = rest.1.gone;
-    })
+    let rest = more ((kept_fired state.records records Reached f).ascending a) port group what e in (
+      rest.0,
+      record {
+        machine = rest.1.machine;
+        held = waits_before state.records records Reached (record { port = port; group = group; what = what }) rest.1.machine a f rest.1.held (ap is_some rest.1.timer);
+        timer = rest.1.timer;
+        echoes = rest.1.echoes;
+        gone = rest.1.gone;
+      },
+    )
 
 pub echo_names : (moment : ℕ) (state after : Downstream) (port : ℕ) (group : List ℕ) (what : What (List ℕ)) → IsAscending state.records → Runs moment state (Echo port group what) after → IsEchoOf (record { port = port; group = group; what = what }) state after
 echo_names moment state after port group what a runs =
     (by_run moment Named
-      (λ s quiet reached a p g w e. absurd (not_reached p g w e))
-      (λ s t answer quiet before more. named_tick s t answer quiet more)
-      (λ s t answer records f more. named_fire s t answer records f more)
-      (λ s p g w records f a q h v e. (omega arith, subst (λ (k : Key (List ℕ)). IsEchoOf k s (with_records s records)) (same_answer p g w q h v e) (named_now s p g w records f a)))
-      state after (Echo port group what) runs a port group what refl).1
+    (λ s quiet reached a p g w e. absurd (not_reached p g w e))
+    (λ s t answer quiet before more. named_tick s t answer quiet more)
+    (λ s t answer records f more. named_fire s t answer records f more)
+    (λ s p g w records f a q h v e. (omega arith, subst (λ (k : Key (List ℕ)). IsEchoOf k s (with_records s records)) (same_answer p g w q h v e) (named_now s p g w records f a)))
+    state after (Echo port group what) runs a port group what refl).1

@@ -2,9 +2,10 @@
 use Rattle.std.proofs.Common.{◌≡◌, ℕ, ◌+◌, ◌-◌, ◌<◌, ◌≤◌, List, ◌∷◌, Option, Some, None, length, drop, get_or, leb, eqb, min, refl, sym, ap, ◌∙◌, arith}
 use Rattle.std.proofs.lemmas.Bool.Decides.{nat_tests}
 use Rattle.std.proofs.lemmas.List.{drop_more, drop_all}
+use Rattle.pim_down.specs.declared.held.Held.{Held}
 use Rattle.pim_down.specs.declared.machine.Record.{Record}
 use Rattle.pim_down.specs.Ends.{sooner, pending_end, first_end}
-use Rattle.pim_down.specs.Seen.{records_seen}
+use Rattle.pim_down.specs.Seen.{waiting_seen, records_seen}
 
 pub due_from_end : (ends now : ℕ) → eqb (ends - now) 0 ≡ leb ends now
 due_from_end ends now = grind (arith, nat_tests)
@@ -24,13 +25,13 @@ sooner_none (Some a) = refl
 
 module _ {A : Type 0} (bytes_of : A → List ℕ) where
   -- one record more
-  pub ends_more : (records : List (Record A)) (i : ℕ) (held : Record A) (end : Option ℕ) → i < length records → held ≡ get_or records i held → sooner (sooner end (sooner held.machine.expiry (pending_end held.machine.pending))) (first_end (records_seen bytes_of (drop (i + 1) records))) ≡ sooner end (first_end (records_seen bytes_of (drop i records)))
+  pub ends_more : (records : List (Held A)) (i : ℕ) (held : Held A) (end : Option ℕ) → i < length records → held ≡ get_or records i held → sooner (sooner end (sooner held.machine.expires_at (pending_end (waiting_seen held.machine.pending)))) (first_end (records_seen bytes_of (drop (i + 1) records))) ≡ sooner end (first_end (records_seen bytes_of (drop i records)))
   unfolding first_end
   ends_more records i held end within at =
-      let split : drop i records ≡ held ∷ drop (i + 1) records = drop_more records i held within ∙ ap (λ (r : Record A). r ∷ drop (i + 1) records) (sym at) in
-      sooner_assoc end (sooner held.machine.expiry (pending_end held.machine.pending)) (first_end (records_seen bytes_of (drop (i + 1) records)))
-      ∙ ap (λ (rs : List (Record A)). sooner end (first_end (records_seen bytes_of rs))) (sym split)
+      let split : drop i records ≡ held ∷ drop (i + 1) records = drop_more records i held within ∙ ap (λ (r : Held A). r ∷ drop (i + 1) records) (sym at) in
+      sooner_assoc end (sooner held.machine.expires_at (pending_end (waiting_seen held.machine.pending))) (first_end (records_seen bytes_of (drop (i + 1) records)))
+      ∙ ap (λ (rs : List (Held A)). sooner end (first_end (records_seen bytes_of rs))) (sym split)
 
-  pub ends_all : (records : List (Record A)) (i : ℕ) (end : Option ℕ) → length records ≤ i → sooner end (first_end (records_seen bytes_of (drop i records))) ≡ end
+  pub ends_all : (records : List (Held A)) (i : ℕ) (end : Option ℕ) → length records ≤ i → sooner end (first_end (records_seen bytes_of (drop i records))) ≡ end
   unfolding first_end
-  ends_all records i end past = ap (λ (rs : List (Record A)). sooner end (first_end (records_seen bytes_of rs))) (drop_all i records past) ∙ sooner_none end
+  ends_all records i end past = ap (λ (rs : List (Held A)). sooner end (first_end (records_seen bytes_of rs))) (drop_all i records past) ∙ sooner_none end

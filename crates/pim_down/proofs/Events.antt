@@ -1,8 +1,7 @@
 -- A message's events, list by list and set by set.
 use Rattle.std.proofs.Common.{◌≡◌, ◌≢◌, ℕ, ◌+◌, ◌<◌, ◌≤◌, Bool, true, false, cond, ◌&&◌, not, List, [], ◌∷◌, ◌++◌, Option, length, drop, get_or, eqb, refl, sym, ap, subst, ◌∙◌, arith}
 use Rattle.std.specs.List.{flat_map}
-use Rattle.std.proofs.lemmas.List.{append_assoc, drop_more, drop_all}
-use Rattle.std.proofs.lemmas.Bool.{eq-eqb, ne_eqb}
+use Rattle.std.proofs.lemmas.List.{append_assoc}
 use Rattle.pim_jp.specs.declared.entry.Entry.{Entry}
 use Rattle.pim_jp.specs.declared.entry.Entry.TheVariants as entry
 use Rattle.pim_jp.specs.Message.{GroupSet}
@@ -10,10 +9,9 @@ use Rattle.pim_down.specs.declared.key.What.TheVariants.{Star}
 use Rattle.pim_down.specs.Tables.{Start}
 use Rattle.pim_down.specs.declared.machine.Record.{Record}
 use Rattle.pim_down.specs.Hearing.{Event}
-use Rattle.pim_down.specs.Records.{IsAscending, count_on}
+use Rattle.pim_down.specs.Records.{IsAscending}
 use Rattle.pim_down.specs.Hearing.{act, act_all, is_new, count_new, is_known, entry_events, list_events, set_events}
 use Rattle.pim_down.specs.Space.{HasRoom}
-use Rattle.pim_down.specs.Seen.{records_seen}
 use Rattle.pim_down.proofs.Act.{IsAscending-act_all}
 use Rattle.pim_down.proofs.Room.{room}
 
@@ -161,23 +159,3 @@ set_count_is port held known set left rest e =
 pub no_set_count : (port : ℕ) (held : List (Record (List ℕ))) (known : Option (List ℕ)) (left : List GroupSet) → left ≡ [] → count_new port held (sets_events known left) ≡ 0
 unfolding count_new
 no_set_count port held known left e = ap (λ (s : List GroupSet). count_new port held (sets_events known s)) e
-
--- ---- the records of a port, counted one after another
-
-module _ {A : Type 0} (bytes_of : A → List ℕ) where
-  pub count_on_more : (port : ℕ) (records : List (Record A)) (i : ℕ) (held : Record A) → i < length records → held ≡ get_or records i held → count_on port (records_seen bytes_of (drop i records)) ≡ cond (eqb held.key.port port) 1 0 + count_on port (records_seen bytes_of (drop (i + 1) records))
-  unfolding count_on
-  count_on_more port records i held within at =
-      ap (λ (rs : List (Record A)). count_on port (records_seen bytes_of rs)) (drop_more records i held within ∙ ap (λ (r : Record A). r ∷ drop (i + 1) records) (sym at))
-
-  pub count_on_end : (port : ℕ) (records : List (Record A)) (i : ℕ) → length records ≤ i → count_on port (records_seen bytes_of (drop i records)) ≡ 0
-  unfolding count_on
-  count_on_end port records i past = ap (λ (rs : List (Record A)). count_on port (records_seen bytes_of rs)) (drop_all i records past)
-
-  pub count_on_yes : (port : ℕ) (records : List (Record A)) (i : ℕ) (held : Record A) → i < length records → held ≡ get_or records i held → held.key.port ≡ port → count_on port (records_seen bytes_of (drop i records)) ≡ 1 + count_on port (records_seen bytes_of (drop (i + 1) records))
-  count_on_yes port records i held within at is =
-      count_on_more port records i held within at ∙ ap (λ (b : Bool). cond b 1 0 + count_on port (records_seen bytes_of (drop (i + 1) records))) (eq-eqb held.key.port port is)
-
-  pub count_on_no : (port : ℕ) (records : List (Record A)) (i : ℕ) (held : Record A) → i < length records → held ≡ get_or records i held → held.key.port ≢ port → count_on port (records_seen bytes_of (drop i records)) ≡ count_on port (records_seen bytes_of (drop (i + 1) records))
-  count_on_no port records i held within at differs =
-      count_on_more port records i held within at ∙ ap (λ (b : Bool). cond b 1 0 + count_on port (records_seen bytes_of (drop (i + 1) records))) (ne_eqb held.key.port port differs) ∙ (omega arith)

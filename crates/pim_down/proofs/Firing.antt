@@ -5,6 +5,7 @@ use Rattle.std.proofs.lemmas.List.{map-append, take-map, drop-map}
 use Rattle.std.proofs.lemmas.Bool.{ltb-false, false≢true}
 use Rattle.std.proofs.lemmas.List.Quantifiers.{position-Some}
 use Rattle.std.proofs.lemmas.List.Sums.{fails_before_first}
+use Rattle.pim_down.specs.declared.held.Held.{Held}
 use Rattle.pim_down.specs.declared.key.What.{What}
 use Rattle.pim_down.specs.declared.key.What.TheVariants.{Star, Source, Rpt}
 use Rattle.pim_down.specs.declared.machine.Pending.{Pending}
@@ -66,10 +67,10 @@ pub echo_later : (k : ℕ) (held : Record (List ℕ)) → echo_of (record_after 
 echo_later k held = rw (several_later k held.machine.pending) refl
 
 module _ {A : Type 0} (bytes_of : A → List ℕ) (now : ℕ) where
-  later : Record A → Record (List ℕ)
+  later : Held A → Record (List ℕ)
   later held = record_after now (record_seen bytes_of held)
 
-  shown_is : (records : List (Record A)) → shown bytes_of now records ≡ map (λ (held : Record A). record_after now (record_seen bytes_of held)) records
+  shown_is : (records : List (Held A)) → shown bytes_of now records ≡ map (λ (held : Held A). record_after now (record_seen bytes_of held)) records
   shown_is records = map_map (record_seen bytes_of) (record_after now) records
 
   -- what is left of a list of which the record at a place was replaced
@@ -80,20 +81,20 @@ module _ {A : Type 0} (bytes_of : A → List ℕ) (now : ℕ) where
       ∙ (λ k. sym (take-map (record_after now) i records) k ++ (map (record_after now) middle ++ sym (drop-map (record_after now) (i + 1) records) k))
 
   -- the first due prune-pending timer fires
-  pub fired_pending : (records new : List (Record A)) (place : ℕ) (step : Step (List ℕ)) (d : Record A) →
-      position (λ (held : Record A). ppt_due (record_after now (record_seen bytes_of held))) records ≡ Some place →
+  pub fired_pending : (records new : List (Held A)) (place : ℕ) (step : Step (List ℕ)) (d : Held A) →
+      position (λ (held : Held A). ppt_due (record_after now (record_seen bytes_of held))) records ≡ Some place →
       step ≡ echo_of (record_seen bytes_of (get_or records place d)) →
       records_seen bytes_of new ≡ take place (records_seen bytes_of records) ++ (after_ppt (record_seen bytes_of (get_or records place d)) ++ drop (place + 1) (records_seen bytes_of records)) →
       fired (shown bytes_of now records) ≡ Some (step, shown bytes_of now new)
   unfolding fired
   fired_pending records new place step d found told left =
-      let here = position-Some (λ (held : Record A). ppt_due (record_after now (record_seen bytes_of held))) records place d found in
+      let here = position-Some (λ (held : Held A). ppt_due (record_after now (record_seen bytes_of held))) records place d found in
       let held = record_seen bytes_of (get_or records place d) in
       let same = shown_is records in
-      let first : first_due ppt_due (shown bytes_of now records) ≡ Some (record_after now held) = ap (first_due ppt_due) same ∙ first_due_at (λ (r : Record A). record_after now (record_seen bytes_of r)) ppt_due records place d here.0 here.1 here.2 in
+      let first : first_due ppt_due (shown bytes_of now records) ≡ Some (record_after now held) = ap (first_due ppt_due) same ∙ first_due_at (λ (r : Held A). record_after now (record_seen bytes_of r)) ppt_due records place d here.0 here.1 here.2 in
       let n : suc place ≡ place + 1 = omega arith in
       let rest : with_first ppt_due after_ppt (shown bytes_of now records) ≡ take place (shown bytes_of now records) ++ (after_ppt (record_after now held) ++ drop (place + 1) (shown bytes_of now records)) =
-      ap (with_first ppt_due after_ppt) same ∙ with_first_at (λ (r : Record A). record_after now (record_seen bytes_of r)) ppt_due after_ppt records place d here.0 here.1 here.2
+      ap (with_first ppt_due after_ppt) same ∙ with_first_at (λ (r : Held A). record_after now (record_seen bytes_of r)) ppt_due after_ppt records place d here.0 here.1 here.2
       ∙ (λ i. take place (sym same i) ++ (after_ppt (record_after now held) ++ drop (n i) (sym same i))) in
       let after : shown bytes_of now new ≡ take place (shown bytes_of now records) ++ (after_ppt (record_after now held) ++ drop (place + 1) (shown bytes_of now records)) =
       ap (map (record_after now)) left ∙ shown_parts (records_seen bytes_of records) place (after_ppt held)
@@ -101,33 +102,33 @@ module _ {A : Type 0} (bytes_of : A → List ℕ) (now : ℕ) where
       let answer : echo_of (record_after now held) ≡ step = echo_later now held ∙ sym told in
       rw first (λ i. Some (answer i, (rest ∙ sym after) i))
 
-  none_due : (due : Record (List ℕ) → Bool) (records : List (Record A)) → position (λ (held : Record A). due (record_after now (record_seen bytes_of held))) records ≡ None → first_due due (shown bytes_of now records) ≡ None
+  none_due : (due : Record (List ℕ) → Bool) (records : List (Held A)) → position (λ (held : Held A). due (record_after now (record_seen bytes_of held))) records ≡ None → first_due due (shown bytes_of now records) ≡ None
   none_due due records none =
-      ap (first_due due) (shown_is records) ∙ first_due_none (λ (r : Record A). record_after now (record_seen bytes_of r)) due records (position_none (λ (held : Record A). due (record_after now (record_seen bytes_of held))) records none)
+      ap (first_due due) (shown_is records) ∙ first_due_none (λ (r : Held A). record_after now (record_seen bytes_of r)) due records (position_none (λ (held : Held A). due (record_after now (record_seen bytes_of held))) records none)
 
   -- no prune-pending timer is due, and the first due expiry timer fires
-  pub fired_expiry : (records : List (Record A)) (place : ℕ) (d : Record A) →
-      position (λ (held : Record A). ppt_due (record_after now (record_seen bytes_of held))) records ≡ None →
-      position (λ (held : Record A). et_due (record_after now (record_seen bytes_of held))) records ≡ Some place →
+  pub fired_expiry : (records : List (Held A)) (place : ℕ) (d : Held A) →
+      position (λ (held : Held A). ppt_due (record_after now (record_seen bytes_of held))) records ≡ None →
+      position (λ (held : Held A). et_due (record_after now (record_seen bytes_of held))) records ≡ Some place →
       fired (shown bytes_of now records) ≡ Some (Reached, shown bytes_of now (remove records place))
   unfolding fired
   fired_expiry records place d none found =
-      let here = position-Some (λ (held : Record A). et_due (record_after now (record_seen bytes_of held))) records place d found in
+      let here = position-Some (λ (held : Held A). et_due (record_after now (record_seen bytes_of held))) records place d found in
       let held = record_seen bytes_of (get_or records place d) in
       let same = shown_is records in
       let quiet = none_due ppt_due records none in
-      let first : first_due et_due (shown bytes_of now records) ≡ Some (record_after now held) = ap (first_due et_due) same ∙ first_due_at (λ (r : Record A). record_after now (record_seen bytes_of r)) et_due records place d here.0 here.1 here.2 in
+      let first : first_due et_due (shown bytes_of now records) ≡ Some (record_after now held) = ap (first_due et_due) same ∙ first_due_at (λ (r : Held A). record_after now (record_seen bytes_of r)) et_due records place d here.0 here.1 here.2 in
       let n : suc place ≡ place + 1 = omega arith in
       let rest : with_first et_due after_et (shown bytes_of now records) ≡ take place (shown bytes_of now records) ++ drop (place + 1) (shown bytes_of now records) =
-      ap (with_first et_due after_et) same ∙ with_first_at (λ (r : Record A). record_after now (record_seen bytes_of r)) et_due after_et records place d here.0 here.1 here.2
+      ap (with_first et_due after_et) same ∙ with_first_at (λ (r : Held A). record_after now (record_seen bytes_of r)) et_due after_et records place d here.0 here.1 here.2
       ∙ (λ i. take place (sym same i) ++ drop (n i) (sym same i)) in
       let after : shown bytes_of now (remove records place) ≡ take place (shown bytes_of now records) ++ drop (place + 1) (shown bytes_of now records) =
       ap (map (record_after now)) (map_remove (record_seen bytes_of) records place) ∙ shown_parts (records_seen bytes_of records) place [] in
       rw (quiet, first) (λ i. Some (Reached, (rest ∙ sym after) i))
 
-  pub fired_none : (records : List (Record A)) →
-      position (λ (held : Record A). ppt_due (record_after now (record_seen bytes_of held))) records ≡ None →
-      position (λ (held : Record A). et_due (record_after now (record_seen bytes_of held))) records ≡ None →
+  pub fired_none : (records : List (Held A)) →
+      position (λ (held : Held A). ppt_due (record_after now (record_seen bytes_of held))) records ≡ None →
+      position (λ (held : Held A). et_due (record_after now (record_seen bytes_of held))) records ≡ None →
       fired (shown bytes_of now records) ≡ None
   unfolding fired
   fired_none records no_ppt no_et = let quiet = none_due ppt_due records no_ppt in let still = none_due et_due records no_et in rw (quiet, still) refl

@@ -3,6 +3,7 @@ use Rattle.std.proofs.Common.{◌≡◌, ◌≢◌, ◌<◌, ℕ, List, Option, 
 use Rattle.pim_addr.specs.declared.family.AddressFamily.{AddressFamily}
 use Rattle.pim_jp.specs.Message.{Message}
 use Rattle.pim_jp.specs.Canonical.{IsMessage}
+use Rattle.pim_down.specs.declared.held.Held.{Held}
 use Rattle.pim_down.specs.declared.key.Key.{Key}
 use Rattle.pim_down.specs.Tables.{Start}
 use Rattle.pim_down.specs.declared.machine.Record.{Record}
@@ -14,34 +15,34 @@ use Rattle.pim_down.specs.Time.{Downstream, record_after}
 use Rattle.pim_down.specs.Sound.{IsSound}
 use Rattle.pim_down.specs.Heard.{heard, needed_for, new_for, IsWithin, MayWantMemory}
 use Rattle.pim_down.specs.Seen.{records_seen, shown}
-use Rattle.pim_down.specs.Running.{state_at, start_after}
+use Rattle.pim_down.specs.Running.{downstream_at, start_after}
 use Rattle.pim_down.proofs.Origin.{hearing_later, count_on_later, count_new_later}
 use Rattle.pim_down.proofs.Heard.{hearing_elsewhere}
 use Rattle.pim_down.proofs.SoundHeard.{sound_heard}
 
 module _ {A : Type 0} (bytes_of : A → List ℕ) (ports limit moment port : ℕ) (message : Message) (known : Option (List ℕ)) (timing : Timing) where
-  pub heard_is : (start : Start) (old new : List (Record A)) (state : Downstream) → start_after moment start ≡ start_of message.holdtime timing → state_at bytes_of ports limit moment old ≡ state → records_seen bytes_of new ≡ hearing port start (events_of known message) (records_seen bytes_of old) → state_at bytes_of ports limit moment new ≡ heard port message known timing state
+  pub heard_is : (start : Start) (old new : List (Held A)) (state : Downstream) → start_after moment start ≡ start_of message.holdtime timing → downstream_at bytes_of ports limit moment old ≡ state → records_seen bytes_of new ≡ hearing port start (events_of known message) (records_seen bytes_of old) → downstream_at bytes_of ports limit moment new ≡ heard port message known timing state
   heard_is start old new state starts view is =
       let events = events_of known message in
       let later : shown bytes_of moment new ≡ hearing port (start_of message.holdtime timing) events (shown bytes_of moment old) =
       ap (λ (rs : List (Record (List ℕ))). map (record_after moment) rs) is
       ∙ hearing_later moment port start events (records_seen bytes_of old)
       ∙ ap (λ (s : Start). hearing port s events (shown bytes_of moment old)) starts in
-      let whole : state_at bytes_of ports limit moment new ≡ heard port message known timing (state_at bytes_of ports limit moment old) =
+      let whole : downstream_at bytes_of ports limit moment new ≡ heard port message known timing (downstream_at bytes_of ports limit moment old) =
       ap (λ (rs : List (Record (List ℕ))). record { ports = ports; limit = limit; moment = moment; records = rs }) later in
       whole ∙ ap (heard port message known timing) view
 
-  needed_is : (old : List (Record A)) → needed port (records_seen bytes_of old) (events_of known message) ≡ needed_for port message known (state_at bytes_of ports limit moment old)
+  needed_is : (old : List (Held A)) → needed port (records_seen bytes_of old) (events_of known message) ≡ needed_for port message known (downstream_at bytes_of ports limit moment old)
   needed_is old =
       let held = count_on_later moment port (records_seen bytes_of old) in
       let new = count_new_later moment port (events_of known message) (records_seen bytes_of old) in
       omega arith
 
-  pub within_is : {T : Type 0} (r : Result T HearFault) (old : List (Record A)) (state : Downstream) → state_at bytes_of ports limit moment old ≡ state → IsWithin limit (needed port (records_seen bytes_of old) (events_of known message)) r → IsWithin state.limit (needed_for port message known state) r
+  pub within_is : {T : Type 0} (r : Result T HearFault) (old : List (Held A)) (state : Downstream) → downstream_at bytes_of ports limit moment old ≡ state → IsWithin limit (needed port (records_seen bytes_of old) (events_of known message)) r → IsWithin state.limit (needed_for port message known state) r
   within_is r old state view within =
       subst (λ (s : Downstream). IsWithin s.limit (needed_for port message known s) r) view (subst (λ (n : ℕ). IsWithin limit n r) (needed_is old) within)
 
-  pub memory_is : {T : Type 0} (r : Result T HearFault) (old : List (Record A)) (state : Downstream) → state_at bytes_of ports limit moment old ≡ state → MayWantMemory (count_new port (records_seen bytes_of old) (events_of known message)) r → MayWantMemory (new_for port message known state) r
+  pub memory_is : {T : Type 0} (r : Result T HearFault) (old : List (Held A)) (state : Downstream) → downstream_at bytes_of ports limit moment old ≡ state → MayWantMemory (count_new port (records_seen bytes_of old) (events_of known message)) r → MayWantMemory (new_for port message known state) r
   memory_is r old state view may =
       subst (λ (s : Downstream). MayWantMemory (new_for port message known s) r) view
       (subst (λ (n : ℕ). MayWantMemory n r) (sym (count_new_later moment port (events_of known message) (records_seen bytes_of old))) may)

@@ -3,6 +3,7 @@ use Rattle.std.proofs.Common.{◌≡◌, ℕ, zero, suc, ◌+◌, ◌≤◌, Boo
 use Rattle.std.proofs.lemmas.Bool.{ltb-true}
 use Rattle.std.specs.List.{AllByRecursion}
 use Rattle.pim_addr.specs.declared.family.AddressFamily.{AddressFamily}
+use Rattle.pim_down.specs.declared.held.Held.{Held}
 use Rattle.pim_down.specs.declared.key.What.{What}
 use Rattle.pim_down.specs.declared.key.What.TheVariants.{Star, Source, Rpt}
 use Rattle.pim_down.specs.declared.key.Key.{Key}
@@ -11,8 +12,8 @@ use Rattle.pim_down.specs.declared.machine.Record.{Record}
 use Rattle.pim_down.specs.declared.step.Step.{Step}
 use Rattle.pim_down.specs.declared.step.Step.TheVariants.{Reached, Echo}
 use Rattle.pim_down.specs.Key.{same_key}
-use Rattle.pim_down.specs.Records.{IsBelow, IsAscending, machine_at, recorded, count_on, state_of_machine, state_at}
-use Rattle.pim_down.specs.Running.{state_at as state_at_moment}
+use Rattle.pim_down.specs.Records.{IsBelow, IsAscending, machine_at, recorded, count_on, state_of_machine, state_of}
+use Rattle.pim_down.specs.Running.{downstream_at}
 use Rattle.pim_down.specs.Time.{Downstream, record_after, machine_after, tick, on_ppt, after_et, after_ppt, et_due, ppt_due, first_due, with_first, fire_et, fire_ppt, fired, echo_of, Outcome, rests, moves, echoes, with_records, told, step_by, step, run_on, run_within, Runs}
 use Rattle.pim_down.specs.Sound.{is_temporary, IsSettled, IsReal, IsSound}
 use Rattle.pim_down.proofs.Real.{real_later, real_ppt}
@@ -188,7 +189,7 @@ sound_runs family moment state after answer small sound runs = sound_within fami
 
 -- ---- what callers see
 
-machine_state_later : (k : ℕ) (key : Key (List ℕ)) (records : List (Record (List ℕ))) → state_at key (map (record_after k) records) ≡ state_at key records
+machine_state_later : (k : ℕ) (key : Key (List ℕ)) (records : List (Record (List ℕ))) → state_of key (map (record_after k) records) ≡ state_of key records
 unfolding machine_at
 machine_state_later k key [] = refl
 machine_state_later k key (held ∷ records) =
@@ -198,13 +199,13 @@ machine_state_later k key (held ∷ records) =
     ]
 
 -- a state looked up in records whose times count from the moment 0
-pub state_seen : (k : ℕ) (key : Key (List ℕ)) (records : List (Record (List ℕ))) (state : Downstream) (machine : Option Machine) → state.records ≡ map (record_after k) records → machine ≡ machine_at key records → state_of_machine machine ≡ state_at key state.records
+pub state_seen : (k : ℕ) (key : Key (List ℕ)) (records : List (Record (List ℕ))) (state : Downstream) (machine : Option Machine) → state.records ≡ map (record_after k) records → machine ≡ machine_at key records → state_of_machine machine ≡ state_of key state.records
 state_seen k key records state machine seen at =
-    ap state_of_machine at ∙ sym (machine_state_later k key records) ∙ ap (state_at key) (sym seen)
+    ap state_of_machine at ∙ sym (machine_state_later k key records) ∙ ap (state_of key) (sym seen)
 
-pub sound_at_first : (family : AddressFamily) {A : Type 0} (bytes_of : A → List ℕ) (ports limit : ℕ) (records : List (Record A)) → records ≡ [] → ports ≤ 64 → limit ≤ 100000 → IsSound family (state_at_moment bytes_of ports limit 0 records)
+pub sound_at_first : (family : AddressFamily) {A : Type 0} (bytes_of : A → List ℕ) (ports limit : ℕ) (records : List (Held A)) → records ≡ [] → ports ≤ 64 → limit ≤ 100000 → IsSound family (downstream_at bytes_of ports limit 0 records)
 unfolding IsAscending IsSettled count_on
-sound_at_first family {A} bytes_of ports limit records none small_ports small_limit = subst (λ (rs : List (Record A)). IsSound family (state_at_moment bytes_of ports limit 0 rs)) (sym none) (empty ports limit small_ports small_limit)
+sound_at_first family {A} bytes_of ports limit records none small_ports small_limit = subst (λ (rs : List (Held A)). IsSound family (downstream_at bytes_of ports limit 0 rs)) (sym none) (empty ports limit small_ports small_limit)
   where
     empty : (ports limit : ℕ) → ports ≤ 64 → limit ≤ 100000 → IsSound family (record { ports = ports; limit = limit; moment = 0; records = [] })
     empty ports limit p l = record { ports = p; limit = l; moment = omega arith; ascending = tt; settled = tt; real = tt; within = λ port. omega arith }

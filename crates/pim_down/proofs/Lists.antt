@@ -2,11 +2,12 @@
 use Rattle.std.proofs.Common.{◌≡◌, ℕ, suc, ◌+◌, ◌<◌, List, ◌∷◌, ◌++◌, Option, Some, None, map, length, take, drop, set, get_or, sym, ap, ◌∙◌, arith, add-one}
 use Rattle.std.specs.List.{insert, remove}
 use Rattle.std.proofs.lemmas.List.{map-append, take-map, drop-map, set_split, get_or-map}
+use Rattle.pim_down.specs.declared.held.Held.{Held}
 use Rattle.pim_down.specs.declared.key.Key.{Key}
-use Rattle.pim_down.specs.declared.machine.Machine.{Machine}
+use Rattle.pim_down.specs.declared.held.Timed.{Timed}
 use Rattle.pim_down.specs.declared.machine.Record.{Record}
 use Rattle.pim_down.specs.Records.{recorded}
-use Rattle.pim_down.specs.Seen.{key_seen, record_seen, records_seen}
+use Rattle.pim_down.specs.Seen.{machine_seen, key_seen, record_seen, records_seen}
 
 module _ {X Y : Type 0} (f : X → Y) where
   map_parts : (xs ys : List X) (x : X) → map f (xs ++ x ∷ ys) ≡ map f xs ++ f x ∷ map f ys
@@ -34,21 +35,21 @@ module _ {X Y : Type 0} (f : X → Y) where
   map_at xs i x within at d = get_or-map f xs i x d within ∙ ap f (sym at)
 
 module _ {A : Type 0} (bytes_of : A → List ℕ) where
-  pub replaced_some : (items : List (Record A)) (place : ℕ) (key : Key A) (machine : Machine) (option : Option Machine) → place < length items → option ≡ Some machine →
-      records_seen bytes_of (set items place (record { key = key; machine = machine })) ≡ take place (records_seen bytes_of items) ++ (recorded (key_seen bytes_of key) option ++ drop (place + 1) (records_seen bytes_of items))
+  pub replaced_some : (items : List (Held A)) (place : ℕ) (key : Key A) (machine : Timed) (option : Option Timed) → place < length items → option ≡ Some machine →
+      records_seen bytes_of (set items place (record { key = key; machine = machine })) ≡ take place (records_seen bytes_of items) ++ (recorded (key_seen bytes_of key) (machine_seen option) ++ drop (place + 1) (records_seen bytes_of items))
   replaced_some items place key machine option within some =
-      let new : Record A = record { key = key; machine = machine } in
+      let new : Held A = record { key = key; machine = machine } in
       map_set (record_seen bytes_of) items place new within
-      ∙ (λ i. take place (records_seen bytes_of items) ++ (recorded (key_seen bytes_of key) (sym some i) ++ drop (place + 1) (records_seen bytes_of items)))
+      ∙ (λ i. take place (records_seen bytes_of items) ++ (recorded (key_seen bytes_of key) (machine_seen (sym some i)) ++ drop (place + 1) (records_seen bytes_of items)))
 
-  pub replaced_none : (items new : List (Record A)) (place : ℕ) (key : Key (List ℕ)) (option : Option Machine) → new ≡ remove items place → option ≡ None →
-      records_seen bytes_of new ≡ take place (records_seen bytes_of items) ++ (recorded key option ++ drop (place + 1) (records_seen bytes_of items))
+  pub replaced_none : (items new : List (Held A)) (place : ℕ) (key : Key (List ℕ)) (option : Option Timed) → new ≡ remove items place → option ≡ None →
+      records_seen bytes_of new ≡ take place (records_seen bytes_of items) ++ (recorded key (machine_seen option) ++ drop (place + 1) (records_seen bytes_of items))
   replaced_none items new place key option removed none =
       ap (records_seen bytes_of) removed ∙ map_remove (record_seen bytes_of) items place
-      ∙ ap (λ (o : Option Machine). take place (records_seen bytes_of items) ++ (recorded key o ++ drop (place + 1) (records_seen bytes_of items))) (sym none)
+      ∙ ap (λ (o : Option Timed). take place (records_seen bytes_of items) ++ (recorded key (machine_seen o) ++ drop (place + 1) (records_seen bytes_of items))) (sym none)
 
-  pub inserted : (items new : List (Record A)) (place : ℕ) (key : Key A) (machine : Machine) (option : Option Machine) → new ≡ insert items place (record { key = key; machine = machine }) → option ≡ Some machine →
-      records_seen bytes_of new ≡ take place (records_seen bytes_of items) ++ (recorded (key_seen bytes_of key) option ++ drop place (records_seen bytes_of items))
+  pub inserted : (items new : List (Held A)) (place : ℕ) (key : Key A) (machine : Timed) (option : Option Timed) → new ≡ insert items place (record { key = key; machine = machine }) → option ≡ Some machine →
+      records_seen bytes_of new ≡ take place (records_seen bytes_of items) ++ (recorded (key_seen bytes_of key) (machine_seen option) ++ drop place (records_seen bytes_of items))
   inserted items new place key machine option put some =
       ap (records_seen bytes_of) put ∙ map_insert (record_seen bytes_of) items place (record { key = key; machine = machine })
-      ∙ ap (λ (o : Option Machine). take place (records_seen bytes_of items) ++ (recorded (key_seen bytes_of key) o ++ drop place (records_seen bytes_of items))) (sym some)
+      ∙ ap (λ (o : Option Timed). take place (records_seen bytes_of items) ++ (recorded (key_seen bytes_of key) (machine_seen o) ++ drop place (records_seen bytes_of items))) (sym some)

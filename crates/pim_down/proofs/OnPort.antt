@@ -9,6 +9,7 @@ use Rattle.std.specs.List.Sorted.{IsNonDecreasingBy, IsPartitionPoint}
 use Rattle.std.proofs.lemmas.Bool.{false≢true, ltb-true, ltb-false, leb-true, eq-eqb}
 use Rattle.std.proofs.lemmas.Bool.Decides.{nat_tests}
 use Rattle.std.proofs.lemmas.List.{get_or-drop, length-drop, length-map}
+use Rattle.pim_down.specs.declared.held.Held.{Held}
 use Rattle.pim_down.specs.declared.key.Key.{Key}
 use Rattle.pim_down.specs.declared.machine.Record.{Record}
 use Rattle.pim_down.specs.Key.{address_cmp, what_cmp, key_cmp}
@@ -34,13 +35,13 @@ ports_rise a b e = by (ltb b.port a.port) refl
     by false t = ltb-false b.port a.port t
 
 module _ {A : Type 0} (bytes_of : A → List ℕ) where
-  below_at : (key : Key (List ℕ)) (records : List (Record A)) → IsBelow key (records_seen bytes_of records) → (j : ℕ) (d : Record A) → j < length records → key.port ≤ (get_or records j d).key.port
+  below_at : (key : Key (List ℕ)) (records : List (Held A)) → IsBelow key (records_seen bytes_of records) → (j : ℕ) (d : Held A) → j < length records → key.port ≤ (get_or records j d).key.port
   unfolding IsBelow
   below_at key [] below j d within = absurd (omega arith)
   below_at key (held ∷ records) below zero d within = ports_rise key _ below.0
   below_at key (held ∷ records) below (suc j) d within = below_at key records below.1 j d (omega arith)
 
-  pub rising : (records : List (Record A)) → IsAscending (records_seen bytes_of records) → IsNonDecreasingBy (λ (held : Record A). held.key.port) records
+  pub rising : (records : List (Held A)) → IsAscending (records_seen bytes_of records) → IsNonDecreasingBy (λ (held : Held A). held.key.port) records
   unfolding IsAscending
   rising [] a i j d le within = absurd (omega arith)
   rising (held ∷ records) a zero zero d le within = omega arith
@@ -82,19 +83,19 @@ equal_between : (a b : ℕ) → ltb a b ≡ false → leb a b ≡ true → eqb a
 equal_between a b e f = grind (arith, nat_tests)
 
 module _ {A : Type 0} (bytes_of : A → List ℕ) (port : ℕ) where
-  pub together : (records : List (Record A)) (first count : ℕ) →
-      IsPartitionPoint (λ (held : Record A). ltb held.key.port port ≡ true) (λ (held : Record A). ltb held.key.port port ≡ false) records first →
-      IsPartitionPoint (λ (held : Record A). leb held.key.port port ≡ true) (λ (held : Record A). leb held.key.port port ≡ false) (drop first records) count →
+  pub together : (records : List (Held A)) (first count : ℕ) →
+      IsPartitionPoint (λ (held : Held A). ltb held.key.port port ≡ true) (λ (held : Held A). ltb held.key.port port ≡ false) records first →
+      IsPartitionPoint (λ (held : Held A). leb held.key.port port ≡ true) (λ (held : Held A). leb held.key.port port ≡ false) (drop first records) count →
       records_seen bytes_of (take count (drop first records)) ≡ filter (is_on port) (records_seen bytes_of records)
   together records first count before after =
-      let p : Record A → Bool = λ (held : Record A). eqb held.key.port port in
+      let p : Held A → Bool = λ (held : Held A). eqb held.key.port port in
       let from = drop first records in
       let long = length-drop first records in
-      let passes : (k : ℕ) (d : Record A) → k < count → k < length from → p (get_or from k d) ≡ true = λ k d h w.
-          equal_between _ _
-          (subst (λ (held : Record A). ltb held.key.port port ≡ false) (sym (get_or-drop first records k d)) (before.1 (first + k) d (omega arith) (omega arith)))
-          (after.0 k d (omega arith) h) in
-      let fails : (k : ℕ) (d : Record A) → count ≤ k → k < length from → p (get_or from k d) ≡ false = λ k d h w. apart_above _ _ (after.1 k d h w) in
+      let passes : (k : ℕ) (d : Held A) → k < count → k < length from → p (get_or from k d) ≡ true = λ k d h w.
+      equal_between _ _
+      (subst (λ (held : Held A). ltb held.key.port port ≡ false) (sym (get_or-drop first records k d)) (before.1 (first + k) d (omega arith) (omega arith)))
+      (after.0 k d (omega arith) h) in
+      let fails : (k : ℕ) (d : Held A) → count ≤ k → k < length from → p (get_or from k d) ≡ false = λ k d h w. apart_above _ _ (after.1 k d h w) in
       let here : take count from ≡ filter p records = front p from count passes fails ∙ behind p records first (λ k d h w. apart _ _ (before.0 k d (omega arith) h)) in
       ap (records_seen bytes_of) here ∙ seen_filter bytes_of (is_on port) records
 
@@ -116,7 +117,7 @@ count_filter port (held ∷ records) =
       | false ↦ let rest = count_filter port records in omega arith
     ]
 
-module _ {A : Type 0} (bytes_of : A → List ℕ) (port : ℕ) (records : List (Record (List ℕ))) (here : List (Record A)) (is : records_seen bytes_of here ≡ filter (is_on port) records) where
+module _ {A : Type 0} (bytes_of : A → List ℕ) (port : ℕ) (records : List (Record (List ℕ))) (here : List (Held A)) (is : records_seen bytes_of here ≡ filter (is_on port) records) where
   pub counted : length here ≡ count_on port records
   counted =
       let long : length (records_seen bytes_of here) ≡ length here = simp length-map in

@@ -29,11 +29,11 @@ greater_later k (Some a) None = refl
 greater_later k (Some a) (Some b) = let e : max a b - k ≡ max (a - k) (b - k) = omega arith in ap (λ n. Some n) e
 
 with_expiry : State → (m : Machine) → Option ℕ → Machine
-with_expiry state m e = record { state = state; expiry = e; pending = m.pending }
+with_expiry state m e = record { state = state; expires_in = e; pending = m.pending }
 
 join_later : (k : ℕ) (start : Start) (state : State) (m : Machine) → m.state ≡ state → option_after k (join_in state start m) ≡ join_in state (start_after k start) (machine_after k m)
-join_later k start Join m e = ap (λ (x : Option ℕ). Some (record { state = Join; expiry = x; pending = (machine_after k m).pending })) (greater_later k m.expiry start.expiry)
-join_later k start PrunePending m e = ap (λ (x : Option ℕ). Some (record { state = Join; expiry = x; pending = None })) (greater_later k m.expiry start.expiry)
+join_later k start Join m e = ap (λ (x : Option ℕ). Some (record { state = Join; expires_in = x; pending = (machine_after k m).pending })) (greater_later k m.expires_in start.expires_in)
+join_later k start PrunePending m e = ap (λ (x : Option ℕ). Some (record { state = Join; expires_in = x; pending = None })) (greater_later k m.expires_in start.expires_in)
 join_later k start Prune m e = refl
 join_later k start PruneTmp m e = refl
 join_later k start PrunePendingTmp m e = refl
@@ -48,9 +48,9 @@ prune_later k start PrunePendingTmp m = refl
 rpt_prune_later : (k : ℕ) (start : Start) (state : State) (m : Machine) → option_after k (rpt_prune_in state start m) ≡ rpt_prune_in state (start_after k start) (machine_after k m)
 rpt_prune_later k start Join m = refl
 rpt_prune_later k start PrunePending m = refl
-rpt_prune_later k start Prune m = ap (λ (x : Option ℕ). Some (record { state = Prune; expiry = x; pending = (machine_after k m).pending })) (greater_later k m.expiry start.expiry)
-rpt_prune_later k start PruneTmp m = ap (λ (x : Option ℕ). Some (record { state = Prune; expiry = x; pending = (machine_after k m).pending })) (greater_later k m.expiry start.expiry)
-rpt_prune_later k start PrunePendingTmp m = ap (λ (x : Option ℕ). Some (record { state = PrunePending; expiry = x; pending = (machine_after k m).pending })) (greater_later k m.expiry start.expiry)
+rpt_prune_later k start Prune m = ap (λ (x : Option ℕ). Some (record { state = Prune; expires_in = x; pending = (machine_after k m).pending })) (greater_later k m.expires_in start.expires_in)
+rpt_prune_later k start PruneTmp m = ap (λ (x : Option ℕ). Some (record { state = Prune; expires_in = x; pending = (machine_after k m).pending })) (greater_later k m.expires_in start.expires_in)
+rpt_prune_later k start PrunePendingTmp m = ap (λ (x : Option ℕ). Some (record { state = PrunePending; expires_in = x; pending = (machine_after k m).pending })) (greater_later k m.expires_in start.expires_in)
 
 star_later : (k : ℕ) (state : State) (m : Machine) → option_after k (star_join_in state m) ≡ star_join_in state (machine_after k m)
 star_later k Join m = refl

@@ -126,13 +126,16 @@ real_state (Rpt source) PrunePendingTmp e s = absurd (false≢true (sym s))
 module _ (family : AddressFamily) (ports : ℕ) where
   fits_all : (records : List (Record (List ℕ))) → AllByRecursion (IsReal family ports) records → AllByRecursion (Fits family ports) records
   fits_all [] r = tt
-  fits_all (held ∷ records) r = (record {
-    port = r.0.port;
-    group = r.0.group;
-    source = r.0.source;
-    state = fits_state held.key.what held.machine.state r.0.state;
-    timer = r.0.timer ∙ fits_timer held.key.what held.machine.state r.0.state;
-  }, fits_all records r.1)
+  fits_all (held ∷ records) r = (
+    record {
+      port = r.0.port;
+      group = r.0.group;
+      source = r.0.source;
+      state = fits_state held.key.what held.machine.state r.0.state;
+      timer = r.0.timer ∙ fits_timer held.key.what held.machine.state r.0.state;
+    },
+    fits_all records r.1,
+  )
 
   real_all : (records : List (Record (List ℕ))) → AllByRecursion (Fits family ports) records → IsSettled records → AllByRecursion (IsReal family ports) records
   unfolding IsSettled
@@ -174,7 +177,7 @@ module _ (family : AddressFamily) (ports : ℕ) where
       fits_recorded held.key (change held.key (Some held.machine)) (each_changed change records) (keeps held.key (Some held.machine) fs.0) (fits_each change keeps records fs.1)
 
   -- another state and other timers for the machine of a key
-  fits_with : (key : Key (List ℕ)) (machine : Machine) (state : State) (expiry : Option ℕ) (pending : Option Pending) → Fits family ports (record { key = key; machine = machine }) → may_have key.what state ≡ true → is_some pending ≡ waits state → MayFit key (Some (record { state = state; expiry = expiry; pending = pending }))
+  fits_with : (key : Key (List ℕ)) (machine : Machine) (state : State) (expiry : Option ℕ) (pending : Option Pending) → Fits family ports (record { key = key; machine = machine }) → may_have key.what state ≡ true → is_some pending ≡ waits state → MayFit key (Some (record { state = state; expires_in = expiry; pending = pending }))
   fits_with key machine state expiry pending f s t = record { port = f.port; group = f.group; source = f.source; state = s; timer = t }
 
   fits_join : (key : Key (List ℕ)) → ((s : State) → may_have key.what s ≡ joined_or_pending s) → key.port < ports → IsGroup family key.group → HasSource family key.what → (start : Start) (m : Option Machine) → MayFit key m → MayFit key (on_join start m)
@@ -195,7 +198,7 @@ module _ (family : AddressFamily) (ports : ℕ) where
   fits_prune key is start (Some held) f = by held.state
     where
       by : (s : State) → MayFit key (prune_in s start held)
-      by Join = fits_with key held PrunePending held.expiry (Some start.pending) f (is PrunePending) refl
+      by Join = fits_with key held PrunePending held.expires_in (Some start.pending) f (is PrunePending) refl
       by PrunePending = f
       by Prune = f
       by PruneTmp = f
@@ -233,8 +236,8 @@ module _ (family : AddressFamily) (ports : ℕ) where
     where
       by : (s : State) → held.state ≡ s → MayFit key (star_join_in s held)
       by Join e = f
-      by PrunePending e = fits_with key held PrunePendingTmp held.expiry held.pending f (is PrunePendingTmp refl) (f.timer ∙ ap waits e)
-      by Prune e = fits_with key held PruneTmp held.expiry held.pending f (is PruneTmp refl) (f.timer ∙ ap waits e)
+      by PrunePending e = fits_with key held PrunePendingTmp held.expires_in held.pending f (is PrunePendingTmp refl) (f.timer ∙ ap waits e)
+      by Prune e = fits_with key held PruneTmp held.expires_in held.pending f (is PruneTmp refl) (f.timer ∙ ap waits e)
       by PruneTmp e = f
       by PrunePendingTmp e = f
 
@@ -293,13 +296,16 @@ module _ (family : AddressFamily) (ports : ℕ) where
 
   pub real_later : (k : ℕ) (records : List (Record (List ℕ))) → AllByRecursion (IsReal family ports) records → AllByRecursion (IsReal family ports) (map (record_after k) records)
   real_later k [] rs = tt
-  real_later k (held ∷ records) rs = (record {
-    port = rs.0.port;
-    group = rs.0.group;
-    source = rs.0.source;
-    state = rs.0.state;
-    timer = still_waits k held.machine.pending ∙ rs.0.timer;
-  }, real_later k records rs.1)
+  real_later k (held ∷ records) rs = (
+    record {
+      port = rs.0.port;
+      group = rs.0.group;
+      source = rs.0.source;
+      state = rs.0.state;
+      timer = still_waits k held.machine.pending ∙ rs.0.timer;
+    },
+    real_later k records rs.1,
+  )
 
   -- a record that a timer leaves
   pub real_ppt : (held : Record (List ℕ)) → IsReal family ports held → (records : List (Record (List ℕ))) → AllByRecursion (IsReal family ports) records → AllByRecursion (IsReal family ports) (recorded held.key (on_ppt held.key.what held.machine) ++ records)

@@ -40,16 +40,16 @@ quiet_timers records e = by (first_due ppt_due records) (first_due et_due record
     by (Some held) t f = absurd (false≢true (sym (ap is_some f)))
 
 -- of a machine that is held then neither timer is due
-pub quiet_at : (records : List (Record (List ℕ))) (key : Key (List ℕ)) (machine : Machine) → first_due ppt_due records ≡ None → first_due et_due records ≡ None → machine_at key records ≡ Some machine → (pending_due machine.pending ≡ false) × (expiry_due machine.expiry ≡ false)
+pub quiet_at : (records : List (Record (List ℕ))) (key : Key (List ℕ)) (machine : Machine) → first_due ppt_due records ≡ None → first_due et_due records ≡ None → machine_at key records ≡ Some machine → (pending_due machine.pending ≡ false) × (expiry_due machine.expires_in ≡ false)
 unfolding machine_at
 quiet_at [] key machine p e at = absurd (false≢true (ap is_some at))
 quiet_at (held ∷ records) key machine p e at =
-    elim (same_key key held.key) as (λ b. cond b (Some held.machine) (machine_at key records) ≡ Some machine → (pending_due machine.pending ≡ false) × (expiry_due machine.expiry ≡ false)) [
-      | true ↦ λ f. let same : held.machine ≡ machine = cc in subst (λ (m : Machine). (pending_due m.pending ≡ false) × (expiry_due m.expiry ≡ false)) same ((first_none ppt_due held records p).0, (first_none et_due held records e).0)
+    elim (same_key key held.key) as (λ b. cond b (Some held.machine) (machine_at key records) ≡ Some machine → (pending_due machine.pending ≡ false) × (expiry_due machine.expires_in ≡ false)) [
+      | true ↦ λ f. let same : held.machine ≡ machine = cc in subst (λ (m : Machine). (pending_due m.pending ≡ false) × (expiry_due m.expires_in ≡ false)) same ((first_none ppt_due held records p).0, (first_none et_due held records e).0)
       | false ↦ λ f. quiet_at records key machine (first_none ppt_due held records p).1 (first_none et_due held records e).1 f
     ] at
 
-stays : (key : Key (List ℕ)) (machine : Machine) → pending_due machine.pending ≡ false → expiry_due machine.expiry ≡ false → after_silence 0 key (Some machine) ≡ Some machine
+stays : (key : Key (List ℕ)) (machine : Machine) → pending_due machine.pending ≡ false → expiry_due machine.expires_in ≡ false → after_silence 0 key (Some machine) ≡ Some machine
 stays key machine p e = ap (settled_at key.what) (machine_none machine) ∙ rw (e, p) refl
 
 stays_quiet : (records : List (Record (List ℕ))) → fired records ≡ None → (key : Key (List ℕ)) → after_silence 0 key (machine_at key records) ≡ machine_at key records
@@ -125,20 +125,20 @@ ppt_later : (passed : ℕ) (p : Option Pending) → pending_due p ≡ true → p
 ppt_later passed None e = e
 ppt_later passed (Some timer) e = grind (arith, nat_tests)
 
-expired : (passed : ℕ) (key : Key (List ℕ)) (machine : Machine) → expiry_due machine.expiry ≡ true → None ≡ after_silence passed key (Some machine)
-expired passed key machine due = rw (due_later passed machine.expiry due) refl
+expired : (passed : ℕ) (key : Key (List ℕ)) (machine : Machine) → expiry_due machine.expires_in ≡ true → None ≡ after_silence passed key (Some machine)
+expired passed key machine due = rw (due_later passed machine.expires_in due) refl
 
 pruned : (passed : ℕ) (key : Key (List ℕ)) (machine : Machine) → pending_due machine.pending ≡ true → after_silence passed key (on_ppt key.what machine) ≡ after_silence passed key (Some machine)
 pruned passed key machine due =
-    by key.what ∙ ap (λ b. cond (expiry_due (expiry_after passed machine.expiry)) None (cond b (on_ppt key.what (machine_after passed machine)) (Some (machine_after passed machine)))) (sym (ppt_later passed machine.pending due))
+    by key.what ∙ ap (λ b. cond (expiry_due (expiry_after passed machine.expires_in)) None (cond b (on_ppt key.what (machine_after passed machine)) (Some (machine_after passed machine)))) (sym (ppt_later passed machine.pending due))
   where
     none : (b : Bool) → ◌≡◌ {A = Option Machine} None (cond b None None)
     none true = refl
     none false = refl
 
-    by : (what : What (List ℕ)) → after_silence passed (record { port = key.port; group = key.group; what = what }) (on_ppt what machine) ≡ cond (expiry_due (expiry_after passed machine.expiry)) None (on_ppt what (machine_after passed machine))
-    by Star = none (expiry_due (expiry_after passed machine.expiry))
-    by (Source source) = none (expiry_due (expiry_after passed machine.expiry))
+    by : (what : What (List ℕ)) → after_silence passed (record { port = key.port; group = key.group; what = what }) (on_ppt what machine) ≡ cond (expiry_due (expiry_after passed machine.expires_in)) None (on_ppt what (machine_after passed machine))
+    by Star = none (expiry_due (expiry_after passed machine.expires_in))
+    by (Source source) = none (expiry_due (expiry_after passed machine.expires_in))
     by (Rpt source) = refl
 
 silence_first : (due : Record (List ℕ) → Bool) (change : Record (List ℕ) → Option Machine) (passed : ℕ) (records : List (Record (List ℕ))) (key : Key (List ℕ)) → ((held : Record (List ℕ)) → due held ≡ true → after_silence passed held.key (change held) ≡ after_silence passed held.key (Some held.machine)) → AtFirst due change key records →
@@ -185,11 +185,13 @@ silent_rest moment state quiet reached a e =
 silent_tick : (moment : ℕ) (state after : Downstream) (answer : Step (List ℕ)) → fired state.records ≡ None → state.moment ≤ moment → Silent (tick state) answer after → Silent state answer after
 silent_tick moment state after answer quiet before more a e =
     let rest = more ((kept_later 1 state.records).ascending a) e in
-    let passed : 1 + (after.moment - (state.moment + 1)) ≡ after.moment - state.moment = omega (arith, rest.0) in
-    (omega (arith, rest.0), λ key. rest.1 key
-    ∙ ap (after_silence (after.moment - (state.moment + 1)) key) (at_later 1 key state.records)
-    ∙ silence_more 1 (after.moment - (state.moment + 1)) key (machine_at key state.records)
-    ∙ ap (λ n. after_silence n key (machine_at key state.records)) passed)
+    let passed : 1 + (after.moment - (state.moment + 1)) ≡ after.moment - state.moment = omega (arith, rest.0) in (
+      omega (arith, rest.0),
+      λ key. rest.1 key
+          ∙ ap (after_silence (after.moment - (state.moment + 1)) key) (at_later 1 key state.records)
+          ∙ silence_more 1 (after.moment - (state.moment + 1)) key (machine_at key state.records)
+          ∙ ap (λ n. after_silence n key (machine_at key state.records)) passed,
+    )
 
 silent_fire : (state after : Downstream) (answer : Step (List ℕ)) (records : List (Record (List ℕ))) → fired state.records ≡ Some (Reached, records) → Silent (with_records state records) answer after → Silent state answer after
 silent_fire state after answer records f more a e =
@@ -199,7 +201,7 @@ silent_fire state after answer records f more a e =
 pub silence : (moment : ℕ) (state after : Downstream) → IsAscending state.records → Runs moment state Reached after → (key : Key (List ℕ)) → machine_at key after.records ≡ after_silence (after.moment - state.moment) key (machine_at key state.records)
 silence moment state after a runs =
     (by_run moment Silent (silent_rest moment)
-      (λ s t answer quiet before more. silent_tick moment s t answer quiet (omega arith) more)
-      (λ s t answer records f more. silent_fire s t answer records f more)
-      (λ s port group what records f a e. absurd (no_echo port group what e))
-      state after Reached runs a refl).1
+    (λ s t answer quiet before more. silent_tick moment s t answer quiet (omega arith) more)
+    (λ s t answer records f more. silent_fire s t answer records f more)
+    (λ s port group what records f a e. absurd (no_echo port group what e))
+    state after Reached runs a refl).1

@@ -21,16 +21,16 @@ expiry_more k j (Some ends) = ap (λ n. Some n) (omega arith)
 
 pending_more : (k j : ℕ) (p : Option Pending) → pending_after j (pending_after k p) ≡ pending_after (k + j) p
 pending_more k j None = refl
-pending_more k j (Some timer) = let e : timer.ends - k - j ≡ timer.ends - (k + j) = omega arith in λ i. Some (record { ends = e i; several = timer.several })
+pending_more k j (Some timer) = let e : timer.ends_in - k - j ≡ timer.ends_in - (k + j) = omega arith in λ i. Some (record { ends_in = e i; several = timer.several })
 
 pub machine_more : (k j : ℕ) (held : Machine) → machine_after j (machine_after k held) ≡ machine_after (k + j) held
-machine_more k j held = λ i. record { state = held.state; expiry = expiry_more k j held.expiry i; pending = pending_more k j held.pending i }
+machine_more k j held = λ i. record { state = held.state; expires_in = expiry_more k j held.expires_in i; pending = pending_more k j held.pending i }
 
 pub record_more : (k j : ℕ) (held : Record (List ℕ)) → record_after j (record_after k held) ≡ record_after (k + j) held
 record_more k j held =
     λ i. record {
       key = held.key;
-      machine = record { state = held.machine.state; expiry = expiry_more k j held.machine.expiry i; pending = pending_more k j held.machine.pending i };
+      machine = record { state = held.machine.state; expires_in = expiry_more k j held.machine.expires_in i; pending = pending_more k j held.machine.pending i };
     }
 
 pub records_more : (k j : ℕ) (records : List (Record (List ℕ))) → map (record_after j) (map (record_after k) records) ≡ map (record_after (k + j)) records
@@ -43,17 +43,17 @@ expiry_none (Some ends) = ap (λ n. Some n) (omega arith)
 
 pending_none : (p : Option Pending) → pending_after 0 p ≡ p
 pending_none None = refl
-pending_none (Some timer) = let e : timer.ends - 0 ≡ timer.ends = omega arith in λ i. Some (record { ends = e i; several = timer.several })
+pending_none (Some timer) = let e : timer.ends_in - 0 ≡ timer.ends_in = omega arith in λ i. Some (record { ends_in = e i; several = timer.several })
 
 pub machine_none : (held : Machine) → machine_after 0 held ≡ held
-machine_none held = λ i. record { state = held.state; expiry = expiry_none held.expiry i; pending = pending_none held.pending i }
+machine_none held = λ i. record { state = held.state; expires_in = expiry_none held.expires_in i; pending = pending_none held.pending i }
 
 pub records_none : (records : List (Record (List ℕ))) → map (record_after 0) records ≡ records
 records_none [] = refl
 records_none (held ∷ records) =
     λ i. record {
       key = held.key;
-      machine = record { state = held.machine.state; expiry = expiry_none held.machine.expiry i; pending = pending_none held.machine.pending i };
+      machine = record { state = held.machine.state; expires_in = expiry_none held.machine.expires_in i; pending = pending_none held.machine.pending i };
     } ∷ records_none records i
 
 abbrev pub state_after : ℕ → Downstream → Downstream
@@ -99,7 +99,7 @@ expiry_by k (Some e) = monus_by e k
 
 pending_by : (k : ℕ) (p : Option Pending) → pending_due (pending_after k p) ≡ ends_by k (pending_end p)
 pending_by k None = refl
-pending_by k (Some timer) = monus_by timer.ends k
+pending_by k (Some timer) = monus_by timer.ends_in k
 
 min_by : (a b k : ℕ) → leb (min a b) k ≡ (leb a k || leb b k)
 min_by a b k = grind (arith, nat_tests)
@@ -131,10 +131,10 @@ either_by k (held ∷ records) =
     let e = due_first et_due later rest in
     let both : either_due (later ∷ rest) ≡ ((ppt_due later || is_some (first_due ppt_due rest)) || (et_due later || is_some (first_due et_due rest))) = λ i. p i || e i in
     let turned = shuffled (ppt_due later) (is_some (first_due ppt_due rest)) (et_due later) (is_some (first_due et_due rest)) in
-    let here : (et_due later || ppt_due later) ≡ ends_by k (sooner held.machine.expiry (pending_end held.machine.pending)) =
-    (λ i. expiry_by k held.machine.expiry i || pending_by k held.machine.pending i) ∙ sym (sooner_by k held.machine.expiry (pending_end held.machine.pending)) in
+    let here : (et_due later || ppt_due later) ≡ ends_by k (sooner held.machine.expires_in (pending_end held.machine.pending)) =
+    (λ i. expiry_by k held.machine.expires_in i || pending_by k held.machine.pending i) ∙ sym (sooner_by k held.machine.expires_in (pending_end held.machine.pending)) in
     let all : ((et_due later || ppt_due later) || either_due rest) ≡ ends_by k (first_end (held ∷ records)) =
-    (λ i. here i || either_by k records i) ∙ sym (sooner_by k (sooner held.machine.expiry (pending_end held.machine.pending)) (first_end records)) in
+    (λ i. here i || either_by k records i) ∙ sym (sooner_by k (sooner held.machine.expires_in (pending_end held.machine.pending)) (first_end records)) in
     both ∙ turned ∙ all
 
 -- something fires after so many milliseconds exactly where the first end is no later

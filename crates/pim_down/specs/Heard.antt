@@ -1,9 +1,11 @@
 -- A call that hears a message: what it leaves where there is room, and when it refuses.
-use Rattle.std.specs.Prelude.{◌≡◌, ℕ, ◌≤◌, ◌<◌, List, Option, Result, Ok, Err}
+use Rattle.std.specs.Prelude.{◌≡◌, ◌≢◌, ℕ, ◌≤◌, ◌<◌, List, Option, Result, Ok, Err}
 use Rattle.pim_jp.specs.Message.{Message}
+use Rattle.pim_down.specs.declared.key.Key.{Key}
 use Rattle.pim_down.specs.declared.event.Timing.{Timing}
 use Rattle.pim_down.specs.declared.fault.HearFault.{HearFault}
 use Rattle.pim_down.specs.declared.fault.HearFault.TheVariants.{Full, Memory}
+use Rattle.pim_down.specs.Records.{machine_at}
 use Rattle.pim_down.specs.Hearing.{events_of, start_of, hearing, count_new, needed}
 use Rattle.pim_down.specs.Time.{Downstream, with_records}
 
@@ -30,3 +32,7 @@ abbrev pub MayWantMemory : {A : Type 0} → ℕ → Result A HearFault → Type 
 MayWantMemory new (Ok x) = Unit {0}
 MayWantMemory new (Err (Full n)) = Unit {0}
 MayWantMemory new (Err Memory) = 1 ≤ new
+
+-- The machines of the other ports stay.
+abbrev pub OthersStay : ℕ → Downstream → Downstream → Type 0
+OthersStay port old new = (key : Key (List ℕ)) → key.port ≢ port → machine_at key new.records ≡ machine_at key old.records

@@ -53,8 +53,8 @@ events_of known message = flat_map (set_events known) message.sets
 -- the timers that a message starts: ET is its holdtime, PPT the override interval where the port has several neighbours
 abbrev pub start_of : ℕ → Timing → Start
 start_of holdtime timing = record {
-  expiry = if holdtime == 65535 then None else Some (holdtime * 1000);
-  pending = record { ends = if timing.several then timing.override_ms else 0; several = timing.several };
+  expires_in = if holdtime == 65535 then None else Some (holdtime * 1000);
+  pending = record { ends_in = if timing.several then timing.override_ms else 0; several = timing.several };
 }
 
 -- the machine that the event names

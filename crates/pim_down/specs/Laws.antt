@@ -63,7 +63,8 @@ RunKeepsItsBounds = (moment : ℕ) (state after : Downstream) (answer : Step (Li
 -- A run that reaches a moment leaves at each key what the silence until then makes of its machine.
 abbrev pub SilenceActsAtEachKey : Type 0
 SilenceActsAtEachKey = (moment : ℕ) (state after : Downstream) → IsAscending state.records →
-    Runs moment state Reached after → ChangesAtEach (after_silence (after.moment - state.moment)) state.records after.records
+    Runs moment state Reached after →
+    ChangesAtEach (after_silence (after.moment - state.moment)) state.records after.records
 
 -- Every state has a run up to every moment.
 abbrev pub EveryStateHasARun : Type 0
@@ -76,14 +77,16 @@ RunKeepsSound = (family : AddressFamily) (moment : ℕ) (state after : Downstrea
 
 -- A message that can be spelled, heard on a port that is there and has room for it, keeps the machines sound.
 abbrev pub HearingKeepsSound : Type 0
-HearingKeepsSound = (family : AddressFamily) (port : ℕ) (message : Message) (known : Option (List ℕ)) (timing : Timing) (state : Downstream) →
-    IsSound family state → port < state.ports → IsMessage family message → needed_for port message known state ≤ state.limit →
+HearingKeepsSound = (family : AddressFamily) (port : ℕ) (message : Message) (known : Option (List ℕ)) (timing : Timing)
+    (state : Downstream) → IsSound family state → port < state.ports → IsMessage family message →
+    needed_for port message known state ≤ state.limit →
     IsSound family (heard port message known timing state)
 
 -- An echo names a machine that was held, whose PPT with the mark "several" ends when it is told.
 abbrev pub EchoNamesAMachine : Type 0
 EchoNamesAMachine = (moment : ℕ) (state after : Downstream) (port : ℕ) (group : List ℕ) (what : What (List ℕ)) →
-    IsAscending state.records → Runs moment state (Echo port group what) after → IsEchoOf (record { port = port; group = group; what = what }) state after
+    IsAscending state.records → Runs moment state (Echo port group what) after →
+    IsEchoOf (record { port = port; group = group; what = what }) state after
 
 -- Keys compare as equal exactly if they are one.
 abbrev pub KeysAreToldApart : Type 0

@@ -64,5 +64,5 @@ abbrev pub state_of_machine : Option Machine → Option State
 state_of_machine None = None
 state_of_machine (Some machine) = Some machine.state
 
-abbrev pub state_at : Key (List ℕ) → List (Record (List ℕ)) → Option State
-state_at key records = state_of_machine (machine_at key records)
+abbrev pub state_of : Key (List ℕ) → List (Record (List ℕ)) → Option State
+state_of key records = state_of_machine (machine_at key records)

@@ -1,5 +1,6 @@
 -- The state that some records have at a moment.
 use Rattle.std.specs.Prelude.{ℕ, ◌-◌, Bool, ◌&&◌, List}
+use Rattle.pim_down.specs.declared.held.Held.{Held}
 use Rattle.pim_down.specs.declared.machine.Record.{Record}
 use Rattle.pim_down.specs.Tables.{Start}
 use Rattle.pim_down.specs.Time.{Downstream, expiry_after}
@@ -7,12 +8,12 @@ use Rattle.pim_down.specs.Hearing.{is_rpt_on}
 use Rattle.pim_down.specs.Sound.{is_temporary}
 use Rattle.pim_down.specs.Seen.{shown}
 
-abbrev pub state_at : {A : Type 0} → (A → List ℕ) → ℕ → ℕ → ℕ → List (Record A) → Downstream
-state_at bytes_of ports limit moment records = record { ports = ports; limit = limit; moment = moment; records = shown bytes_of moment records }
+abbrev pub downstream_at : {A : Type 0} → (A → List ℕ) → ℕ → ℕ → ℕ → List (Held A) → Downstream
+downstream_at bytes_of ports limit moment records = record { ports = ports; limit = limit; moment = moment; records = shown bytes_of moment records }
 
 -- the timers that a message starts, counted from a later moment
 abbrev pub start_after : ℕ → Start → Start
-start_after passed start = record { expiry = expiry_after passed start.expiry; pending = record { ends = start.pending.ends - passed; several = start.pending.several } }
+start_after passed start = record { expires_in = expiry_after passed start.expires_in; pending = record { ends_in = start.pending.ends_in - passed; several = start.pending.several } }
 
 -- an (S,G,rpt) machine of the port, in a state that ends with the message
 abbrev pub is_over : ℕ → Record (List ℕ) → Bool

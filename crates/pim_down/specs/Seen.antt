@@ -1,19 +1,39 @@
 -- What a contract sees: addresses as their lists of bytes.
 use Rattle.std.specs.Prelude.{ℕ, List, [], ◌∷◌, Option, None, Some, map}
+use Rattle.pim_down.specs.declared.held.Held.{Held}
 use Rattle.pim_down.specs.declared.key.What.{What}
 use Rattle.pim_down.specs.declared.key.What.TheVariants.{Star, Source, Rpt}
 use Rattle.pim_down.specs.declared.key.Key.{Key}
 use Rattle.pim_down.specs.declared.machine.Record.{Record}
 use Rattle.pim_down.specs.declared.event.Event.{Event as EventOf}
-use Rattle.pim_down.specs.declared.machine.Start.{Start as StartOf}
+use Rattle.pim_down.specs.declared.held.Start.{Start as StartOf}
+use Rattle.pim_down.specs.declared.held.Timed.{Timed}
+use Rattle.pim_down.specs.declared.held.Waiting.{Waiting}
+use Rattle.pim_down.specs.declared.machine.Pending.{Pending}
+use Rattle.pim_down.specs.declared.machine.Machine.{Machine}
 use Rattle.pim_down.specs.declared.step.Step.{Step}
 use Rattle.pim_down.specs.declared.step.Step.TheVariants.{Echo, Reached}
 use Rattle.pim_down.specs.Tables.{Start}
 use Rattle.pim_down.specs.Hearing.{Event}
 use Rattle.pim_down.specs.Time.{record_after}
 
+-- A machine that is held, at the moment 0, from which its deadlines count: each deadline is then what is left.
+abbrev pub timer_seen : Waiting → Pending
+timer_seen timer = record { ends_in = timer.ends_at; several = timer.several }
+
+abbrev pub waiting_seen : Option Waiting → Option Pending
+waiting_seen None = None
+waiting_seen (Some timer) = Some (timer_seen timer)
+
+abbrev pub timed_seen : Timed → Machine
+timed_seen held = record { state = held.state; expires_in = held.expires_at; pending = waiting_seen held.pending }
+
+abbrev pub machine_seen : Option Timed → Option Machine
+machine_seen None = None
+machine_seen (Some held) = Some (timed_seen held)
+
 abbrev pub start_seen : StartOf → Start
-start_seen start = record { expiry = start.expiry; pending = start.pending }
+start_seen start = record { expires_in = start.expires_at; pending = timer_seen start.pending }
 
 module _ {A : Type 0} (bytes_of : A → List ℕ) where
   abbrev pub what_seen : What A → What (List ℕ)
@@ -24,18 +44,25 @@ module _ {A : Type 0} (bytes_of : A → List ℕ) where
   abbrev pub key_seen : Key A → Key (List ℕ)
   key_seen key = record { port = key.port; group = bytes_of key.group; what = what_seen key.what }
 
-  abbrev pub record_seen : Record A → Record (List ℕ)
-  record_seen held = record { key = key_seen held.key; machine = held.machine }
+  abbrev pub record_seen : Held A → Record (List ℕ)
+  record_seen held = record { key = key_seen held.key; machine = timed_seen held.machine }
+
+  abbrev pub key_at : ℕ → A → What A → Key (List ℕ)
+  key_at port group what = record { port = port; group = bytes_of group; what = what_seen what }
+
+  -- a record that is told
+  abbrev pub told_seen : Record A → Record (List ℕ)
+  told_seen told = record { key = key_seen told.key; machine = told.machine }
 
   abbrev pub step_seen : Step A → Step (List ℕ)
   step_seen (Echo port group what) = Echo port (bytes_of group) (what_seen what)
   step_seen Reached = Reached
 
-  abbrev pub records_seen : List (Record A) → List (Record (List ℕ))
+  abbrev pub records_seen : List (Held A) → List (Record (List ℕ))
   records_seen records = map record_seen records
 
-  -- records whose times count from the moment 0, as they stand at this moment
-  abbrev pub shown : ℕ → List (Record A) → List (Record (List ℕ))
+  -- records that are held, as they stand at this moment
+  abbrev pub shown : ℕ → List (Held A) → List (Record (List ℕ))
   shown moment records = map (record_after moment) (records_seen records)
 
   abbrev pub event_seen : EventOf A → Event

@@ -9,7 +9,7 @@ use Rattle.pim_down.specs.declared.machine.Machine.{Machine}
 
 -- what a message gives the timers that it starts: ET by its holdtime, PPT by the port
 pub record Start : Type 0 where
-  pub expiry : Option ℕ
+  pub expires_in : Option ℕ
   pub pending : Pending
 
 -- the greater of two times; never is the greatest
@@ -19,23 +19,23 @@ greater (Some a) None = None
 greater (Some a) (Some b) = Some (max a b)
 
 abbrev pub machine_in : State → Option ℕ → Option Pending → Option Machine
-machine_in state expiry pending = Some (record { state = state; expiry = expiry; pending = pending })
+machine_in state expiry pending = Some (record { state = state; expires_in = expiry; pending = pending })
 
 -- ---- (*,G), figure 2, and (S,G), figure 3
 
 -- Receive Join
 abbrev pub join_in : State → Start → Machine → Option Machine
-join_in Join start held = machine_in Join (greater held.expiry start.expiry) held.pending
-join_in PrunePending start held = machine_in Join (greater held.expiry start.expiry) None
+join_in Join start held = machine_in Join (greater held.expires_in start.expires_in) held.pending
+join_in PrunePending start held = machine_in Join (greater held.expires_in start.expires_in) None
 join_in _ start held = Some held
 
 unfoldable pub on_join : Start → Option Machine → Option Machine
-on_join start None = machine_in Join start.expiry None
+on_join start None = machine_in Join start.expires_in None
 on_join start (Some held) = join_in held.state start held
 
 -- Receive Prune. Profile: a second one in Prune-Pending changes nothing.
 abbrev pub prune_in : State → Start → Machine → Option Machine
-prune_in Join start held = machine_in PrunePending held.expiry (Some start.pending)
+prune_in Join start held = machine_in PrunePending held.expires_in (Some start.pending)
 prune_in _ start held = Some held
 
 unfoldable pub on_prune : Start → Option Machine → Option Machine
@@ -46,8 +46,8 @@ on_prune start (Some held) = prune_in held.state start held
 
 -- Receive Join(*,G)
 abbrev pub star_join_in : State → Machine → Option Machine
-star_join_in Prune held = machine_in PruneTmp held.expiry held.pending
-star_join_in PrunePending held = machine_in PrunePendingTmp held.expiry held.pending
+star_join_in Prune held = machine_in PruneTmp held.expires_in held.pending
+star_join_in PrunePending held = machine_in PrunePendingTmp held.expires_in held.pending
 star_join_in _ held = Some held
 
 unfoldable pub on_star_join : Option Machine → Option Machine
@@ -60,13 +60,13 @@ on_rpt_join _ = None
 
 -- Receive Prune(S,G,rpt). Profile: a second one in Prune-Pending changes nothing.
 abbrev pub rpt_prune_in : State → Start → Machine → Option Machine
-rpt_prune_in Prune start held = machine_in Prune (greater held.expiry start.expiry) held.pending
-rpt_prune_in PruneTmp start held = machine_in Prune (greater held.expiry start.expiry) held.pending
-rpt_prune_in PrunePendingTmp start held = machine_in PrunePending (greater held.expiry start.expiry) held.pending
+rpt_prune_in Prune start held = machine_in Prune (greater held.expires_in start.expires_in) held.pending
+rpt_prune_in PruneTmp start held = machine_in Prune (greater held.expires_in start.expires_in) held.pending
+rpt_prune_in PrunePendingTmp start held = machine_in PrunePending (greater held.expires_in start.expires_in) held.pending
 rpt_prune_in _ start held = Some held
 
 unfoldable pub on_rpt_prune : Start → Option Machine → Option Machine
-on_rpt_prune start None = machine_in PrunePending start.expiry (Some start.pending)
+on_rpt_prune start None = machine_in PrunePending start.expires_in (Some start.pending)
 on_rpt_prune start (Some held) = rpt_prune_in held.state start held
 
 -- End of Message

@@ -29,10 +29,10 @@ expiry_after passed (Some ends) = Some (ends - passed)
 
 abbrev pub pending_after : ℕ → Option Pending → Option Pending
 pending_after passed None = None
-pending_after passed (Some timer) = Some (record { ends = timer.ends - passed; several = timer.several })
+pending_after passed (Some timer) = Some (record { ends_in = timer.ends_in - passed; several = timer.several })
 
 abbrev pub machine_after : ℕ → Machine → Machine
-machine_after passed held = record { state = held.state; expiry = expiry_after passed held.expiry; pending = pending_after passed held.pending }
+machine_after passed held = record { state = held.state; expires_in = expiry_after passed held.expires_in; pending = pending_after passed held.pending }
 
 abbrev pub record_after : ℕ → Record (List ℕ) → Record (List ℕ)
 record_after passed held = record { key = held.key; machine = machine_after passed held.machine }
@@ -48,10 +48,10 @@ expiry_due (Some ends) = ends == 0
 
 abbrev pub pending_due : Option Pending → Bool
 pending_due None = false
-pending_due (Some timer) = timer.ends == 0
+pending_due (Some timer) = timer.ends_in == 0
 
 abbrev pub et_due : Record (List ℕ) → Bool
-et_due held = expiry_due held.machine.expiry
+et_due held = expiry_due held.machine.expires_in
 
 abbrev pub ppt_due : Record (List ℕ) → Bool
 ppt_due held = pending_due held.machine.pending
@@ -60,7 +60,7 @@ ppt_due held = pending_due held.machine.pending
 abbrev pub on_ppt : What (List ℕ) → Machine → Option Machine
 on_ppt Star held = None
 on_ppt (Source source) held = None
-on_ppt (Rpt source) held = machine_in Prune held.expiry None
+on_ppt (Rpt source) held = machine_in Prune held.expires_in None
 
 -- ET leads to NoInfo.
 abbrev pub after_et : Record (List ℕ) → List (Record (List ℕ))
@@ -155,7 +155,7 @@ pub record HasRun (moment : ℕ) (state : Downstream) : Type 0 where
 -- what the timers that are due make of a machine: ET ends it, else PPT leads it on
 abbrev pub settled_at : What (List ℕ) → Machine → Option Machine
 settled_at what held =
-    if expiry_due held.expiry then None else (if pending_due held.pending then on_ppt what held else Some held)
+    if expiry_due held.expires_in then None else (if pending_due held.pending then on_ppt what held else Some held)
 
 -- What silence of so many milliseconds makes of a machine: nothing where its ET ends by then, else what its PPT makes of
 -- it where that ends by then, else the machine with so much less time left.
@@ -168,7 +168,7 @@ after_silence passed key (Some held) = settled_at key.what (machine_after passed
 pub record IsEchoOf (key : Key (List ℕ)) (state after : Downstream) : Type 0 where
   pub machine : Machine
   pub held : machine_at key state.records ≡ Some machine
-  pub timer : machine.pending ≡ Some (record { ends = after.moment - state.moment; several = true })
+  pub timer : machine.pending ≡ Some (record { ends_in = after.moment - state.moment; several = true })
   pub echoes : echoes_at key.what true ≡ true
   pub gone : machine_at key after.records ≡ None
 

@@ -14,8 +14,9 @@ pub(crate) struct Event<A> {
 /// What a port knows of its neighbours when a message comes.
 #[derive(Clone, Copy, Debug, PartialEq, Eq)]
 pub struct Timing {
-    /// The override interval, in milliseconds.
+    /// The whole override interval of the port, in milliseconds: its effective propagation delay and its effective
+    /// override interval together (RFC 7761, 4.3.3).
     pub override_ms: u64,
-    /// Whether the port has several neighbours.
+    /// Whether the port has more than one neighbour.
     pub several: bool,
 }

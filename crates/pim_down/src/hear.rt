@@ -5,14 +5,13 @@ ghost use Rattle.pim_jp.specs.Seen.{entry_seen};
 ghost use Rattle.pim_down.specs.Records.{IsAscending, recorded, each_changed};
 ghost use Rattle.pim_down.specs.Hearing.{is_known, entry_events, start_of, on_own, is_rpt_of, on_rpts, is_star_join, act, at_end};
 ghost use Rattle.pim_down.specs.Running.{start_after, is_over};
-ghost use Rattle.pim_down.specs.Seen.{start_seen, what_seen, key_seen, record_seen, records_seen, event_seen, events_seen};
+ghost use Rattle.pim_down.specs.Seen.{start_seen, timed_seen, machine_seen, what_seen, key_seen, record_seen, records_seen, event_seen, events_seen};
 
-use crate::edits::{machine_of, put_machine};
+use crate::edits::{machine_at, put_machine};
 use crate::event::{Event, Timing};
+use crate::held::{Held, Start, Timed, Waiting};
 use crate::key::{Key, What};
-use crate::machine::{
-    Machine, Pending, Record, Start, State, on_join, on_prune, on_rpt_prune, on_star_join,
-};
+use crate::machine::{State, on_join, on_prune, on_rpt_prune, on_star_join};
 use pim_addr::Family;
 use pim_jp::Entry;
 
@@ -25,7 +24,7 @@ pub(crate) fn start_at(holdtime: u16, timing: Timing, now: u64) -> Start
     requires interval { timing.override_ms ≤ 98302 }
     ensures { start_after now (start_seen result) ≡ start_of holdtime timing }
 {
-    let expiry = if holdtime == FOR_EVER {
+    let expires_at = if holdtime == FOR_EVER {
         None
     } else {
         Some(now + u64::from(holdtime) * 1000)
@@ -36,9 +35,9 @@ pub(crate) fn start_at(holdtime: u16, timing: Timing, now: u64) -> Start
         0
     };
     Start {
-        expiry,
-        pending: Pending {
-            ends: now + wait,
+        expires_at,
+        pending: Waiting {
+            ends_at: now + wait,
             several: timing.several,
         },
     }
@@ -77,8 +76,8 @@ pub(crate) fn event_of<F: Family>(
 }
 
 /// What the event makes of the machine that it names.
-fn on_own<A>(event: &Event<A>, start: Start, held: Option<Machine>) -> Option<Machine>
-    ensures { (bytes_of : A → List ℕ) → result ≡ on_own event.now.joins (what_seen bytes_of event.now.what) (start_seen start) held }
+fn on_own<A>(event: &Event<A>, start: Start, held: Option<Timed>) -> Option<Timed>
+    ensures { (bytes_of : A → List ℕ) → machine_seen result ≡ on_own event.now.joins (what_seen bytes_of event.now.what) (start_seen start) (machine_seen held) }
 {
     match (&event.what, event.joins) {
         (What::Star | What::Source(_), true) => on_join(start, held),
@@ -96,11 +95,11 @@ fn is_rpt_of<F: Family>(key: &Key<F::Addr>, port: usize, group: F::Addr) -> bool
 }
 
 /// What a Join(*,G) makes of a record.
-fn star_joined<F: Family>(held: Record<F::Addr>, port: usize, group: F::Addr) -> Record<F::Addr>
-    ensures { record_seen F.bytes_of result ∷ [] ≡ recorded (key_seen F.bytes_of held.key) (on_rpts port (F.bytes_of group) (key_seen F.bytes_of held.key) (Some held.machine)) }
+fn star_joined<F: Family>(held: Held<F::Addr>, port: usize, group: F::Addr) -> Held<F::Addr>
+    ensures { record_seen F.bytes_of result ∷ [] ≡ recorded (key_seen F.bytes_of held.key) (on_rpts port (F.bytes_of group) (key_seen F.bytes_of held.key) (Some (timed_seen held.machine))) }
 {
     if is_rpt_of::<F>(&held.key, port, group) {
-        return Record {
+        return Held {
             key: held.key,
             machine: on_star_join(held.machine),
         };
@@ -109,7 +108,7 @@ fn star_joined<F: Family>(held: Record<F::Addr>, port: usize, group: F::Addr) ->
 }
 
 /// A Join(*,G) comes to the (S,G,rpt) machines of its group.
-pub(crate) fn join_rpts<F: Family>(records: &mut Vec<Record<F::Addr>>, port: usize, group: F::Addr)
+pub(crate) fn join_rpts<F: Family>(records: &mut Vec<Held<F::Addr>>, port: usize, group: F::Addr)
     ensures records { records_seen F.bytes_of records.new.items ≡ each_changed (on_rpts port (F.bytes_of group)) (records_seen F.bytes_of records.old.items) }
     ensures capacity { vec_capacity records.new ≡ vec_capacity records.old }
 {
@@ -127,7 +126,7 @@ fn is_star_join<A>(event: &Event<A>) -> bool
 
 /// Lets an event act on the machines of a port.
 pub(crate) fn act<F: Family>(
-    records: &mut Vec<Record<F::Addr>>,
+    records: &mut Vec<Held<F::Addr>>,
     port: usize,
     start: Start,
     event: Event<F::Addr>,
@@ -142,7 +141,7 @@ pub(crate) fn act<F: Family>(
         group: event.group,
         what: event.what,
     };
-    let held = machine_of::<F>(records, &key);
+    let held = machine_at::<F>(records, &key);
     put_machine::<F>(records, key, on_own(&event, start, held));
     if is_star_join(&event) {
         join_rpts::<F>(records, port, event.group);
@@ -150,14 +149,14 @@ pub(crate) fn act<F: Family>(
 }
 
 /// End of Message comes to the (S,G,rpt) machines of a port.
-pub(crate) fn end<F: Family>(records: &mut Vec<Record<F::Addr>>, port: usize)
+pub(crate) fn end<F: Family>(records: &mut Vec<Held<F::Addr>>, port: usize)
     ensures { records_seen F.bytes_of records.new.items ≡ each_changed (at_end port) (records_seen F.bytes_of records.old.items) }
 {
     records.retain(|held| !is_over(held, port));
 }
 
 /// Whether End of Message on this port leads the machine to NoInfo.
-fn is_over<A>(held: &Record<A>, port: usize) -> bool
+fn is_over<A>(held: &Held<A>, port: usize) -> bool
     ensures { (bytes_of : A → List ℕ) → result ≡ is_over port (record_seen bytes_of held.now) }
 {
     held.key.port == port

@@ -1,9 +1,10 @@
 //! One downstream machine: its state, its timers, and what each event of a message does to it.
 
 ghost use Rattle.std.specs.Prelude.{◌≡◌};
-ghost use Rattle.pim_down.specs.Seen.{start_seen};
+ghost use Rattle.pim_down.specs.Seen.{start_seen, timed_seen, machine_seen};
 ghost use Rattle.pim_down.specs.Tables.{greater, on_join, on_prune, on_star_join, on_rpt_prune, on_end};
 
+use crate::held::{Start, Timed};
 use crate::key::Key;
 
 /// The states of the downstream machines (RFC 7761, figures 2 to 4). A machine in NoInfo isn't held.
@@ -21,23 +22,22 @@ pub enum State {
     PrunePendingTmp,
 }
 
-/// A prune-pending timer that runs.
+/// A prune-pending timer that runs, as it is told.
 #[derive(Clone, Copy, Debug, PartialEq, Eq)]
 pub struct Pending {
-    /// When it ends, in milliseconds.
-    pub ends: u64,
-    /// Whether the port had several neighbours when it started.
+    /// How long it still runs, in milliseconds; at 0 it is due.
+    pub ends_in: u64,
+    /// Whether the port had more than one neighbour when it started.
     pub several: bool,
 }
 
-/// A machine that is held. Its times are milliseconds from one point in time, which whoever holds it names: in
-/// a record that is told it is the present moment, so that they are what is left.
+/// A machine that is held, as it is told.
 #[derive(Clone, Copy, Debug, PartialEq, Eq)]
 pub struct Machine {
     /// Its state.
     pub state: State,
-    /// When its expiry timer ends; `None` is never.
-    pub expiry: Option<u64>,
+    /// How long its expiry timer still runs, in milliseconds; at 0 it is due, and `None` is never.
+    pub expires_in: Option<u64>,
     /// Its prune-pending timer, where one runs.
     pub pending: Option<Pending>,
 }
@@ -49,14 +49,6 @@ pub struct Record<A> {
     pub key: Key<A>,
     /// Its state and timers.
     pub machine: Machine,
-}
-
-/// What a message gives the timers that it starts: the expiry timer by its holdtime, the prune-pending timer by
-/// the port.
-#[derive(Clone, Copy)]
-pub(crate) struct Start {
-    pub(crate) expiry: Option<u64>,
-    pub(crate) pending: Pending,
 }
 
 /// The greater of two times, of which `None` is never.
@@ -71,22 +63,22 @@ fn greater(a: Option<u64>, b: Option<u64>) -> Option<u64>
 
 /// A Join(*,G) at a (*,G) machine, or a Join(S,G) at an (S,G) machine.
 #[tactic(auto, unfolding(crate::specs::Tables::on_join))]
-pub(crate) fn on_join(start: Start, held: Option<Machine>) -> Option<Machine>
-    ensures { result ≡ on_join (start_seen start) held }
+pub(crate) fn on_join(start: Start, held: Option<Timed>) -> Option<Timed>
+    ensures { machine_seen result ≡ on_join (start_seen start) (machine_seen held) }
 {
     let Some(machine) = held else {
-        return Some(Machine {
+        return Some(Timed {
             state: State::Join,
-            expiry: start.expiry,
+            expires_at: start.expires_at,
             pending: None,
         });
     };
-    let expiry = greater(machine.expiry, start.expiry);
+    let expires_at = greater(machine.expires_at, start.expires_at);
     match machine.state {
-        State::Join => Some(Machine { expiry, ..machine }),
-        State::PrunePending => Some(Machine {
+        State::Join => Some(Timed { expires_at, ..machine }),
+        State::PrunePending => Some(Timed {
             state: State::Join,
-            expiry,
+            expires_at,
             pending: None,
         }),
         _ => held,
@@ -95,14 +87,14 @@ pub(crate) fn on_join(start: Start, held: Option<Machine>) -> Option<Machine>
 
 /// A Prune(*,G) at a (*,G) machine, or a Prune(S,G) at an (S,G) machine.
 #[tactic(auto, unfolding(crate::specs::Tables::on_prune))]
-pub(crate) fn on_prune(start: Start, held: Option<Machine>) -> Option<Machine>
-    ensures { result ≡ on_prune (start_seen start) held }
+pub(crate) fn on_prune(start: Start, held: Option<Timed>) -> Option<Timed>
+    ensures { machine_seen result ≡ on_prune (start_seen start) (machine_seen held) }
 {
     let machine = held?;
     match machine.state {
-        State::Join => Some(Machine {
+        State::Join => Some(Timed {
             state: State::PrunePending,
-            expiry: machine.expiry,
+            expires_at: machine.expires_at,
             pending: Some(start.pending),
         }),
         _ => held,
@@ -111,26 +103,26 @@ pub(crate) fn on_prune(start: Start, held: Option<Machine>) -> Option<Machine>
 
 /// A Join(*,G) at an (S,G,rpt) machine of the group.
 #[tactic(auto, unfolding(crate::specs::Tables::on_star_join))]
-pub(crate) fn on_star_join(machine: Machine) -> Machine
-    ensures { Some result ≡ on_star_join (Some machine) }
+pub(crate) fn on_star_join(machine: Timed) -> Timed
+    ensures { Some (timed_seen result) ≡ on_star_join (Some (timed_seen machine)) }
 {
     let state = match machine.state {
         State::Prune => State::PruneTmp,
         State::PrunePending => State::PrunePendingTmp,
         state => state,
     };
-    Machine { state, ..machine }
+    Timed { state, ..machine }
 }
 
 /// A Prune(S,G,rpt) at its machine.
 #[tactic(auto, unfolding(crate::specs::Tables::on_rpt_prune))]
-pub(crate) fn on_rpt_prune(start: Start, held: Option<Machine>) -> Option<Machine>
-    ensures { result ≡ on_rpt_prune (start_seen start) held }
+pub(crate) fn on_rpt_prune(start: Start, held: Option<Timed>) -> Option<Timed>
+    ensures { machine_seen result ≡ on_rpt_prune (start_seen start) (machine_seen held) }
 {
     let Some(machine) = held else {
-        return Some(Machine {
+        return Some(Timed {
             state: State::PrunePending,
-            expiry: start.expiry,
+            expires_at: start.expires_at,
             pending: Some(start.pending),
         });
     };
@@ -139,10 +131,10 @@ pub(crate) fn on_rpt_prune(start: Start, held: Option<Machine>) -> Option<Machin
         State::PrunePendingTmp => State::PrunePending,
         _ => return held,
     };
-    let expiry = greater(machine.expiry, start.expiry);
-    Some(Machine {
+    let expires_at = greater(machine.expires_at, start.expires_at);
+    Some(Timed {
         state,
-        expiry,
+        expires_at,
         ..machine
     })
 }

@@ -8,12 +8,12 @@ ghost use Rattle.pim_down.specs.Heard.{IsWithin, MayWantMemory};
 ghost use Rattle.pim_down.specs.Space.{HasRoom};
 ghost use Rattle.pim_down.specs.Seen.{start_seen, records_seen, what_seen, event_seen};
 
-use crate::edits::machine_of;
+use crate::edits::machine_at;
 use crate::event::Event;
 use crate::fault::HearFault;
 use crate::hear::{act, end, event_of};
+use crate::held::{Held, Start};
 use crate::key::{Key, What};
-use crate::machine::{Record, Start};
 use crate::walk::count_on;
 use pim_addr::Family;
 use pim_jp::{Entries, JpView, Sets};
@@ -29,7 +29,7 @@ fn creates<A>(event: &Event<A>) -> bool
 }
 
 /// Whether the event makes a record that isn't held.
-fn is_new<F: Family>(records: &[Record<F::Addr>], port: usize, event: &Event<F::Addr>) -> bool
+fn is_new<F: Family>(records: &[Held<F::Addr>], port: usize, event: &Event<F::Addr>) -> bool
     requires { IsAscending (records_seen F.bytes_of records.now) }
     ensures { result ≡ is_new port (records_seen F.bytes_of records.now) (event_seen F.bytes_of event.now) }
 {
@@ -38,12 +38,12 @@ fn is_new<F: Family>(records: &[Record<F::Addr>], port: usize, event: &Event<F::
         group: event.group,
         what: event.what,
     };
-    creates(event) && machine_of::<F>(records, &key).is_none()
+    creates(event) && machine_at::<F>(records, &key).is_none()
 }
 
 /// How many entries of one list make a record that isn't held.
 fn count_list<F: Family>(
-    records: &[Record<F::Addr>],
+    records: &[Held<F::Addr>],
     port: usize,
     known: Option<F::Addr>,
     joins: bool,
@@ -68,7 +68,7 @@ fn count_list<F: Family>(
 
 /// Hears the entries of one list.
 fn hear_list<F: Family>(
-    records: &mut Vec<Record<F::Addr>>,
+    records: &mut Vec<Held<F::Addr>>,
     port: usize,
     start: Start,
     known: Option<F::Addr>,
@@ -91,7 +91,7 @@ fn hear_list<F: Family>(
 
 /// How many entries of these sets make a record that isn't held.
 pub(crate) fn count_sets<F: Family>(
-    records: &[Record<F::Addr>],
+    records: &[Held<F::Addr>],
     port: usize,
     known: Option<F::Addr>,
     sets: Sets<'_, F>,
@@ -113,7 +113,7 @@ pub(crate) fn count_sets<F: Family>(
 
 /// Hears these sets.
 pub(crate) fn hear_sets<F: Family>(
-    records: &mut Vec<Record<F::Addr>>,
+    records: &mut Vec<Held<F::Addr>>,
     port: usize,
     start: Start,
     known: Option<F::Addr>,
@@ -132,7 +132,7 @@ pub(crate) fn hear_sets<F: Family>(
 
 /// Hears a message on a port, or refuses with nothing changed. All growths come before the first change.
 pub(crate) fn hear_message<F: Family>(
-    records: &mut Vec<Record<F::Addr>>,
+    records: &mut Vec<Held<F::Addr>>,
     limit: usize,
     port: usize,
     start: Start,
@@ -143,6 +143,7 @@ pub(crate) fn hear_message<F: Family>(
     requires within { count_on port (records_seen F.bytes_of records.old.items) ≤ 100000 }
     ensures ok { OnOk result (records_seen F.bytes_of records.new.items ≡ hearing port (start_seen start) (events_of (option_map F.bytes_of known) message.now) (records_seen F.bytes_of records.old.items)) }
     ensures err { OnErr result (records.new.items ≡ records.old.items) }
+    ensures kept { OnErr result (vec_capacity records.new ≡ vec_capacity records.old) }
     ensures memory { MayWantMemory (count_new port (records_seen F.bytes_of records.old.items) (events_of (option_map F.bytes_of known) message.now)) result }
     ensures room { IsWithin limit (needed port (records_seen F.bytes_of records.old.items) (events_of (option_map F.bytes_of known) message.now)) result }
 {

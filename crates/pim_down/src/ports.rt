@@ -1,21 +1,21 @@
 //! The downstream machines of a router's ports.
 
-ghost use Rattle.std.specs.Prelude.{◌≡◌, ◌≢◌, ◌≤◌, ◌<◌, ℕ, List, [], None, max, option_map, OnOk, OnErr};
+ghost use Rattle.std.specs.Prelude.{◌≡◌, ◌≤◌, ◌<◌, ℕ, List, [], None, max, option_map, OnOk, OnErr};
 ghost use Rattle.std.specs.List.{filter};
 ghost use Rattle.pim_down.specs.declared.step.Step.TheVariants.{Reached};
-ghost use Rattle.pim_down.specs.declared.key.Key.{Key};
-ghost use Rattle.pim_down.specs.Records.{machine_at, state_at, is_on, count_on};
-ghost use Rattle.pim_down.specs.Heard.{heard, needed_for, new_for, IsWithin, MayWantMemory};
+ghost use Rattle.pim_down.specs.Records.{state_of, is_on, count_on};
+ghost use Rattle.pim_down.specs.Heard.{heard, needed_for, new_for, IsWithin, MayWantMemory, OthersStay};
 ghost use Rattle.pim_down.specs.Time.{Downstream, Runs, IsNextDue};
-ghost use Rattle.pim_down.specs.Seen.{what_seen, step_seen};
+ghost use Rattle.pim_down.specs.Seen.{key_at, step_seen};
 ghost use Rattle.pim_down.specs.Sound.{IsSound};
 
-use crate::edits::machine_of;
+use crate::edits::machine_at;
 use crate::event::Timing;
 use crate::fault::HearFault;
 use crate::hear::start_at;
+use crate::held::Held;
 use crate::key::{Key, What};
-use crate::machine::{Record, State};
+use crate::machine::State;
 use crate::message::hear_message;
 use crate::run::run;
 use crate::step::Step;
@@ -32,8 +32,8 @@ pub struct Ports<F: Family> {
     ports: usize,
     limit: usize,
     moment: u64,
-    /// In key order. Their times count from the moment 0.
-    records: Vec<Record<F::Addr>>,
+    /// In key order.
+    records: Vec<Held<F::Addr>>,
     family: PhantomData<F>,
 }
 
@@ -42,12 +42,12 @@ impl<F: Family> Model for Ports<F> {
 
     ghost Value = { Downstream };
 
-    ghost use Rattle.pim_down.specs.Running.{state_at};
+    ghost use Rattle.pim_down.specs.Running.{downstream_at};
     ghost use Rattle.pim_down.specs.Sound.{IsSound};
 
-    ghost view = { λ p. state_at F.bytes_of p.ports p.limit p.moment p.records.items };
+    ghost view = { λ p. downstream_at F.bytes_of p.ports p.limit p.moment p.records.items };
 
-    ghost invariant = { λ p. IsSound F.family (state_at F.bytes_of p.ports p.limit p.moment p.records.items) };
+    ghost invariant = { λ p. IsSound F.family (downstream_at F.bytes_of p.ports p.limit p.moment p.records.items) };
 }
 
 impl<F: Family> Ports<F> {
@@ -117,11 +117,11 @@ impl<F: Family> Ports<F> {
 
     /// The state of one machine; `None` is NoInfo.
     pub fn state_of(&self, port: usize, group: F::Addr, what: What<F::Addr>) -> Option<State>
-        ensures state { result ≡ state_at (record { port = port; group = F.bytes_of group; what = what_seen F.bytes_of what }) self.now.records }
+        ensures state { result ≡ state_of (key_at F.bytes_of port group what) self.now.records }
         ensures absent { self.now.ports ≤ port → result ≡ None }
     {
         let key = Key { port, group, what };
-        match machine_of::<F>(&self.records, &key) {
+        match machine_at::<F>(&self.records, &key) {
             None => None,
             Some(machine) => Some(machine.state),
         }
@@ -159,7 +159,7 @@ impl<F: Family> Ports<F> {
         ensures room { IsWithin self.old.limit (needed_for port message.now (option_map F.bytes_of rp) self.old) result }
         ensures memory { MayWantMemory (new_for port message.now (option_map F.bytes_of rp) self.old) result }
         ensures ports { self.new.ports ≡ self.old.ports }
-        ensures others { (key : Key (List ℕ)) → key.port ≢ port → machine_at key self.new.records ≡ machine_at key self.old.records }
+        ensures others { OthersStay port self.old self.new }
     {
         message.is_legal();
         let start = start_at(message.holdtime(), timing, self.moment);

@@ -4,20 +4,20 @@ ghost use Rattle.std.specs.Prelude.{◌≡◌, ◌≤◌, ◌+◌, ℕ, max};
 ghost use Rattle.pim_down.specs.declared.step.Step.TheVariants.{Reached};
 ghost use Rattle.pim_down.specs.Time.{Runs};
 ghost use Rattle.pim_down.specs.Seen.{step_seen, shown};
-ghost use Rattle.pim_down.specs.Running.{state_at};
+ghost use Rattle.pim_down.specs.Running.{downstream_at};
 
-use crate::machine::Record;
+use crate::held::Held;
 use crate::step::Step;
 use crate::timers::{end_by, fire_first};
 use pim_addr::Family;
 
 /// Runs from this moment to a later one, or to the first echo: what is told, and the moment then.
 pub(crate) fn run<F: Family>(
-    records: &mut Vec<Record<F::Addr>>,
+    records: &mut Vec<Held<F::Addr>>,
     now: u64,
     moment: u64,
 ) -> (Step<F::Addr>, u64)
-    ensures runs { (ports limit : ℕ) → Runs moment (state_at F.bytes_of ports limit now records.old.items) (step_seen F.bytes_of result.0) (state_at F.bytes_of ports limit result.1 records.new.items) }
+    ensures runs { (ports limit : ℕ) → Runs moment (downstream_at F.bytes_of ports limit now records.old.items) (step_seen F.bytes_of result.0) (downstream_at F.bytes_of ports limit result.1 records.new.items) }
     ensures later { now ≤ result.1 }
     ensures moment { result.1 ≤ max now moment }
     ensures reached { result.0 ≡ Reached → result.1 ≡ max now moment }

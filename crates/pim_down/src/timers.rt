@@ -1,16 +1,16 @@
-//! When the timers of some records end, and what they do then. Here the times of a record count from the moment 0.
+//! When the timers of some records end, and what they do then.
 
 ghost use Rattle.std.specs.Prelude.{◌≡◌, ◌<◌, IsTrue, ◌+◌, ℕ, List, ◌++◌, take, drop, vec_len};
 ghost use Rattle.std.specs.List.{position};
 ghost use Rattle.std.specs.Option.{is_some};
-ghost use Rattle.pim_down.specs.declared.machine.Record.{Record};
 ghost use Rattle.pim_down.specs.Time.{expiry_after, pending_after, record_after, expiry_due, pending_due, et_due, ppt_due, on_ppt, after_ppt, echo_of, fired};
 ghost use Rattle.pim_down.specs.Ends.{sooner, pending_end, first_end, IsEndBy};
-ghost use Rattle.pim_down.specs.Seen.{what_seen, record_seen, records_seen, step_seen, shown};
+ghost use Rattle.pim_down.specs.Seen.{waiting_seen, timed_seen, machine_seen, what_seen, record_seen, records_seen, step_seen, shown};
 
 use crate::edits::replace_at;
+use crate::held::{Held, Timed};
 use crate::key::{Key, What};
-use crate::machine::{Machine, Record, State};
+use crate::machine::State;
 use crate::step::Step;
 use pim_addr::Family;
 
@@ -25,18 +25,18 @@ fn sooner(a: Option<u64>, b: Option<u64>) -> Option<u64>
 }
 
 /// When the machine's first timer ends.
-fn machine_end(machine: &Machine) -> Option<u64>
-    ensures { result ≡ sooner machine.now.expiry (pending_end machine.now.pending) }
+fn machine_end(machine: &Timed) -> Option<u64>
+    ensures { result ≡ sooner machine.now.expires_at (pending_end (waiting_seen machine.now.pending)) }
 {
     let pending = match machine.pending {
-        Some(timer) => Some(timer.ends),
+        Some(timer) => Some(timer.ends_at),
         None => None,
     };
-    sooner(machine.expiry, pending)
+    sooner(machine.expires_at, pending)
 }
 
 /// When the first timer of all ends.
-pub(crate) fn next_end<F: Family>(records: &[Record<F::Addr>]) -> Option<u64>
+pub(crate) fn next_end<F: Family>(records: &[Held<F::Addr>]) -> Option<u64>
     ensures { result ≡ first_end (records_seen F.bytes_of records.now) }
 {
     let mut end = None;
@@ -47,7 +47,7 @@ pub(crate) fn next_end<F: Family>(records: &[Record<F::Addr>]) -> Option<u64>
 }
 
 /// When the first timer of all ends, where that is no later than this.
-pub(crate) fn end_by<F: Family>(records: &[Record<F::Addr>], last: u64) -> Option<u64>
+pub(crate) fn end_by<F: Family>(records: &[Held<F::Addr>], last: u64) -> Option<u64>
     ensures { IsEndBy last (first_end (records_seen F.bytes_of records.now)) result }
 {
     match next_end::<F>(records) {
@@ -58,28 +58,28 @@ pub(crate) fn end_by<F: Family>(records: &[Record<F::Addr>], last: u64) -> Optio
 
 /// Whether its prune-pending timer is due.
 #[tactic(auto, using(crate::proofs::Ends::due_from_end))]
-fn is_pending_due(machine: &Machine, now: u64) -> bool
-    ensures { result ≡ pending_due (pending_after now machine.now.pending) }
+fn is_pending_due(machine: &Timed, now: u64) -> bool
+    ensures { result ≡ pending_due (pending_after now (waiting_seen machine.now.pending)) }
 {
     match machine.pending {
-        Some(timer) => timer.ends <= now,
+        Some(timer) => timer.ends_at <= now,
         None => false,
     }
 }
 
 /// Whether its expiry timer is due.
 #[tactic(auto, using(crate::proofs::Ends::due_from_end))]
-fn is_expired(machine: &Machine, now: u64) -> bool
-    ensures { result ≡ expiry_due (expiry_after now machine.now.expiry) }
+fn is_expired(machine: &Timed, now: u64) -> bool
+    ensures { result ≡ expiry_due (expiry_after now machine.now.expires_at) }
 {
-    match machine.expiry {
+    match machine.expires_at {
         Some(ends) => ends <= now,
         None => false,
     }
 }
 
 /// The first record whose prune-pending timer is due.
-fn first_pending<F: Family>(records: &[Record<F::Addr>], now: u64) -> Option<usize>
+fn first_pending<F: Family>(records: &[Held<F::Addr>], now: u64) -> Option<usize>
     ensures { result ≡ position (λ held. ppt_due (record_after now (record_seen F.bytes_of held))) records.now }
 {
     records
@@ -88,7 +88,7 @@ fn first_pending<F: Family>(records: &[Record<F::Addr>], now: u64) -> Option<usi
 }
 
 /// The first record whose expiry timer is due.
-fn first_expired<F: Family>(records: &[Record<F::Addr>], now: u64) -> Option<usize>
+fn first_expired<F: Family>(records: &[Held<F::Addr>], now: u64) -> Option<usize>
     ensures { result ≡ position (λ held. et_due (record_after now (record_seen F.bytes_of held))) records.now }
 {
     records
@@ -97,21 +97,21 @@ fn first_expired<F: Family>(records: &[Record<F::Addr>], now: u64) -> Option<usi
 }
 
 /// Where a machine goes whose prune-pending timer fires: to Prune if it is of (S,G,rpt), else to NoInfo.
-fn on_ppt<A>(what: &What<A>, machine: &Machine) -> Option<Machine>
-    ensures { (bytes_of : A → List ℕ) → result ≡ on_ppt (what_seen bytes_of what.now) machine.now }
+fn on_ppt<A>(what: &What<A>, machine: &Timed) -> Option<Timed>
+    ensures { (bytes_of : A → List ℕ) → machine_seen result ≡ on_ppt (what_seen bytes_of what.now) (timed_seen machine.now) }
 {
     match what {
         What::Star | What::Source(_) => None,
-        What::Rpt(_) => Some(Machine {
+        What::Rpt(_) => Some(Timed {
             state: State::Prune,
-            expiry: machine.expiry,
+            expires_at: machine.expires_at,
             pending: None,
         }),
     }
 }
 
 /// What is told where the prune-pending timer of this record fires.
-fn echo_of<A: Copy>(held: &Record<A>) -> Step<A>
+fn echo_of<A: Copy>(held: &Held<A>) -> Step<A>
     ensures { (bytes_of : A → List ℕ) → step_seen bytes_of result ≡ echo_of (record_seen bytes_of held.now) }
 {
     let several = match held.machine.pending {
@@ -127,9 +127,9 @@ fn echo_of<A: Copy>(held: &Record<A>) -> Step<A>
 
 /// Fires the prune-pending timer of this record, which stands at this place.
 fn fire_pending<F: Family>(
-    records: &mut Vec<Record<F::Addr>>,
+    records: &mut Vec<Held<F::Addr>>,
     place: usize,
-    fired: Record<F::Addr>,
+    fired: Held<F::Addr>,
 ) -> Step<F::Addr>
     requires { place < vec_len records.old }
     ensures told { step_seen F.bytes_of result ≡ echo_of (record_seen F.bytes_of fired) }
@@ -141,7 +141,7 @@ fn fire_pending<F: Family>(
 }
 
 /// Fires the first due timer: prune-pending timers come before expiry timers.
-pub(crate) fn fire_first<F: Family>(records: &mut Vec<Record<F::Addr>>, now: u64) -> Step<F::Addr>
+pub(crate) fn fire_first<F: Family>(records: &mut Vec<Held<F::Addr>>, now: u64) -> Step<F::Addr>
     requires { IsTrue (is_some (fired (shown F.bytes_of now records.old.items))) }
     ensures { fired (shown F.bytes_of now records.old.items) ≡ Some (step_seen F.bytes_of result, shown F.bytes_of now records.new.items) }
 {

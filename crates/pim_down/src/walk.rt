@@ -5,46 +5,47 @@ ghost use Rattle.std.specs.List.{filter};
 ghost use Rattle.std.specs.Iterator.{YieldsFirstBy, item_count};
 ghost use Rattle.pim_down.specs.Records.{IsAscending, is_on, count_on};
 ghost use Rattle.pim_down.specs.Time.{machine_after, record_after};
-ghost use Rattle.pim_down.specs.Seen.{record_seen, records_seen, shown};
+ghost use Rattle.pim_down.specs.Seen.{timed_seen, record_seen, told_seen, records_seen, shown};
 
+use crate::held::{Held, Timed};
 use crate::machine::{Machine, Pending, Record};
 use pim_addr::Family;
 use std::marker::{Model, PhantomData};
 
 /// The machine as it stands at this moment: its times are what is left.
-pub(crate) fn machine_at(machine: &Machine, now: u64) -> Machine
-    ensures { result ≡ machine_after now machine.now }
+fn machine_after(machine: &Timed, now: u64) -> Machine
+    ensures { result ≡ machine_after now (timed_seen machine.now) }
 {
-    let expiry = match machine.expiry {
-        Some(ends) => Some(ends.saturating_sub(now)),
+    let expires_in = match machine.expires_at {
+        Some(ends_at) => Some(ends_at.saturating_sub(now)),
         None => None,
     };
     let pending = match machine.pending {
         Some(timer) => Some(Pending {
-            ends: timer.ends.saturating_sub(now),
+            ends_in: timer.ends_at.saturating_sub(now),
             several: timer.several,
         }),
         None => None,
     };
     Machine {
         state: machine.state,
-        expiry,
+        expires_in,
         pending,
     }
 }
 
 /// The record as it stands at this moment.
-fn record_at<A: Copy>(held: &Record<A>, now: u64) -> Record<A>
-    ensures { (bytes_of : A → List ℕ) → record_seen bytes_of result ≡ record_after now (record_seen bytes_of held.now) }
+fn record_after<A: Copy>(held: &Held<A>, now: u64) -> Record<A>
+    ensures { (bytes_of : A → List ℕ) → told_seen bytes_of result ≡ record_after now (record_seen bytes_of held.now) }
 {
     Record {
         key: held.key,
-        machine: machine_at(&held.machine, now),
+        machine: machine_after(&held.machine, now),
     }
 }
 
 /// The records of one port, which stand together.
-pub(crate) fn on_port<F: Family>(records: &[Record<F::Addr>], port: usize) -> &[Record<F::Addr>]
+pub(crate) fn on_port<F: Family>(records: &[Held<F::Addr>], port: usize) -> &[Held<F::Addr>]
     requires { IsAscending (records_seen F.bytes_of records.now) }
     ensures { records_seen F.bytes_of result.now ≡ filter (is_on port) (records_seen F.bytes_of records.now) }
 {
@@ -56,7 +57,7 @@ pub(crate) fn on_port<F: Family>(records: &[Record<F::Addr>], port: usize) -> &[
 }
 
 /// How many records the port has.
-pub(crate) fn count_on<F: Family>(records: &[Record<F::Addr>], port: usize) -> usize
+pub(crate) fn count_on<F: Family>(records: &[Held<F::Addr>], port: usize) -> usize
     requires { IsAscending (records_seen F.bytes_of records.now) }
     ensures { result ≡ count_on port (records_seen F.bytes_of records.now) }
 {
@@ -66,7 +67,7 @@ pub(crate) fn count_on<F: Family>(records: &[Record<F::Addr>], port: usize) -> u
 /// The records in key order, with what is left of their timers. Contracts see those that are left.
 #[derive(Drop)]
 pub struct Records<'a, F: Family> {
-    left: &'a [Record<F::Addr>],
+    left: &'a [Held<F::Addr>],
     moment: u64,
     family: PhantomData<F>,
 }
@@ -83,7 +84,7 @@ impl<'a, F: Family> Model for Records<'a, F> {
 
 impl<'a, F: Family> Records<'a, F> {
     /// These records, as they stand at this moment.
-    pub(crate) fn new(left: &'a [Record<F::Addr>], moment: u64) -> Self
+    pub(crate) fn new(left: &'a [Held<F::Addr>], moment: u64) -> Self
         ensures { result ≡ shown F.bytes_of moment left.now }
     {
         Records {
@@ -98,13 +99,13 @@ impl<'a, F: Family> Records<'a, F> {
 impl<'a, F: Family> Iterator for Records<'a, F> {
     type Item = Record<F::Addr>;
 
-    ghost next_gives = { YieldsFirstBy (record_seen F.bytes_of) (λ records. records) };
+    ghost next_gives = { YieldsFirstBy (told_seen F.bytes_of) (λ records. records) };
 
     ghost remaining = { item_count (λ records. records) };
 
     fn next(&mut self) -> Option<Record<F::Addr>> {
         let (first, others) = self.left.split_first()?;
-        let told = record_at(first, self.moment);
+        let told = record_after(first, self.moment);
         self.left = others;
         Some(told)
     }

@@ -4,7 +4,7 @@ use Rattle.std.proofs.lemmas.Result.{on_ok_weaker}
 use Rattle.pim_down.specs.declared.key.Key.{Key}
 use Rattle.pim_down.specs.Records.{machine_at}
 use Rattle.pim_down.specs.Time.{Downstream}
-use Rattle.pim_down.specs.Running.{state_at}
+use Rattle.pim_down.specs.Running.{downstream_at}
 use Rattle.pim_down.specs.Seen.{start_seen, records_seen}
 use Rattle.pim_down.proofs.Kept.{ascending_back}
 use Rattle.pim_down.proofs.Origin.{count_on_later}
@@ -30,10 +30,10 @@ invariant_of-self g c =
     let known = option_map bytes_of c.args.rp in
     let message = c.args.message.now in
     let starts = rw c.holdtime.ensures at c.start_at-start.ensures in
-    let old = state_at bytes_of p.ports p.limit p.moment p.records.items in
-    let new = state_at bytes_of p.ports p.limit p.moment c.hear_message.new.records.items in
+    let old = downstream_at bytes_of p.ports p.limit p.moment p.records.items in
+    let new = downstream_at bytes_of p.ports p.limit p.moment c.hear_message.new.records.items in
     let ok = on_ok_weaker c.hear_message.result (heard_is bytes_of p.ports p.limit p.moment c.args.port message known c.args.timing (start_seen c.start_at-start.result) p.records.items c.hear_message.new.records.items old starts refl) c.hear_message.ensures.ok in
-    let err = on_err c.hear_message.result (ap (state_at bytes_of p.ports p.limit p.moment)) c.hear_message.ensures.err in
+    let err = on_err c.hear_message.result (ap (downstream_at bytes_of p.ports p.limit p.moment)) c.hear_message.ensures.err in
     let within = within_is bytes_of p.ports p.limit p.moment c.args.port message known c.args.timing c.hear_message.result p.records.items old refl c.hear_message.ensures.room in
     sound_is bytes_of p.ports p.limit p.moment c.args.port message known c.args.timing g.F.Family.family c.hear_message.result old new c.self.invariant (subst (λ (s : Downstream). c.args.port < s.ports) (sym c.self.view_is) c.requires.port) c.is_legal.ensures ok err within
 
@@ -63,9 +63,9 @@ returns-clause-others g c =
     let known = option_map bytes_of c.args.rp in
     let message = c.args.message.now in
     let starts = rw c.holdtime.ensures at c.start_at-start.ensures in
-    let old = state_at bytes_of p.ports p.limit p.moment p.records.items in
-    let new = state_at bytes_of p.ports p.limit p.moment c.hear_message.new.records.items in
+    let old = downstream_at bytes_of p.ports p.limit p.moment p.records.items in
+    let new = downstream_at bytes_of p.ports p.limit p.moment c.hear_message.new.records.items in
     let ok = on_ok_weaker c.hear_message.result (heard_is bytes_of p.ports p.limit p.moment c.args.port message known c.args.timing (start_seen c.start_at-start.result) p.records.items c.hear_message.new.records.items old starts refl) c.hear_message.ensures.ok in
-    let err = on_err c.hear_message.result (ap (state_at bytes_of p.ports p.limit p.moment)) c.hear_message.ensures.err in
+    let err = on_err c.hear_message.result (ap (downstream_at bytes_of p.ports p.limit p.moment)) c.hear_message.ensures.err in
     let all = others_are bytes_of p.ports p.limit p.moment c.args.port message known c.args.timing c.hear_message.result old new c.self.invariant.ascending ok err in
     subst (λ (s : Downstream). (key : Key (List ℕ)) → key.port ≢ c.args.port → machine_at key new.records ≡ machine_at key s.records) c.self.view_is all

@@ -2,13 +2,13 @@ use Rattle.std.proofs.Common.{ap, sym, subst, ◌∙◌, Some, None}
 use Rattle.pim_down.specs.Time.{Downstream}
 use Rattle.pim_down.specs.Records.{state_of_machine}
 use Rattle.pim_down.specs.Sound.{IsSound}
-use Rattle.pim_down.specs.Seen.{key_seen, records_seen}
+use Rattle.pim_down.specs.Seen.{timed_seen, key_seen, records_seen}
 use Rattle.pim_down.proofs.Kept.{ascending_back, state_seen}
 use Rattle.pim_down.proofs.Real.{none_on}
 use Rattle.pim_down.proofs.ports.Ports.state_of.Goals as goal
 
-pub machine_of-requires : goal.machine_of-requires
-machine_of-requires g c = rw c.deref.ensures.value (ascending_back c.self.inside.moment (records_seen g.F.Family.bytes_of c.self.inside.records.items) c.self.invariant.ascending)
+pub machine_at-requires : goal.machine_at-requires
+machine_at-requires g c = rw c.deref.ensures.value (ascending_back c.self.inside.moment (records_seen g.F.Family.bytes_of c.self.inside.records.items) c.self.invariant.ascending)
 
 pub returns-in-None-clause-state : goal.returns-in-None-clause-state
 returns-in-None-clause-state g c =
@@ -18,7 +18,7 @@ returns-in-None-clause-state g c =
 pub returns-in-Some-clause-state : goal.returns-in-Some-clause-state
 returns-in-Some-clause-state g c =
     let at = rw c.deref.ensures.value at c.in-Some.ensures in
-    state_seen c.self.inside.moment (key_seen g.F.Family.bytes_of (record { port = c.args.port; group = c.args.group; what = c.args.what })) (records_seen g.F.Family.bytes_of c.self.inside.records.items) c.args.self.now (Some c.in-Some.machine) (ap (λ (s : Downstream). s.records) (sym c.self.view_is)) at
+    state_seen c.self.inside.moment (key_seen g.F.Family.bytes_of (record { port = c.args.port; group = c.args.group; what = c.args.what })) (records_seen g.F.Family.bytes_of c.self.inside.records.items) c.args.self.now (Some (timed_seen c.in-Some.machine)) (ap (λ (s : Downstream). s.records) (sym c.self.view_is)) at
 
 pub returns-in-Some-clause-absent : goal.returns-in-Some-clause-absent
 returns-in-Some-clause-absent g c past =
