@@ -37,8 +37,16 @@ set_size family set is =
     let pruned_count = big_bytes 2 (length set.pruned) in
     let joined = flat_map (canonical_entry family) set.joined in
     let pruned = flat_map (canonical_entry family) set.pruned in
-    omega (arith, group, joins, prunes, length-append (((front ++ joined_count) ++ pruned_count) ++ joined) pruned, length-append ((front ++ joined_count) ++ pruned_count) joined,
-    length-append (front ++ joined_count) pruned_count, length-append front joined_count)
+    omega (
+      arith,
+      group,
+      joins,
+      prunes,
+      length-append (((front ++ joined_count) ++ pruned_count) ++ joined) pruned,
+      length-append ((front ++ joined_count) ++ pruned_count) joined,
+      length-append (front ++ joined_count) pruned_count,
+      length-append front joined_count,
+    )
 
 sets_size : (family : AddressFamily) (sets : List GroupSet) → AllByRecursion (IsMessageSet family) sets → length (flat_map (canonical_set family) sets) ≡ canonical_sets_length family sets
 unfolding canonical_sets_length
