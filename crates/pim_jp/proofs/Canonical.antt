@@ -1,5 +1,5 @@
 -- The spelling that is written is one, and what is spelled is within the ranges of the format.
-use Rattle.std.proofs.Common.{◌≡◌, ℕ, ◌<◌, ◌^◌, List, [], ◌∷◌, ◌++◌, length, slice_index, refl, sym, subst, append_assoc}
+use Rattle.std.proofs.Common.{◌≡◌, ℕ, suc, ◌<◌, ◌^◌, List, [], ◌∷◌, ◌++◌, length, slice_index, refl, sym, subst, append_assoc}
 use Rattle.std.specs.List.{AllByRecursion, flat_map}
 use Rattle.byteorder.specs.Endian.{big_bytes}
 use Rattle.pim_addr.specs.declared.family.AddressFamily.{AddressFamily}
@@ -11,11 +11,13 @@ use Rattle.pim_jp.specs.declared.entry.Entry.TheVariants.{Star, Source, Rpt}
 use Rattle.pim_jp.specs.Message.{GroupSet, Message, message_of}
 use Rattle.pim_jp.specs.Spelling.{source_of, IsEntry, AreEntries, IsSet, AreSets, Spells}
 use Rattle.pim_jp.specs.Canonical.{IsMessageEntry, IsMessageSet, IsMessage, canonical_entry, canonical_set, canonical_head, canonical}
+use Rattle.pim_jp.specs.Parts.{set_parts}
+use Rattle.pim_jp.specs.Faults.{faults_of, faults}
 use Rattle.pim_jp.specs.Laws.{ReadsHead, ReadsSet}
 use Rattle.pim_jp.proofs.Counts.{AreBytes-first, AreBytes-others}
 use Rattle.pim_jp.proofs.SetParts.{set_spelled}
 use Rattle.pim_jp.proofs.Legal.{message_spelled}
-use Rattle.pim_jp.proofs.Spelled.{spelled_value, set_back, head_back}
+use Rattle.pim_jp.proofs.Spelled.{spelled_value, spelled_body, set_back, set_fine, head_back}
 
 -- ---- the spelling that is written is one
 
@@ -55,6 +57,13 @@ message_written family message is =
 
 pub written_value : (family : AddressFamily) (message : Message) → IsMessage family message → message_of family (canonical family message) ≡ message
 written_value family message is = sym (spelled_value family message (canonical family message) (message_written family message is))
+
+pub written_without_fault : (family : AddressFamily) (message : Message) → IsMessage family message → faults family (canonical family message) ≡ []
+written_without_fault family message is = spelled_body family message (canonical family message) (message_written family message is)
+
+pub set_without_fault : (family : AddressFamily) (set : GroupSet) (count at : ℕ) (behind : List ℕ) → IsMessageSet family set
+    → ((at : ℕ) → faults_of family (set_parts family count at behind) ≡ []) → faults_of family (set_parts family (suc count) at (canonical_set family set ++ behind)) ≡ []
+set_without_fault family set count at behind is others = set_fine family set count at (canonical_set family set) behind (set_written family set is) others
 
 -- ---- what is written of a head, and of a set, is read, whatever stands behind it
 

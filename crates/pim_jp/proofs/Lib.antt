@@ -15,4 +15,5 @@ pub mod Parts
 pub mod EntryPlaces
 pub mod EntryLoop
 pub mod EntryPass
+pub mod Lengths
 pub mod SetLoop

@@ -181,6 +181,13 @@ set_told family set count at bytes behind stands valid joined pruned others =
     entry_parts family (big_number 2 (drop 2 bytes)) joined joined at entries (λ _ at bytes.
     set_parts family count at bytes)))) none stands.long behind_group
 
+-- a set that is spelled has no fault, whatever stands behind it without one
+pub set_fine : (family : AddressFamily) (set : GroupSet) (count at : ℕ) (bytes behind : List ℕ) → IsSet family set bytes
+    → ((at : ℕ) → faults_of family (set_parts family count at behind) ≡ []) → faults_of family (set_parts family (suc count) at (bytes ++ behind)) ≡ []
+set_fine family set count at bytes behind h others =
+    let allowed = allowed_from_legal set h.0 in
+    set_told family set count at (bytes ++ behind) behind (stands_at family set bytes behind h) h.1 allowed.0 allowed.1 others
+
 -- ---- the sets
 
 sets_read : (family : AddressFamily) (sets : List GroupSet) (bytes : List ℕ) → AreSets family sets bytes → sets_of family (length sets) bytes ≡ sets

@@ -1,6 +1,6 @@
 -- Which messages have a spelling, and the one that is written: reserved bytes and ignored bits are 0, and of each
 -- entry's flags the S bit is set (RFC 7761, 4.9.1 and 4.9.5).
-use Rattle.std.specs.Prelude.{◌≡◌, ℕ, ◌+◌, ◌*◌, ◌<◌, ◌^◌, true, List, ◌∷◌, ◌++◌, length}
+use Rattle.std.specs.Prelude.{◌≡◌, ℕ, ◌+◌, ◌*◌, ◌<◌, ◌^◌, true, List, [], ◌∷◌, ◌++◌, length}
 use Rattle.std.specs.List.{AllByRecursion, flat_map}
 use Rattle.byteorder.specs.Endian.{big_bytes}
 use Rattle.pim_addr.specs.declared.family.AddressFamily.{AddressFamily}
@@ -52,3 +52,8 @@ canonical_head_length family = unicast_length family + 4
 -- of a set with so many joined entries and so many pruned ones
 abbrev pub canonical_set_length : AddressFamily → ℕ → ℕ → ℕ
 canonical_set_length family joined pruned = group_length family + 4 + joined * source_length family + pruned * source_length family
+
+-- of the sets of a message
+unfoldable pub canonical_sets_length : AddressFamily → List GroupSet → ℕ
+canonical_sets_length family [] = 0
+canonical_sets_length family (set ∷ sets) = canonical_set_length family (length set.joined) (length set.pruned) + canonical_sets_length family sets

@@ -20,10 +20,11 @@ pub use entries::Entries;
 pub use entry::Entry;
 pub use fault::{JpFault, JpKind};
 pub use laws::{
-    canonical_head_is_read, canonical_is_read, canonical_is_spelled, canonical_set_is_read,
-    first_fault_is_least, legal_is_spelled, one_canonical_spelling, spelled_by_one_value,
-    spelled_is_legal, spelled_is_message,
+    canonical_has_its_length, canonical_head_has_its_length, canonical_head_is_read,
+    canonical_is_read, canonical_is_spelled, canonical_set_has_its_length,
+    canonical_set_has_no_fault, canonical_set_is_read, first_fault_is_least, legal_is_spelled,
+    one_canonical_spelling, spelled_by_one_value, spelled_is_legal, spelled_is_message,
 };
 pub use sets::{SetView, Sets};
 pub use view::JpView;
-pub use writing::{head_length, put_head, put_set, set_length};
+pub use writing::{head_length, put_entry, put_group_and_counts, put_head, put_set, set_length};

@@ -4,8 +4,12 @@ use crate::fault::JpKind::{
     BothLists, Encoding, Family, Flags, Mask, NotGroup, NotSource, SecondStar, Short, Trailing,
 };
 use crate::slow::first_fault;
-use crate::{Entry, JpKind, JpView, head_length, put_head, put_set, set_length};
+use crate::{
+    Entry, JpKind, JpView, head_length, put_entry, put_group_and_counts, put_head, put_set,
+    set_length,
+};
 use pim_addr::{V4, V6};
+use std::alloc::{AllocError, Global};
 use std::test::Fail;
 
 /// Upstream 10.0.0.2, holdtime 210, and 239.1.1.1 with the RP 10.9.9.9 joined.
@@ -219,19 +223,46 @@ fn tells_of_sets_as_a_whole(rt: HostRuntime) {
     assert_eq!(rt; fault_v4(twice), None);
 }
 
-/// The plain reader tells the same of `STAR` with any one byte changed to any other.
+/// A set that joins the RP 10.9.9.9, the source 192.0.2.1 and, on the RP's tree, 192.0.2.2, and prunes 192.0.2.2 and,
+/// on the RP's tree, 192.0.2.1.
+const LISTS: [u8; 62] = [
+    1, 0, 10, 0, 0, 2, 0, 1, 0, 210, 1, 0, 0, 32, 239, 1, 1, 1, 0, 3, 0, 2, 1, 0, 7, 32, 10, 9, 9,
+    9, 1, 0, 4, 32, 192, 0, 2, 1, 1, 0, 5, 32, 192, 0, 2, 2, 1, 0, 4, 32, 192, 0, 2, 2, 1, 0, 5,
+    32, 192, 0, 2, 1,
+];
+
+/// Whether the plain reader tells the same of the body with any one byte changed to any other: else where not.
+fn difference(alloc: Global, body: &mut [u8]) -> Result<Option<(usize, u8)>, AllocError> {
+    for at in 0..body.len() {
+        let old = body[at];
+        for byte in 0..=255 {
+            body[at] = byte;
+            if JpView::<V4>::read(body).err() != first_fault(alloc, body)? {
+                return Ok(Some((at, byte)));
+            }
+        }
+        body[at] = old;
+    }
+    Ok(None)
+}
+
 #[test]
 fn tells_what_the_plain_reader_tells(rt: HostRuntime) -> Result<(), Fail> {
-    for at in 0..30 {
-        for byte in 0..=255 {
-            let mut body = STAR;
-            body[at] = byte;
-            let told = JpView::<V4>::read(&body).err();
-            assert_eq!(rt;
-                told,
-                first_fault(rt.alloc(), &body)?,
-                "byte {at} is {byte}"
-            );
+    let mut star = STAR;
+    assert_eq!(rt; difference(rt.alloc(), &mut star)?, None);
+    let mut lists = LISTS;
+    assert_eq!(rt; difference(rt.alloc(), &mut lists)?, None);
+    Ok(())
+}
+
+/// The same where an entry that is joined stands among the pruned ones too.
+#[test]
+fn tells_of_both_lists_what_the_plain_reader_tells(rt: HostRuntime) -> Result<(), Fail> {
+    for joined in [22, 30, 38] {
+        for pruned in [46, 54] {
+            let mut body = LISTS;
+            body.copy_within(joined..joined + 8, pruned);
+            assert_eq!(rt; difference(rt.alloc(), &mut body)?, None);
         }
     }
     Ok(())
@@ -269,4 +300,14 @@ fn writes_both_lists_in_their_order(rt: HostRuntime) {
     let want =
         b"\x01\x00\x00\x20\xef\x01\x01\x01\x00\x01\x00\x02\x01\x00\x04\x20\xc0\x00\x02\x01\x01\x00\x05\x20\xc0\x00\x02\x01\x01\x00\x07\x20\x0a\x09\x09\x09";
     assert_eq!(rt; set, *want);
+}
+
+#[test]
+fn writes_a_set_part_by_part(rt: HostRuntime) {
+    let mut set = [0xff; 20];
+    let (front, entry) = set.split_at_mut(12);
+    put_group_and_counts::<V4>([239, 1, 1, 1], 1, 0, front);
+    put_entry::<V4>(Entry::Star([10, 9, 9, 9]), entry);
+    let (_, want) = STAR.split_at(10);
+    assert_eq!(rt; set[..], *want);
 }

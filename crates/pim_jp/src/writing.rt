@@ -67,15 +67,23 @@ fn source_of<A>(entry: Entry<A>) -> SourceAddress<A>
     }
 }
 
+/// Writes an entry, into a slice of its length.
+pub fn put_entry<F: Family>(entry: Entry<F::Addr>, bytes: &mut [u8])
+    requires { length bytes.old ≡ source_length F.family }
+    ensures { bytes.new ≡ canonical_entry F.family (entry_seen F.bytes_of entry) }
+{
+    put_source::<F>(source_of(entry), bytes);
+}
+
 /// Writes an entry at this place.
-fn put_entry<F: Family>(entry: Entry<F::Addr>, at: usize, bytes: &mut [u8])
+fn put_entry_at<F: Family>(entry: Entry<F::Addr>, at: usize, bytes: &mut [u8])
     requires { at + source_length F.family ≤ length bytes.old }
     ensures written { bytes.new ≡ take at bytes.old ++ canonical_entry F.family (entry_seen F.bytes_of entry) ++ drop (at + source_length F.family) bytes.old }
     ensures length { length bytes.new ≡ length bytes.old }
 {
     let (_, behind) = bytes.split_at_mut(at);
     let (place, _) = behind.split_at_mut(4 + F::LEN);
-    put_source::<F>(source_of(entry), place);
+    put_entry::<F>(entry, place);
 }
 
 /// Writes the entries of one list.
@@ -84,12 +92,13 @@ fn put_entries<F: Family>(entries: &[Entry<F::Addr>], bytes: &mut [u8])
     ensures { bytes.new ≡ flat_map (canonical_entry F.family) (map (entry_seen F.bytes_of) entries.now) }
 {
     for (index, entry) in entries.iter().enumerate() {
-        put_entry::<F>(*entry, index * (4 + F::LEN), bytes);
+        put_entry_at::<F>(*entry, index * (4 + F::LEN), bytes);
     }
 }
 
-/// Writes what stands before the entries of a set: its group and the two counts.
-fn put_group_and_counts<F: Family>(group: F::Addr, joined: u16, pruned: u16, bytes: &mut [u8])
+/// Writes what stands before the entries of a set, into a slice of its length, 4 bytes more than an encoded group has:
+/// the group, how many entries are joined, and how many pruned.
+pub fn put_group_and_counts<F: Family>(group: F::Addr, joined: u16, pruned: u16, bytes: &mut [u8])
     requires { length bytes.old ≡ group_length F.family + 4 }
     ensures { bytes.new ≡ canonical_group F.family (F.bytes_of group) ++ big_bytes 2 joined ++ big_bytes 2 pruned }
 {
