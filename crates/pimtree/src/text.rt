@@ -1,6 +1,6 @@
 //! The text that `check` prints of a message.
 
-ghost use Rattle.std.specs.Prelude.{◌≡◌, ◌++◌, codes, decimal, OnOk, IfOk};
+ghost use Rattle.std.specs.Prelude.{◌≡◌, ◌++◌, decimal, OnOk, IfOk};
 ghost use Rattle.std.specs.List.{flat_map};
 ghost use Rattle.pim_addr.specs.Text.{address_text};
 ghost use Rattle.pim_jp.specs.Seen.{entry_seen};
