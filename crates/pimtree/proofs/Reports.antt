@@ -36,16 +36,16 @@ short_input family source destination input short = rw (le-ltb _ _ short) refl
 
 -- a message that isn't reported, with nothing written
 pub unreported : (report : Result (List ℕ) Fault) (old new : Option (List ℕ)) (fault : Fault) → Keeps old new → IsMessageFault report fault → Explains report old new fault
-unreported report old new (Clap error) kept cause = absurd cause
-unreported report old new (Address word) kept cause = absurd cause
-unreported report old new Family kept cause = absurd cause
-unreported report old new Memory kept cause = kept
-unreported report old new InputRead kept cause = absurd cause
-unreported report old new InputTooLong kept cause = absurd cause
-unreported report old new Output kept cause = absurd cause
 unreported report old new (Frame fault) kept cause = (cause, kept)
 unreported report old new (Hello fault) kept cause = (cause, kept)
 unreported report old new (JoinPrune fault) kept cause = (cause, kept)
+unreported report old new Memory kept cause = kept
+unreported report old new (Clap refusal) kept cause = absurd cause
+unreported report old new (Address word) kept cause = absurd cause
+unreported report old new Family kept cause = absurd cause
+unreported report old new InputRead kept cause = absurd cause
+unreported report old new InputTooLong kept cause = absurd cause
+unreported report old new Output kept cause = absurd cause
 
 keeps_self : (known : Option (List ℕ)) → Keeps known known
 keeps_self None = tt

@@ -17,7 +17,8 @@ bit false = codes "0"
 
 abbrev pub delays_line : Delays → List ℕ
 delays_line delays =
-    line (codes "lan-prune-delay t " ++ bit delays.t ++ codes " propagation " ++ decimal delays.propagation ++ codes " override " ++ decimal delays.override_ms)
+    line (codes "lan-prune-delay t " ++ bit delays.t ++ codes " propagation " ++ decimal delays.propagation
+    ++ codes " override " ++ decimal delays.override_ms)
 
 -- the line of the delays on a LAN, where they are there
 abbrev pub delays_text : Option Delays → List ℕ
@@ -35,4 +36,5 @@ address_line family address = line (codes "address " ++ address_text family addr
 
 -- what is there, in this order, a line each
 abbrev pub hello_text : AddressFamily → Hello → List ℕ
-hello_text family hello = codes "hello\n" ++ parameters_text hello.parameters ++ flat_map (address_line family) hello.addresses
+hello_text family hello =
+    codes "hello\n" ++ parameters_text hello.parameters ++ flat_map (address_line family) hello.addresses

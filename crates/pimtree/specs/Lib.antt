@@ -5,3 +5,4 @@ pub mod Report
 pub mod CommandLine
 pub mod Addresses
 pub mod Plan
+pub mod Telling

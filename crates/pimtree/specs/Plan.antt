@@ -1,9 +1,11 @@
 -- What is to be done, by the words.
-use Rattle.std.specs.Prelude.{◌≡◌, ◌⊎◌, ℕ, List, [], true, false, ⊤, IsSomeAnd, codes}
-use Rattle.clap.specs.declared.error.Error.{Error}
+use Rattle.std.specs.Prelude.{◌≡◌, ◌⊎◌, ℕ, List, [], true, false, ⊤, IsSomeAnd, Result, Ok, Err, codes}
+use Rattle.std.specs.declared.alloc.AllocError.{AllocError}
+use Rattle.std.specs.declared.alloc.Global.{Global}
+use Rattle.std.specs.declared.string.String.{String}
 use Rattle.clap.specs.declared.error.kind.ErrorKind.{ErrorKind}
-use Rattle.clap.specs.declared.error.kind.ErrorKind.TheVariants.{DisplayHelp, DisplayVersion, OutOfMemory}
-use Rattle.clap.specs.Words.{Text, fault_of, takes, kind_of, IsAmong}
+use Rattle.clap.specs.declared.error.kind.ErrorKind.TheVariants.{OutOfMemory}
+use Rattle.clap.specs.Words.{Text, fault_of, takes, IsAmong}
 use Rattle.pim_addr.specs.declared.family.AddressFamily.{AddressFamily}
 use Rattle.pim_addr.specs.declared.family.AddressFamily.TheVariants.{Ipv4, Ipv6}
 use Rattle.pimtree.specs.declared.addresses.Address.{Address}
@@ -63,32 +65,22 @@ Plans words plan = (fault_of pimtree words ≡ []) × IsSomeAnd (asked words) (�
 
 -- `clap` finds nothing wrong with the words, but this is wrong with what they ask for.
 abbrev pub HasWrong : List Text → Fault → Type 0
-HasWrong words fault = (fault_of pimtree words ≡ []) × IsSomeAnd (asked words) (λ given. IsWrong given.source given.destination fault)
+HasWrong words fault =
+    (fault_of pimtree words ≡ []) × IsSomeAnd (asked words) (λ given. IsWrong given.source given.destination fault)
 
--- `clap` doesn't take the words, and the error is of a kind that it finds in them.
-abbrev pub IsRefusedBy : List Text → Error → Type 0
-IsRefusedBy words error = (takes pimtree words ≡ true → ⊥) × IsAmong (kind_of error) (fault_of pimtree words)
+-- `clap` doesn't take the words, and this is a kind of error that it finds in them.
+abbrev pub IsRefusedBy : List Text → ErrorKind → Type 0
+IsRefusedBy words kind = (takes pimtree words ≡ true → ⊥) × IsAmong kind (fault_of pimtree words)
 
 -- Why there is no plan.
 abbrev pub HasCause : List Text → Fault → Type 0
 HasCause words cause.Memory = ⊤
-HasCause words (cause.Clap error) = IsRefusedBy words error
+HasCause words (cause.Clap refusal) = IsRefusedBy words refusal.kind
 HasCause words fault = HasWrong words fault
 
--- An error of `clap` is told as itself, unless it is want of memory.
-abbrev pub IsRefusal : Error → Fault → Type 0
-IsRefusal error cause.Memory = kind_of error ≡ OutOfMemory
-IsRefusal error (cause.Clap told) = (told ≡ error) × (kind_of error ≡ OutOfMemory → ⊥)
-IsRefusal error other = ⊥
-
--- ---- the status of a run that met a fault
-
--- Help and the version were asked for.
-abbrev pub kind_status : ErrorKind → ℕ
-kind_status DisplayHelp = 0
-kind_status DisplayVersion = 0
-kind_status other = 2
-
-abbrev pub fault_status : Fault → ℕ
-fault_status (cause.Clap error) = kind_status (kind_of error)
-fault_status other = 2
+-- A refusal of this kind, with `clap`'s text of it: want of memory, where that is its kind or where there was none for
+-- the text, and else the refusal itself.
+abbrev pub refusal_fault : ErrorKind → Result (String Global) AllocError → Fault
+refusal_fault OutOfMemory text = cause.Memory
+refusal_fault kind (Ok text) = cause.Clap (record { kind = kind; text = text })
+refusal_fault kind (Err error) = cause.Memory

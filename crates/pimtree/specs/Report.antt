@@ -1,8 +1,8 @@
 -- What `check` answers for an input.
-use Rattle.std.specs.Prelude.{◌≡◌, ◌<◌, ◌≤◌, ⊤, ℕ, List, [], ◌++◌, length, map, Option, Result, Ok, Err, nat_lt}
+use Rattle.std.specs.Prelude.{◌≡◌, ◌<◌, ◌≤◌, ⊤, ℕ, ◌+◌, List, [], ◌++◌, length, map, min, Option, Result, Ok, Err, nat_lt}
 use Rattle.std.specs.Io.KnownBytes.{Appends, Keeps}
 use Rattle.pim_addr.specs.Faults.{fault_if, judged}
-use Rattle.pim_addr.specs.Device.{AppendsFront}
+use Rattle.pim_addr.specs.Device.{AppendsFront, top_count}
 use Rattle.pim_addr.specs.declared.family.AddressFamily.{AddressFamily}
 use Rattle.pim_frame.specs.Frame.{Content, hello, join_prune, other, content, frame_faults}
 use Rattle.pim_hello.specs.Value.{hello_of}
@@ -10,7 +10,7 @@ use Rattle.pim_hello.specs.Faults.{faults as hello_option_faults}
 use Rattle.pim_jp.specs.Message.{message_of}
 use Rattle.pim_jp.specs.Faults.{faults}
 use Rattle.pimtree.specs.declared.fault.Fault.{Fault}
-use Rattle.pimtree.specs.declared.fault.Fault.TheVariants.{Clap, Address, Family, Frame, Hello, JoinPrune, InputTooLong, InputRead, Output, Memory}
+use Rattle.pimtree.specs.declared.fault.Fault.TheVariants.{Frame, Hello, JoinPrune, InputTooLong, InputRead, Output, Memory}
 use Rattle.pimtree.specs.Text.{message_text, type_text}
 use Rattle.pimtree.specs.HelloText.{hello_text}
 
@@ -60,49 +60,41 @@ WroteFront (Err fault) old new = ⊥
 
 -- A fault's cause is there, and what went out is a front of the text.
 abbrev pub Explains : Result (List ℕ) Fault → Option (List ℕ) → Option (List ℕ) → Fault → Type 0
-Explains report old new (Clap error) = ⊥
-Explains report old new (Address word) = ⊥
-Explains report old new Family = ⊥
 Explains report old new Memory = Keeps old new
 Explains report old new InputRead = Keeps old new
 Explains report old new Output = WroteFront report old new
-Explains report old new InputTooLong = (report ≡ Err InputTooLong) × Keeps old new
-Explains report old new (Frame fault) = (report ≡ Err (Frame fault)) × Keeps old new
-Explains report old new (Hello fault) = (report ≡ Err (Hello fault)) × Keeps old new
-Explains report old new (JoinPrune fault) = (report ≡ Err (JoinPrune fault)) × Keeps old new
+Explains report old new fault = (report ≡ Err fault) × Keeps old new
 
 -- Status 0 and the whole text, or a fault.
 abbrev pub Reports : Result (List ℕ) Fault → Option (List ℕ) → Option (List ℕ) → Result ℕ Fault → Type 0
 Reports report old new (Ok status) = (status ≡ 0) × WroteAll report old new
 Reports report old new (Err fault) = Explains report old new fault
 
+-- ---- how often the devices have failed after an answer, by how often before
+
+-- The reader failed once more where its failure is the answer, and else never.
+abbrev pub read_failures_after : {A : Type 0} → ℕ → Result A Fault → ℕ
+read_failures_after before (Err InputRead) = min (before + 1) top_count
+read_failures_after before answer = before
+
+-- The writer failed once more where its failure is the answer, and else never.
+abbrev pub write_failures_after : {A : Type 0} → ℕ → Result A Fault → ℕ
+write_failures_after before (Err Output) = min (before + 1) top_count
+write_failures_after before answer = before
+
 -- ---- the steps of `check`
 
 -- Reading the input is refused for one of these.
 abbrev pub IsReadFault : Fault → Type 0
-IsReadFault (Clap error) = ⊥
-IsReadFault (Address word) = ⊥
-IsReadFault Family = ⊥
 IsReadFault Memory = ⊤
 IsReadFault InputRead = ⊤
 IsReadFault InputTooLong = ⊤
-IsReadFault Output = ⊥
-IsReadFault (Frame fault) = ⊥
-IsReadFault (Hello fault) = ⊥
-IsReadFault (JoinPrune fault) = ⊥
+IsReadFault fault = ⊥
 
 -- Reading the input, where the reader gives all these bytes, is refused for this cause.
 abbrev pub IsInputFault : List ℕ → Fault → Type 0
-IsInputFault all (Clap error) = ⊥
-IsInputFault all (Address word) = ⊥
-IsInputFault all Family = ⊥
-IsInputFault all Memory = ⊤
-IsInputFault all InputRead = ⊤
 IsInputFault all InputTooLong = 65536 < length all
-IsInputFault all Output = ⊥
-IsInputFault all (Frame fault) = ⊥
-IsInputFault all (Hello fault) = ⊥
-IsInputFault all (JoinPrune fault) = ⊥
+IsInputFault all fault = IsReadFault fault
 
 -- all of the bytes, or why not
 abbrev pub GivesInput : {A : Type 0} → (A → List ℕ) → List ℕ → Result A Fault → Type 0
@@ -111,16 +103,11 @@ GivesInput bytes_of all (Err fault) = IsInputFault all fault
 
 -- The text of a message isn't made for this cause.
 abbrev pub IsMessageFault : Result (List ℕ) Fault → Fault → Type 0
-IsMessageFault report (Clap error) = ⊥
-IsMessageFault report (Address word) = ⊥
-IsMessageFault report Family = ⊥
 IsMessageFault report Memory = ⊤
-IsMessageFault report InputRead = ⊥
-IsMessageFault report InputTooLong = ⊥
-IsMessageFault report Output = ⊥
 IsMessageFault report (Frame fault) = report ≡ Err (Frame fault)
 IsMessageFault report (Hello fault) = report ≡ Err (Hello fault)
 IsMessageFault report (JoinPrune fault) = report ≡ Err (JoinPrune fault)
+IsMessageFault report fault = ⊥
 
 -- the text that is reported, or why there is none
 abbrev pub GivesReport : {A : Type 0} → (A → List ℕ) → Result (List ℕ) Fault → Result A Fault → Type 0

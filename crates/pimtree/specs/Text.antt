@@ -13,8 +13,8 @@ line text = text ++ 10 ∷ []
 
 abbrev pub message_line : AddressFamily → Message → List ℕ
 message_line family message =
-    line (codes "join/prune upstream " ++ address_text family message.upstream ++ codes " holdtime " ++ decimal message.holdtime
-    ++ codes " sets " ++ decimal (length message.sets))
+    line (codes "join/prune upstream " ++ address_text family message.upstream
+    ++ codes " holdtime " ++ decimal message.holdtime ++ codes " sets " ++ decimal (length message.sets))
 
 abbrev pub set_line : AddressFamily → GroupSet → List ℕ
 set_line family set =
@@ -33,7 +33,8 @@ entry_line family list entry = line (list ++ entry_words family entry)
 
 abbrev pub set_text : AddressFamily → GroupSet → List ℕ
 set_text family set =
-    set_line family set ++ flat_map (entry_line family (codes "join ")) set.joined ++ flat_map (entry_line family (codes "prune ")) set.pruned
+    set_line family set ++ flat_map (entry_line family (codes "join ")) set.joined
+    ++ flat_map (entry_line family (codes "prune ")) set.pruned
 
 -- the message, then each set with its entries, in order
 abbrev pub message_text : AddressFamily → Message → List ℕ

@@ -1,7 +1,6 @@
 -- The line of a fault.
 use Rattle.std.specs.Prelude.{ℕ, List, ◌++◌, codes, decimal, unwrap_or}
-use Rattle.clap.specs.declared.error.Error.{Error}
-use Rattle.clap.specs.Words.{kind_of}
+use Rattle.clap.specs.declared.error.kind.ErrorKind.{ErrorKind}
 use Rattle.clap.specs.Values.{kind_text}
 use Rattle.pim_frame.specs.declared.frame.FrameFault.{FrameFault}
 use Rattle.pim_frame.specs.declared.frame.FrameFault.TheVariants as frame
@@ -45,11 +44,11 @@ abbrev pub join_prune_words : JpFault → List ℕ
 join_prune_words fault = codes "join/prune " ++ kind_name fault.kind ++ codes " at " ++ decimal fault.at
 
 -- the short text that `clap` has on a kind of error; it has none on a request for help
-abbrev pub refusal_words : Error → List ℕ
-refusal_words error = unwrap_or (kind_text (kind_of error)) (codes "help")
+abbrev pub refusal_words : ErrorKind → List ℕ
+refusal_words kind = unwrap_or (kind_text kind) (codes "help")
 
 abbrev pub fault_words : Fault → List ℕ
-fault_words (Clap error) = refusal_words error
+fault_words (Clap refusal) = refusal_words refusal.kind
 fault_words (Address word) = codes "address " ++ word.now
 fault_words Family = codes "family"
 fault_words (Frame fault) = frame_words fault

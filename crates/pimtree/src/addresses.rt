@@ -1,6 +1,6 @@
 //! Addresses of either family, as words give them.
 
-ghost use Rattle.std.specs.Prelude.{◌≡◌, MatchOption};
+ghost use Rattle.std.specs.Prelude.{MatchOption};
 ghost use Rattle.pimtree.specs.Addresses.{Names, IsUnread};
 
 use pim_addr::{V4, V6, read_text};

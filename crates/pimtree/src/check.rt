@@ -1,17 +1,16 @@
 //! The command `check`: one message, read and printed.
 
-ghost use Rattle.std.specs.Prelude.{◌≡◌, ◌+◌, ◌<◌, ◌≤◌, length, take, IfOk, IfSome, IfErr, IsErrOf, Err, OnErr, vec_len};
-ghost use Rattle.std.specs.Io.KnownBytes.{Keeps, IsAtEnd, Consumes};
-ghost use Rattle.pim_addr.specs.Device.{FailedIn, ConsumesAtMost, failures_after};
-ghost use Rattle.pim_addr.specs.Faults.{Answers};
+ghost use Rattle.std.specs.Prelude.{◌≡◌, ◌≤◌, length, IfOk, IfSome, IfErr, vec_len};
+ghost use Rattle.pim_addr.specs.Device.{ConsumesAtMost};
 ghost use Rattle.pimtree.specs.Plan.{end_family, end_source, end_destination};
-ghost use Rattle.pimtree.specs.Report.{body_report, hello_report, message_report, input_report, Reports, GivesReport, GivesInput, IsReadFault};
+ghost use Rattle.pimtree.specs.Report.{body_report, hello_report, message_report, input_report, read_failures_after, write_failures_after};
+ghost use Rattle.pimtree.specs.Report.{Reports, GivesReport, GivesInput, IsReadFault};
 
 use crate::fault::Fault;
 use crate::hello_text::hello_text;
 use crate::task::Ends;
 use crate::text::{message_text, type_text};
-use pim_addr::{Drain, Family, Feed, V4, V6, read_up_to, write_all};
+use pim_addr::{Drain, Failed, Family, Feed, V4, V6, read_up_to, write_all};
 use pim_frame::{Body, open};
 use pim_hello::Hello;
 use pim_jp::JpView;
@@ -32,12 +31,14 @@ fn blank(alloc: Global, length: usize) -> Result<Vec<u8>, Fault<'static>>
 fn read_input<R: Feed>(alloc: Global, reader: &mut R) -> Result<Vec<u8>, Fault<'static>>
     ensures input { IfSome (R.remaining reader.old) (λ all. GivesInput (λ v. v.items) all result) }
     ensures causes { IfErr result IsReadFault }
-    ensures failed { IsErrOf result Fault.InputRead → FailedIn (R.failures reader.old) (R.failures reader.new) }
+    ensures failed { R.failures reader.new ≡ read_failures_after (R.failures reader.old) result }
     ensures taken { ConsumesAtMost 65537 (R.remaining reader.old) (R.remaining reader.new) }
     ensures small { IfOk result (λ input. length input.items ≤ 65536) }
 {
     let mut input = blank(alloc, INPUT_LIMIT + 1)?;
-    let length = read_up_to(reader, &mut input).map_err(|_| Fault::InputRead)?;
+    let Ok(length) = read_up_to(reader, &mut input) else {
+        return Err(Fault::InputRead);
+    };
     if length > INPUT_LIMIT {
         return Err(Fault::InputTooLong);
     }
@@ -76,7 +77,8 @@ fn report<F: Family>(
     message: &[u8],
 ) -> Result<Vec<u8>, Fault<'static>>
     requires { length message.now ≤ 65536 }
-    ensures { GivesReport (λ v. v.items) (message_report F.family (F.bytes_of src) (F.bytes_of dst) message.now) result }
+    ensures { GivesReport (λ v. v.items)
+        (message_report F.family (F.bytes_of src) (F.bytes_of dst) message.now) result }
 {
     match open::<F>(src, dst, message) {
         Err(fault) => Err(Fault::Frame(fault)),
@@ -90,8 +92,9 @@ fn report<F: Family>(
 /// is the status, 0. Of an input at most 65,537 bytes are read: the last one shows that it is too long.
 ///
 /// # Errors
-/// The first of: `Memory` (at any time before the writing), `InputRead`, `InputTooLong` (above 65,536 bytes), `Frame`, `Hello`, `JoinPrune`,
-/// after which nothing was written, and `Output`, after which a front of the text was.
+/// The first of: `Memory` (at any time before the writing), `InputRead`, `InputTooLong` (above 65,536 bytes),
+/// `Frame`, `Hello`, `JoinPrune`, after which nothing was written, and `Output`, after which a front of the text
+/// was. No device fails without that answer.
 pub fn check_into<F: Family, R: Feed, W: Drain>(
     alloc: Global,
     reader: &mut R,
@@ -100,16 +103,19 @@ pub fn check_into<F: Family, R: Feed, W: Drain>(
     dst: F::Addr,
 ) -> Result<u8, Fault<'static>>
     ensures report { IfSome (R.remaining reader.old) (λ input.
-        Reports (input_report F.family (F.bytes_of src) (F.bytes_of dst) input) (W.contents writer.old) (W.contents writer.new) result) }
+        Reports (input_report F.family (F.bytes_of src) (F.bytes_of dst) input)
+        (W.contents writer.old) (W.contents writer.new) result) }
     ensures status { IfOk result (λ status. status ≡ 0) }
-    ensures input_read { IsErrOf result Fault.InputRead → FailedIn (R.failures reader.old) (R.failures reader.new) }
-    ensures output { IsErrOf result Fault.Output → FailedIn (W.failures writer.old) (W.failures writer.new) }
+    ensures input_read { R.failures reader.new ≡ read_failures_after (R.failures reader.old) result }
+    ensures output { W.failures writer.new ≡ write_failures_after (W.failures writer.old) result }
     ensures taken { ConsumesAtMost 65537 (R.remaining reader.old) (R.remaining reader.new) }
 {
     let input = read_input(alloc, reader)?;
     let text = report::<F>(alloc, src, dst, &input)?;
-    write_all(writer, &text).map_err(|_| Fault::Output)?;
-    Ok(0)
+    match write_all(writer, &text) {
+        Ok(()) => Ok(0),
+        Err(Failed) => Err(Fault::Output),
+    }
 }
 
 /// `check_into` of a message that went from one of these ends to the other.
@@ -123,10 +129,11 @@ pub fn check_ends<R: Feed, W: Drain>(
     ends: Ends,
 ) -> Result<u8, Fault<'static>>
     ensures report { IfSome (R.remaining reader.old) (λ input.
-        Reports (input_report (end_family ends) (end_source ends) (end_destination ends) input) (W.contents writer.old) (W.contents writer.new) result) }
+        Reports (input_report (end_family ends) (end_source ends) (end_destination ends) input)
+        (W.contents writer.old) (W.contents writer.new) result) }
     ensures status { IfOk result (λ status. status ≡ 0) }
-    ensures input_read { IsErrOf result Fault.InputRead → FailedIn (R.failures reader.old) (R.failures reader.new) }
-    ensures output { IsErrOf result Fault.Output → FailedIn (W.failures writer.old) (W.failures writer.new) }
+    ensures input_read { R.failures reader.new ≡ read_failures_after (R.failures reader.old) result }
+    ensures output { W.failures writer.new ≡ write_failures_after (W.failures writer.old) result }
     ensures taken { ConsumesAtMost 65537 (R.remaining reader.old) (R.remaining reader.new) }
 {
     match ends {

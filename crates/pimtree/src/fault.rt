@@ -5,18 +5,27 @@ ghost use Rattle.pim_addr.specs.Device.{AppendsAll, failures_after};
 ghost use Rattle.pimtree.specs.Text.{line};
 ghost use Rattle.pimtree.specs.Words.{frame_words, hello_kind_name, kind_name, refusal_words, fault_words, fault_text};
 
-use clap::Error;
+use clap::error::ErrorKind;
 use itoa::Buffer;
 use pim_addr::{Drain, Failed, write_all};
 use pim_frame::FrameFault;
 use pim_hello::{HelloFault, HelloKind};
 use pim_jp::{JpFault, JpKind};
 
+/// What `clap` refuses, or shows because the words ask for it.
+#[derive(Debug, Drop)]
+pub struct Refusal {
+    /// What is wrong with the words, or what they ask for.
+    pub kind: ErrorKind,
+    /// `clap`'s own text, with its line feeds.
+    pub text: String,
+}
+
 /// Why a run ended before its end.
 #[derive(Debug, Drop)]
 pub enum Fault<'a> {
     /// `clap` doesn't take the words, or they ask for help or the version.
-    Clap(Error),
+    Clap(Refusal),
     /// The value of an option, as it was given, is no address.
     Address(&'a str),
     /// The addresses of the command are of two families.
@@ -77,7 +86,8 @@ fn write_plain<W: Drain>(writer: &mut W, words: &[u8]) -> Result<(), Failed>
 
 /// Writes the words and a number, and ends the line.
 fn write_numbered<W: Drain>(writer: &mut W, words: &[u8], number: usize) -> Result<(), Failed>
-    ensures bytes { AppendsAll (W.contents writer.old) (W.contents writer.new) result (line (words.now ++ decimal number)) }
+    ensures bytes { AppendsAll (W.contents writer.old) (W.contents writer.new) result
+        (line (words.now ++ decimal number)) }
     ensures count { W.failures writer.new ≡ failures_after (W.failures writer.old) result }
 {
     write_all(writer, words)?;
@@ -93,7 +103,8 @@ fn write_named<W: Drain>(
     place: &[u8],
     number: usize,
 ) -> Result<(), Failed>
-    ensures bytes { AppendsAll (W.contents writer.old) (W.contents writer.new) result (words.now ++ (name.now ++ line (place.now ++ decimal number))) }
+    ensures bytes { AppendsAll (W.contents writer.old) (W.contents writer.new) result
+        (words.now ++ (name.now ++ line (place.now ++ decimal number))) }
     ensures count { W.failures writer.new ≡ failures_after (W.failures writer.old) result }
 {
     write_all(writer, words)?;
@@ -129,10 +140,10 @@ fn write_word<W: Drain>(writer: &mut W, words: &[u8], word: &str) -> Result<(), 
 }
 
 /// The short text that `clap` has on a kind of error. What it has to say in full is printed by itself.
-fn refusal_words(error: &Error) -> &'static str
-    ensures { result.now ≡ refusal_words error.now }
+fn refusal_words(kind: ErrorKind) -> &'static str
+    ensures { result.now ≡ refusal_words kind }
 {
-    error.kind().as_str().unwrap_or("help")
+    kind.as_str().unwrap_or("help")
 }
 
 /// Writes the words of a fault and ends the line.
@@ -141,7 +152,7 @@ fn write_words<W: Drain>(fault: &Fault<'_>, writer: &mut W) -> Result<(), Failed
     ensures count { W.failures writer.new ≡ failures_after (W.failures writer.old) result }
 {
     match fault {
-        Fault::Clap(error) => write_plain(writer, refusal_words(error).as_bytes()),
+        Fault::Clap(refusal) => write_plain(writer, refusal_words(refusal.kind).as_bytes()),
         Fault::Address(word) => write_word(writer, b"address ", word),
         Fault::Family => write_plain(writer, b"family"),
         Fault::Frame(fault) => write_frame_words(*fault, writer),

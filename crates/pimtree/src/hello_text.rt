@@ -99,7 +99,8 @@ fn push_addresses<F: Family>(
     text: &mut Vec<u8>,
     addresses: Addresses<'_, F>,
 ) -> Result<(), AllocError>
-    ensures { OnOk result (text.new.items ≡ text.old.items ++ flat_map (address_line F.family) (addresses_seen F.family addresses.entry)) }
+    ensures { OnOk result (text.new.items
+        ≡ text.old.items ++ flat_map (address_line F.family) (addresses_seen F.family addresses.entry)) }
 {
     for address in addresses {
         push_address_line::<F>(text, address)?;

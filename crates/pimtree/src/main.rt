@@ -8,6 +8,7 @@ mod fault;
 mod hello_text;
 mod planning;
 mod task;
+mod telling;
 #[cfg(test)]
 mod tests;
 mod text;
@@ -15,20 +16,14 @@ mod words;
 #[cfg(test)]
 mod writing_tests;
 
-ghost use Rattle.std.specs.Prelude.{◌≡◌};
-ghost use Rattle.pimtree.specs.Plan.{fault_status};
-
 use check::check_ends;
-use clap::error::ErrorKind;
-use fault::{Fault, fault_line};
+use fault::Fault;
 use pim_addr::Counted;
 use planning::plan;
 use std::io::Write;
 use std::process::ExitCode;
 use std::{env, io};
-
-/// The status of a run that met a fault.
-const FAULTY: u8 = 2;
+use telling::{FAULTY, tell_into};
 
 /// The words of the command line, of which the first is the program's name.
 fn words_given(rt: &HostRuntime) -> io::Result<Vec<String>> {
@@ -46,27 +41,11 @@ fn run<'a>(rt: &HostRuntime, words: &'a [String]) -> Result<u8, Fault<'a>> {
     Ok(status)
 }
 
-/// The status of a run that met this fault: 0 for help and the version, which were asked for, and else 2.
-fn status_of(fault: &Fault<'_>) -> u8
-    ensures { result ≡ fault_status fault.now }
-{
-    let Fault::Clap(error) = fault else {
-        return FAULTY;
-    };
-    match error.kind() {
-        ErrorKind::DisplayHelp | ErrorKind::DisplayVersion => 0,
-        _ => FAULTY,
-    }
-}
-
-/// Tells a fault, and answers the status. What `clap` has to say goes out in its own words, help and the version to
-/// standard output. Where that can't be written, the status alone tells of it.
+/// Tells a fault with standard output and error, and answers the status.
 fn tell(rt: &HostRuntime, fault: &Fault<'_>) -> u8 {
-    let is_told = match fault {
-        Fault::Clap(error) => error.print(rt).is_ok(),
-        _ => fault_line(fault, &mut Counted::new(rt.stderr())).is_ok(),
-    };
-    if is_told { status_of(fault) } else { FAULTY }
+    let mut output = Counted::new(io::writer(rt));
+    let mut errors = Counted::new(rt.stderr());
+    tell_into(fault, &mut output, &mut errors)
 }
 
 /// Tells why the words can't be had, and answers the status.

@@ -1,17 +1,15 @@
 //! What the program is to do, by its words.
 
 ghost use Rattle.std.specs.Prelude.{◌≡◌, MatchResult, map};
-ghost use Rattle.clap.specs.Words.{kind_of};
-ghost use Rattle.pimtree.specs.Plan.{AreEnds, IsWrong, Plans, HasCause, IsRefusal};
+ghost use Rattle.pimtree.specs.Plan.{AreEnds, IsWrong, Plans, HasCause, refusal_fault};
 
 use crate::addresses::{Address, read_address};
-use crate::fault::Fault;
+use crate::fault::{Fault, Refusal};
 use crate::task;
 use crate::task::Ends;
 use crate::words::words_of;
-use clap::Error;
 use clap::error::ErrorKind;
-use std::alloc::Global;
+use std::alloc::{AllocError, Global};
 use std::convert::AsStr;
 
 /// The ends that these words name, or the first thing that is wrong with them.
@@ -31,13 +29,13 @@ fn ends_of<'a>(source: &'a str, destination: &'a str) -> Result<Ends, Fault<'a>>
     }
 }
 
-/// What `clap` refuses, want of memory apart.
-fn refusal(error: Error) -> Fault<'static>
-    ensures { IsRefusal error result }
+/// The fault of a refusal of this kind, with `clap`'s text of it.
+fn refusal_fault(kind: ErrorKind, text: Result<String, AllocError>) -> Fault<'static>
+    ensures { result ≡ refusal_fault kind text }
 {
-    match error.kind() {
-        ErrorKind::OutOfMemory => Fault::Memory,
-        _ => Fault::Clap(error),
+    match (kind, text) {
+        (ErrorKind::OutOfMemory, _) | (_, Err(_)) => Fault::Memory,
+        (kind, Ok(text)) => Fault::Clap(Refusal { kind, text }),
     }
 }
 
@@ -51,7 +49,7 @@ pub fn plan<'a, S: AsStr>(alloc: Global, words: &'a [S]) -> Result<task::Plan, F
 {
     let words = match words_of(alloc, words) {
         Ok(words) => words,
-        Err(error) => return Err(refusal(error)),
+        Err(error) => return Err(refusal_fault(error.kind(), format!(in alloc; "{error}"))),
     };
     let ends = ends_of(words.src, words.dst)?;
     Ok(task::Plan::Check(ends))

@@ -1,6 +1,6 @@
 //! The text that `check` prints of a message.
 
-ghost use Rattle.std.specs.Prelude.{◌≡◌, ◌++◌, codes, decimal, OnOk, IfOk};
+ghost use Rattle.std.specs.Prelude.{◌≡◌, ◌++◌, decimal, OnOk, IfOk};
 ghost use Rattle.std.specs.List.{flat_map};
 ghost use Rattle.pim_addr.specs.Text.{address_text};
 ghost use Rattle.pim_jp.specs.Seen.{entry_seen};
@@ -17,7 +17,8 @@ pub fn push_address<F: Family>(
     words: &[u8],
     address: F::Addr,
 ) -> Result<(), AllocError>
-    ensures { OnOk result (text.new.items ≡ text.old.items ++ (words.now ++ address_text F.family (F.bytes_of address))) }
+    ensures { OnOk result (text.new.items
+        ≡ text.old.items ++ (words.now ++ address_text F.family (F.bytes_of address))) }
 {
     let mut shown = [0; 39];
     let length = write_text::<F>(address, &mut shown);
@@ -74,7 +75,8 @@ fn push_entry_line<F: Family>(
     list: &[u8],
     entry: Entry<F::Addr>,
 ) -> Result<(), AllocError>
-    ensures { OnOk result (text.new.items ≡ text.old.items ++ entry_line F.family list.now (entry_seen F.bytes_of entry)) }
+    ensures { OnOk result (text.new.items
+        ≡ text.old.items ++ entry_line F.family list.now (entry_seen F.bytes_of entry)) }
 {
     text.extend_from_slice(list)?;
     push_entry::<F>(text, entry)?;

@@ -105,7 +105,8 @@ pub fn words_of<'a, S: AsStr>(alloc: Global, words: &'a [S]) -> Result<Words<'a>
     ensures asked { IfOk result (λ w. asked (map S.text words.entry.now)
         ≡ Some (record { subcommand = codes "check"; source = w.src.now; destination = w.dst.now })) }
     ensures refused { FailsBy (fault_of pimtree (map S.text words.entry.now)) result }
-    ensures taken { IfErr result (λ e. takes pimtree (map S.text words.entry.now) ≡ true → kind_of e ≡ ErrorKind.OutOfMemory) }
+    ensures taken { IfErr result (λ e. takes pimtree (map S.text words.entry.now) ≡ true
+        → kind_of e ≡ ErrorKind.OutOfMemory) }
 {
     let matches = command(alloc)?.try_get_matches_from(words)?;
     let Some((_, options)) = matches.subcommand() else {

@@ -3,69 +3,167 @@
 use super::plan;
 use crate::check::check_ends;
 use crate::fault::Fault;
+use crate::task;
 use crate::task::Ends;
-use crate::tests::{JOIN_STAR, JOIN_STAR_TEXT, JOIN_STAR_V6, JOIN_STAR_V6_TEXT, bytes_of, line_of};
-use crate::{status_of, task};
+use crate::telling::tell_into;
+use crate::tests::{JOIN_STAR, JOIN_STAR_TEXT, JOIN_STAR_V6, JOIN_STAR_V6_TEXT, bytes_of};
 use pim_addr::{ScriptedDrain, ScriptedFeed};
 use std::alloc::Global;
 use std::process::Abort;
 use std::test::Fail;
 
-const SOME_V4: [u8; 4] = [10, 0, 0, 2];
+/// Words without addresses, which are for IPv4.
+const CHECK: &[&str] = &["pimtree", "check"];
 
-const ALL_ROUTERS_V4: [u8; 4] = [224, 0, 0, 13];
-
-const SOME_V6: [u8; 16] = [0xfe, 0x80, 0, 0, 0, 0, 0, 0, 0, 0, 0, 0, 0, 0, 0, 1];
-
-const ALL_ROUTERS_V6: [u8; 16] = [0xff, 2, 0, 0, 0, 0, 0, 0, 0, 0, 0, 0, 0, 0, 0, 0xd];
+/// Words of a message over IPv6 from fe80::1.
+const CHECK_V6: &[&str] = &["pimtree", "check", "--dst", "ff02::d", "--src", "fe80::1"];
 
 /// Words that are understood, with the ends that they give.
-fn understood(rt: &impl Abort, alloc: Global, words: &[&str], ends: Ends) {
-    match plan(alloc, words) {
-        Ok(made) => assert_eq!(rt; made, task::Plan::Check(ends)),
-        Err(_) => assert!(rt; false, "words that are understood"),
-    }
-}
-
-#[test]
-fn options_give_the_ends(rt: HostRuntime) {
-    let alloc = rt.alloc();
-    understood(
-        &rt,
-        alloc,
-        &["pimtree", "check"],
+const UNDERSTOOD: [(&[&str], Ends); 4] = [
+    (
+        CHECK,
         Ends::V4 {
             src: [0; 4],
-            dst: ALL_ROUTERS_V4,
+            dst: [224, 0, 0, 13],
         },
-    );
-    understood(
-        &rt,
-        alloc,
+    ),
+    (
         &["pimtree", "check", "--src", "10.0.0.2"],
         Ends::V4 {
-            src: SOME_V4,
-            dst: ALL_ROUTERS_V4,
+            src: [10, 0, 0, 2],
+            dst: [224, 0, 0, 13],
         },
-    );
-    understood(
-        &rt,
-        alloc,
+    ),
+    (
         &["pimtree", "check", "--dst=10.0.0.2"],
         Ends::V4 {
             src: [0; 4],
-            dst: SOME_V4,
+            dst: [10, 0, 0, 2],
         },
-    );
-    understood(
-        &rt,
-        alloc,
-        &["pimtree", "check", "--dst", "ff02::d", "--src", "fe80::1"],
+    ),
+    (
+        CHECK_V6,
         Ends::V6 {
-            src: SOME_V6,
-            dst: ALL_ROUTERS_V6,
+            src: [0xfe, 0x80, 0, 0, 0, 0, 0, 0, 0, 0, 0, 0, 0, 0, 0, 1],
+            dst: [0xff, 2, 0, 0, 0, 0, 0, 0, 0, 0, 0, 0, 0, 0, 0, 0xd],
         },
-    );
+    ),
+];
+
+/// Words and a message, with what goes to the output, or else to standard error.
+const RUNS: [(&[&str], &str, &str, &str); 5] = [
+    (CHECK, JOIN_STAR, JOIN_STAR_TEXT, ""),
+    (
+        &["pimtree", "check", "--src", "10.0.0.2"],
+        JOIN_STAR,
+        JOIN_STAR_TEXT,
+        "",
+    ),
+    (CHECK_V6, JOIN_STAR_V6, JOIN_STAR_V6_TEXT, ""),
+    (
+        &["pimtree", "check", "--src", "fe80::2", "--dst", "ff02::d"],
+        JOIN_STAR_V6,
+        "",
+        "pimtree: frame checksum\n",
+    ),
+    (
+        &["pimtree", "check", "--dst", "224.0.0.1"],
+        JOIN_STAR,
+        "",
+        "pimtree: frame not-all-routers\n",
+    ),
+];
+
+/// Words whose addresses are at fault, with the line.
+const ADDRESS_FAULTS: [(&[&str], &str); 6] = [
+    (
+        &["pimtree", "check", "--src", "1.2.3"],
+        "pimtree: address 1.2.3\n",
+    ),
+    (
+        &["pimtree", "check", "--dst", "ff02::d"],
+        "pimtree: family\n",
+    ),
+    (
+        &["pimtree", "check", "--src", "fe80::1"],
+        "pimtree: family\n",
+    ),
+    (&["pimtree", "check", "--src="], "pimtree: address \n"),
+    (
+        &["pimtree", "check", "--dst", "x", "--src", "y"],
+        "pimtree: address y\n",
+    ),
+    (
+        &["pimtree", "check", "--dst=x", "--src", "fe80::1"],
+        "pimtree: address x\n",
+    ),
+];
+
+/// Words that `clap` refuses, with a part of what it says.
+const MISTAKES: [(&[&str], &str); 11] = [
+    (&[], "requires a subcommand"),
+    (&["pimtree"], "requires a subcommand"),
+    (&["pimtree", "chec"], "unrecognized subcommand 'chec'"),
+    (&["pimtree", "help"], "unrecognized subcommand 'help'"),
+    (
+        &["pimtree", "--src", "10.0.0.2"],
+        "unexpected argument '--src'",
+    ),
+    (
+        &["pimtree", "check", "--rp", "10.0.0.2"],
+        "unexpected argument '--rp'",
+    ),
+    (
+        &["pimtree", "check", "10.0.0.2"],
+        "unexpected argument '10.0.0.2'",
+    ),
+    (
+        &["pimtree", "check", "--src"],
+        "a value is required for '--src <ADDRESS>'",
+    ),
+    (
+        &["pimtree", "check", "--src", "10.0.0.2", "--src", "10.0.0.2"],
+        "cannot be used multiple times",
+    ),
+    (
+        &["pimtree", "check", "--version"],
+        "unexpected argument '--version'",
+    ),
+    (
+        &["pimtree", "check", "--src", "x", "--rp"],
+        "unexpected argument '--rp'",
+    ),
+];
+
+/// Requests for help and the version, with a part of the answer.
+const REQUESTS: [(&[&str], &str); 6] = [
+    (&["pimtree", "--help"], "Usage: pimtree <COMMAND>"),
+    (&["pimtree", "-h"], "check"),
+    (
+        &["pimtree", "check", "--help"],
+        "Usage: pimtree check [OPTIONS]",
+    ),
+    (&["pimtree", "check", "--help"], "[default: 224.0.0.13]"),
+    (&["pimtree", "check", "--src", "x", "--help"], "Example:"),
+    (&["pimtree", "--version"], "pimtree 0.1.0\n"),
+];
+
+#[test]
+fn options_give_the_ends(rt: HostRuntime) {
+    for (words, ends) in UNDERSTOOD {
+        match plan(rt.alloc(), words) {
+            Ok(made) => assert_eq!(rt; made, task::Plan::Check(ends)),
+            Err(_) => assert!(rt; false, "words that are understood"),
+        }
+    }
+}
+
+/// What a run put out and told, and its status.
+#[derive(Drop)]
+struct Ended {
+    output: ScriptedDrain,
+    errors: ScriptedDrain,
+    status: u8,
 }
 
 /// Does what the words ask for, as the program does, with this input.
@@ -80,185 +178,71 @@ fn answer<'a>(
     check_ends(alloc, &mut input, output, ends)
 }
 
+/// Runs the words over this input to the end, as the program does.
+fn run(alloc: Global, words: &[&str], message: &[u8]) -> Ended {
+    let mut output = ScriptedDrain::new(alloc, 5, usize::MAX);
+    let mut errors = ScriptedDrain::new(alloc, 5, usize::MAX);
+    let status = match answer(alloc, words, message, &mut output) {
+        Ok(status) => status,
+        Err(fault) => tell_into(&fault, &mut output, &mut errors),
+    };
+    Ended {
+        output,
+        errors,
+        status,
+    }
+}
+
 #[test]
 fn messages_are_checked_by_their_words(rt: HostRuntime) -> Result<(), Fail> {
     let alloc = rt.alloc();
-    for (words, digits, text, line) in [
-        (
-            ["pimtree", "check"].as_slice(),
-            JOIN_STAR,
-            JOIN_STAR_TEXT,
-            "",
-        ),
-        (
-            ["pimtree", "check", "--src", "10.0.0.2"].as_slice(),
-            JOIN_STAR,
-            JOIN_STAR_TEXT,
-            "",
-        ),
-        (
-            ["pimtree", "check", "--src", "fe80::1", "--dst", "ff02::d"].as_slice(),
-            JOIN_STAR_V6,
-            JOIN_STAR_V6_TEXT,
-            "",
-        ),
-        (
-            ["pimtree", "check", "--src", "fe80::2", "--dst", "ff02::d"].as_slice(),
-            JOIN_STAR_V6,
-            "",
-            "pimtree: frame checksum\n",
-        ),
-        (
-            ["pimtree", "check", "--dst", "224.0.0.1"].as_slice(),
-            JOIN_STAR,
-            "",
-            "pimtree: frame not-all-routers\n",
-        ),
-    ] {
+    for (words, digits, text, line) in RUNS {
         let message = bytes_of(alloc, digits)?;
-        let mut output = ScriptedDrain::new(alloc, 5, usize::MAX);
-        let answer = answer(alloc, words, &message, &mut output);
-        let status = if line.is_empty() { 0 } else { 2 };
-        match &answer {
-            Ok(given) => assert_eq!(rt; *given, status),
-            Err(fault) => assert_eq!(rt; status_of(fault), status),
-        }
-        assert_eq!(rt; output.written(), text.as_bytes());
-        assert_eq!(rt; line_of(&rt, alloc, answer).written(), line.as_bytes());
+        let run = run(alloc, words, &message);
+        assert_eq!(rt; run.status, if line.is_empty() { 0 } else { 2 });
+        assert_eq!(rt; run.output.written(), text.as_bytes());
+        assert_eq!(rt; run.errors.written(), line.as_bytes());
     }
     Ok(())
 }
 
 #[test]
 fn faults_of_addresses_are_told_in_order(rt: HostRuntime) {
-    let alloc = rt.alloc();
-    for (words, line) in [
-        (
-            ["pimtree", "check", "--src", "1.2.3"].as_slice(),
-            "pimtree: address 1.2.3\n",
-        ),
-        (
-            ["pimtree", "check", "--dst", "ff02::d"].as_slice(),
-            "pimtree: family\n",
-        ),
-        (
-            ["pimtree", "check", "--src", "fe80::1"].as_slice(),
-            "pimtree: family\n",
-        ),
-        (
-            ["pimtree", "check", "--src="].as_slice(),
-            "pimtree: address \n",
-        ),
-        (
-            ["pimtree", "check", "--dst", "x", "--src", "y"].as_slice(),
-            "pimtree: address y\n",
-        ),
-        (
-            ["pimtree", "check", "--dst=x", "--src", "fe80::1"].as_slice(),
-            "pimtree: address x\n",
-        ),
-    ] {
-        match plan(alloc, words) {
-            Ok(_) => assert!(rt; false, "words with a fault"),
-            Err(fault) => {
-                assert_eq!(rt; status_of(&fault), 2);
-                assert_eq!(rt; line_of(&rt, alloc, Err(fault)).written(), line.as_bytes());
-            }
-        }
+    for (words, line) in ADDRESS_FAULTS {
+        let run = run(rt.alloc(), words, b"");
+        assert_eq!(rt; run.status, 2);
+        assert!(rt; run.output.written().is_empty());
+        assert_eq!(rt; run.errors.written(), line.as_bytes());
     }
 }
 
-/// What `clap` says of words that it doesn't take, whether that goes to standard error, and the status.
-fn refused(alloc: Global, words: &[&str]) -> Result<(String, bool, u8), Fail> {
-    match plan(alloc, words) {
-        Ok(_) => Err(Fail::from("words that are understood")),
-        Err(fault) => {
-            let status = status_of(&fault);
-            match fault {
-                Fault::Clap(error) => Ok((
-                    format!(in alloc; "{error}")?,
-                    error.use_stderr(),
-                    status,
-                )),
-                _ => Err(Fail::from("words that clap takes")),
-            }
-        }
-    }
+/// What a device was told is text with these words in it.
+fn shows(rt: &impl Abort, device: &ScriptedDrain, text: &str) -> Result<(), Fail> {
+    let shown = std::str::from_utf8(device.written())?;
+    assert!(rt; shown.contains(text), "{shown}");
+    Ok(())
 }
 
+/// With ample memory no mistake is told as want of memory.
 #[test]
 fn mistakes_have_status_2(rt: HostRuntime) -> Result<(), Fail> {
-    let alloc = rt.alloc();
-    for (words, text) in [
-        ([].as_slice(), "requires a subcommand"),
-        (["pimtree"].as_slice(), "requires a subcommand"),
-        (
-            ["pimtree", "chec"].as_slice(),
-            "unrecognized subcommand 'chec'",
-        ),
-        (
-            ["pimtree", "help"].as_slice(),
-            "unrecognized subcommand 'help'",
-        ),
-        (
-            ["pimtree", "--src", "10.0.0.2"].as_slice(),
-            "unexpected argument '--src'",
-        ),
-        (
-            ["pimtree", "check", "--rp", "10.0.0.2"].as_slice(),
-            "unexpected argument '--rp'",
-        ),
-        (
-            ["pimtree", "check", "10.0.0.2"].as_slice(),
-            "unexpected argument '10.0.0.2'",
-        ),
-        (
-            ["pimtree", "check", "--src"].as_slice(),
-            "a value is required for '--src <ADDRESS>'",
-        ),
-        (
-            ["pimtree", "check", "--src", "10.0.0.2", "--src", "10.0.0.2"].as_slice(),
-            "cannot be used multiple times",
-        ),
-        (
-            ["pimtree", "check", "--version"].as_slice(),
-            "unexpected argument '--version'",
-        ),
-        (
-            ["pimtree", "check", "--src", "x", "--rp"].as_slice(),
-            "unexpected argument '--rp'",
-        ),
-    ] {
-        let (shown, is_on_error, status) = refused(alloc, words)?;
-        assert!(rt; is_on_error && status == 2);
-        assert!(rt; shown.contains(text), "{shown}");
+    for (words, text) in MISTAKES {
+        let run = run(rt.alloc(), words, b"");
+        shows(&rt, &run.errors, text)?;
+        assert!(rt; run.output.written().is_empty());
+        assert_eq!(rt; run.status, 2);
     }
     Ok(())
 }
 
+/// With ample memory no request for help is told as want of memory.
 #[test]
 fn help_has_status_0(rt: HostRuntime) -> Result<(), Fail> {
-    let alloc = rt.alloc();
-    for (words, text) in [
-        (["pimtree", "--help"].as_slice(), "Usage: pimtree <COMMAND>"),
-        (["pimtree", "-h"].as_slice(), "check"),
-        (
-            ["pimtree", "check", "--help"].as_slice(),
-            "Usage: pimtree check [OPTIONS]",
-        ),
-        (
-            ["pimtree", "check", "--help"].as_slice(),
-            "[default: 224.0.0.13]",
-        ),
-        (
-            ["pimtree", "check", "--src", "x", "--help"].as_slice(),
-            "Example:",
-        ),
-        (["pimtree", "--version"].as_slice(), "pimtree 0.1.0\n"),
-    ] {
-        let (shown, is_on_error, status) = refused(alloc, words)?;
-        assert!(rt; !is_on_error && status == 0);
-        assert!(rt; shown.contains(text), "{shown}");
+    for (words, text) in REQUESTS {
+        let run = run(rt.alloc(), words, b"");
+        shows(&rt, &run.output, text)?;
+        assert!(rt; run.errors.written().is_empty());
+        assert_eq!(rt; run.status, 0);
     }
     Ok(())
 }

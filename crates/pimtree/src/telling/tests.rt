@@ -1,0 +1,81 @@
+//! What is told of a fault, on which device, and the status, also where a device fails.
+
+use super::tell_into;
+use crate::fault::{Fault, Refusal};
+use clap::error::ErrorKind;
+use pim_addr::ScriptedDrain;
+use std::alloc::{AllocError, Global};
+use std::process::Abort;
+use std::test::Fail;
+
+/// What `clap` has to say, for these tests.
+const TEXT: &str = "two lines,\nas they are\n";
+
+/// A refusal of this kind with that text.
+fn refusal(alloc: Global, kind: ErrorKind) -> Result<Fault<'static>, AllocError> {
+    let text = String::from_str(alloc, TEXT)?;
+    Ok(Fault::Clap(Refusal { kind, text }))
+}
+
+/// Tells a fault to devices of which the one that it goes to fails from some byte on. The other one isn't written to.
+fn tells(
+    rt: &impl Abort,
+    alloc: Global,
+    fault: &Fault<'_>,
+    is_asked_for: bool,
+    fails_from: usize,
+) -> (ScriptedDrain, u8) {
+    let mut device = ScriptedDrain::new(alloc, 3, fails_from);
+    let mut other = ScriptedDrain::new(alloc, 3, 0);
+    let status = if is_asked_for {
+        tell_into(fault, &mut device, &mut other)
+    } else {
+        tell_into(fault, &mut other, &mut device)
+    };
+    assert_eq!(rt; other.failures(), 0);
+    (device, status)
+}
+
+/// A fault is told so where its device takes all, and a front of it where the device fails.
+fn is_told(rt: &impl Abort, alloc: Global, fault: &Fault<'_>, is_asked_for: bool, text: &str) {
+    let (device, status) = tells(rt, alloc, fault, is_asked_for, usize::MAX);
+    assert_eq!(rt; device.written(), text.as_bytes());
+    assert_eq!(rt; status, if is_asked_for { 0 } else { 2 });
+    for fails_from in 0..text.len() {
+        let (device, status) = tells(rt, alloc, fault, is_asked_for, fails_from);
+        assert_eq!(rt; Some(device.written()), text.as_bytes().get(..fails_from));
+        assert_eq!(rt; device.failures(), 1);
+        assert_eq!(rt; status, 2);
+    }
+}
+
+#[test]
+fn faults_are_lines_on_errors(rt: HostRuntime) {
+    let alloc = rt.alloc();
+    for (fault, text) in [
+        (Fault::Address("1.2.3"), "pimtree: address 1.2.3\n"),
+        (Fault::Family, "pimtree: family\n"),
+        (Fault::InputTooLong, "pimtree: input too-long\n"),
+        (Fault::InputRead, "pimtree: input read\n"),
+        (Fault::Output, "pimtree: output\n"),
+        (Fault::Memory, "pimtree: memory\n"),
+    ] {
+        is_told(&rt, alloc, &fault, false, text);
+    }
+}
+
+#[test]
+fn refusals_are_told_in_the_words_of_clap(rt: HostRuntime) -> Result<(), Fail> {
+    let alloc = rt.alloc();
+    for (kind, is_asked_for) in [
+        (ErrorKind::DisplayHelp, true),
+        (ErrorKind::DisplayVersion, true),
+        (ErrorKind::DisplayHelpOnMissingArgumentOrSubcommand, false),
+        (ErrorKind::UnknownArgument, false),
+        (ErrorKind::MissingSubcommand, false),
+    ] {
+        let fault = refusal(alloc, kind)?;
+        is_told(&rt, alloc, &fault, is_asked_for, TEXT);
+    }
+    Ok(())
+}
