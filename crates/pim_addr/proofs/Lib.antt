@@ -1,3 +1,4 @@
+pub mod Cells
 pub mod Pieces
 pub mod Moved
 pub mod Failures

@@ -19,7 +19,8 @@ canonical_flags wildcard rpt = 4 + (if wildcard then 2 else 0) + (if rpt then 1 
 
 -- family, encoding 0, flags, mask length, address
 abbrev pub canonical_source : AddressFamily → SourceValue → List ℕ
-canonical_source family source = family_byte family ∷ 0 ∷ canonical_flags source.wildcard source.rpt ∷ mask_length family ∷ source.address
+canonical_source family source =
+    family_byte family ∷ 0 ∷ canonical_flags source.wildcard source.rpt ∷ mask_length family ∷ source.address
 
 -- ---- laws: what is written is read as the value, whatever stands behind it
 
@@ -41,5 +42,6 @@ GroupReadsBack = (family : AddressFamily) (address behind : List ℕ) → length
     → ReadsGroup family address (canonical_group family address ++ behind)
 
 abbrev pub SourceReadsBack : Type 0
-SourceReadsBack = (family : AddressFamily) (source : SourceValue) (behind : List ℕ) → length source.address ≡ address_length family
+SourceReadsBack = (family : AddressFamily) (source : SourceValue) (behind : List ℕ)
+    → length source.address ≡ address_length family
     → ReadsSource family source (canonical_source family source ++ behind)

@@ -11,11 +11,15 @@ use Rattle.pim_addr.specs.declared.encoded.AddrFault.TheVariants.{Short, Family,
 abbrev pub unicast_length : AddressFamily → ℕ
 unicast_length family = 2 + address_length family
 
+-- a form with a mask length: of a group and of a source
+abbrev pub masked_length : AddressFamily → ℕ
+masked_length family = 4 + address_length family
+
 abbrev pub group_length : AddressFamily → ℕ
-group_length family = 4 + address_length family
+group_length = masked_length
 
 abbrev pub source_length : AddressFamily → ℕ
-source_length family = 4 + address_length family
+source_length = masked_length
 
 -- The W bit (0x02) and the R bit (0x01) of a source's flags. The S bit and the reserved ones are ignored.
 abbrev pub wildcard_bit : ℕ → Bool
@@ -23,6 +27,10 @@ wildcard_bit flags = bit_and flags 2 == 2
 
 abbrev pub rpt_bit : ℕ → Bool
 rpt_bit flags = bit_and flags 1 == 1
+
+-- the flags with these two bits alone
+abbrev pub kind_bits : ℕ → ℕ
+kind_bits flags = bit_and flags 3
 
 -- a source with its two bits
 pub record SourceValue : Type 0 where
@@ -48,19 +56,27 @@ IsSource family source bytes = (length source.address ≡ address_length family)
 -- ---- faults, in the order of their numbers; a form that isn't whole is Short and nothing else
 
 abbrev pub family_faults : AddressFamily → List ℕ → List AddrFault
-family_faults family bytes = fault_if (not (slice_index bytes 0 == family_byte family)) Family ++ fault_if (not (slice_index bytes 1 == 0)) Encoding
+family_faults family bytes =
+    fault_if (not (slice_index bytes 0 == family_byte family)) Family ++ fault_if (not (slice_index bytes 1 == 0)) Encoding
 
 abbrev pub mask_faults : AddressFamily → List ℕ → List AddrFault
 mask_faults family bytes = fault_if (not (slice_index bytes 3 == mask_length family)) Mask
 
 abbrev pub unicast_faults : AddressFamily → List ℕ → List AddrFault
-unicast_faults family bytes = if nat_lt (length bytes) (unicast_length family) then Short ∷ [] else family_faults family bytes
+unicast_faults family bytes =
+    if nat_lt (length bytes) (unicast_length family) then Short ∷ [] else family_faults family bytes
+
+-- of a group and of a source
+abbrev pub masked_faults : AddressFamily → List ℕ → List AddrFault
+masked_faults family bytes =
+    if nat_lt (length bytes) (masked_length family) then Short ∷ []
+    else family_faults family bytes ++ mask_faults family bytes
 
 abbrev pub group_faults : AddressFamily → List ℕ → List AddrFault
-group_faults family bytes = if nat_lt (length bytes) (group_length family) then Short ∷ [] else family_faults family bytes ++ mask_faults family bytes
+group_faults = masked_faults
 
 abbrev pub source_faults : AddressFamily → List ℕ → List AddrFault
-source_faults family bytes = if nat_lt (length bytes) (source_length family) then Short ∷ [] else family_faults family bytes ++ mask_faults family bytes
+source_faults = masked_faults
 
 -- ---- the values
 
@@ -71,4 +87,8 @@ abbrev pub masked_address : AddressFamily → List ℕ → List ℕ
 masked_address family bytes = take (address_length family) (drop 4 bytes)
 
 abbrev pub source_value : AddressFamily → List ℕ → SourceValue
-source_value family bytes = record { address = masked_address family bytes; wildcard = wildcard_bit (slice_index bytes 2); rpt = rpt_bit (slice_index bytes 2) }
+source_value family bytes = record {
+  address = masked_address family bytes;
+  wildcard = wildcard_bit (slice_index bytes 2);
+  rpt = rpt_bit (slice_index bytes 2);
+}

@@ -2,7 +2,7 @@
 use Rattle.std.specs.Prelude.{◌≡◌, ℕ, ◌+◌, ◌-◌, ◌<◌, ◌⊎◌, false, List, ◌++◌, length, replicate, slice_index, codes}
 use Rattle.std.specs.Net.Addr.{octets_of}
 use Rattle.std.specs.Net.Grammar.{IsDotted, IsGroups}
-use Rattle.pim_addr.specs.Address.{address_length}
+use Rattle.pim_addr.specs.Address.{IsAddress}
 use Rattle.pim_addr.specs.Text.{address_text}
 use Rattle.pim_addr.specs.declared.family.AddressFamily.{AddressFamily}
 use Rattle.pim_addr.specs.declared.family.AddressFamily.TheVariants.{Ipv4, Ipv6}
@@ -33,9 +33,10 @@ IsText Ipv6 text address = (groups : List ℕ) × AreEightGroups text groups × 
 
 -- a text names one address at most
 abbrev pub OneAddress : Type 0
-OneAddress = (family : AddressFamily) (text one other : List ℕ) → IsText family text one → IsText family text other → one ≡ other
+OneAddress = (family : AddressFamily) (text one other : List ℕ)
+    → IsText family text one → IsText family text other → one ≡ other
 
 -- what is written of an address names it
 abbrev pub WrittenTextNames : Type 0
-WrittenTextNames = (family : AddressFamily) (address : List ℕ) → length address ≡ address_length family → ((i : ℕ) → slice_index address i < 256)
+WrittenTextNames = (family : AddressFamily) (address : List ℕ) → IsAddress family address
     → IsText family (address_text family address) address

@@ -1,9 +1,12 @@
 //! Encoded addresses, read (RFC 7761, 4.9.1).
 
-ghost use Rattle.std.specs.Prelude.{◌≡◌, take, IfOk, Ok, bit_and};
+ghost use Rattle.std.specs.Prelude.{◌≡◌, ◌≤◌, length, take, slice_index, IfOk, Ok, bit_and};
 ghost use Rattle.pim_addr.specs.Faults.{judged, Answers};
-ghost use Rattle.pim_addr.specs.Encoded.{unicast_faults, unicast_address, group_faults, masked_address, source_faults, source_value, unicast_length, group_length, source_length, IsUnicast, IsGroup, IsSource, wildcard_bit, rpt_bit};
-ghost use Rattle.pim_addr.specs.Seen.{source_seen};
+ghost use Rattle.pim_addr.specs.Encoded.{unicast_length, masked_length, group_length, source_length};
+ghost use Rattle.pim_addr.specs.Encoded.{unicast_faults, unicast_address, masked_faults, masked_address};
+ghost use Rattle.pim_addr.specs.Encoded.{group_faults, source_faults, source_value, IsUnicast, IsGroup, IsSource};
+ghost use Rattle.pim_addr.specs.Encoded.{wildcard_bit, rpt_bit, kind_bits};
+ghost use Rattle.pim_addr.specs.Seen.{source_seen, bits_kept};
 
 use crate::family::Family;
 use bitflags::{Flag, Flags, bitflag_items};
@@ -65,6 +68,7 @@ impl Flags for SourceBits {
 impl SourceBits {
     /// The W and R bits of a flags byte.
     fn from_flags_byte(flags: u8) -> SourceBits
+        ensures kept { result.0 ≡ kind_bits flags }
         ensures wildcard { wildcard_bit result.0 ≡ wildcard_bit flags }
         ensures rpt { rpt_bit result.0 ≡ rpt_bit flags }
     {
@@ -95,12 +99,42 @@ pub struct SourceAddress<A> {
     pub bits: SourceBits,
 }
 
+/// How many bytes an encoded unicast address has: 6 or 18.
+pub fn unicast_length<F: Family>() -> usize
+    ensures { result ≡ unicast_length F.family }
+{
+    2 + F::LEN
+}
+
+/// How many bytes a form with a mask length has.
+fn masked_length<F: Family>() -> usize
+    ensures { result ≡ masked_length F.family }
+{
+    4 + F::LEN
+}
+
+/// How many bytes an encoded group has: 8 or 20.
+pub fn group_length<F: Family>() -> usize
+    ensures { result ≡ group_length F.family }
+{
+    masked_length::<F>()
+}
+
+/// How many bytes an encoded source has: 8 or 20.
+pub fn source_length<F: Family>() -> usize
+    ensures { result ≡ source_length F.family }
+{
+    masked_length::<F>()
+}
+
 /// Reads the encoded unicast address at the front.
 pub fn read_unicast<F: Family>(bytes: &[u8]) -> Result<F::Addr, AddrFault>
-    ensures answer { Answers F.bytes_of result (judged (unicast_faults F.family bytes.now) (unicast_address F.family bytes.now)) }
-    ensures spelled { IfOk result (λ a. IsUnicast F.family (F.bytes_of a) (take (unicast_length F.family) bytes.now)) }
+    ensures answer { Answers F.bytes_of result
+        (judged (unicast_faults F.family bytes.now) (unicast_address F.family bytes.now)) }
+    ensures spelled { IfOk result
+        (λ a. IsUnicast F.family (F.bytes_of a) (take (unicast_length F.family) bytes.now)) }
 {
-    if bytes.len() < 2 + F::LEN {
+    if bytes.len() < unicast_length::<F>() {
         return Err(AddrFault::Short);
     }
     if bytes[0] != F::AFI {
@@ -113,12 +147,16 @@ pub fn read_unicast<F: Family>(bytes: &[u8]) -> Result<F::Addr, AddrFault>
     Ok(F::take(address))
 }
 
-/// Reads the encoded group at the front. Its bits B and Z and the reserved ones are ignored.
-pub fn read_group<F: Family>(bytes: &[u8]) -> Result<F::Addr, AddrFault>
-    ensures answer { Answers F.bytes_of result (judged (group_faults F.family bytes.now) (masked_address F.family bytes.now)) }
-    ensures spelled { IfOk result (λ a. IsGroup F.family (F.bytes_of a) (take (group_length F.family) bytes.now)) }
+/// Reads the address of the form at the front that has a mask length: of a group or a source. Its third byte is left
+/// to the caller.
+fn read_masked<F: Family>(bytes: &[u8]) -> Result<F::Addr, AddrFault>
+    ensures answer { Answers F.bytes_of result
+        (judged (masked_faults F.family bytes.now) (masked_address F.family bytes.now)) }
+    ensures whole { IfOk result (λ a. masked_length F.family ≤ length bytes.now) }
+    ensures spelled { IfOk result
+        (λ a. IsGroup F.family (F.bytes_of a) (take (masked_length F.family) bytes.now)) }
 {
-    if bytes.len() < 4 + F::LEN {
+    if bytes.len() < masked_length::<F>() {
         return Err(AddrFault::Short);
     }
     if bytes[0] != F::AFI {
@@ -130,31 +168,30 @@ pub fn read_group<F: Family>(bytes: &[u8]) -> Result<F::Addr, AddrFault>
     if bytes[3] != F::FULL {
         return Err(AddrFault::Mask);
     }
-    let (_, group) = bytes.split_at(4);
-    Ok(F::take(group))
+    let (_, address) = bytes.split_at(4);
+    Ok(F::take(address))
 }
 
-/// Reads the encoded source at the front, with its W and R bits. Its bit S and the reserved ones are ignored.
-pub fn read_source<F: Family>(bytes: &[u8]) -> Result<SourceAddress<F::Addr>, AddrFault>
-    ensures answer { Answers (source_seen F.bytes_of) result (judged (source_faults F.family bytes.now) (source_value F.family bytes.now)) }
-    ensures spelled { IfOk result (λ s. IsSource F.family (source_seen F.bytes_of s) (take (source_length F.family) bytes.now)) }
+/// Reads the encoded group at the front. Its bits B and Z and the reserved ones are ignored.
+pub fn read_group<F: Family>(bytes: &[u8]) -> Result<F::Addr, AddrFault>
+    ensures answer { Answers F.bytes_of result
+        (judged (group_faults F.family bytes.now) (masked_address F.family bytes.now)) }
+    ensures spelled { IfOk result
+        (λ a. IsGroup F.family (F.bytes_of a) (take (group_length F.family) bytes.now)) }
 {
-    if bytes.len() < 4 + F::LEN {
-        return Err(AddrFault::Short);
-    }
-    if bytes[0] != F::AFI {
-        return Err(AddrFault::Family);
-    }
-    if bytes[1] != 0 {
-        return Err(AddrFault::Encoding);
-    }
-    if bytes[3] != F::FULL {
-        return Err(AddrFault::Mask);
-    }
+    read_masked::<F>(bytes)
+}
+
+/// Reads the encoded source at the front, with its W and R bits. Its bit S and the reserved ones are ignored, and
+/// nothing of them is kept: sources whose address and two bits are equal compare equal.
+pub fn read_source<F: Family>(bytes: &[u8]) -> Result<SourceAddress<F::Addr>, AddrFault>
+    ensures answer { Answers (source_seen F.bytes_of) result
+        (judged (source_faults F.family bytes.now) (source_value F.family bytes.now)) }
+    ensures spelled { IfOk result
+        (λ s. IsSource F.family (source_seen F.bytes_of s) (take (source_length F.family) bytes.now)) }
+    ensures bits { IfOk result (λ s. bits_kept s ≡ kind_bits (slice_index bytes.now 2)) }
+{
+    let address = read_masked::<F>(bytes)?;
     let bits = SourceBits::from_flags_byte(bytes[2]);
-    let (_, address) = bytes.split_at(4);
-    Ok(SourceAddress {
-        address: F::take(address),
-        bits,
-    })
+    Ok(SourceAddress { address, bits })
 }

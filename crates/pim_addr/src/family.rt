@@ -136,10 +136,9 @@ impl Family for V4 {
         AddressFamily::Ipv4
     }
 
+    #[tactic(auto, using(crate::proofs::Cells::four_cells))]
     fn take(bytes: &[u8]) -> [u8; 4] {
-        let mut address = [0; 4];
-        address.copy_from_slice(&bytes[..4]);
-        address
+        [bytes[0], bytes[1], bytes[2], bytes[3]]
     }
 
     fn put(address: [u8; 4], bytes: &mut [u8]) {
@@ -203,10 +202,12 @@ impl Family for V6 {
         AddressFamily::Ipv6
     }
 
+    #[tactic(auto, using(crate::proofs::Cells::sixteen_cells))]
     fn take(bytes: &[u8]) -> [u8; 16] {
-        let mut address = [0; 16];
-        address.copy_from_slice(&bytes[..16]);
-        address
+        [
+            bytes[0], bytes[1], bytes[2], bytes[3], bytes[4], bytes[5], bytes[6], bytes[7],
+            bytes[8], bytes[9], bytes[10], bytes[11], bytes[12], bytes[13], bytes[14], bytes[15],
+        ]
     }
 
     fn put(address: [u8; 16], bytes: &mut [u8]) {

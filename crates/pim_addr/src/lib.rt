@@ -16,7 +16,10 @@ mod written;
 
 pub use counted::Counted;
 pub use device::{Drain, Failed, Feed, read_up_to, write_all};
-pub use encoded::{AddrFault, SourceAddress, SourceBits, read_group, read_source, read_unicast};
+pub use encoded::{
+    AddrFault, SourceAddress, SourceBits, group_length, read_group, read_source, read_unicast,
+    source_length, unicast_length,
+};
 pub use family::{AddressFamily, Family, V4, V6};
 pub use parsed::{read_text, text_names_one_address, written_text_names};
 pub use scripted::{ScriptedDrain, ScriptedFeed};

@@ -51,7 +51,9 @@ impl Feed for ScriptedFeed<'_> {
         ensures bytes { ReadConsumes (Some (feed_bytes self.old)) (Some (feed_bytes self.new)) result buffer.new }
         ensures count { feed_failures self.new ≡ failures_after (feed_failures self.old) result }
         ensures fails { IsErr result ↔ (feed_until_failure self.old ≡ 0) }
-        ensures given { IfOk result (λ n. n ≡ min (min (length buffer.old) (feed_most self.old)) (min (feed_until_failure self.old) (length (feed_bytes self.old)))) }
+        ensures given { IfOk result
+            (λ n. n ≡ min (min (length buffer.old) (feed_most self.old))
+            (min (feed_until_failure self.old) (length (feed_bytes self.old)))) }
         ensures left { IfOk result (λ n. feed_until_failure self.new + n ≡ feed_until_failure self.old) }
         ensures still { OnErr result (feed_until_failure self.new ≡ 0) }
         ensures most { feed_most self.new ≡ feed_most self.old }
@@ -123,7 +125,9 @@ impl Drain for ScriptedDrain {
         ensures bytes { WriteAppends (Some (drain_bytes self.old)) (Some (drain_bytes self.new)) result bytes.now }
         ensures count { drain_failures self.new ≡ failures_after (drain_failures self.old) result }
         ensures fails { drain_until_failure self.old ≡ 0 → IsErr result }
-        ensures taken { IfOk result (λ n. n ≡ min (min (length bytes.now) (drain_most self.old)) (drain_until_failure self.old)) }
+        ensures taken { IfOk result
+            (λ n. n ≡ min (min (length bytes.now) (drain_most self.old))
+            (drain_until_failure self.old)) }
         ensures left { IfOk result (λ n. drain_until_failure self.new + n ≡ drain_until_failure self.old) }
         ensures still { OnErr result (drain_until_failure self.new ≡ drain_until_failure self.old) }
         ensures most { drain_most self.new ≡ drain_most self.old }

@@ -11,15 +11,10 @@ mod tests;
 
 use crate::encoded::{SourceAddress, SourceBits};
 use crate::family::Family;
+use bitflags::Flags;
 
 /// The S bit of an encoded source: the sparse mode's, always written (RFC 7761, 4.9.1).
 const SPARSE: u8 = 4;
-
-/// The W bit: the entry is (*,G).
-const WILDCARD: u8 = 2;
-
-/// The R bit: the entry is on the tree of the RP.
-const RPT: u8 = 1;
 
 /// Writes the encoded unicast address into a slice of its length, 2 bytes more than an address has.
 pub fn put_unicast<F: Family>(address: F::Addr, bytes: &mut [u8])
@@ -56,8 +51,16 @@ pub fn put_group<F: Family>(address: F::Addr, bytes: &mut [u8])
 fn flags_byte(bits: SourceBits) -> u8
     ensures { result ≡ canonical_flags (wildcard_bit bits.0) (rpt_bit bits.0) }
 {
-    let wildcard = if bits.is_wildcard() { WILDCARD } else { 0 };
-    let rpt = if bits.is_rpt() { RPT } else { 0 };
+    let wildcard = if bits.is_wildcard() {
+        SourceBits::WILDCARD.bits()
+    } else {
+        0
+    };
+    let rpt = if bits.is_rpt() {
+        SourceBits::RPT.bits()
+    } else {
+        0
+    };
     SPARSE + wildcard + rpt
 }
 

@@ -31,7 +31,8 @@ is_hello_or_join_prune message = message_type message == 0 || message_type messa
 -- goes to ALL-PIM-ROUTERS.
 abbrev pub IsAccepted : AddressFamily → List ℕ → List ℕ → List ℕ → Type 0
 IsAccepted family source destination message = (4 ≤ length message) × (version message ≡ 2)
-    × (IsTrue (is_hello_or_join_prune message) → IsTrue (sums_rightly family source destination message) × (destination ≡ all_routers family))
+    × (IsTrue (is_hello_or_join_prune message)
+    → IsTrue (sums_rightly family source destination message) × (destination ≡ all_routers family))
 
 -- The faults in the order in which they are told. Only a Hello's and a Join/Prune's checksum and destination
 -- are looked at.
@@ -50,4 +51,5 @@ pub data Content : Type 0 where
 
 abbrev pub content : List ℕ → Content
 content message =
-    if message_type message == 0 then hello (drop 4 message) else (if message_type message == 3 then join_prune (drop 4 message) else other (message_type message))
+    if message_type message == 0 then hello (drop 4 message)
+    else (if message_type message == 3 then join_prune (drop 4 message) else other (message_type message))

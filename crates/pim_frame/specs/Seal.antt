@@ -23,14 +23,16 @@ framed kind sum body = first_byte kind ∷ 0 ∷ [] ++ to_be_bytes w16 sum ++ bo
 -- A message of this kind with this body whose checksum is below 65,535 and which sums rightly.
 abbrev pub IsSealed : AddressFamily → List ℕ → List ℕ → Kind → List ℕ → List ℕ → Type 0
 IsSealed family source destination kind body message =
-    (message ≡ framed kind (checksum message) body) × (checksum message < 65535) × IsTrue (sums_rightly family source destination message)
+    (message ≡ framed kind (checksum message) body) × (checksum message < 65535)
+    × IsTrue (sums_rightly family source destination message)
 
 -- ---- laws
 
 -- one message at most is that, since at most one checksum below 65,535 makes it sum rightly
 abbrev pub OneChecksum : Type 0
 OneChecksum = (family : AddressFamily) (source destination : List ℕ) (kind : Kind) (body first second : List ℕ)
-    → IsSealed family source destination kind body first → IsSealed family source destination kind body second → first ≡ second
+    → IsSealed family source destination kind body first → IsSealed family source destination kind body second
+    → first ≡ second
 
 -- what a receiver finds in it
 abbrev pub kind_content : Kind → List ℕ → Content

@@ -14,13 +14,16 @@ words_sum (high ∷ low ∷ rest) = 256 * high + low + words_sum rest
 -- destination, the length in 32 bits, three zero bytes, and PIM's protocol number.
 abbrev pub pseudo_header : AddressFamily → List ℕ → List ℕ → ℕ → List ℕ
 pseudo_header Ipv4 source destination message_length = []
-pseudo_header Ipv6 source destination message_length = source ++ destination ++ to_be_bytes w32 message_length ++ 0 ∷ 0 ∷ 0 ∷ 103 ∷ []
+pseudo_header Ipv6 source destination message_length =
+    source ++ destination ++ to_be_bytes w32 message_length ++ 0 ∷ 0 ∷ 0 ∷ 103 ∷ []
 
 -- the plain sum of a message, its checksum field included
 abbrev pub message_sum : AddressFamily → List ℕ → List ℕ → List ℕ → ℕ
-message_sum family source destination message = words_sum (pseudo_header family source destination (length message) ++ message)
+message_sum family source destination message =
+    words_sum (pseudo_header family source destination (length message) ++ message)
 
 -- that sum is above 0 and divisible by 65,535
 abbrev pub sums_rightly : AddressFamily → List ℕ → List ℕ → List ℕ → Bool
 sums_rightly family source destination message =
-    nat_lt 0 (message_sum family source destination message) && message_sum family source destination message % 65535 == 0
+    nat_lt 0 (message_sum family source destination message)
+    && message_sum family source destination message % 65535 == 0

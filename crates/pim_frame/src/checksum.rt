@@ -1,7 +1,7 @@
 //! The checksum of PIM messages (RFC 7761, 4.9), over IPv6 with the pseudo-header of RFC 8200, 8.1.
 
-ghost use Rattle.std.specs.Prelude.{◌≡◌, ◌+◌, ◌%◌, ◌^◌, ◌<◌, ◌≤◌, length};
-ghost use Rattle.pim_frame.specs.Folded.{folded};
+ghost use Rattle.std.specs.Prelude.{◌≡◌, ◌+◌, ◌*◌, ◌%◌, ◌^◌, ◌<◌, ◌≤◌, length};
+ghost use Rattle.pim_frame.specs.Folded.{folded, wide_total};
 ghost use Rattle.pim_frame.specs.Sum.{words_sum, pseudo_header, message_sum, sums_rightly};
 
 use pim_addr::{AddressFamily, Family};
@@ -22,29 +22,76 @@ fn add_word(sum: u16, word: u16) -> u16
     }
 }
 
-/// The word that one or two bytes make, a zero byte following one alone.
-#[tactic(auto, using(crate::proofs::Sums::words_sum_of_one, crate::proofs::Sums::words_sum_of_two))]
-fn word_of(bytes: &[u8]) -> u16
+/// The number that one to four bytes make, zero bytes following fewer than four. By 65,535 it leaves what the sum of
+/// their words leaves, since 65,536 leaves 1.
+#[tactic(auto, using(crate::proofs::Sums::folded_one, crate::proofs::Sums::folded_two, crate::proofs::Sums::folded_three, crate::proofs::Sums::folded_four))]
+fn wide_word_of(bytes: &[u8]) -> u32
     requires some { 0 < length bytes.now }
-    requires few { length bytes.now ≤ 2 }
-    ensures { result ≡ words_sum bytes.now }
+    requires few { length bytes.now ≤ 4 }
+    ensures { folded result ≡ folded (words_sum bytes.now) }
 {
     match bytes {
-        [high, low] => u16::from(*high) * 256 + u16::from(*low),
-        [last] => u16::from(*last) * 256,
+        [a, b, c, d] => wide_word(*a, *b, *c, *d),
+        [a, b, c] => wide_word(*a, *b, *c, 0),
+        [a, b] => wide_word(*a, *b, 0, 0),
+        [a] => wide_word(*a, 0, 0, 0),
         _ => unreachable!(),
+    }
+}
+
+/// The number that four bytes make, big-endian.
+fn wide_word(a: u8, b: u8, c: u8, d: u8) -> u32
+    ensures { result ≡ a * 16777216 + b * 65536 + c * 256 + d }
+{
+    u32::from(a) * 0x100_0000 + u32::from(b) * 0x1_0000 + u32::from(c) * 0x100 + u32::from(d)
+}
+
+/// The sum of wide words.
+fn words_total(words: &[[u8; 4]]) -> u64
+    requires { length words.now < 2 ^ 32 }
+    ensures total { result ≡ wide_total words.now }
+    ensures small { result ≤ 2 ^ 32 * length words.now }
+{
+    let mut sum = 0;
+    for word in words {
+        sum += u64::from(wide_word(word[0], word[1], word[2], word[3]));
+    }
+    sum
+}
+
+/// The sum of the wide words of these bytes, which 64 bits hold with all its carries. By 65,535 it leaves what the sum
+/// of their words of 16 bits leaves.
+fn wide_sum(bytes: &[u8]) -> u64
+    requires { length bytes.now < 2 ^ 32 }
+    ensures sum { folded result ≡ folded (words_sum bytes.now) }
+    ensures small { result ≤ 2 ^ 32 * length bytes.now }
+{
+    let (words, rest) = bytes.as_chunks::<4>();
+    let sum = words_total(words);
+    if rest.is_empty() {
+        return sum;
+    }
+    sum + u64::from(wide_word_of(rest))
+}
+
+/// A sum with its carries out of 16 bits added back in.
+#[tactic(auto, unfolding(crate::specs::Folded::folded))]
+fn fold(sum: u64) -> u16
+    ensures { result ≡ folded sum }
+{
+    if sum == 0 {
+        0
+    } else {
+        ((sum - 1) % 0xffff + 1) as u16
     }
 }
 
 /// Adds the words of these bytes to a folded sum.
 fn add_bytes(start: u16, bytes: &[u8]) -> u16
+    requires { length bytes.now < 2 ^ 32 }
     ensures { result ≡ folded (start + words_sum bytes.now) }
 {
-    let mut sum = start;
-    for pair in bytes.chunks(2) {
-        sum = add_word(sum, word_of(pair));
-    }
-    sum
+    fold(u64::from(start) + wide_sum(bytes))
 }
 
 /// Adds the words of an address to a folded sum.
@@ -60,7 +107,8 @@ fn add_address<F: Family>(start: u16, address: F::Addr) -> u16
 
 /// The folded sum of the pseudo-header of a message of so many bytes: 0 over IPv4, which has none.
 fn pseudo_header_sum<F: Family>(src: F::Addr, dst: F::Addr, message_length: u32) -> u16
-    ensures sum { result ≡ folded (words_sum (pseudo_header F.family (F.bytes_of src) (F.bytes_of dst) message_length)) }
+    ensures sum { result
+        ≡ folded (words_sum (pseudo_header F.family (F.bytes_of src) (F.bytes_of dst) message_length)) }
     ensures whole { length (pseudo_header F.family (F.bytes_of src) (F.bytes_of dst) message_length) % 2 ≡ 0 }
 {
     match F::family() {

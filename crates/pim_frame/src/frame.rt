@@ -87,13 +87,16 @@ pub fn open<'a, F: Family>(
     bytes: &'a [u8],
 ) -> Result<Body<'a>, FrameFault>
     requires { length bytes.now < 2 ^ 32 }
-    ensures answer { Answers content_of result (judged (frame_faults F.family (F.bytes_of src) (F.bytes_of dst) bytes.now) (content bytes.now)) }
+    ensures answer { Answers content_of result
+        (judged (frame_faults F.family (F.bytes_of src) (F.bytes_of dst) bytes.now) (content bytes.now)) }
 
     // What this says of acceptance, of the first two faults, and of the types that are not looked into.
     ensures accepted { IsOk result ↔ IsAccepted F.family (F.bytes_of src) (F.bytes_of dst) bytes.now }
     ensures short { (result ≡ Err FrameFault.Short) ↔ (length bytes.now < 4) }
-    ensures version { IsErrAnd result (λ fault. fault ≡ FrameFault.Version (version bytes.now)) ↔ ((4 ≤ length bytes.now) × (version bytes.now ≢ 2)) }
-    ensures other { 4 ≤ length bytes.now → version bytes.now ≡ 2 → IsFalse (is_hello_or_join_prune bytes.now) → result ≡ Ok (Body.Other (message_type bytes.now)) }
+    ensures version { IsErrAnd result (λ fault. fault ≡ FrameFault.Version (version bytes.now))
+        ↔ ((4 ≤ length bytes.now) × (version bytes.now ≢ 2)) }
+    ensures other { 4 ≤ length bytes.now → version bytes.now ≡ 2 → IsFalse (is_hello_or_join_prune bytes.now)
+        → result ≡ Ok (Body.Other (message_type bytes.now)) }
 {
     if bytes.len() < 4 {
         return Err(FrameFault::Short);

@@ -1,11 +1,20 @@
 -- Lists of bytes, and the numbers of two bytes that stand in them.
-use Rattle.std.proofs.Common.{◌≡◌, ℕ, ◌+◌, ◌*◌, ◌/◌, ◌%◌, ◌≤◌, ◌<◌, ◌^◌, List, [], ◌∷◌, ◌++◌, length, take, drop, refl, arith, get_or-drop}
+use Rattle.std.proofs.Common.{◌≡◌, ℕ, zero, suc, ◌+◌, ◌*◌, ◌/◌, ◌%◌, ◌≤◌, ◌<◌, ◌^◌, List, [], ◌∷◌, ◌++◌, length, take, drop, refl, arith, get_or-drop}
+use Rattle.std.proofs.lemmas.List.{get_or-append-add}
 use Rattle.byteorder.specs.Endian.{big_number, big_bytes}
 use Rattle.byteorder.specs.Numbers.{big_from-lt}
-use Rattle.pim_jp.specs.Laws.{AreBytes}
+use Rattle.pim_addr.specs.Address.{AreBytes}
 
 pub AreBytes-drop : (n : ℕ) (bytes : List ℕ) → AreBytes bytes → AreBytes (drop n bytes)
 AreBytes-drop n bytes are i = rw (get_or-drop n bytes i 0) (are (n + i))
+
+pub AreBytes-first : (first others : List ℕ) → AreBytes (first ++ others) → AreBytes first
+AreBytes-first [] others are i = omega arith
+AreBytes-first (b ∷ first) others are zero = are 0
+AreBytes-first (b ∷ first) others are (suc i) = AreBytes-first first others (λ j. are (suc j)) i
+
+pub AreBytes-others : (first others : List ℕ) → AreBytes (first ++ others) → AreBytes others
+AreBytes-others first others are i = rw (← get_or-append-add first others i 0) (are (length first + i))
 
 pub count_fits : (bytes : List ℕ) → AreBytes bytes → big_number 2 bytes < 2 ^ 16
 count_fits bytes are = big_from-lt 0 2 bytes are

@@ -2,12 +2,12 @@
 use Rattle.std.proofs.Common.{◌≡◌, ℕ, ◌+◌, ◌≤◌, List, [], ◌∷◌, ◌++◌, length, take, drop, slice_index, refl, sym, ap, subst, ◌∙◌, arith, length-drop, take-append-drop, suc, zero}
 use Rattle.byteorder.specs.Endian.{big_number}
 use Rattle.pim_addr.specs.declared.family.AddressFamily.{AddressFamily}
+use Rattle.pim_addr.specs.Address.{AreBytes}
 use Rattle.pim_addr.specs.Encoded.{IsUnicast, unicast_length, unicast_faults, unicast_address}
 use Rattle.pim_jp.specs.Message.{Message, set_count, head_of, after_set, sets_of, message_of}
 use Rattle.pim_jp.specs.Spelling.{IsHead, AreSets, Spells}
 use Rattle.pim_jp.specs.Parts.{Part, upstream, head, part_then, set_parts}
 use Rattle.pim_jp.specs.Faults.{address_kind, faults_of, faults}
-use Rattle.pim_jp.specs.Laws.{AreBytes}
 use Rattle.pim_jp.proofs.Front.{map_none}
 use Rattle.pim_jp.proofs.Forms.{unicast_legal}
 use Rattle.pim_jp.proofs.Counts.{AreBytes-drop, count_fits, count_bytes}

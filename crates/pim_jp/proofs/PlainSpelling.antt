@@ -85,7 +85,7 @@ set_plain family set is =
     let joined = flat_map (canonical_entry family) set.joined in
     let pruned = flat_map (canonical_entry family) set.pruned in
     subst (IsPlainSet family set) (five_in_a_row group (big_bytes 2 (length set.joined)) (big_bytes 2 (length set.pruned)) joined pruned)
-    (group, numbers ++ (joined ++ pruned), refl, ((is.0, refl), refl), (numbers, joined ++ pruned, refl, refl, (joined, pruned, refl, entries_plain family set.joined is.4, entries_plain family set.pruned is.6)))
+    (group, numbers ++ (joined ++ pruned), refl, ((is.0.0, refl), refl), (numbers, joined ++ pruned, refl, refl, (joined, pruned, refl, entries_plain family set.joined is.4, entries_plain family set.pruned is.6)))
 
 sets_plain : (family : AddressFamily) (sets : List GroupSet) → AllByRecursion (IsMessageSet family) sets → ArePlainSets family sets (flat_map (canonical_set family) sets)
 unfolding ArePlainSets
@@ -97,7 +97,7 @@ body_plain family message is =
     let front = canonical_unicast family message.upstream in
     let numbers : List ℕ = 0 ∷ length message.sets ∷ big_bytes 2 message.holdtime in
     let sets = flat_map (canonical_set family) message.sets in
-    (message_written family message is, (front, numbers ++ sets, append_assoc front numbers sets, (is.0, refl), (numbers, sets, refl, refl, sets_plain family message.sets is.3)))
+    (message_written family message is, (front, numbers ++ sets, append_assoc front numbers sets, (is.0.0, refl), (numbers, sets, refl, refl, sets_plain family message.sets is.3)))
 
 pub one_spelling : (family : AddressFamily) (message : Message) (body : List ℕ) → IsMessage family message → SpellsPlainly family message body ↔ (body ≡ canonical family message)
 one_spelling family message body is = (plain_body family message body, λ e. subst (SpellsPlainly family message) (sym e) (body_plain family message is))

@@ -4,7 +4,7 @@ use Rattle.std.proofs.lemmas.Bool.{le-ltb, ltb-false, not-false}
 use Rattle.std.proofs.lemmas.List.{nil_from_length}
 use Rattle.byteorder.specs.Endian.{big_number, big_bytes}
 use Rattle.pim_addr.specs.declared.family.AddressFamily.{AddressFamily}
-use Rattle.pim_addr.specs.Address.{is_group}
+use Rattle.pim_addr.specs.Address.{AreBytes, is_group}
 use Rattle.pim_addr.specs.Encoded.{IsGroup, group_length, source_length, group_faults, masked_address}
 use Rattle.pim_addr.specs.Faults.{fault_if}
 use Rattle.pim_jp.specs.declared.entry.Entry.{Entry}
@@ -13,7 +13,6 @@ use Rattle.pim_jp.specs.Message.{GroupSet, entries_of, counts_of, joined_count, 
 use Rattle.pim_jp.specs.Spelling.{AreEntries, IsLegalSet, IsSet, AreSets}
 use Rattle.pim_jp.specs.Parts.{Part, group, counts, part_then, entry_parts, set_parts}
 use Rattle.pim_jp.specs.Faults.{address_kind, kinds_at, faults_of}
-use Rattle.pim_jp.specs.Laws.{AreBytes}
 use Rattle.pim_jp.proofs.Front.{append_none, map_none, none_if}
 use Rattle.pim_jp.proofs.Forms.{group_legal}
 use Rattle.pim_jp.proofs.Counts.{AreBytes-drop, count_fits, count_bytes, take_four}

@@ -4,7 +4,7 @@ use Rattle.std.specs.Prelude.{◌≡◌, ℕ, ◌+◌, ◌*◌, ◌<◌, ◌^◌
 use Rattle.std.specs.List.{AllByRecursion, flat_map}
 use Rattle.byteorder.specs.Endian.{big_bytes}
 use Rattle.pim_addr.specs.declared.family.AddressFamily.{AddressFamily}
-use Rattle.pim_addr.specs.Address.{address_length, is_group, is_source}
+use Rattle.pim_addr.specs.Address.{IsAddress, is_group, is_source}
 use Rattle.pim_addr.specs.Encoded.{unicast_length, group_length, source_length}
 use Rattle.pim_addr.specs.Canonical.{canonical_unicast, canonical_group, canonical_source}
 use Rattle.pim_jp.specs.declared.entry.Entry.{Entry}
@@ -14,15 +14,15 @@ use Rattle.pim_jp.specs.Spelling.{source_of, IsLegalSet}
 -- ---- messages that can be spelled
 
 abbrev pub IsMessageEntry : AddressFamily → Entry (List ℕ) → Type 0
-IsMessageEntry family entry = (length (source_of entry).address ≡ address_length family) × (is_source family (source_of entry).address ≡ true)
+IsMessageEntry family entry = IsAddress family (source_of entry).address × (is_source family (source_of entry).address ≡ true)
 
 abbrev pub IsMessageSet : AddressFamily → GroupSet → Type 0
-IsMessageSet family set = (length set.group ≡ address_length family) × (is_group family set.group ≡ true) × IsLegalSet set
+IsMessageSet family set = IsAddress family set.group × (is_group family set.group ≡ true) × IsLegalSet set
     × (length set.joined < 2 ^ 16) × AllByRecursion (IsMessageEntry family) set.joined
     × (length set.pruned < 2 ^ 16) × AllByRecursion (IsMessageEntry family) set.pruned
 
 abbrev pub IsMessage : AddressFamily → Message → Type 0
-IsMessage family message = (length message.upstream ≡ address_length family) × (message.holdtime < 2 ^ 16)
+IsMessage family message = IsAddress family message.upstream × (message.holdtime < 2 ^ 16)
     × (length message.sets < 2 ^ 8) × AllByRecursion (IsMessageSet family) message.sets
 
 -- ---- the spelling that is written

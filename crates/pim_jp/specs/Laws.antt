@@ -1,15 +1,11 @@
 -- The words of the laws in `src/laws.rt`.
-use Rattle.std.specs.Prelude.{◌≡◌, ℕ, ◌<◌, ◌⊎◌, List, [], drop, slice_index}
+use Rattle.std.specs.Prelude.{◌≡◌, ℕ, ◌<◌, ◌⊎◌, List, [], drop}
 use Rattle.byteorder.specs.Endian.{big_number}
 use Rattle.pim_addr.specs.declared.family.AddressFamily.{AddressFamily}
 use Rattle.pim_addr.specs.Encoded.{unicast_faults, unicast_address}
 use Rattle.pim_jp.specs.declared.fault.JpFault.{JpFault}
 use Rattle.pim_jp.specs.Message.{GroupSet, head_of, set_count, set_of, after_set}
 use Rattle.pim_jp.specs.Faults.{number_of}
-
--- a list of bytes
-abbrev pub AreBytes : List ℕ → Type 0
-AreBytes bytes = (i : ℕ) → slice_index bytes i < 256
 
 -- The first of two faults is told: its part stands before the other's, or they are of one part and its number is less.
 abbrev pub ToldBefore : JpFault → JpFault → Type 0

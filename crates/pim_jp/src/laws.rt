@@ -4,14 +4,14 @@
 ghost use Rattle.std.specs.Prelude.{◌≡◌, ◌↔◌, ℕ, ◌<◌, ◌^◌, List, [], ◌∷◌, ◌++◌, length};
 ghost use Rattle.std.specs.List.{AllByRecursion};
 ghost use Rattle.pim_addr.specs.declared.family.AddressFamily.{AddressFamily};
-ghost use Rattle.pim_addr.specs.Address.{address_length};
+ghost use Rattle.pim_addr.specs.Address.{AreBytes, address_length};
 ghost use Rattle.pim_jp.specs.declared.fault.JpFault.{JpFault};
 ghost use Rattle.pim_jp.specs.Message.{GroupSet, Message, message_of};
 ghost use Rattle.pim_jp.specs.Spelling.{Spells};
 ghost use Rattle.pim_jp.specs.Faults.{faults};
 ghost use Rattle.pim_jp.specs.Canonical.{IsMessageSet, IsMessage, canonical_head, canonical_set, canonical};
 ghost use Rattle.pim_jp.specs.Plain.{SpellsPlainly};
-ghost use Rattle.pim_jp.specs.Laws.{AreBytes, ToldBefore, ReadsHead, ReadsSet};
+ghost use Rattle.pim_jp.specs.Laws.{ToldBefore, ReadsHead, ReadsSet};
 
 /// Of all the faults of a body the first has the least offset, and of those at its offset the least number.
 pub fn first_fault_is_least()
@@ -37,10 +37,10 @@ pub fn spelled_by_one_value()
         Spells family one body → Spells family other body → one ≡ other }
 {}
 
-/// The messages that are spelled by some body are those within the ranges of the format.
+/// The messages that are spelled by some bytes are those within the ranges of the format.
 pub fn spelled_is_message()
     ensures { (family : AddressFamily) (message : Message) (body : List ℕ) →
-        Spells family message body → IsMessage family message }
+        AreBytes body → Spells family message body → IsMessage family message }
 {}
 
 /// Each such message is spelled by what is written of it.

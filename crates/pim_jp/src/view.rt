@@ -5,6 +5,7 @@ ghost use Rattle.pim_addr.specs.Faults.{judged, Answers};
 ghost use Rattle.pim_jp.specs.Message.{message_of};
 ghost use Rattle.pim_jp.specs.Faults.{faults};
 ghost use Rattle.pim_jp.specs.Spelling.{Spells};
+ghost use Rattle.pim_jp.specs.Canonical.{IsMessage};
 
 use crate::fault::JpFault;
 use crate::reading::check_body;
@@ -22,13 +23,14 @@ pub struct JpView<'a, F: Family> {
 
 impl<'a, F: Family> Model for JpView<'a, F> {
     ghost use Rattle.pim_jp.specs.Message.{Message, message_of};
+    ghost use Rattle.pim_jp.specs.Canonical.{IsMessage};
     ghost use Rattle.pim_jp.specs.Whole.{HoldsMessage};
 
     ghost Value = { Message };
 
     ghost view = { λ message. message_of F.family message.body.now };
 
-    ghost invariant = { λ message. HoldsMessage F.family message.body.now };
+    ghost invariant = { λ message. HoldsMessage F.family message.body.now × IsMessage F.family (message_of F.family message.body.now) };
 }
 
 impl<'a, F: Family> JpView<'a, F> {
@@ -49,6 +51,14 @@ impl<'a, F: Family> JpView<'a, F> {
             body,
             family: PhantomData,
         })
+    }
+
+    /// A law: the message can be spelled. Its groups are groups, its sources and RPs valid sources, each address has
+    /// the bytes of its family, and each list and number is in range. It does nothing.
+    pub fn is_legal(&self)
+        ensures { IsMessage F.family self.now }
+    {
+        let _ = &self.body;
     }
 
     /// The upstream neighbour to whom the message is addressed.

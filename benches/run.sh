@@ -1,0 +1,25 @@
+#!/bin/sh
+# Measures a part of the engine beside plain Rust of the same steps, in one run: first the Rattle program, which is proved
+# and then built by LLVM, then plain.rs, built by rustc. It works on a copy of the repository, so that nothing of the
+# repository's own is changed; what crates/*/out keeps of earlier checks makes it quicker.
+#
+#   benches/run.sh NAME [ARGUMENT..]        NAME is a folder beside this script
+set -eu
+
+name=$1
+shift
+here=$(cd "$(dirname "$0")" && pwd)
+copy=$(mktemp -d)
+trap 'rm -rf "$copy"' EXIT
+
+cp -a "$here/../crates" "$here/../crates.txt" "$here/../HANDLES" "$copy/"
+mkdir -p "$copy/crates/bench_$name/src"
+cp "$here/$name/main.rt" "$copy/crates/bench_$name/src/"
+echo "bench_$name: $(cat "$here/$name/crates.txt")" >> "$copy/crates.txt"
+rustc -O -o "$copy/plain" "$here/$name/plain.rs"
+
+cd "$copy/crates/bench_$name"
+echo "Rattle:"
+rt run -- "$@" 2> "$copy/log" || { tail -20 "$copy/log"; exit 1; }
+echo "plain Rust:"
+"$copy/plain" "$@"

@@ -1,0 +1,14 @@
+use Rattle.pim_frame.specs.declared.frame.Kind.TheVariants.{JoinPrune}
+use Rattle.pim_jp.specs.Canonical.{canonical}
+use Rattle.pim_form.proofs.laws.sealed_message_is_read.Goals as goal
+
+pub returns : goal.returns
+returns c = λ family source message bytes is_message sealed.
+    let opens = c.sealed_opens.ensures family source JoinPrune (canonical family message) bytes sealed in
+    record {
+      body = canonical family message;
+      opened = opens.0;
+      holds = opens.1;
+      legal = c.spelled_is_legal.ensures family message (canonical family message) (c.canonical_is_spelled.ensures family message is_message);
+      reads = c.canonical_is_read.ensures family message is_message;
+    }

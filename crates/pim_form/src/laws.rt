@@ -1,0 +1,14 @@
+//! What the definitions of headers and of Join/Prune messages say together. Nothing here is to be called.
+
+ghost use Rattle.pim_form.specs.Laws.{SealedMessageIsRead};
+
+/// A canonical message that is sealed for ALL-PIM-ROUTERS opens between the same addresses as a Join/Prune without a
+/// fault, and its body is read without a fault as that message (RFC 7761, 4.9 and 4.9.5).
+pub fn sealed_message_is_read()
+    ensures { SealedMessageIsRead }
+{
+    pim_frame::sealed_opens();
+    pim_jp::canonical_is_spelled();
+    pim_jp::spelled_is_legal();
+    pim_jp::canonical_is_read();
+}
