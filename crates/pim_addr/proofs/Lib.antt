@@ -4,3 +4,4 @@ pub mod Moved
 pub mod Failures
 pub mod ReadBack
 pub mod TextNames
+pub mod Places

@@ -8,3 +8,4 @@ pub mod Device
 pub mod Scripted
 pub mod Canonical
 pub mod TextForms
+pub mod Order

@@ -9,6 +9,7 @@ mod counted;
 mod device;
 mod encoded;
 mod family;
+mod order;
 mod parsed;
 mod scripted;
 mod text;
@@ -21,6 +22,7 @@ pub use encoded::{
     source_length, unicast_length,
 };
 pub use family::{AddressFamily, Family, V4, V6};
+pub use order::first_of_parts_is_least;
 pub use parsed::{read_text, text_names_one_address, written_text_names};
 pub use scripted::{ScriptedDrain, ScriptedFeed};
 pub use text::write_text;

@@ -1,79 +1,62 @@
--- The faults of a body stand in the order in which they are told.
-use Rattle.std.proofs.Common.{◌≡◌, ℕ, zero, suc, ◌+◌, ◌≤◌, Bool, true, false, cond, not, ◌&&◌, ◌==◌, List, [], ◌∷◌, ◌++◌, length, map, refl, subst, inl, inr, arith}
-use Rattle.std.specs.Prelude.{⊤}
+-- The parts of a body stand one behind the other, and the kinds at each in the order of their numbers.
+use Rattle.std.proofs.Common.{◌≡◌, ℕ, zero, suc, ◌+◌, ◌≤◌, Bool, true, false, cond, not, ◌&&◌, List, [], ◌∷◌, ◌++◌, length, map, refl, sym, ap, subst, ◌∙◌, arith}
+use Rattle.std.specs.Prelude.{◌==◌}
 use Rattle.std.specs.List.{AllByRecursion}
+use Rattle.std.proofs.lemmas.List.{map-append}
 use Rattle.pim_addr.specs.Faults.{fault_if}
+use Rattle.pim_addr.specs.Order.{Place, IsToldBefore, FirstIsLeast, NumbersRise, OffsetsRise, places_at, places, FirstOfPartsIsLeast}
 use Rattle.pim_hello.specs.declared.fault.HelloKind.{HelloKind}
 use Rattle.pim_hello.specs.declared.fault.HelloKind.TheVariants.{OptionLength, Address}
 use Rattle.pim_hello.specs.declared.fault.HelloFault.{HelloFault}
-use Rattle.pim_hello.specs.Options.{Content, whole, partial, Part, part_then, parts_within, content_at, behind_option, value_length}
-use Rattle.pim_hello.specs.Faults.{has_other_length, kinds_at, part_faults, faults_of, faults}
+use Rattle.pim_hello.specs.Options.{Content, whole, partial, content_at, Part, part_then, parts_within, parts, value_length, behind_option}
 use Rattle.pim_hello.specs.Row.{is_row}
-use Rattle.pim_hello.specs.Laws.{ToldBefore}
+use Rattle.pim_hello.specs.Faults.{number_of, has_other_length, kinds_at, part_faults, faults_of, faults}
+use Rattle.pim_hello.specs.Laws.{place, ToldBefore}
 
-all_append : {A : Type 0} (P : A → Type 0) (xs ys : List A) → AllByRecursion P xs → AllByRecursion P ys → AllByRecursion P (xs ++ ys)
-all_append P [] ys first second = second
-all_append P (x ∷ xs) ys first second = (first.0, all_append P xs ys first.1 second)
+-- a part as the order sees it
+abbrev numbered : Part → ℕ × List ℕ
+numbered part = (part.at, map number_of (kinds_at part.content))
 
--- the faults stand at this offset or behind it
-abbrev AreFrom : ℕ → List HelloFault → Type 0
-AreFrom n = AllByRecursion (λ (fault : HelloFault). n ≤ fault.at)
+kinds_rise : (other_length no_row : Bool) → NumbersRise 0 (map number_of (fault_if other_length OptionLength ++ fault_if no_row Address))
+kinds_rise true true = (omega arith, (omega arith, tt))
+kinds_rise true false = (omega arith, tt)
+kinds_rise false true = (omega arith, tt)
+kinds_rise false false = tt
 
--- ---- where the faults of the parts stand
+then_rise : (least at : ℕ) (content : Content) (others : List Part) → least ≤ at → OffsetsRise (suc at) (map numbered others) → OffsetsRise least (map numbered (part_then at content others))
+then_rise least at (whole kind value) others le h = (le, kinds_rise (has_other_length kind value) (kind == 24 && not (is_row value)), h)
+then_rise least at partial others le h = (le, (omega arith, tt), tt)
 
-all_at : (n at : ℕ) (kinds : List HelloKind) → n ≤ at → AreFrom n (map (λ (kind : HelloKind). record { at = at; kind = kind }) kinds)
-all_at n at [] le = tt
-all_at n at (kind ∷ kinds) le = (le, all_at n at kinds le)
+else_rise : (least : ℕ) (test : Bool) (parts : List Part) → OffsetsRise least (map numbered parts) → OffsetsRise least (map numbered (cond test [] parts))
+else_rise least true parts h = tt
+else_rise least false parts h = h
 
-from_then : (n at : ℕ) (content : Content) (others : List Part) → n ≤ at → AreFrom n (faults_of others) → AreFrom n (faults_of (part_then at content others))
-from_then n at (whole kind value) others le behind =
-    all_append (λ (fault : HelloFault). n ≤ fault.at) (part_faults (record { at = at; content = whole kind value })) (faults_of others) (all_at n at (kinds_at (whole kind value)) le) behind
-from_then n at partial others le behind = (le, tt)
-
-from_else : (n : ℕ) (test : Bool) (parts : List Part) → AreFrom n (faults_of parts) → AreFrom n (faults_of (cond test [] parts))
-from_else n true parts h = tt
-from_else n false parts h = h
-
-from_offset : (n count at : ℕ) (bytes : List ℕ) → n ≤ at → AreFrom n (faults_of (parts_within count at bytes))
+parts_rise : (least count at : ℕ) (bytes : List ℕ) → least ≤ at → OffsetsRise least (map numbered (parts_within count at bytes))
 unfolding parts_within
-from_offset n zero at bytes le = tt
-from_offset n (suc count) at bytes le =
-    from_else n (length bytes == 0) (part_then at (content_at bytes) (parts_within count (at + (4 + value_length bytes)) (behind_option bytes)))
-    (from_then n at (content_at bytes) (parts_within count (at + (4 + value_length bytes)) (behind_option bytes)) le
-    (from_offset n count (at + (4 + value_length bytes)) (behind_option bytes) (omega (arith, le))))
+parts_rise least zero at bytes le = tt
+parts_rise least (suc count) at bytes le =
+    else_rise least (length bytes == 0) (part_then at (content_at bytes) (parts_within count (at + (4 + value_length bytes)) (behind_option bytes)))
+    (then_rise least at (content_at bytes) (parts_within count (at + (4 + value_length bytes)) (behind_option bytes)) le
+    (parts_rise (suc at) count (at + (4 + value_length bytes)) (behind_option bytes) (omega arith)))
 
--- ---- the first is told before each of the others
+-- ---- the faults, as the order sees them
 
-abbrev IsFirst : List HelloFault → Type 0
-IsFirst [] = ⊤
-IsFirst (first ∷ others) = AllByRecursion (ToldBefore first) others
+places_of_kinds : (at : ℕ) (kinds : List HelloKind) → map place (map (λ (kind : HelloKind). record { at = at; kind = kind }) kinds) ≡ places_at (at, map number_of kinds)
+places_of_kinds at [] = refl
+places_of_kinds at (kind ∷ kinds) = ap (λ (others : List Place). (at, number_of kind) ∷ others) (places_of_kinds at kinds)
 
-after_part : (first : HelloFault) (faults : List HelloFault) → AreFrom (suc first.at) faults → AllByRecursion (ToldBefore first) faults
-after_part first [] h = tt
-after_part first (fault ∷ faults) h = (inl h.0, after_part first faults h.1)
+places_of_parts : (ps : List Part) → map place (faults_of ps) ≡ places (map numbered ps)
+places_of_parts [] = refl
+places_of_parts (part ∷ ps) =
+    map-append place (part_faults part) (faults_of ps)
+    ∙ ap (λ (others : List Place). others ++ map place (faults_of ps)) (places_of_kinds part.at (kinds_at part.content))
+    ∙ ap (λ (others : List Place). places_at (numbered part) ++ others) (places_of_parts ps)
 
-first_at : (at : ℕ) (length row : Bool) (behind : List HelloFault) → AreFrom (suc at) behind → IsFirst behind
-    → IsFirst (map (λ (kind : HelloKind). record { at = at; kind = kind }) (fault_if length OptionLength ++ fault_if row Address) ++ behind)
-first_at at false false behind far h = h
-first_at at false true behind far h = after_part (record { at = at; kind = Address }) behind far
-first_at at true false behind far h = after_part (record { at = at; kind = OptionLength }) behind far
-first_at at true true behind far h = (inr (refl, omega arith), after_part (record { at = at; kind = OptionLength }) behind far)
+told_before : (first : HelloFault) (others : List HelloFault) → AllByRecursion (IsToldBefore (place first)) (map place others) → AllByRecursion (ToldBefore first) others
+told_before first [] h = tt
+told_before first (other ∷ others) h = (h.0, told_before first others h.1)
 
-first_then : (at : ℕ) (content : Content) (others : List Part) → AreFrom (suc at) (faults_of others) → IsFirst (faults_of others) → IsFirst (faults_of (part_then at content others))
-first_then at (whole kind value) others far h = first_at at (has_other_length kind value) (kind == 24 && not (is_row value)) (faults_of others) far h
-first_then at partial others far h = tt
-
-first_else : (test : Bool) (parts : List Part) → IsFirst (faults_of parts) → IsFirst (faults_of (cond test [] parts))
-first_else true parts h = tt
-first_else false parts h = h
-
-first_of_parts : (count at : ℕ) (bytes : List ℕ) → IsFirst (faults_of (parts_within count at bytes))
-unfolding parts_within
-first_of_parts zero at bytes = tt
-first_of_parts (suc count) at bytes =
-    first_else (length bytes == 0) (part_then at (content_at bytes) (parts_within count (at + (4 + value_length bytes)) (behind_option bytes)))
-    (first_then at (content_at bytes) (parts_within count (at + (4 + value_length bytes)) (behind_option bytes))
-    (from_offset (suc at) count (at + (4 + value_length bytes)) (behind_option bytes) (omega arith)) (first_of_parts count (at + (4 + value_length bytes)) (behind_option bytes)))
-
-pub first_of_faults : (body : List ℕ) (first : HelloFault) (others : List HelloFault) → faults body ≡ first ∷ others → AllByRecursion (ToldBefore first) others
-first_of_faults body first others h = subst IsFirst h (first_of_parts (length body) 0 body)
+pub first_of_faults : FirstOfPartsIsLeast → (body : List ℕ) (first : HelloFault) (others : List HelloFault) → faults body ≡ first ∷ others → AllByRecursion (ToldBefore first) others
+first_of_faults law body first others e =
+    let least : FirstIsLeast (places (map numbered (parts body))) = law (map numbered (parts body)) (parts_rise 0 (length body) 0 body (omega arith)) in
+    told_before first others (subst FirstIsLeast (sym (places_of_parts (parts body)) ∙ ap (map place) e) least)

@@ -1,15 +1,19 @@
 -- What the definitions mean: the first fault is the least; for one address, time passes for all alike, and a Hello
 -- changes what is kept of its sender alone; and what a table holds at each address is the whole of it.
-use Rattle.std.specs.Prelude.{◌≡◌, ℕ, ◌-◌, ◌<◌, max, ◌⊎◌, List, ◌∷◌, Option, Some, None, option_map, if◌then◌else◌}
+use Rattle.std.specs.Prelude.{◌≡◌, ℕ, ◌-◌, max, List, ◌∷◌, Option, Some, None, option_map, if◌then◌else◌}
 use Rattle.std.specs.List.{AllByRecursion}
+use Rattle.pim_addr.specs.Order.{Place, IsToldBefore}
 use Rattle.pim_hello.specs.declared.fault.HelloFault.{HelloFault}
 use Rattle.pim_hello.specs.Faults.{number_of, faults}
 use Rattle.pim_hello.specs.Hello.{Parameters}
 use Rattle.pim_hello.specs.Neighbours.{Neighbour, Table, neighbour_at, waited, passed_to, is_over, without_ended, says_goodbye, lifetime, heard_from, IsAscending}
 
--- The first of two faults is told: its option stands before the other's, or they are of one option and its number is less.
+-- what the order of faults sees of one
+abbrev pub place : HelloFault → Place
+place fault = (fault.at, number_of fault.kind)
+
 abbrev pub ToldBefore : HelloFault → HelloFault → Type 0
-ToldBefore first other = (first.at < other.at) ⊎ ((first.at ≡ other.at) × (number_of first.kind < number_of other.kind))
+ToldBefore first other = IsToldBefore (place first) (place other)
 
 abbrev pub FirstFaultIsLeast : Type 0
 FirstFaultIsLeast = (body : List ℕ) (first : HelloFault) (others : List HelloFault) →

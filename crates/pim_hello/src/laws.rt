@@ -3,10 +3,14 @@
 
 ghost use Rattle.pim_hello.specs.Laws.{FirstFaultIsLeast, HearingChangesItsSenderAlone, TimePassesForAll, ExactlyTheEndedGo, ExpiringTwiceIsExpiringOnce, TablesThatAgreeAreOne};
 
+use pim_addr::first_of_parts_is_least;
+
 /// Of all the faults of a body the first has the least offset, and of those at its offset the least number.
 pub fn first_fault_is_least()
     ensures { FirstFaultIsLeast }
-{}
+{
+    first_of_parts_is_least();
+}
 
 /// After a Hello its sender has what the Hello said, or nothing after a goodbye, and each other address has
 /// what it had.

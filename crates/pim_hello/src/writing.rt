@@ -12,7 +12,7 @@ use crate::addresses::Addresses;
 use crate::delay::{LanDelay, T_BIT};
 use crate::option::{ADDRESS_LIST, HEADER_LENGTH, LAN_PRUNE_DELAY};
 use byteorder::{BigEndian, ByteOrder};
-use pim_addr::Family;
+use pim_addr::{Family, unicast_length};
 
 /// Writes an option's type and length.
 fn put_header(kind: u16, size: u16, out: &mut [u8])
@@ -112,7 +112,7 @@ fn put_unicast<F: Family>(address: F::Addr, out: &mut [u8])
 pub(crate) fn size_unicast<F: Family>() -> usize
     ensures { result ≡ unicast_length F.family }
 {
-    2 + F::LEN
+    unicast_length::<F>()
 }
 
 /// How many bytes the addresses take in their row.
