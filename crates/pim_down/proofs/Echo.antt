@@ -1,5 +1,5 @@
 -- What an echo names.
-use Rattle.std.proofs.Common.{◌≡◌, ℕ, suc, ◌+◌, ◌-◌, ◌≤◌, Bool, true, false, cond, List, [], ◌∷◌, ◌++◌, Option, Some, None, map, eqb, refl, sym, ap, subst, ◌∙◌, arith}
+use Rattle.std.proofs.Common.{◌≡◌, ℕ, ◌+◌, ◌-◌, ◌≤◌, Bool, true, false, cond, List, [], ◌∷◌, Option, Some, None, refl, sym, ap, subst, ◌∙◌, arith}
 use Rattle.std.specs.declared.cmp.Ordering.TheVariants.{Less}
 use Rattle.std.specs.Option.{is_some}
 use Rattle.std.proofs.lemmas.Bool.Decides.{nat_tests}
@@ -15,9 +15,9 @@ use Rattle.pim_down.specs.declared.step.Step.{Step}
 use Rattle.pim_down.specs.declared.step.Step.TheVariants.{Reached, Echo}
 use Rattle.pim_down.specs.Key.{key_cmp, same_key}
 use Rattle.pim_down.specs.Records.{IsBelow, IsAscending, machine_at, recorded}
-use Rattle.pim_down.specs.Time.{Downstream, expiry_after, pending_after, machine_after, record_after, tick, pending_due, et_due, ppt_due, on_ppt, after_et, after_ppt, had_several, echoes_at, echo_of, first_due, with_first, fire_et, fire_ppt, fired, with_records, Runs, IsEchoOf}
+use Rattle.pim_down.specs.Time.{Downstream, pending_after, machine_after, tick, pending_due, et_due, ppt_due, on_ppt, after_et, after_ppt, had_several, echoes_at, echo_of, first_due, with_first, fire_et, fire_ppt, fired, with_records, Runs, IsEchoOf}
 use Rattle.pim_down.proofs.Order.{same_itself, greater_differs, less_back}
-use Rattle.pim_down.proofs.Map.{none_below, at_recorded}
+use Rattle.pim_down.proofs.Map.{at_recorded}
 use Rattle.pim_down.proofs.Kept.{kept_later, kept_fired}
 use Rattle.pim_down.proofs.Runs.{by_run, no_echo}
 use Rattle.pim_down.proofs.Silence.{quiet_timers, quiet_at, option_after, at_later, AtFirst, elsewhere, here, at_first, left_of}

@@ -3,7 +3,6 @@ use Rattle.std.proofs.Common.{◌≡◌, ℕ, ◌+◌, ◌-◌, ◌<◌, ◌≤�
 use Rattle.std.proofs.lemmas.Bool.Decides.{nat_tests}
 use Rattle.std.proofs.lemmas.List.{drop_more, drop_all}
 use Rattle.pim_down.specs.declared.held.Held.{Held}
-use Rattle.pim_down.specs.declared.machine.Record.{Record}
 use Rattle.pim_down.specs.Ends.{sooner, pending_end, first_end}
 use Rattle.pim_down.specs.Seen.{waiting_seen, records_seen}
 

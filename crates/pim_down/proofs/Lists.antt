@@ -5,7 +5,6 @@ use Rattle.std.proofs.lemmas.List.{map-append, take-map, drop-map, set_split, ge
 use Rattle.pim_down.specs.declared.held.Held.{Held}
 use Rattle.pim_down.specs.declared.key.Key.{Key}
 use Rattle.pim_down.specs.declared.held.Timed.{Timed}
-use Rattle.pim_down.specs.declared.machine.Record.{Record}
 use Rattle.pim_down.specs.Records.{recorded}
 use Rattle.pim_down.specs.Seen.{machine_seen, key_seen, record_seen, records_seen}
 

@@ -1,25 +1,14 @@
 -- What a run leaves: by induction on its steps.
-use Rattle.std.proofs.Common.{◌≡◌, ℕ, zero, suc, ◌+◌, ◌-◌, ◌<◌, ◌≤◌, Bool, true, false, cond, List, [], ◌∷◌, ◌++◌, Option, Some, None, map, ltb, max, refl, sym, ap, subst, ◌∙◌, arith}
-use Rattle.std.specs.Option.{is_some}
+use Rattle.std.proofs.Common.{◌≡◌, ℕ, zero, suc, ◌+◌, ◌-◌, ◌<◌, ◌≤◌, Bool, true, false, List, Some, None, ltb, max, refl, sym, ap, subst, arith}
 use Rattle.std.proofs.lemmas.Bool.{false≢true, ltb-true, ltb-false}
 use Rattle.pim_down.specs.declared.key.What.{What}
-use Rattle.pim_down.specs.declared.key.What.TheVariants.{Star, Source, Rpt}
-use Rattle.pim_down.specs.declared.key.Key.{Key}
-use Rattle.pim_down.specs.declared.machine.State.TheVariants.{Prune}
-use Rattle.pim_down.specs.declared.machine.Pending.{Pending}
-use Rattle.pim_down.specs.declared.machine.Machine.{Machine}
 use Rattle.pim_down.specs.declared.machine.Record.{Record}
 use Rattle.pim_down.specs.declared.step.Step.{Step}
 use Rattle.pim_down.specs.declared.step.Step.TheVariants.{Reached, Echo}
-use Rattle.pim_down.specs.Key.{same_key}
-use Rattle.pim_down.specs.Records.{IsBelow, IsAscending, machine_at, recorded}
-use Rattle.pim_down.specs.Time.{Downstream, expiry_after, pending_after, machine_after, record_after, tick, expiry_due, pending_due, et_due, ppt_due, on_ppt, after_et, after_ppt, had_several, echoes_at, echo_of, first_due, with_first, fire_et, fire_ppt, fired, rests, moves, echoes, with_records, step, run_within, Runs, HasRun, settled_at, after_silence, IsEchoOf}
+use Rattle.pim_down.specs.Time.{Downstream, tick, fired, rests, moves, echoes, with_records, step, run_within, Runs, HasRun}
 use Rattle.pim_down.specs.Ends.{weight}
-use Rattle.pim_down.proofs.Order.{same_keys, same_itself}
-use Rattle.pim_down.proofs.Map.{none_below, at_recorded, at_other_recorded}
-use Rattle.pim_down.proofs.Time.{Answer, machine_more, machine_none, run_more, run_echo, run_rest}
+use Rattle.pim_down.proofs.Time.{Answer, run_more, run_echo, run_rest}
 use Rattle.pim_down.proofs.Firing.{weight_fired, weight_later}
-use Rattle.pim_down.proofs.Kept.{kept_later, kept_fired}
 
 -- ---- one step
 

@@ -1,5 +1,5 @@
 -- A message that is heard keeps the machines sound.
-use Rattle.std.proofs.Common.{◌≡◌, ℕ, ◌+◌, ◌<◌, ◌≤◌, List, Option}
+use Rattle.std.proofs.Common.{ℕ, ◌<◌, ◌≤◌, List, Option}
 use Rattle.pim_addr.specs.declared.family.AddressFamily.{AddressFamily}
 use Rattle.pim_jp.specs.Message.{Message}
 use Rattle.pim_jp.specs.Canonical.{IsMessage}

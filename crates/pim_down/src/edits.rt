@@ -45,10 +45,7 @@ pub(crate) fn replace_at<A: Copy>(
 }
 
 /// The key's machine; `None` where it is in NoInfo.
-pub(crate) fn machine_at<F: Family>(
-    records: &[Held<F::Addr>],
-    key: &Key<F::Addr>,
-) -> Option<Timed>
+pub(crate) fn machine_at<F: Family>(records: &[Held<F::Addr>], key: &Key<F::Addr>) -> Option<Timed>
     requires { IsAscending (records_seen F.bytes_of records.now) }
     ensures { machine_seen result ≡ machine_at (key_seen F.bytes_of key.now) (records_seen F.bytes_of records.now) }
 {

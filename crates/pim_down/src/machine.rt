@@ -75,7 +75,10 @@ pub(crate) fn on_join(start: Start, held: Option<Timed>) -> Option<Timed>
     };
     let expires_at = greater(machine.expires_at, start.expires_at);
     match machine.state {
-        State::Join => Some(Timed { expires_at, ..machine }),
+        State::Join => Some(Timed {
+            expires_at,
+            ..machine
+        }),
         State::PrunePending => Some(Timed {
             state: State::Join,
             expires_at,

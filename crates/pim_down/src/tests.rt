@@ -140,14 +140,26 @@ fn joined(port: usize, what: What<[u8; 4]>, expires_in: u64) -> Record<[u8; 4]> 
 }
 
 fn pruned(port: usize, source: [u8; 4], expires_in: u64) -> Record<[u8; 4]> {
-    record(port, What::Rpt(source), State::Prune, Some(expires_in), None)
+    record(
+        port,
+        What::Rpt(source),
+        State::Prune,
+        Some(expires_in),
+        None,
+    )
 }
 
 /// A machine of the first port whose prune-pending timer started with several neighbours.
 fn waiting(what: What<[u8; 4]>, expires_in: u64, ends_in: u64) -> Record<[u8; 4]> {
     let several = true;
     let pending = Pending { ends_in, several };
-    record(0, what, State::PrunePending, Some(expires_in), Some(pending))
+    record(
+        0,
+        what,
+        State::PrunePending,
+        Some(expires_in),
+        Some(pending),
+    )
 }
 
 fn small(number: usize) -> u8 {

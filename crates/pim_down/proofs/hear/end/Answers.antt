@@ -1,7 +1,6 @@
 use Rattle.std.proofs.Common.{◌∙◌, not, ap, sym, rules}
 use Rattle.std.proofs.lemmas.Fn.{filter_same}
 use Rattle.pim_down.specs.declared.held.Held.{Held}
-use Rattle.pim_down.specs.declared.machine.Record.{Record}
 use Rattle.pim_down.specs.Running.{is_over}
 use Rattle.pim_down.specs.Seen.{record_seen, records_seen}
 use Rattle.pim_down.proofs.Each.{end_filter, seen_filter}

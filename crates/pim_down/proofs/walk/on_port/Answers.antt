@@ -1,7 +1,6 @@
-use Rattle.std.proofs.Common.{◌≡◌, ℕ, drop, leb, ltb, ap, subst, sym, ◌∙◌, rules, tests}
-use Rattle.std.specs.List.Sorted.{IsNonDecreasingBy, IsPartitionPoint}
+use Rattle.std.proofs.Common.{leb, ltb, ap, subst, sym, ◌∙◌, rules}
+use Rattle.std.specs.List.Sorted.{IsNonDecreasingBy}
 use Rattle.std.proofs.lemmas.List.Sorted.{IsPartitionPoint-from_clause, IsPartitionedBy-leb, IsPartitionedBy-ltb, IsNonDecreasingBy-drop}
-use Rattle.pim_down.specs.declared.machine.Record.{Record}
 use Rattle.pim_down.specs.Seen.{records_seen}
 use Rattle.pim_down.proofs.OnPort.{rising, together}
 use Rattle.pim_down.proofs.walk.on_port.Goals as goal
