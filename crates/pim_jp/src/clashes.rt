@@ -88,6 +88,8 @@ fn first_clash_among_many<F: Family, const N: usize>(
 
 /// The place of the first of so many pruned entries whose source is among the joined ones, as the same kind; their
 /// number if there is none.
+#[cold]
+#[inline(never)]
 pub(crate) fn first_clash<F: Family>(count: u16, bytes: &[u8], joined: &Entries<'_, F>) -> u16
     requires { count * source_length F.family ≤ length bytes.now }
     ensures bound { result ≤ count }
