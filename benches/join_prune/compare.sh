@@ -19,7 +19,7 @@ grep -E '^pim_(addr|jp):' "$top/crates.txt" > "$work/crates.txt"
 echo 'join_prune: pim_addr pim_jp' >> "$work/crates.txt"
 cd "$work/crates/join_prune"
 rt run > "$work/build.log" 2>&1 || { tail -30 "$work/build.log"; exit 1; }
-rustc --edition 2021 -O -C target-cpu=x86-64-v2 plain.rs -o "$work/plain"
+rustc --edition 2021 -O -C target-cpu=x86-64-v2 "$here/plain.rs" -o "$work/plain"
 for round in 1 2 3; do
     echo "Rattle, round $round:" && out/join_prune
     echo "plain Rust, round $round:" && "$work/plain"

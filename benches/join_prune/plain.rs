@@ -280,7 +280,7 @@ fn tell(name: &str, joined: List, pruned: List, rounds: u32) {
 fn main() {
     let list = |count, flags, first| List { count, flags, first };
     let none = || list(0, SOURCE, 0);
-    let rounds = 4_000_000;
+    let rounds = 1_000_000;
     tell("91 joined", list(91, SOURCE, 1), none(), rounds);
     tell("91 joined, 91 rpt pruned", list(91, SOURCE, 1), list(91, RPT, 1), rounds);
     tell("8187 joined", list(8187, SOURCE, 1), none(), rounds);

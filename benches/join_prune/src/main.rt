@@ -101,7 +101,7 @@ fn tenths(nanos: u128, entries: u64) -> u128 {
 fn tell(rt: &HostRuntime, name: &str, joined: List, pruned: List) -> io::Result<()> {
     let mut body = body_of(rt.alloc(), joined, pruned)?;
     let entries = u32::from(joined.count) + u32::from(pruned.count);
-    let times = 4_000_000 / (entries + 1) + 1;
+    let times = 1_000_000 / (entries + 1) + 1;
     let all = u64::from(entries) * u64::from(times);
     let start = Instant::now(rt)?;
     let sets = read(&mut body, times);

@@ -16,4 +16,5 @@ pub mod EntryPlaces
 pub mod EntryLoop
 pub mod EntryPass
 pub mod Lengths
+pub mod SortedSources
 pub mod SetLoop

@@ -8,3 +8,4 @@ pub mod Plain
 pub mod Seen
 pub mod Whole
 pub mod Reading
+pub mod Sources

@@ -7,9 +7,17 @@ ghost use Rattle.pim_jp.specs.Spelling.{same_source};
 ghost use Rattle.pim_jp.specs.Seen.{entry_seen};
 ghost use Rattle.pim_jp.specs.Reading.{is_in, entry_at, AreApart};
 
+use crate::blocks::first_of_kind;
 use crate::entries::{Entries, first_entry};
 use crate::entry::Entry;
 use pim_addr::Family;
+use std::mem::size_of_val;
+
+/// So few entries are compared one by one sooner than sorted.
+const FEW: u16 = 16;
+
+/// So many fit into the smaller block.
+const SOME: u16 = 128;
 
 /// Whether two entries have the same source, and are both (S,G) or both (S,G,rpt).
 fn same_source<F: Family>(this: Entry<F::Addr>, that: Entry<F::Addr>) -> bool
@@ -33,9 +41,9 @@ fn is_among<F: Family>(entry: Entry<F::Addr>, others: Entries<'_, F>) -> bool
     false
 }
 
-/// The place of the first of so many pruned entries whose source is among the joined ones, as the same kind; their
-/// number if there is none.
-pub(crate) fn first_clash<F: Family>(count: u16, bytes: &[u8], joined: &Entries<'_, F>) -> u16
+/// The place of the first of so many pruned entries whose source is among few joined ones, as the same kind; their
+/// number if there is none. Each pruned entry is compared with each joined one.
+fn first_clash_among_few<F: Family>(count: u16, bytes: &[u8], joined: &Entries<'_, F>) -> u16
     requires { count * source_length F.family ≤ length bytes.now }
     ensures bound { result ≤ count }
     ensures apart { AreApart F.family joined.now result bytes.now }
@@ -50,4 +58,49 @@ pub(crate) fn first_clash<F: Family>(count: u16, bytes: &[u8], joined: &Entries<
         rest = others;
     }
     count
+}
+
+/// The same among many: the joined sources of a kind are sorted, as many at a time as `N`, in a block on the stack, and
+/// each pruned entry of the kind is looked for in each block.
+fn first_clash_among_many<F: Family, const N: usize>(
+    count: u16,
+    bytes: &[u8],
+    joined: &Entries<'_, F>,
+) -> u16
+    requires room { (0 < N) × (N ≤ 4096) }
+    requires long { count * source_length F.family ≤ length bytes.now }
+    ensures bound { result ≤ count }
+    ensures apart { AreApart F.family joined.now result bytes.now }
+    ensures clash { result < count → is_in joined.now (entry_at F.family result bytes.now) ≡ true }
+{
+    if count == 0 {
+        return 0;
+    }
+    let (_, first) = bytes.split_at(4);
+    let address = F::take(first);
+    if size_of_val(&address) > 16 {
+        return first_clash_among_few::<F>(count, bytes, joined);
+    }
+    let mut block = [address; N];
+    let end = first_of_kind::<F>(false, count, bytes, joined.again(), &mut block);
+    first_of_kind::<F>(true, end, bytes, joined.again(), &mut block)
+}
+
+/// The place of the first of so many pruned entries whose source is among the joined ones, as the same kind; their
+/// number if there is none.
+#[cold]
+#[inline(never)]
+pub(crate) fn first_clash<F: Family>(count: u16, bytes: &[u8], joined: &Entries<'_, F>) -> u16
+    requires { count * source_length F.family ≤ length bytes.now }
+    ensures bound { result ≤ count }
+    ensures apart { AreApart F.family joined.now result bytes.now }
+    ensures clash { result < count → is_in joined.now (entry_at F.family result bytes.now) ≡ true }
+{
+    if joined.count_left() <= FEW {
+        return first_clash_among_few::<F>(count, bytes, joined);
+    }
+    if joined.count_left() <= SOME {
+        return first_clash_among_many::<F, 128>(count, bytes, joined);
+    }
+    first_clash_among_many::<F, 4096>(count, bytes, joined)
 }

@@ -1,6 +1,7 @@
 //! Join/Prune messages of PIM sparse mode (RFC 7761, 4.9.5), read in place and written part by part.
 #![tactic(auto)]
 
+mod blocks;
 mod clashes;
 mod entries;
 mod entry;

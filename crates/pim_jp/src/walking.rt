@@ -110,6 +110,7 @@ fn check_entry<F: Family>(bytes: &[u8], has_star: bool) -> Result<Kinds, JpKind>
 
 /// Looks at so many entries of one list, but for the other list, and says which kinds are among them. `has_star` says
 /// whether a (*,G) entry is in their set before them, and the answer counts it.
+#[inline(never)]
 pub(crate) fn check_entries<F: Family>(
     count: u16,
     bytes: &[u8],

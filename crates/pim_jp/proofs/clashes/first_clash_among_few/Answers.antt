@@ -4,7 +4,7 @@ use Rattle.pim_jp.specs.Message.{entry_of}
 use Rattle.pim_jp.specs.Reading.{is_in, entry_at}
 use Rattle.pim_jp.proofs.EntryLoop.{drop_more}
 use Rattle.pim_jp.proofs.EntryPass.{apart_more}
-use Rattle.pim_jp.proofs.clashes.first_clash.Goals as goal
+use Rattle.pim_jp.proofs.clashes.first_clash_among_few.Goals as goal
 
 pub loop-place-preserved : goal.loop-place-preserved
 loop-place-preserved g c =
