@@ -1,13 +1,15 @@
 -- The faults of a body stand in the order in which they are told.
-use Rattle.std.proofs.Common.{◌≡◌, ℕ, zero, suc, ◌+◌, ◌≤◌, ◌<◌, Bool, true, false, cond, not, ◌&&◌, ltb, List, [], ◌∷◌, ◌++◌, length, map, drop, slice_index, refl, subst, inl, inr, arith}
+use Rattle.std.proofs.Common.{◌≡◌, ℕ, zero, suc, ◌+◌, ◌≤◌, ◌<◌, Bool, true, false, cond, not, ◌&&◌, ltb, List, [], ◌∷◌, ◌++◌, length, map, drop, slice_index, refl, sym, ap, subst, ◌∙◌, arith}
 use Rattle.std.specs.Prelude.{⊤}
 use Rattle.std.specs.List.{AllByRecursion, list_any}
+use Rattle.std.proofs.lemmas.List.{map-append}
 use Rattle.byteorder.specs.Endian.{big_number}
 use Rattle.pim_addr.specs.declared.family.AddressFamily.{AddressFamily}
 use Rattle.pim_addr.specs.declared.encoded.AddrFault.{AddrFault}
 use Rattle.pim_addr.specs.declared.encoded.AddrFault.TheVariants as address
 use Rattle.pim_addr.specs.Address.{is_source}
 use Rattle.pim_addr.specs.Faults.{fault_if}
+use Rattle.pim_addr.specs.Order.{Place, IsToldBefore, FirstIsLeast, NumbersRise, OffsetsRise, places_at, places, FirstOfPartsIsLeast}
 use Rattle.pim_addr.specs.Encoded.{SourceValue, unicast_length, group_length, source_length, family_faults, mask_faults, unicast_faults, source_value}
 use Rattle.pim_jp.specs.declared.entry.Entry.{Entry}
 use Rattle.pim_jp.specs.declared.fault.JpKind.{JpKind}
@@ -15,8 +17,8 @@ use Rattle.pim_jp.specs.declared.fault.JpKind.TheVariants.{Short, NotGroup, Flag
 use Rattle.pim_jp.specs.declared.fault.JpFault.{JpFault}
 use Rattle.pim_jp.specs.Spelling.{is_star, same_source}
 use Rattle.pim_jp.specs.Parts.{Shape, upstream, head, group, counts, entry, rest, Part, part_then, is_kindless, kind_of, entry_parts, set_parts, body_parts}
-use Rattle.pim_jp.specs.Faults.{number_of, address_kind, entry_kinds, kinds_at, faults_of, faults}
-use Rattle.pim_jp.specs.Laws.{ToldBefore}
+use Rattle.pim_jp.specs.Faults.{number_of, address_kind, entry_kinds, kinds_at, part_faults, faults_of, faults}
+use Rattle.pim_jp.specs.Laws.{place, ToldBefore}
 
 -- ---- the numbers at one part rise
 
@@ -140,51 +142,40 @@ body_from : (family : AddressFamily) (body : List ℕ) → FromOn 0 (body_parts 
 body_from family body =
     from_then upstream (unicast_length family) 0 body _ (omega arith) (λ at bytes. from_then head 4 at bytes _ (omega arith) (λ at sets. sets_from family (slice_index bytes 1) at sets))
 
--- ---- the faults of the parts
+-- ---- the faults, as the order sees them
 
-abbrev faults_at : ℕ → List JpKind → List JpFault
-faults_at at kinds = map (λ (kind : JpKind). record { at = at; kind = kind }) kinds
+-- a part as the order sees it
+abbrev numbered : AddressFamily → Part → ℕ × List ℕ
+numbered family part = (part.at, map number_of (kinds_at family part.shape part.bytes))
 
-all_append : {X : Type 0} (P : X → Type 0) (xs ys : List X) → AllByRecursion P xs → AllByRecursion P ys → AllByRecursion P (xs ++ ys)
-all_append P [] ys first second = second
-all_append P (x ∷ xs) ys first second = (first.0, all_append P xs ys first.1 second)
-
-all_at : (n at : ℕ) (kinds : List JpKind) → n ≤ at → AllByRecursion (λ (fault : JpFault). n ≤ fault.at) (faults_at at kinds)
-all_at n at [] le = tt
-all_at n at (kind ∷ kinds) le = (le, all_at n at kinds le)
-
-all_from : (family : AddressFamily) (n : ℕ) (parts : List Part) → FromOn n parts → AllByRecursion (λ (fault : JpFault). n ≤ fault.at) (faults_of family parts)
-unfolding FromOn
-all_from family n [] h = tt
-all_from family n (part ∷ parts) h =
-    all_append (λ (fault : JpFault). n ≤ fault.at) (faults_at part.at (kinds_at family part.shape part.bytes)) (faults_of family parts) (all_at n part.at _ h.0) (all_from family n parts (from_lower n (suc part.at) parts (omega (arith, h.0)) h.1))
-
--- the first is told before each of the others
-abbrev IsFirst : List JpFault → Type 0
-IsFirst [] = ⊤
-IsFirst (first ∷ others) = AllByRecursion (ToldBefore first) others
-
-after_kind : (at low high : ℕ) (kind : JpKind) (kinds : List JpKind) → number_of kind < low → RisesWithin number_of low high kinds → AllByRecursion (ToldBefore (record { at = at; kind = kind })) (faults_at at kinds)
+numbers_rise : (least low high : ℕ) (kinds : List JpKind) → least ≤ low → RisesWithin number_of low high kinds → NumbersRise least (map number_of kinds)
 unfolding RisesWithin
-after_kind at low high kind [] lt h = tt
-after_kind at low high kind (other ∷ kinds) lt h = (inr (refl, omega (arith, h.0)), after_kind at (suc (number_of other)) high kind kinds (omega (arith, h.0)) h.1)
+numbers_rise least low high [] le h = tt
+numbers_rise least low high (kind ∷ kinds) le h = (omega (arith, h.0), numbers_rise (suc (number_of kind)) (suc (number_of kind)) high kinds (omega arith) h.1)
 
-after_part : (first : JpFault) (faults : List JpFault) → AllByRecursion (λ (fault : JpFault). suc first.at ≤ fault.at) faults → AllByRecursion (ToldBefore first) faults
-after_part first [] h = tt
-after_part first (fault ∷ faults) h = (inl h.0, after_part first faults h.1)
-
-first_at : (at low high : ℕ) (kinds : List JpKind) (behind : List JpFault) → RisesWithin number_of low high kinds → AllByRecursion (λ (fault : JpFault). suc at ≤ fault.at) behind → IsFirst behind → IsFirst (faults_at at kinds ++ behind)
-unfolding RisesWithin
-first_at at low high [] behind rise far h = h
-first_at at low high (kind ∷ kinds) behind rise far h =
-    let first : JpFault = record { at = at; kind = kind } in
-    all_append (ToldBefore first) (faults_at at kinds) behind (after_kind at (suc (number_of kind)) high kind kinds (omega arith) rise.1) (after_part first behind far)
-
-first_of_parts : (family : AddressFamily) (n : ℕ) (parts : List Part) → FromOn n parts → IsFirst (faults_of family parts)
+offsets_rise : (family : AddressFamily) (least : ℕ) (parts : List Part) → FromOn least parts → OffsetsRise least (map (numbered family) parts)
 unfolding FromOn
-first_of_parts family n [] h = tt
-first_of_parts family n (part ∷ parts) h =
-    first_at part.at 1 11 (kinds_at family part.shape part.bytes) (faults_of family parts) (kinds_rise family part.shape part.bytes) (all_from family (suc part.at) parts h.1) (first_of_parts family (suc part.at) parts h.1)
+offsets_rise family least [] h = tt
+offsets_rise family least (part ∷ parts) h =
+    (h.0, numbers_rise 0 1 11 (kinds_at family part.shape part.bytes) (omega arith) (kinds_rise family part.shape part.bytes), offsets_rise family (suc part.at) parts h.1)
 
-pub first_of_faults : (family : AddressFamily) (body : List ℕ) (first : JpFault) (others : List JpFault) → faults family body ≡ first ∷ others → AllByRecursion (ToldBefore first) others
-first_of_faults family body first others h = subst IsFirst h (first_of_parts family 0 (body_parts family body) (body_from family body))
+places_of_kinds : (at : ℕ) (kinds : List JpKind) → map place (map (λ (kind : JpKind). record { at = at; kind = kind }) kinds) ≡ places_at (at, map number_of kinds)
+places_of_kinds at [] = refl
+places_of_kinds at (kind ∷ kinds) = ap (λ (others : List Place). (at, number_of kind) ∷ others) (places_of_kinds at kinds)
+
+places_of_parts : (family : AddressFamily) (parts : List Part) → map place (faults_of family parts) ≡ places (map (numbered family) parts)
+places_of_parts family [] = refl
+places_of_parts family (part ∷ parts) =
+    map-append place (part_faults family part) (faults_of family parts)
+    ∙ ap (λ (others : List Place). others ++ map place (faults_of family parts)) (places_of_kinds part.at (kinds_at family part.shape part.bytes))
+    ∙ ap (λ (others : List Place). places_at (numbered family part) ++ others) (places_of_parts family parts)
+
+told_before : (first : JpFault) (others : List JpFault) → AllByRecursion (IsToldBefore (place first)) (map place others) → AllByRecursion (ToldBefore first) others
+told_before first [] h = tt
+told_before first (other ∷ others) h = (h.0, told_before first others h.1)
+
+pub first_of_faults : FirstOfPartsIsLeast → (family : AddressFamily) (body : List ℕ) (first : JpFault) (others : List JpFault) → faults family body ≡ first ∷ others → AllByRecursion (ToldBefore first) others
+first_of_faults law family body first others e =
+    let rise : OffsetsRise 0 (map (numbered family) (body_parts family body)) = offsets_rise family 0 (body_parts family body) (body_from family body) in
+    let least : FirstIsLeast (places (map (numbered family) (body_parts family body))) = law (map (numbered family) (body_parts family body)) rise in
+    told_before first others (subst FirstIsLeast (sym (places_of_parts family (body_parts family body)) ∙ ap (map place) e) least)

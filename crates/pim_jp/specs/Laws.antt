@@ -2,14 +2,18 @@
 use Rattle.std.specs.Prelude.{◌≡◌, ℕ, ◌<◌, ◌⊎◌, List, [], drop}
 use Rattle.byteorder.specs.Endian.{big_number}
 use Rattle.pim_addr.specs.declared.family.AddressFamily.{AddressFamily}
+use Rattle.pim_addr.specs.Order.{Place, IsToldBefore}
 use Rattle.pim_addr.specs.Encoded.{unicast_faults, unicast_address}
 use Rattle.pim_jp.specs.declared.fault.JpFault.{JpFault}
 use Rattle.pim_jp.specs.Message.{GroupSet, head_of, set_count, set_of, after_set}
 use Rattle.pim_jp.specs.Faults.{number_of}
 
--- The first of two faults is told: its part stands before the other's, or they are of one part and its number is less.
+-- what the order of faults sees of one
+abbrev pub place : JpFault → Place
+place fault = (fault.at, number_of fault.kind)
+
 abbrev pub ToldBefore : JpFault → JpFault → Type 0
-ToldBefore first other = (first.at < other.at) ⊎ ((first.at ≡ other.at) × (number_of first.kind < number_of other.kind))
+ToldBefore first other = IsToldBefore (place first) (place other)
 
 -- At the front of the bytes stand an upstream neighbour, without a fault, and a head, and behind them `behind`.
 abbrev pub ReadsHead : AddressFamily → List ℕ → ℕ → ℕ → List ℕ → List ℕ → Type 0

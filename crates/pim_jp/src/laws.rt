@@ -14,11 +14,15 @@ ghost use Rattle.pim_jp.specs.Canonical.{IsMessageSet, IsMessage, canonical_head
 ghost use Rattle.pim_jp.specs.Plain.{SpellsPlainly};
 ghost use Rattle.pim_jp.specs.Laws.{ToldBefore, ReadsHead, ReadsSet};
 
+use pim_addr::first_of_parts_is_least;
+
 /// Of all the faults of a body the first has the least offset, and of those at its offset the least number.
 pub fn first_fault_is_least()
     ensures { (family : AddressFamily) (body : List ℕ) (first : JpFault) (others : List JpFault) →
         faults family body ≡ first ∷ others → AllByRecursion (ToldBefore first) others }
-{}
+{
+    first_of_parts_is_least();
+}
 
 /// A body without a fault is spelled by the message that is read from it.
 pub fn legal_is_spelled()
