@@ -1,5 +1,5 @@
 -- The words of the laws in `src/laws.rt`.
-use Rattle.std.specs.Prelude.{◌≡◌, ℕ, ◌<◌, ◌⊎◌, List, [], drop}
+use Rattle.std.specs.Prelude.{◌≡◌, ℕ, List, [], drop}
 use Rattle.byteorder.specs.Endian.{big_number}
 use Rattle.pim_addr.specs.declared.family.AddressFamily.{AddressFamily}
 use Rattle.pim_addr.specs.Order.{Place, IsToldBefore}

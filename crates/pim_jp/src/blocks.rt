@@ -11,7 +11,7 @@ ghost use Rattle.pim_jp.specs.Sources.{is_among, is_of_kind, is_listed, AreApart
 
 use crate::entries::{Entries, first_entry};
 use crate::entry::Entry;
-use pim_addr::Family;
+use pim_addr::{Family, source_length};
 
 /// The source of an entry that is (S,G,rpt), or (S,G).
 fn source_of_kind<A: Copy>(entry: Entry<A>, rpt: bool) -> Option<A>
@@ -74,7 +74,7 @@ fn first_listed<F: Family>(sorted: &[F::Addr], rpt: bool, count: u16, bytes: &[u
         if is_listed::<F>(sorted, rpt, first_entry::<F>(rest)) {
             return place;
         }
-        let (_, others) = rest.split_at(4 + F::LEN);
+        let (_, others) = rest.split_at(source_length::<F>());
         rest = others;
     }
     count

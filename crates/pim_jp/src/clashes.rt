@@ -10,7 +10,7 @@ ghost use Rattle.pim_jp.specs.Reading.{is_in, entry_at, AreApart};
 use crate::blocks::first_of_kind;
 use crate::entries::{Entries, first_entry};
 use crate::entry::Entry;
-use pim_addr::Family;
+use pim_addr::{Family, source_length};
 use std::mem::size_of_val;
 
 /// So few entries are compared one by one sooner than sorted.
@@ -54,7 +54,7 @@ fn first_clash_among_few<F: Family>(count: u16, bytes: &[u8], joined: &Entries<'
         if is_among(first_entry::<F>(rest), joined.again()) {
             return place;
         }
-        let (_, others) = rest.split_at(4 + F::LEN);
+        let (_, others) = rest.split_at(source_length::<F>());
         rest = others;
     }
     count

@@ -9,7 +9,7 @@ ghost use Rattle.pim_jp.specs.Seen.{entry_seen};
 
 use crate::entry::Entry;
 use bitflags::Flags;
-use pim_addr::{Family, SourceAddress, SourceBits};
+use pim_addr::{Family, SourceAddress, SourceBits, source_length};
 use std::marker::{Model, PhantomData};
 
 /// The entry that a source and its bits name. W without R, which no legal message has, counts as neither.
@@ -104,7 +104,7 @@ impl<'a, F: Family> Iterator for Entries<'a, F> {
             return None;
         }
         let entry = first_entry::<F>(self.bytes);
-        let (_, others) = self.bytes.split_at(4 + F::LEN);
+        let (_, others) = self.bytes.split_at(source_length::<F>());
         self.bytes = others;
         self.left -= 1;
         Some(entry)

@@ -16,7 +16,7 @@ use crate::entries::Entries;
 use crate::fault::{JpFault, JpKind};
 use crate::walking::{Kinds, check_entries, entries_size};
 use byteorder::{BigEndian, ByteOrder};
-use pim_addr::{AddrFault, Family, read_group, read_unicast};
+use pim_addr::{AddrFault, Family, group_length, read_group, read_unicast, unicast_length};
 
 impl From<AddrFault> for JpKind {
     ghost use Rattle.std.specs.Prelude.{◌≡◌};
@@ -185,7 +185,7 @@ fn check_set<F: Family>(at: usize, bytes: &[u8]) -> Result<&[u8], JpFault>
     ensures stops { IfErr result (Stops F.family (set_then F.family at bytes.now)) }
 {
     told_at(at, check_group::<F>(bytes))?;
-    let size = 4 + F::LEN;
+    let size = group_length::<F>();
     let (_, counts) = bytes.split_at(size);
     let after = check_lists::<F>(at + size, counts)?;
     Ok(after)
@@ -213,7 +213,7 @@ pub(crate) fn check_body<F: Family>(body: &[u8]) -> Result<(), JpFault>
     ensures whole { IfOk result (λ _. HoldsMessage F.family body.now) }
 {
     told_at(0, check_upstream::<F>(body))?;
-    let at = 2 + F::LEN;
+    let at = unicast_length::<F>();
     let (_, head) = body.split_at(at);
     told_at(at, check_four(head))?;
     let (_, sets) = head.split_at(4);

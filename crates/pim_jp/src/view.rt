@@ -11,7 +11,7 @@ use crate::fault::JpFault;
 use crate::reading::check_body;
 use crate::sets::Sets;
 use byteorder::{BigEndian, ByteOrder};
-use pim_addr::Family;
+use pim_addr::{Family, unicast_length};
 use std::marker::{Model, PhantomData};
 
 /// A legal Join/Prune message (RFC 7761, 4.9.5). It stands on the body that was read, and takes no memory.
@@ -75,7 +75,7 @@ impl<'a, F: Family> JpView<'a, F> {
     pub fn holdtime(&self) -> u16
         ensures { result ≡ self.now.holdtime }
     {
-        let (_, head) = self.body.split_at(2 + F::LEN);
+        let (_, head) = self.body.split_at(unicast_length::<F>());
         let (_, holdtime) = head.split_at(2);
         BigEndian::read_u16(holdtime)
     }
@@ -85,7 +85,7 @@ impl<'a, F: Family> JpView<'a, F> {
     pub fn set_count(&self) -> u8
         ensures { result ≡ length self.now.sets }
     {
-        let (_, head) = self.body.split_at(2 + F::LEN);
+        let (_, head) = self.body.split_at(unicast_length::<F>());
         head[1]
     }
 
@@ -93,7 +93,7 @@ impl<'a, F: Family> JpView<'a, F> {
     pub fn sets(&self) -> Sets<'a, F>
         ensures { result ≡ self.now.sets }
     {
-        let (_, head) = self.body.split_at(2 + F::LEN);
+        let (_, head) = self.body.split_at(unicast_length::<F>());
         let (_, sets) = head.split_at(4);
         Sets::new(head[1], sets)
     }

@@ -10,7 +10,7 @@ ghost use Rattle.pim_jp.specs.Reading.{Judges, own_kinds, lone_kinds, AreClean, 
 
 use crate::fault::JpKind;
 use bitflags::Flags;
-use pim_addr::{Family, SourceBits};
+use pim_addr::{Family, SourceBits, source_length};
 
 /// Which kinds of entries are among some.
 #[derive(Clone, Copy)]
@@ -43,7 +43,7 @@ pub(crate) struct Stop {
 pub(crate) fn entries_size<F: Family>(count: u16) -> usize
     ensures { result ≡ count * source_length F.family }
 {
-    usize::from(count) * (4 + F::LEN)
+    usize::from(count) * source_length::<F>()
 }
 
 /// Looks at what an entry is by itself.
@@ -52,7 +52,7 @@ fn check_form<F: Family>(bytes: &[u8]) -> Result<(), JpKind>
     ensures whole { IfOk result (λ _. source_length F.family ≤ length bytes.now) }
     ensures kind { IfOk result (λ _. is_kindless (source_value F.family bytes.now) ≡ false) }
 {
-    if bytes.len() < 4 + F::LEN {
+    if bytes.len() < source_length::<F>() {
         return Err(JpKind::Short);
     }
     if bytes[0] != F::AFI {
@@ -136,7 +136,7 @@ pub(crate) fn check_entries<F: Family>(
         star |= kinds.star;
         source |= kinds.source;
         rpt |= kinds.rpt;
-        let (_, others) = rest.split_at(4 + F::LEN);
+        let (_, others) = rest.split_at(source_length::<F>());
         rest = others;
     }
     Ok(Kinds { star, source, rpt })

@@ -13,7 +13,10 @@ ghost use Rattle.pim_jp.specs.Seen.{entry_seen, set_seen};
 use crate::entry::Entry;
 use bitflags::Flags;
 use byteorder::{BigEndian, ByteOrder};
-use pim_addr::{Family, SourceAddress, SourceBits, put_group, put_source, put_unicast};
+use pim_addr::{
+    Family, SourceAddress, SourceBits, group_length, put_group, put_source, put_unicast,
+    source_length, unicast_length,
+};
 
 /// The bits of a (*,G) entry.
 const WILDCARD_AND_RPT: u8 = 3;
@@ -23,15 +26,15 @@ const WILDCARD_AND_RPT: u8 = 3;
 pub fn head_length<F: Family>() -> usize
     ensures { result ≡ canonical_head_length F.family }
 {
-    6 + F::LEN
+    unicast_length::<F>() + 4
 }
 
 /// How many bytes a set has that joins so many entries and prunes so many.
 pub fn set_length<F: Family>(joined: u16, pruned: u16) -> usize
     ensures { result ≡ canonical_set_length F.family joined pruned }
 {
-    let entry = 4 + F::LEN;
-    entry + 4 + usize::from(joined) * entry + usize::from(pruned) * entry
+    let entry = source_length::<F>();
+    group_length::<F>() + 4 + usize::from(joined) * entry + usize::from(pruned) * entry
 }
 
 /// Writes the head of a message, into a slice of its length: the upstream neighbour, how many sets follow, and the
@@ -40,7 +43,7 @@ pub fn put_head<F: Family>(upstream: F::Addr, sets: u8, holdtime: u16, bytes: &m
     requires { length bytes.old ≡ canonical_head_length F.family }
     ensures { bytes.new ≡ canonical_head F.family (F.bytes_of upstream) sets holdtime }
 {
-    let (address, numbers) = bytes.split_at_mut(2 + F::LEN);
+    let (address, numbers) = bytes.split_at_mut(unicast_length::<F>());
     put_unicast::<F>(upstream, address);
     let (counted, time) = numbers.split_at_mut(2);
     counted.copy_from_slice(&[0, sets]);
@@ -82,7 +85,7 @@ fn put_entry_at<F: Family>(entry: Entry<F::Addr>, at: usize, bytes: &mut [u8])
     ensures length { length bytes.new ≡ length bytes.old }
 {
     let (_, behind) = bytes.split_at_mut(at);
-    let (place, _) = behind.split_at_mut(4 + F::LEN);
+    let (place, _) = behind.split_at_mut(source_length::<F>());
     put_entry::<F>(entry, place);
 }
 
@@ -92,7 +95,7 @@ fn put_entries<F: Family>(entries: &[Entry<F::Addr>], bytes: &mut [u8])
     ensures { bytes.new ≡ flat_map (canonical_entry F.family) (map (entry_seen F.bytes_of) entries.now) }
 {
     for (index, entry) in entries.iter().enumerate() {
-        put_entry_at::<F>(*entry, index * (4 + F::LEN), bytes);
+        put_entry_at::<F>(*entry, index * source_length::<F>(), bytes);
     }
 }
 
@@ -102,7 +105,7 @@ pub fn put_group_and_counts<F: Family>(group: F::Addr, joined: u16, pruned: u16,
     requires { length bytes.old ≡ group_length F.family + 4 }
     ensures { bytes.new ≡ canonical_group F.family (F.bytes_of group) ++ big_bytes 2 joined ++ big_bytes 2 pruned }
 {
-    let (address, counts) = bytes.split_at_mut(4 + F::LEN);
+    let (address, counts) = bytes.split_at_mut(group_length::<F>());
     put_group::<F>(group, address);
     let (joined_place, pruned_place) = counts.split_at_mut(2);
     BigEndian::write_u16(joined_place, joined);
@@ -121,9 +124,9 @@ pub fn put_set<F: Family>(
     requires length { length bytes.old ≡ canonical_set_length F.family (length joined.now) (length pruned.now) }
     ensures { bytes.new ≡ canonical_set F.family (set_seen F.bytes_of group joined.now pruned.now) }
 {
-    let (front, behind) = bytes.split_at_mut(8 + F::LEN);
+    let (front, behind) = bytes.split_at_mut(group_length::<F>() + 4);
     put_group_and_counts::<F>(group, joined.len() as u16, pruned.len() as u16, front);
-    let (joins, prunes) = behind.split_at_mut(joined.len() * (4 + F::LEN));
+    let (joins, prunes) = behind.split_at_mut(joined.len() * source_length::<F>());
     put_entries::<F>(joined, joins);
     put_entries::<F>(pruned, prunes);
 }

@@ -13,6 +13,6 @@ loop-place-preserved g c =
     let apart : is_in c.args.joined.now (entry_at g.F.Family.family c.loop-place.place c.args.bytes.now) ≡ false =
     rw (← here, ← c.first_entry.ensures, ← c.again.ensures) (sym c.is_among.ensures ∙ c.if-is_among.false) in
     record {
-      left = rw (c.split_at.ensures.back, c.LEN.ensures, g.met.F.Family.length_of_family, c.loop-place.invariant.left) (drop_more (source_length g.F.Family.family) c.loop-place.place c.args.bytes.now);
+      left = rw (c.split_at.ensures.back, c.source_length.ensures, c.loop-place.invariant.left) (drop_more (source_length g.F.Family.family) c.loop-place.place c.args.bytes.now);
       apart = apart_more g.F.Family.family c.args.joined.now c.loop-place.place c.args.bytes.now c.loop-place.invariant.apart apart;
     }

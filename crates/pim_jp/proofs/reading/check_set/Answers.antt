@@ -1,6 +1,5 @@
-use Rattle.std.proofs.Common.{◌≡◌, ◌≤◌, ◌∙◌, length}
+use Rattle.std.proofs.Common.{◌≡◌, ◌≤◌, length}
 use Rattle.std.proofs.lemmas.Result.{err_from_is_err_and, IfOk-at_ok}
-use Rattle.pim_addr.specs.Address.{address_length}
 use Rattle.pim_addr.specs.Encoded.{group_length}
 use Rattle.pim_jp.specs.Parts.{group}
 use Rattle.pim_jp.specs.Faults.{kinds_at}
@@ -12,12 +11,12 @@ returns-in_err-after-clause-stops g c =
     let p = err_from_is_err_and c.from_residual-in_err-after.result c.from_residual-in_err-after.ensures.1 in
     let none = c.in_ok-told_at.ensures.told (kinds_at g.F.Family.family group c.args.bytes.now) c.check_group.ensures.told in
     let whole = IfOk-at_ok (λ _. group_length g.F.Family.family ≤ length c.args.bytes.now) c.in_ok-told_at.ensures.value c.check_group.ensures.whole in
-    let size : c.LEN-size.result ≡ address_length g.F.Family.family = c.LEN-size.ensures ∙ g.met.F.Family.length_of_family in
+    let size : c.group_length-size.result ≡ group_length g.F.Family.family = c.group_length-size.ensures in
     rw (p.1, p.2) (set_stop_lists _ _ _ _ whole none (rw (c.split_at.ensures.back, size) at c.in_err-after.ensures.stops))
 
 pub returns-clause-passes : goal.returns-clause-passes
 returns-clause-passes g c =
     let none = c.in_ok-told_at.ensures.told (kinds_at g.F.Family.family group c.args.bytes.now) c.check_group.ensures.told in
     let whole = IfOk-at_ok (λ _. group_length g.F.Family.family ≤ length c.args.bytes.now) c.in_ok-told_at.ensures.value c.check_group.ensures.whole in
-    let size : c.LEN-size.result ≡ address_length g.F.Family.family = c.LEN-size.ensures ∙ g.met.F.Family.length_of_family in
+    let size : c.group_length-size.result ≡ group_length g.F.Family.family = c.group_length-size.ensures in
     set_pass _ _ _ whole none (rw (c.split_at.ensures.back, size) at c.in_ok-after.ensures.passes)
