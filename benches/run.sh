@@ -15,7 +15,7 @@ trap 'rm -rf "$copy"' EXIT
 cp -a "$here/../crates" "$here/../crates.txt" "$here/../HANDLES" "$copy/"
 mkdir -p "$copy/crates/bench_$name/src"
 cp "$here/$name/main.rt" "$copy/crates/bench_$name/src/"
-echo "bench_$name: $(cat "$here/$name/crates.txt")" >> "$copy/crates.txt"
+echo "bench_$name: $(cat "$here/$name/libraries")" >> "$copy/crates.txt"
 rustc -O -o "$copy/plain" "$here/$name/plain.rs"
 
 cd "$copy/crates/bench_$name"
