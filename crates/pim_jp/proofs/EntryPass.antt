@@ -16,7 +16,7 @@ use Rattle.pim_jp.specs.Message.{entry_of, entries_of}
 use Rattle.pim_jp.specs.Spelling.{is_star, same_source}
 use Rattle.pim_jp.specs.Parts.{Part, entry, entry_parts, is_kindless, kind_of}
 use Rattle.pim_jp.specs.Faults.{address_kind, kinds_at, part_faults, faults_of}
-use Rattle.pim_jp.specs.Reading.{Tells, Stops, Passes, own_kinds, lone_kinds, kinds_at_place, entry_at, AreClean, StopsAt, is_in, AreApart, is_source_entry, is_rpt_entry, EntriesPass}
+use Rattle.pim_jp.specs.Reading.{Tells, Stops, own_kinds, lone_kinds, kinds_at_place, entry_at, AreClean, StopsAt, is_in, AreApart, is_source_entry, is_rpt_entry, EntriesPass}
 use Rattle.pim_jp.proofs.Front.{append_none, map_none, none_if}
 use Rattle.pim_jp.proofs.Forms.{source_legal}
 use Rattle.pim_jp.proofs.Judged.{judged_first}

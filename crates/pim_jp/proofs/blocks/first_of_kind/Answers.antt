@@ -1,5 +1,4 @@
-use Rattle.std.proofs.Common.{◌≡◌, ◌<◌, ℕ, length, take, arith, length-append, sym}
-use Rattle.std.proofs.lemmas.Bool.{cases_lt}
+use Rattle.std.proofs.Common.{ℕ, take, arith, length-append}
 use Rattle.std.specs.List.Sorted.{IsPermutation}
 use Rattle.pim_jp.specs.Reading.{is_in, entry_at}
 use Rattle.pim_jp.proofs.SortedSources.{in_left, in_block, kind_of_listed, still_clash}

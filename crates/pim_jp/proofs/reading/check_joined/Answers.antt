@@ -1,4 +1,4 @@
-use Rattle.std.proofs.Common.{◌≡◌, [], false, refl}
+use Rattle.std.proofs.Common.{[], false, refl}
 use Rattle.pim_jp.proofs.EntryPass.{list_passes, list_stops, apart_from_none}
 use Rattle.pim_jp.proofs.reading.check_joined.Goals as goal
 

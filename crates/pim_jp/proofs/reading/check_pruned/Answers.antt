@@ -1,6 +1,5 @@
 use Rattle.std.proofs.Common.{◌≡◌, ◌≤◌, ◌∙◌, sym, arith}
 use Rattle.pim_jp.proofs.EntryPass.{list_passes, list_stops, list_clashes, kinds_apart}
-use Rattle.pim_jp.specs.Reading.{AreApart}
 use Rattle.pim_jp.proofs.reading.check_pruned.Goals as goal
 
 pub returns-then-not-may_clash-clause-passes : goal.returns-then-not-may_clash-clause-passes

@@ -1,6 +1,4 @@
-use Rattle.std.proofs.Common.{◌≡◌, ◌∙◌}
-use Rattle.pim_addr.specs.Encoded.{source_length}
-use Rattle.pim_jp.proofs.EntryLoop.{reached_none, reached_more, reached_stop}
+use Rattle.pim_jp.proofs.EntryLoop.{reached_none, reached_more}
 use Rattle.pim_jp.proofs.walking.check_entries.Goals as goal
 
 pub loop-place-init : goal.loop-place-init
