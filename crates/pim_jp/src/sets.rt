@@ -50,29 +50,40 @@ fn lists_of<F: Family>(bytes: &[u8]) -> Lists<'_>
 #[derive(Drop)]
 pub struct SetView<'a, F: Family> {
     bytes: &'a [u8],
+    lists: Lists<'a>,
     family: PhantomData<F>,
 }
 
 impl<'a, F: Family> Model for SetView<'a, F> {
     ghost use Rattle.std.specs.Prelude.{◌≤◌, length};
-    ghost use Rattle.pim_jp.specs.Message.{GroupSet, set_of};
+    ghost use Rattle.std.specs.Prelude.{◌≡◌};
+    ghost use Rattle.pim_jp.specs.Message.{GroupSet, joined_count, pruned_count, joined_bytes, pruned_bytes, set_of};
     ghost use Rattle.pim_jp.specs.Whole.{set_length};
 
     ghost Value = { GroupSet };
 
     ghost view = { λ set. set_of F.family set.bytes.now };
 
-    ghost invariant = { λ set. set_length F.family set.bytes.now ≤ length set.bytes.now };
+    ghost invariant = { λ set. (set_length F.family set.bytes.now ≤ length set.bytes.now)
+        × (set.lists.joined_count ≡ joined_count F.family set.bytes.now)
+        × (set.lists.joined.now ≡ joined_bytes F.family set.bytes.now)
+        × (set.lists.pruned_count ≡ pruned_count F.family set.bytes.now)
+        × (set.lists.pruned.now ≡ pruned_bytes F.family set.bytes.now) };
 }
 
 impl<'a, F: Family> SetView<'a, F> {
-    /// The set at the front of the bytes.
-    fn new(bytes: &'a [u8]) -> Self
-        requires { set_length F.family bytes.now ≤ length bytes.now }
+    /// The set at the front of the bytes, with its lists.
+    fn new(bytes: &'a [u8], lists: Lists<'a>) -> Self
+        requires long { set_length F.family bytes.now ≤ length bytes.now }
+        requires joined_count { lists.joined_count ≡ joined_count F.family bytes.now }
+        requires joined { lists.joined.now ≡ joined_bytes F.family bytes.now }
+        requires pruned_count { lists.pruned_count ≡ pruned_count F.family bytes.now }
+        requires pruned { lists.pruned.now ≡ pruned_bytes F.family bytes.now }
         ensures { result ≡ set_of F.family bytes.now }
     {
         SetView {
             bytes,
+            lists,
             family: PhantomData,
         }
     }
@@ -90,7 +101,7 @@ impl<'a, F: Family> SetView<'a, F> {
     pub fn joined_count(&self) -> u16
         ensures { result ≡ length self.now.joined }
     {
-        lists_of::<F>(self.bytes).joined_count
+        self.lists.joined_count
     }
 
     /// How many entries are pruned.
@@ -98,23 +109,21 @@ impl<'a, F: Family> SetView<'a, F> {
     pub fn pruned_count(&self) -> u16
         ensures { result ≡ length self.now.pruned }
     {
-        lists_of::<F>(self.bytes).pruned_count
+        self.lists.pruned_count
     }
 
     /// The joined entries, in their order.
     pub fn joined(&self) -> Entries<'a, F>
         ensures { result ≡ self.now.joined }
     {
-        let lists = lists_of::<F>(self.bytes);
-        Entries::new(lists.joined_count, lists.joined)
+        Entries::new(self.lists.joined_count, self.lists.joined)
     }
 
     /// The pruned entries, in their order.
     pub fn pruned(&self) -> Entries<'a, F>
         ensures { result ≡ self.now.pruned }
     {
-        let lists = lists_of::<F>(self.bytes);
-        Entries::new(lists.pruned_count, lists.pruned)
+        Entries::new(self.lists.pruned_count, self.lists.pruned)
     }
 }
 
@@ -172,8 +181,9 @@ impl<'a, F: Family> Iterator for Sets<'a, F> {
         if self.left == 0 {
             return None;
         }
-        let set = SetView::new(self.bytes);
-        self.bytes = lists_of::<F>(self.bytes).after;
+        let lists = lists_of::<F>(self.bytes);
+        let set = SetView::new(self.bytes, lists);
+        self.bytes = lists.after;
         self.left -= 1;
         Some(set)
     }

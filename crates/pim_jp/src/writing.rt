@@ -18,9 +18,6 @@ use pim_addr::{
     source_length, unicast_length,
 };
 
-/// The bits of a (*,G) entry.
-const WILDCARD_AND_RPT: u8 = 3;
-
 /// How many bytes the head of a message has: the upstream neighbour, a reserved byte, the number of sets and the
 /// holdtime.
 pub fn head_length<F: Family>() -> usize
@@ -57,7 +54,9 @@ fn source_of<A>(entry: Entry<A>) -> SourceAddress<A>
     match entry {
         Entry::Star(address) => SourceAddress {
             address,
-            bits: SourceBits::from_bits_retain(WILDCARD_AND_RPT),
+            bits: SourceBits::from_bits_retain(
+                SourceBits::WILDCARD.bits() | SourceBits::RPT.bits(),
+            ),
         },
         Entry::Source(address) => SourceAddress {
             address,
