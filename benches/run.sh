@@ -16,7 +16,7 @@ cp -a "$here/../crates" "$here/../crates.txt" "$here/../HANDLES" "$copy/"
 mkdir -p "$copy/crates/bench_$name/src"
 cp "$here/$name/main.rt" "$copy/crates/bench_$name/src/"
 echo "bench_$name: $(cat "$here/$name/libraries")" >> "$copy/crates.txt"
-rustc -O -o "$copy/plain" "$here/$name/plain.rs"
+rustc --edition 2021 -O -C target-cpu=x86-64-v2 -o "$copy/plain" "$here/$name/plain.rs"
 
 cd "$copy/crates/bench_$name"
 echo "Rattle:"

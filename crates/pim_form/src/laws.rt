@@ -8,7 +8,5 @@ pub fn sealed_message_is_read()
     ensures { SealedMessageIsRead }
 {
     pim_frame::sealed_opens();
-    pim_jp::canonical_is_spelled();
-    pim_jp::spelled_is_legal();
     pim_jp::canonical_is_read();
 }

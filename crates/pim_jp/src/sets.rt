@@ -7,7 +7,7 @@ ghost use Rattle.pim_jp.specs.Whole.{set_length, HoldsSets};
 
 use crate::entries::Entries;
 use byteorder::{BigEndian, ByteOrder};
-use pim_addr::Family;
+use pim_addr::{Family, group_length, source_length};
 use std::marker::{Model, PhantomData};
 
 /// What stands behind the group of a set: its two lists, each with its count and the bytes from its first
@@ -30,13 +30,13 @@ fn lists_of<F: Family>(bytes: &[u8]) -> Lists<'_>
     ensures pruned { result.pruned.now ≡ pruned_bytes F.family bytes.now }
     ensures after { result.after.now ≡ after_set F.family bytes.now }
 {
-    let (_, counts) = bytes.split_at(4 + F::LEN);
+    let (_, counts) = bytes.split_at(group_length::<F>());
     let (_, second) = counts.split_at(2);
     let (_, joined) = counts.split_at(4);
     let joined_count = BigEndian::read_u16(counts);
     let pruned_count = BigEndian::read_u16(second);
-    let (_, pruned) = joined.split_at(usize::from(joined_count) * (4 + F::LEN));
-    let (_, after) = pruned.split_at(usize::from(pruned_count) * (4 + F::LEN));
+    let (_, pruned) = joined.split_at(usize::from(joined_count) * source_length::<F>());
+    let (_, after) = pruned.split_at(usize::from(pruned_count) * source_length::<F>());
     Lists {
         joined_count,
         joined,

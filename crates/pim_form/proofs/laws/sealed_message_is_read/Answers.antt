@@ -9,6 +9,6 @@ returns c = λ family source message bytes is_message sealed.
       body = canonical family message;
       opened = opens.0;
       holds = opens.1;
-      legal = c.spelled_is_legal.ensures family message (canonical family message) (c.canonical_is_spelled.ensures family message is_message);
-      reads = c.canonical_is_read.ensures family message is_message;
+      legal = c.canonical_is_read.ensures.no_fault family message is_message;
+      reads = c.canonical_is_read.ensures.message family message is_message;
     }
