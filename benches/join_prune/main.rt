@@ -1,5 +1,5 @@
 //! What reading a Join/Prune body costs, and walking its entries: nanoseconds an entry, body by body. `plain.rs`
-//! measures the same bodies with the same steps in plain Rust; `compare.sh` runs both.
+//! measures the same bodies with the same steps in plain Rust; `benches/run.sh join_prune` runs both.
 #![tactic(auto)]
 
 use pim_addr::V4;

@@ -14,8 +14,11 @@ const MESSAGE: [u8; 34] = [
 ];
 
 const GROUP: [u8; 4] = [239, 1, 1, 1];
+
 const OWN_ADDRESS: [u8; 4] = [10, 0, 0, 2];
+
 const RENDEZVOUS_POINT: [u8; 4] = [10, 9, 9, 9];
+
 const SENDER: [u8; 4] = [10, 0, 0, 9];
 
 /// One port, with room for a hundred records, that has one neighbour and hears the message at the moment 0.
