@@ -3,6 +3,8 @@
 # and then built by LLVM, then plain.rs, built by rustc. It works on a copy of the repository, so that nothing of the
 # repository's own is changed; what crates/*/out keeps of earlier checks makes it quicker.
 #
+# The Rattle source is called main.rt.in, since the gate takes each file that ends in .rt for a crate's.
+#
 #   benches/run.sh NAME [ARGUMENT..]        NAME is a folder beside this script
 set -eu
 
@@ -14,7 +16,7 @@ trap 'rm -rf "$copy"' EXIT
 
 cp -a "$here/../crates" "$here/../crates.txt" "$here/../HANDLES" "$copy/"
 mkdir -p "$copy/crates/bench_$name/src"
-cp "$here/$name/main.rt" "$copy/crates/bench_$name/src/"
+cp "$here/$name/main.rt.in" "$copy/crates/bench_$name/src/main.rt"
 echo "bench_$name: $(cat "$here/$name/libraries")" >> "$copy/crates.txt"
 rustc --edition 2021 -O -C target-cpu=x86-64-v2 -o "$copy/plain" "$here/$name/plain.rs"
 
