@@ -1,6 +1,8 @@
 //! From the bytes of a message to the state of a port: what a routing daemon does with each Join/Prune that it receives.
 #![tactic(auto)]
 
+ghost use Rattle.std.specs.Prelude.{◌≡◌, ◌↔◌, IsTrue};
+
 use pim_addr::V4;
 use pim_down::{Ports, Timing, What};
 use pim_frame::{Body, all_routers, open};
@@ -21,6 +23,13 @@ const RENDEZVOUS_POINT: [u8; 4] = [10, 9, 9, 9];
 
 const SENDER: [u8; 4] = [10, 0, 0, 9];
 
+/// Whether the message is meant for this router: its upstream neighbour is the port's own address (RFC 7761, 4.5.1).
+fn is_for(message: &JpView<'_, V4>, own: [u8; 4]) -> bool
+    ensures { IsTrue result ↔ (message.now.upstream ≡ own) }
+{
+    message.upstream() == own
+}
+
 /// One port, with room for a hundred records, that has one neighbour and hears the message at the moment 0.
 fn main(rt: HostRuntime) -> io::Result<()> {
     let Ok(Body::JoinPrune(body)) = open::<V4>(SENDER, all_routers::<V4>(), &MESSAGE) else {
@@ -30,7 +39,7 @@ fn main(rt: HostRuntime) -> io::Result<()> {
         Ok(message) => message,
         Err(fault) => return println!(rt; "{fault}"),
     };
-    if message.upstream() != OWN_ADDRESS {
+    if !is_for(&message, OWN_ADDRESS) {
         return println!(rt; "for another router");
     }
     let mut ports = Ports::<V4>::new(rt.alloc(), 1, 100);

@@ -23,7 +23,7 @@ use Rattle.pim_down.specs.Tables.{Start, join_in, on_join, prune_in, on_prune, s
 use Rattle.pim_down.specs.Records.{machine_at, recorded, at_rank, changed, each_changed}
 use Rattle.pim_down.specs.Hearing.{Event, is_known, entry_events, list_events, set_events, events_of, key_of, on_own, is_rpt, is_star_join, is_rpt_on, is_rpt_of, on_rpts, act, act_all, at_end, hearing}
 use Rattle.pim_down.specs.Time.{pending_after, record_after, on_ppt}
-use Rattle.pim_down.specs.Sound.{is_temporary, IsSettled, IsGroup, HasSource, joined_or_pending, has_state, is_pending, IsReal}
+use Rattle.pim_down.specs.Sound.{is_temporary, IsSettled, IsGroupAddress, HasSource, joined_or_pending, has_state, is_pending, IsReal}
 use Rattle.pim_down.proofs.Order.{equal_keys, same_keys}
 use Rattle.pim_down.proofs.Heard.{settled_hearing}
 
@@ -40,11 +40,11 @@ all_flat P Q f each (x ∷ xs) a = all_append Q (f x) (flat_map f xs) (each x a.
 -- ---- the events of a message that can be spelled
 
 pub record IsRealEvent (family : AddressFamily) (event : Event) : Type 0 where
-  pub group : IsGroup family event.group
+  pub group : IsGroupAddress family event.group
   pub source : HasSource family event.what
 
 module _ (family : AddressFamily) (known : Option (List ℕ)) where
-  real_entry : (joins : Bool) (group : List ℕ) → IsGroup family group → (this : Entry (List ℕ)) → IsMessageEntry family this → AllByRecursion (IsRealEvent family) (entry_events known joins group this)
+  real_entry : (joins : Bool) (group : List ℕ) → IsGroupAddress family group → (this : Entry (List ℕ)) → IsMessageEntry family this → AllByRecursion (IsRealEvent family) (entry_events known joins group this)
   real_entry joins group g (entry.Star rp) e =
       elim (joins && not (is_known known rp)) as (λ b. AllByRecursion (IsRealEvent family) (cond b [] (record { joins = joins; group = group; what = Star } ∷ []))) [
         | true ↦ tt
@@ -55,7 +55,7 @@ module _ (family : AddressFamily) (known : Option (List ℕ)) where
 
   real_set : (set : GroupSet) → IsMessageSet family set → AllByRecursion (IsRealEvent family) (set_events known set)
   real_set set e =
-      let group : IsGroup family set.group = (e.0, e.1) in
+      let group : IsGroupAddress family set.group = (e.0, e.1) in
       all_append (IsRealEvent family) (list_events known true set.group set.joined) (list_events known false set.group set.pruned)
       (all_flat (IsMessageEntry family) (IsRealEvent family) (entry_events known true set.group) (real_entry true set.group group) set.joined e.4)
       (all_flat (IsMessageEntry family) (IsRealEvent family) (entry_events known false set.group) (real_entry false set.group group) set.pruned e.6)
@@ -82,7 +82,7 @@ waits _ = false
 
 record Fits (family : AddressFamily) (ports : ℕ) (held : Record (List ℕ)) : Type 0 where
   port : held.key.port < ports
-  group : IsGroup family held.key.group
+  group : IsGroupAddress family held.key.group
   source : HasSource family held.key.what
   state : may_have held.key.what held.machine.state ≡ true
   timer : is_some held.machine.pending ≡ waits held.machine.state
@@ -179,7 +179,7 @@ module _ (family : AddressFamily) (ports : ℕ) where
   fits_with : (key : Key (List ℕ)) (machine : Machine) (state : State) (expiry : Option ℕ) (pending : Option Pending) → Fits family ports (record { key = key; machine = machine }) → may_have key.what state ≡ true → is_some pending ≡ waits state → MayFit key (Some (record { state = state; expires_in = expiry; pending = pending }))
   fits_with key machine state expiry pending f s t = record { port = f.port; group = f.group; source = f.source; state = s; timer = t }
 
-  fits_join : (key : Key (List ℕ)) → ((s : State) → may_have key.what s ≡ joined_or_pending s) → key.port < ports → IsGroup family key.group → HasSource family key.what → (start : Start) (m : Option Machine) → MayFit key m → MayFit key (on_join start m)
+  fits_join : (key : Key (List ℕ)) → ((s : State) → may_have key.what s ≡ joined_or_pending s) → key.port < ports → IsGroupAddress family key.group → HasSource family key.what → (start : Start) (m : Option Machine) → MayFit key m → MayFit key (on_join start m)
   unfolding on_join
   fits_join key is port group source start None f = record { port = port; group = group; source = source; state = is Join; timer = refl }
   fits_join key is port group source start (Some held) f = by held.state refl
@@ -203,7 +203,7 @@ module _ (family : AddressFamily) (ports : ℕ) where
       by PruneTmp = f
       by PrunePendingTmp = f
 
-  fits_rpt_prune : (key : Key (List ℕ)) → ((s : State) → not_joined s ≡ true → may_have key.what s ≡ true) → key.port < ports → IsGroup family key.group → HasSource family key.what → (start : Start) (m : Option Machine) → MayFit key m → MayFit key (on_rpt_prune start m)
+  fits_rpt_prune : (key : Key (List ℕ)) → ((s : State) → not_joined s ≡ true → may_have key.what s ≡ true) → key.port < ports → IsGroupAddress family key.group → HasSource family key.what → (start : Start) (m : Option Machine) → MayFit key m → MayFit key (on_rpt_prune start m)
   unfolding on_rpt_prune
   fits_rpt_prune key is port group source start None f = record { port = port; group = group; source = source; state = is PrunePending refl; timer = refl }
   fits_rpt_prune key is port group source start (Some held) f = by held.state refl
@@ -215,7 +215,7 @@ module _ (family : AddressFamily) (ports : ℕ) where
       by PruneTmp e = fits_with key held Prune _ held.pending f (is Prune refl) (f.timer ∙ ap waits e)
       by PrunePendingTmp e = fits_with key held PrunePending _ held.pending f (is PrunePending refl) (f.timer ∙ ap waits e)
 
-  fits_own : (port : ℕ) (group : List ℕ) → port < ports → IsGroup family group → (start : Start) (joins : Bool) (what : What (List ℕ)) → HasSource family what → (m : Option Machine) → MayFit (record { port = port; group = group; what = what }) m → MayFit (record { port = port; group = group; what = what }) (on_own joins what start m)
+  fits_own : (port : ℕ) (group : List ℕ) → port < ports → IsGroupAddress family group → (start : Start) (joins : Bool) (what : What (List ℕ)) → HasSource family what → (m : Option Machine) → MayFit (record { port = port; group = group; what = what }) m → MayFit (record { port = port; group = group; what = what }) (on_own joins what start m)
   fits_own port group p g start true Star s m f = fits_join (record { port = port; group = group; what = Star }) (λ x. refl) p g s start m f
   fits_own port group p g start true (Source source) s m f = fits_join (record { port = port; group = group; what = Source source }) (λ x. refl) p g s start m f
   fits_own port group p g start true (Rpt source) s m f = tt

@@ -26,8 +26,8 @@ IsSettled (held ∷ records) = (is_temporary held.machine.state ≡ false) × Is
 
 -- ---- a record that is held
 
-abbrev pub IsGroup : AddressFamily → List ℕ → Type 0
-IsGroup family group = IsAddress family group × (is_group family group ≡ true)
+abbrev pub IsGroupAddress : AddressFamily → List ℕ → Type 0
+IsGroupAddress family group = IsAddress family group × (is_group family group ≡ true)
 
 -- the source of an (S,G) or (S,G,rpt) machine is a valid one
 abbrev pub HasSource : AddressFamily → What (List ℕ) → Type 0
@@ -58,7 +58,7 @@ is_pending _ = false
 -- its port is there, its addresses are those of its kind, and PPT runs exactly in Prune-Pending
 pub record IsReal (family : AddressFamily) (ports : ℕ) (held : Record (List ℕ)) : Type 0 where
   pub port : held.key.port < ports
-  pub group : IsGroup family held.key.group
+  pub group : IsGroupAddress family held.key.group
   pub source : HasSource family held.key.what
   pub state : has_state held.key.what held.machine.state ≡ true
   pub timer : is_some held.machine.pending ≡ is_pending held.machine.state

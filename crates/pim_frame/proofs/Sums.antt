@@ -21,11 +21,6 @@ unfolding folded
 folded_high zero h k = omega arith
 folded_high (suc n) h k = omega arith
 
-pub folded-le : (n : ℕ) → folded n ≤ 65535
-unfolding folded
-folded-le zero = omega arith
-folded-le (suc n) = omega arith
-
 -- a sum may be folded before the rest is added
 pub folded-add : (m n : ℕ) → folded (folded m + n) ≡ folded (m + n)
 unfolding folded
@@ -46,10 +41,6 @@ folded-right (suc n) = grind (arith, nat_tests)
 pub words_sum-nil : words_sum [] ≡ 0
 unfolding words_sum
 words_sum-nil = refl
-
-pub words_sum-one : (x : ℕ) → words_sum (x ∷ []) ≡ 256 * x
-unfolding words_sum
-words_sum-one x = refl
 
 pub words_sum-more : (x y : ℕ) (rest : List ℕ) → words_sum (x ∷ y ∷ rest) ≡ 256 * x + y + words_sum rest
 unfolding words_sum

@@ -7,10 +7,9 @@ use Rattle.std.proofs.lemmas.Bool.{cases_lt}
 use Rattle.pim_addr.specs.declared.family.AddressFamily.{AddressFamily}
 use Rattle.pim_addr.specs.Encoded.{source_length, source_value}
 use Rattle.pim_jp.specs.declared.entry.Entry.{Entry}
-use Rattle.pim_jp.specs.declared.fault.JpKind.{JpKind}
 use Rattle.pim_jp.specs.Message.{entry_of, entries_of}
 use Rattle.pim_jp.specs.Spelling.{is_star}
-use Rattle.pim_jp.specs.Reading.{Tells, lone_kinds, kinds_at_place, entry_at, AreClean, StopsAt, is_source_entry, is_rpt_entry}
+use Rattle.pim_jp.specs.Reading.{lone_kinds, kinds_at_place, entry_at, AreClean, is_source_entry, is_rpt_entry}
 
 pub drop_no : (size : ℕ) (bytes : List ℕ) → bytes ≡ drop (0 * size) bytes
 drop_no size bytes = let none : 0 * size ≡ 0 = omega arith in rw none refl
@@ -98,8 +97,3 @@ reached_more family has_star bytes done star source rpt rest this_star this_sour
       rpt_is = ap (λ b. b || this_rpt) reached.rpt_is
           ∙ ap (λ b. list_any is_rpt_entry (entries_of family done bytes) || b) (rpt' ∙ here is_rpt_entry) ∙ sym (any_more family is_rpt_entry done bytes);
     }
-
-pub reached_stop : (family : AddressFamily) (has_star : Bool) (count : ℕ) (bytes : List ℕ) (done : ℕ) (star source rpt : Bool) (rest : List ℕ) (kind : JpKind)
-    → Reached family has_star bytes done star source rpt rest → done < count → Tells (lone_kinds family star rest) kind → StopsAt family has_star count bytes done kind
-reached_stop family has_star count bytes done star source rpt rest kind reached below told =
-    (below, reached.clean, rw (at_place family has_star bytes done star source rpt rest reached) at told)

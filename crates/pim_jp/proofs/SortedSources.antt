@@ -1,16 +1,15 @@
 -- Sources that are sorted, and looked for.
-use Rattle.std.proofs.Common.{◌≡◌, ◌∙◌, sym, ap, ℕ, ◌+◌, ◌≤◌, ◌<◌, Bool, true, false, ◌||◌, ◌&&◌, not, List, [], ◌∷◌, ◌++◌, Ordering, length, get_or, nat_eq, refl, ⊎_elim, arith}
+use Rattle.std.proofs.Common.{◌≡◌, ◌∙◌, sym, ap, ℕ, ◌+◌, ◌≤◌, ◌<◌, Bool, true, false, ◌||◌, ◌&&◌, not, List, [], ◌∷◌, Ordering, length, get_or, nat_eq, refl, ⊎_elim, arith}
 use Rattle.std.proofs.lemmas.Bool.{cases_lt}
 use Rattle.std.specs.List.Sorted.{IsPermutation, IsSorted, IsSortedBy, IsNonDecreasingBy, IsPartitionPoint}
 use Rattle.std.specs.Ordering.{nat_cmp, is_lt, ordering_index}
 use Rattle.std.specs.declared.cmp.Ordering.TheVariants.{Less, Equal, Greater}
 use Rattle.std.specs.Cmp.Lexicographic.{pointwise, slice_cmp, texts_ties}
-use Rattle.std.proofs.lemmas.List.Folds.{list_any_none, list_any_at, list_any-append}
+use Rattle.std.proofs.lemmas.List.Folds.{list_any_none, list_any_at}
 use Rattle.std.proofs.lemmas.List.Sorted.{searchable_from_sorted, list_any-IsPermutation}
 use Rattle.std.proofs.lemmas.Cmp.{nat_list_cmp_total, tied_back}
 use Rattle.pim_jp.specs.declared.entry.Entry.{Entry}
 use Rattle.pim_jp.specs.declared.entry.Entry.TheVariants.{Star, Source, Rpt}
-use Rattle.pim_jp.specs.Spelling.{same_source}
 use Rattle.pim_jp.specs.Reading.{is_in}
 use Rattle.pim_jp.specs.Sources.{is_among, is_of_kind, is_listed}
 
@@ -59,29 +58,12 @@ and_or : (a b c : Bool) → a && (b || c) ≡ (a && b) || (a && c)
 and_or true b c = refl
 and_or false b c = refl
 
-pub listed_append : {A : Type 0} (bytes_of : A → List ℕ) (rpt : Bool) (xs ys : List A) (this : Entry (List ℕ)) → is_listed bytes_of rpt (xs ++ ys) this ≡ (is_listed bytes_of rpt xs this || is_listed bytes_of rpt ys this)
-listed_append bytes_of rpt xs ys (Star rp) = refl
-listed_append bytes_of rpt xs ys (Source source) = ap (λ b. not rpt && b) (list_any-append (λ other. pointwise nat_eq source (bytes_of other)) xs ys) ∙ and_or (not rpt) _ _
-listed_append bytes_of rpt xs ys (Rpt source) = ap (λ b. rpt && b) (list_any-append (λ other. pointwise nat_eq source (bytes_of other)) xs ys) ∙ and_or rpt _ _
-
 pub kind_of_listed : {A : Type 0} (bytes_of : A → List ℕ) (rpt : Bool) (xs : List A) (this : Entry (List ℕ)) → is_listed bytes_of rpt xs this ≡ true → is_of_kind rpt this ≡ true
 kind_of_listed bytes_of rpt xs (Star rp) h = absurd cc
 kind_of_listed bytes_of true xs (Source source) h = absurd cc
 kind_of_listed bytes_of false xs (Source source) h = refl
 kind_of_listed bytes_of true xs (Rpt source) h = refl
 kind_of_listed bytes_of false xs (Rpt source) h = absurd cc
-
--- entries of other kinds name no source of this one
-pub other_kind : (rpt : Bool) (this that : Entry (List ℕ)) → is_of_kind rpt this ≡ true → is_of_kind rpt that ≡ false → same_source this that ≡ false
-other_kind rpt (Star rp) that h k = refl
-other_kind rpt (Source s) (Star rp) h k = refl
-other_kind true (Source s) (Source t) h k = absurd cc
-other_kind false (Source s) (Source t) h k = absurd cc
-other_kind rpt (Source s) (Rpt t) h k = refl
-other_kind rpt (Rpt s) (Star rp) h k = refl
-other_kind rpt (Rpt s) (Source t) h k = refl
-other_kind true (Rpt s) (Rpt t) h k = absurd cc
-other_kind false (Rpt s) (Rpt t) h k = absurd cc
 
 pub place_more : (P : ℕ → Type 0) (count : ℕ) → ((place : ℕ) → place < count → P place) → P count → (place : ℕ) → place < count + 1 → P place
 place_more P count before at place below =
