@@ -5,3 +5,4 @@ pub mod Failures
 pub mod ReadBack
 pub mod TextNames
 pub mod Places
+pub mod Numbers

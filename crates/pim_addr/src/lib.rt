@@ -21,7 +21,7 @@ pub use encoded::{
     AddrFault, SourceAddress, SourceBits, group_length, read_group, read_source, read_unicast,
     source_length, unicast_length,
 };
-pub use family::{AddressFamily, Family, V4, V6};
+pub use family::{AddressFamily, Family, V4, V6, numbers_are_in_order};
 pub use order::first_of_parts_is_least;
 pub use parsed::{read_text, text_names_one_address, written_text_names};
 pub use scripted::{ScriptedDrain, ScriptedFeed};
