@@ -9,3 +9,6 @@ pub mod Numbers
 mod Halving
 mod FirstMatch
 mod OneMoreRow
+mod RowOrder
+mod RunLengths
+mod Inserted

@@ -16,6 +16,7 @@ mod route;
 mod route_fault;
 mod route_map;
 mod routes;
+mod rows;
 mod scripted;
 mod search;
 mod text;
