@@ -12,3 +12,4 @@ mod OneMoreRow
 mod RowOrder
 mod RunLengths
 mod Inserted
+mod SameRows

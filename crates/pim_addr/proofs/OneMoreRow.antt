@@ -1,10 +1,8 @@
 -- How rows, their numbers and their runs stand together: with no rows, and with one more.
-use Rattle.std.proofs.Common.{◌≡◌, ℕ, zero, suc, ◌+◌, ◌<◌, ◌≤◌, ◌⊎◌, inl, inr, Bool, true, false, cond, List, [], ◌∷◌, ◌++◌, length, map, take, drop, refl, sym, ap, subst, ◌∙◌, arith, nat_lt, Option, Some, None}
+use Rattle.std.proofs.Common.{◌≡◌, ℕ, zero, suc, ◌<◌, ◌≤◌, ◌⊎◌, inl, inr, Bool, true, false, cond, List, [], ◌∷◌, length, map, refl, sym, ap, subst, ◌∙◌, arith, Option, Some}
 use Rattle.std.specs.List.{AllByRecursion, insert}
 use Rattle.std.specs.List.Sorted.{IsStrictlySortedBy}
-use Rattle.std.specs.Prelude.{is_some}
-use Rattle.std.specs.BTreeMap.{is_at, insert_entry}
-use Rattle.std.specs.Map.{lookup, keys_of}
+use Rattle.std.specs.Prelude.{is_some, OnOk, OnErr, Result, Ok, Err}
 use Rattle.std.specs.Ordering.{is_eq, match_ordering}
 use Rattle.std.specs.declared.cmp.Ordering.{Ordering}
 use Rattle.std.specs.declared.cmp.Ordering.TheVariants.{Less, Equal, Greater}
@@ -13,7 +11,7 @@ use Rattle.std.proofs.lemmas.List.Edits.{length-insert}
 use Rattle.pim_addr.specs.declared.family.AddressFamily.{AddressFamily}
 use Rattle.pim_addr.specs.declared.route.Route.{Route}
 use Rattle.pim_addr.specs.declared.route.Run.{Run}
-use Rattle.pim_addr.specs.Routes.{Prefix, Row, prefix_cmp, AreInOrder, row_at, with_row, IsRealRow, IsRouteMap}
+use Rattle.pim_addr.specs.Routes.{Prefix, Row, prefix_cmp, AreInOrder, row_at, with_row, IsRealRow}
 use Rattle.pim_addr.specs.RouteRows.{rows_seen, row_number, lengths, with_length, Stand, IsGap}
 use Rattle.pim_addr.proofs.FirstMatch.{shorter_next, all_shorter}
 use Rattle.pim_addr.proofs.RowOrder.{prefix_total, back}
@@ -93,3 +91,18 @@ one_more_stands family rows numbers runs runs' row place stand gap real few coun
       cut = lengths_insert row.0 row.1 rows stand.is_map.ascending gap.absent ∙ ap (with_length row.0.bits) stand.cut ∙ sym counted';
       counted = counted;
     }
+
+all_with_row : (P : Prefix → Type 0) (p : Prefix) (to : List ℕ) (rows : List Row) → P p → AllByRecursion (λ row. P row.0) rows → AllByRecursion (λ row. P row.0) (with_row p to rows)
+all_with_row P p to [] here h = (here, tt)
+all_with_row P p to (row ∷ rows) here h = by (prefix_cmp p row.0) (all_with_row P p to rows here h.1)
+  where
+    by : (r : Ordering) → AllByRecursion (λ row. P row.0) (with_row p to rows) → AllByRecursion (λ row. P row.0) (match_ordering r ((p, to) ∷ row ∷ rows) ((row.0, to) ∷ rows) (row ∷ with_row p to rows))
+    by Less later = (here, h)
+    by Equal later = h
+    by Greater later = (h.0, later)
+
+-- what holds of each prefix holds after a row was added, or wasn't
+pub all_added : {E : Type 0} (P : Prefix → Type 0) (p : Prefix) (to : List ℕ) (old new : List Row) (result : Result (Unit {0}) E) → OnOk result (new ≡ with_row p to old) → OnErr result (new ≡ old) →
+    P p → AllByRecursion (λ row. P row.0) old → AllByRecursion (λ row. P row.0) new
+all_added P p to old new (Ok done) ok err here h = subst (AllByRecursion (λ (row : Row). P row.0)) (sym ok) (all_with_row P p to old here h)
+all_added P p to old new (Err e) ok err here h = subst (AllByRecursion (λ (row : Row). P row.0)) (sym err) h

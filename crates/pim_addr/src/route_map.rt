@@ -1,6 +1,6 @@
 //! One map of a route table, from prefixes to addresses.
 
-ghost use Rattle.std.specs.Prelude.{◌≡◌, [], option_map, OnOk, OnErr};
+ghost use Rattle.std.specs.Prelude.{◌≡◌, ◌↔◌, [], option_map, IsTrue, OnOk, OnErr};
 ghost use Rattle.pim_addr.specs.Routes.{led_to, with_row, room_faults, IsRefusedBy, IsRealRow, IsRouteMap};
 ghost use Rattle.pim_addr.specs.RouteRows.{row_seen};
 
@@ -8,7 +8,8 @@ use crate::family::Family;
 use crate::longest::longest;
 use crate::route::{Route, Run};
 use crate::route_fault::RouteFault;
-use crate::rows::{find_place, insert_row, reserve_one};
+use crate::route_rows::RouteRows;
+use crate::rows::{are_same, find_place, insert_row, reserve_one};
 use std::alloc::Global;
 use std::marker::Model;
 
@@ -86,5 +87,19 @@ impl<F: Family> RouteMap<F> {
             row,
         );
         Ok(())
+    }
+
+    /// Whether the two maps are equal.
+    pub(crate) fn equals(&self, other: &RouteMap<F>) -> bool
+        ensures { IsTrue result ↔ (self.now ≡ other.now) }
+    {
+        are_same::<F>(&self.rows, &other.rows)
+    }
+
+    /// The rows in their order.
+    pub(crate) fn rows(&self) -> RouteRows<'_, F>
+        ensures { result ≡ self.now }
+    {
+        RouteRows::new(&self.rows)
     }
 }

@@ -1,6 +1,6 @@
 //! Adding a row to rows in order, and counting it among the runs.
 
-ghost use Rattle.std.specs.Prelude.{◌≡◌, ◌<◌, ◌≤◌, length, map, OnOk, OnErr, vec_len, vec_capacity, Err};
+ghost use Rattle.std.specs.Prelude.{◌≡◌, ◌↔◌, ◌<◌, ◌≤◌, IsTrue, length, map, OnOk, OnErr, vec_len, vec_capacity, Err};
 ghost use Rattle.std.specs.List.{AllByRecursion};
 ghost use Rattle.pim_addr.specs.Routes.{AreInOrder, IsRealRow, with_row};
 ghost use Rattle.pim_addr.specs.RouteRows.{row_seen, rows_seen, lengths, with_length, Stand, IsGap, IsRowPlace, IsRunPlace};
@@ -98,4 +98,11 @@ pub(crate) fn insert_row<F: Family>(
     if rows.insert(place, row).is_err() {
         unreachable!()
     }
+}
+
+/// Whether these are the same rows.
+pub(crate) fn are_same<F: Family>(one: &[Route<F::Addr>], other: &[Route<F::Addr>]) -> bool
+    ensures { IsTrue result ↔ (rows_seen F.bytes_of one.now ≡ rows_seen F.bytes_of other.now) }
+{
+    one == other
 }

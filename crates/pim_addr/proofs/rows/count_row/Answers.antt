@@ -1,4 +1,4 @@
-use Rattle.std.proofs.Common.{◌≡◌, ℕ, ◌≤◌, ◌∙◌, List, Ok, Err, length, arith, ap, sym, subst, ◌+◌, refl}
+use Rattle.std.proofs.Common.{◌≡◌, ◌∙◌, List, Ok, Err, arith, ap, subst, ◌+◌, refl}
 use Rattle.std.specs.List.{insert}
 use Rattle.pim_addr.specs.declared.route.Run.{Run}
 use Rattle.pim_addr.specs.RouteRows.{lengths, IsRunPlace}

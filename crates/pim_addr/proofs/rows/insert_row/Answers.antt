@@ -1,7 +1,6 @@
-use Rattle.std.proofs.Common.{◌≡◌, ℕ, ◌+◌, ◌<◌, List, length, map, arith, ap, sym, subst, ◌∙◌}
+use Rattle.std.proofs.Common.{◌≡◌, ℕ, List, map, arith, ap, sym, subst, ◌∙◌}
 use Rattle.std.specs.List.{insert}
 use Rattle.std.proofs.lemmas.List.{length-map}
-use Rattle.pim_addr.specs.declared.route.Route.{Route}
 use Rattle.pim_addr.specs.Routes.{Row, with_row}
 use Rattle.pim_addr.specs.RouteRows.{row_seen, rows_seen, row_number, Stand}
 use Rattle.pim_addr.proofs.OneMoreRow.{map_insert, one_more_stands}
