@@ -13,3 +13,5 @@ mod RowOrder
 mod RunLengths
 mod Inserted
 mod SameRows
+mod AnyOrder
+mod OneRow
