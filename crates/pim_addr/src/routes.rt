@@ -5,6 +5,9 @@ ghost use Rattle.pim_addr.specs.Address.{is_group};
 ghost use Rattle.pim_addr.specs.Routes.{no_routes, rp_of, via, group_bits, is_group_prefix, rp_faults, via_faults, with_rp, with_via};
 ghost use Rattle.pim_addr.specs.Routes.{IsRefusedBy, IsRouteTable};
 
+#[cfg(test)]
+mod tests;
+
 use crate::family::{AddressFamily, Family};
 use crate::route::Route;
 use crate::route_fault::RouteFault;
