@@ -87,6 +87,7 @@ fn six_in_order(alloc: Global, order: usize) -> Option<Routes<V4>> {
 #[test]
 fn six_rows_in_every_order(rt: HostRuntime) {
     let first = six_in_order(rt.alloc(), 0);
+    assert!(rt; first.is_some());
     for order in 0..720 {
         let routes = six_in_order(rt.alloc(), order);
         if let (Some(first), Some(routes)) = (&first, &routes) {
