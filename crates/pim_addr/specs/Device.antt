@@ -19,10 +19,6 @@ failures_after before (Err e) = min (before + 1) top_count
 abbrev pub FailedIn : ℕ → ℕ → Type 0
 FailedIn before after = min (before + 1) top_count ≤ after
 
--- the count didn't fall, or stands at the top
-abbrev pub NeverFalls : ℕ → ℕ → Type 0
-NeverFalls before after = min before top_count ≤ after
-
 -- ---- what was moved where a device may have failed on the way
 
 -- known bytes grow by some front of bs
