@@ -5,3 +5,6 @@ pub mod ReadBack
 pub mod TextNames
 pub mod Places
 pub mod Numbers
+mod Halving
+mod FirstMatch
+mod OneMoreRow
