@@ -16,5 +16,3 @@ pub Consumes-step : (a b c : Option (List ℕ)) (buffer front rest : List ℕ) (
 Consumes-step a b c buffer front rest got more is_front count first second =
     subst (Consumes a c) (ap (λ l. l ++ take more rest) (sym is_front) ∙ sym (ap (λ n. take (n + more) (front ++ rest)) (sym count) ∙ take-append-add front rest more))
     (Consumes-trans a b c _ _ first second)
-
--- ---- two writes of all of something
