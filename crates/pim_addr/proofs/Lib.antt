@@ -8,3 +8,9 @@ pub mod Numbers
 mod Halving
 mod FirstMatch
 mod OneMoreRow
+mod RowOrder
+mod RunLengths
+mod Inserted
+mod SameRows
+mod AnyOrder
+mod OneRow

@@ -47,7 +47,7 @@ numbers_are_in_order family this that a b = ordered 0 this that (a.0 ∙ sym b.0
 -- ---- no bits
 
 -- the numbers that bytes spell behind a start are less than those behind the next start
-stays_below : (n : ℕ) (bytes : List ℕ) → AreBytes bytes → big_endian n bytes < (n + 1) * 256 ^ length bytes
+pub stays_below : (n : ℕ) (bytes : List ℕ) → AreBytes bytes → big_endian n bytes < (n + 1) * 256 ^ length bytes
 stays_below n [] h = omega arith
 stays_below n (b ∷ bytes) h =
     let small : b < 256 = h 0 in

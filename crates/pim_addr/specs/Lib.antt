@@ -11,3 +11,4 @@ pub mod TextForms
 pub mod Order
 pub mod Routes
 pub mod RouteRows
+pub mod RouteLaws

@@ -14,8 +14,11 @@ mod order;
 mod parsed;
 mod route;
 mod route_fault;
+mod route_laws;
 mod route_map;
+mod route_rows;
 mod routes;
+mod rows;
 mod scripted;
 mod search;
 mod text;
@@ -32,6 +35,11 @@ pub use order::first_of_parts_is_least;
 pub use parsed::{read_text, text_names_one_address, written_text_names};
 pub use route::Route;
 pub use route_fault::RouteFault;
+pub use route_laws::{
+    one_neighbour_for_all, one_rp_for_all_groups, order_of_adding_is_free, route_map_has_one_list,
+    row_is_added_at_its_prefix,
+};
+pub use route_rows::RouteRows;
 pub use routes::Routes;
 pub use scripted::{ScriptedDrain, ScriptedFeed};
 pub use search::place_of;
