@@ -6,4 +6,4 @@ pub mod ReadBack
 pub mod TextNames
 pub mod Places
 pub mod Numbers
-pub mod Halving
+pub mod CountBelow

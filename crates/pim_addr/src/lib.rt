@@ -5,6 +5,7 @@
 //! their failures.
 #![tactic(auto)]
 
+mod below;
 mod counted;
 mod device;
 mod encoded;
@@ -12,10 +13,10 @@ mod family;
 mod order;
 mod parsed;
 mod scripted;
-mod search;
 mod text;
 mod written;
 
+pub use below::count_below;
 pub use counted::Counted;
 pub use device::{Drain, Failed, Feed, read_up_to, write_all};
 pub use encoded::{
@@ -26,7 +27,6 @@ pub use family::{AddressFamily, Family, V4, V6, numbers_are_in_order};
 pub use order::first_of_parts_is_least;
 pub use parsed::{read_text, text_names_one_address, written_text_names};
 pub use scripted::{ScriptedDrain, ScriptedFeed};
-pub use search::count_below;
 pub use text::write_text;
 pub use written::{
     group_reads_back, put_group, put_source, put_unicast, source_reads_back, unicast_reads_back,

@@ -1,7 +1,7 @@
 use Rattle.std.proofs.Common.{◌∙◌, ap, refl, arith}
 use Rattle.std.specs.Ordering.{is_lt}
-use Rattle.pim_addr.proofs.Halving.{halved_none, halved_more, halved_one}
-use Rattle.pim_addr.proofs.search.count_below.Goals as goal
+use Rattle.pim_addr.proofs.CountBelow.{halved_none, halved_more, halved_one}
+use Rattle.pim_addr.proofs.below.count_below.Goals as goal
 
 pub loop-size-init : goal.loop-size-init
 loop-size-init g c = halved_none g.T.Ord.cmp c.args.sorted.now c.args.item
