@@ -1,7 +1,6 @@
 pub mod Cells
 pub mod Pieces
 pub mod Moved
-pub mod Failures
 pub mod ReadBack
 pub mod TextNames
 pub mod Places

@@ -1,5 +1,6 @@
 -- What the devices that bytes come from and go to have done.
-use Rattle.std.specs.Prelude.{◌≡◌, ℕ, ◌+◌, ◌-◌, ◌^◌, ◌≤◌, min, List, ◌++◌, length, take, drop, Option, None, Some, Result, Ok, Err, ⊤, MatchResult}
+use Rattle.std.specs.Prelude.{◌≡◌, ℕ, ◌+◌, ◌-◌, ◌^◌, ◌≤◌, min, List, ◌++◌, length, take, drop, Option, None, Some}
+use Rattle.std.specs.Prelude.{Result, Ok, Err, ⊤, MatchResult}
 use Rattle.std.specs.Io.KnownBytes.{Appends}
 use Rattle.pim_addr.specs.declared.counted.Counted.{Counted}
 
@@ -17,10 +18,6 @@ failures_after before (Err e) = min (before + 1) top_count
 -- the count rose, or stands at the top
 abbrev pub FailedIn : ℕ → ℕ → Type 0
 FailedIn before after = min (before + 1) top_count ≤ after
-
--- the count didn't fall, or stands at the top
-abbrev pub NeverFalls : ℕ → ℕ → Type 0
-NeverFalls before after = min before top_count ≤ after
 
 -- ---- what was moved where a device may have failed on the way
 

@@ -3,7 +3,8 @@
 ghost use Rattle.std.specs.Prelude.{◌≡◌, ◌≤◌, ◌↔◌, ℕ, List, length, take, IsTrue};
 ghost use Rattle.std.specs.Ordering.{nat_cmp};
 ghost use Rattle.std.specs.Cmp.Lexicographic.{slice_cmp};
-ghost use Rattle.pim_addr.specs.Address.{IsAddress, address_length, mask_length, family_byte, is_group, is_source, is_unspecified, number_of, first_bits, ends_within, NumbersAreInOrder};
+ghost use Rattle.pim_addr.specs.Address.{IsAddress, address_length, mask_length, family_byte, is_group, is_source};
+ghost use Rattle.pim_addr.specs.Address.{is_unspecified, number_of, first_bits, ends_within, NumbersAreInOrder};
 
 use std::fmt::Debug;
 
