@@ -1,11 +1,13 @@
 -- A search that halves what is left of a list in order.
-use Rattle.std.proofs.Common.{◌≡◌, ◌∙◌, sym, ap, ℕ, ◌+◌, ◌-◌, ◌*◌, ◌/◌, ◌≤◌, ◌<◌, Bool, true, false, List, Ordering, length, get_or, refl, arith, ⊎_elim}
+use Rattle.std.proofs.Common.{◌≡◌, ◌∙◌, sym, ap, ℕ, zero, suc, ◌+◌, ◌-◌, ◌*◌, ◌/◌, ◌%◌, ◌^◌, ◌≤◌, ◌<◌, Bool, true, false, List, Ordering, length, get_or, refl, arith, ⊎_elim}
 use Rattle.std.specs.declared.cmp.Ordering.TheVariants.{Less, Equal, Greater}
 use Rattle.std.specs.Ordering.{is_lt, ordering_index}
 use Rattle.std.specs.Int.{from_bool}
 use Rattle.std.specs.Cmp.{IsTotalOrder}
 use Rattle.std.specs.List.Sorted.{IsSorted, IsPartitionPoint}
 use Rattle.std.proofs.lemmas.Bool.{cases_lt}
+use Rattle.std.proofs.Math.Nat.{one-mul, mul-one, zero-mul, mul-zero, mod-eq_of_lt, two-pow-succ}
+use Rattle.std.proofs.Math.Pow.{pow-lt}
 use Rattle.std.proofs.lemmas.List.{get_or_default}
 use Rattle.std.proofs.lemmas.List.Sorted.{searchable_from_sorted}
 
@@ -15,14 +17,6 @@ pub record Halved {T : Type 0} (cmp : T → T → Ordering) (xs : List T) (item 
   pub some : 0 < length xs → 0 < size
   pub below : (k : ℕ) (d : T) → k < base → is_lt (cmp (get_or xs k d) item) ≡ true
   pub behind : (k : ℕ) (d : T) → base + size ≤ k → k < length xs → is_lt (cmp (get_or xs k d) item) ≡ false
-
-pub halved_none : {T : Type 0} (cmp : T → T → Ordering) (xs : List T) (item : T) → Halved cmp xs item 0 (length xs)
-halved_none cmp xs item = record {
-  within = omega arith;
-  some = λ h. h;
-  below = λ k d h. absurd (omega arith);
-  behind = λ k d h low. absurd (omega arith);
-}
 
 less_is : (o : Ordering) → is_lt o ≡ true → ordering_index o ≡ 0
 less_is Less h = refl
@@ -67,6 +61,61 @@ halved_more {T} cmp total xs item base size half false x sorted halved many is a
       below = λ k d low. halved.below k d (omega arith);
       behind = λ k d high low. (not_less _).1 (omega (arith, rises (base + half) k d (omega arith) low, (not_less _).0 (sym (tested d))));
     }
+
+-- ---- as long as a power of two
+
+some_power : (shift : ℕ) → 0 < 2 ^ shift
+some_power zero = omega arith
+some_power (suc shift) = omega (arith, two-pow-succ shift, some_power shift)
+
+fits : (shift : ℕ) → shift < 64 → 2 ^ shift % 2 ^ 64 ≡ 2 ^ shift
+fits shift few = mod-eq_of_lt (pow-lt few)
+
+pub one_shifted : (shift : ℕ) → shift < 64 → 1 * 2 ^ shift % 2 ^ 64 ≡ 2 ^ shift
+one_shifted shift few = ap (λ n. n % 2 ^ 64) (one-mul (2 ^ shift)) ∙ fits shift few
+
+pub test_shifted : (less : Bool) (shift : ℕ) → shift < 64 → from_bool less * 2 ^ shift % 2 ^ 64 ≡ 2 ^ shift * from_bool less
+test_shifted true shift few = one_shifted shift few ∙ sym (mul-one (2 ^ shift))
+test_shifted false shift few = ap (λ n. n % 2 ^ 64) (zero-mul (2 ^ shift)) ∙ sym (mul-zero (2 ^ shift))
+
+-- of a list the last so many, or the first, as the item before the last ones tells
+pub halved_first : {T : Type 0} (cmp : T → T → Ordering) → IsTotalOrder cmp → (xs : List T) (item : T) (shift over : ℕ) (less : Bool) (x : T)
+    → IsSorted cmp xs → 2 ^ shift ≤ length xs → length xs < 2 * 2 ^ shift → over ≡ length xs - 2 ^ shift
+    → x ≡ get_or xs over x → less ≡ is_lt (cmp x item)
+    → Halved cmp xs item (over * from_bool less) (2 ^ shift)
+halved_first {T} cmp total xs item shift over true x sorted least most is at test =
+    let rises = searchable_from_sorted total (λ x. x) xs item sorted in
+    let some : 0 < 2 ^ shift = some_power shift in
+    let tested : (d : T) → true ≡ is_lt (cmp (get_or xs over d) item) = tested_at cmp xs item over true x (omega arith) at test in
+    record {
+      within = omega arith;
+      some = λ h. some;
+      below = λ k d low. is_less _ (omega (arith, rises k over d (omega arith) (omega arith), less_is _ (sym (tested d))));
+      behind = λ k d high low. absurd (omega arith);
+    }
+halved_first {T} cmp total xs item shift over false x sorted least most is at test =
+    let rises = searchable_from_sorted total (λ x. x) xs item sorted in
+    let some : 0 < 2 ^ shift = some_power shift in
+    let tested : (d : T) → false ≡ is_lt (cmp (get_or xs over d) item) = tested_at cmp xs item over false x (omega arith) at test in
+    record {
+      within = omega arith;
+      some = λ h. some;
+      below = λ k d low. absurd (omega arith);
+      behind = λ k d high low. (not_less _).1 (omega (arith, rises over k d (omega arith) low, (not_less _).0 (sym (tested d))));
+    }
+
+-- what is left is halved by a test of its middle
+pub halved_shift : {T : Type 0} (cmp : T → T → Ordering) → IsTotalOrder cmp → (xs : List T) (item : T) (base shift next : ℕ) (less : Bool) (x : T)
+    → IsSorted cmp xs → Halved cmp xs item base (2 ^ shift) → shift ≡ suc next → next < 64
+    → x ≡ get_or xs (base + 1 * 2 ^ next % 2 ^ 64) x → less ≡ is_lt (cmp x item)
+    → Halved cmp xs item (base + from_bool less * 2 ^ next % 2 ^ 64) (2 ^ next)
+halved_shift cmp total xs item base shift next less x sorted halved is few at test =
+    let some : 0 < 2 ^ next = some_power next in
+    let twice : 2 ^ shift ≡ 2 ^ next + 2 ^ next = ap (λ n. 2 ^ n) is ∙ two-pow-succ next in
+    let half : 2 ^ next ≡ 2 ^ shift / 2 = omega (arith, twice) in
+    let left : 2 ^ shift - 2 ^ next ≡ 2 ^ next = omega (arith, twice) in
+    let more = halved_more cmp total xs item base (2 ^ shift) (2 ^ next) less x sorted halved (omega (arith, twice, some)) half (rw (one_shifted next few) at at) test in
+    rw (← test_shifted less next few, left) at more
 
 pub halved_one : {T : Type 0} (cmp : T → T → Ordering) (xs : List T) (item : T) (base size : ℕ) (less : Bool) (x : T)
     → Halved cmp xs item base size → size ≡ 1 → x ≡ get_or xs base x → less ≡ is_lt (cmp x item)
