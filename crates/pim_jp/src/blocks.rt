@@ -1,7 +1,7 @@
 //! Sources that are looked for among many: the numbers of these are sorted block by block, on the stack.
 
 ghost use Rattle.std.specs.Prelude.{◌≡◌, ℕ, ◌*◌, ◌≤◌, ◌<◌, ◌||◌, true, false};
-ghost use Rattle.std.specs.Prelude.{Option, None, List, [], ◌∷◌, length, take, nat_eq, IfSome};
+ghost use Rattle.std.specs.Prelude.{Bool, ◌&&◌, List, [], ◌∷◌, length, take, nat_eq};
 ghost use Rattle.std.specs.Cmp.Lexicographic.{pointwise};
 ghost use Rattle.std.specs.List.Sorted.{IsSorted};
 ghost use Rattle.pim_addr.specs.Address.{IsAddress, number_of};
@@ -27,28 +27,28 @@ fn number_of_source<F: Family>(source: F::Addr) -> F::Number
     F::number(source)
 }
 
-/// The number of the source of an entry that is (S,G,rpt), or (S,G).
-fn number_of_kind<F: Family>(entry: Entry<F::Addr>, rpt: bool) -> Option<F::Number>
-    ensures some { IfSome result (λ number. (this : Entry (List ℕ)) → IsOfKind F.family rpt this →
-        same_source this (entry_seen F.bytes_of entry) ≡ is_listed F.value_of rpt (number ∷ []) this) }
-    ensures same { IfSome result (λ number. (numbers : List F.Number) →
-        is_listed F.value_of rpt numbers (entry_seen F.bytes_of entry) ≡ is_among F.value_of numbers (F.value_of number)) }
-    ensures none { result ≡ None → is_of_kind rpt (entry_seen F.bytes_of entry) ≡ false }
+/// The number of the address of an entry.
+fn number_of_entry<F: Family>(entry: Entry<F::Addr>) -> F::Number
+    ensures same { (rpt : Bool) (this : Entry (List ℕ)) → IsOfKind F.family rpt this → same_source this (entry_seen F.bytes_of entry)
+        ≡ (is_of_kind rpt (entry_seen F.bytes_of entry) && is_listed F.value_of rpt (result ∷ []) this) }
+    ensures listed { (rpt : Bool) (numbers : List F.Number) → is_listed F.value_of rpt numbers (entry_seen F.bytes_of entry)
+        ≡ (is_of_kind rpt (entry_seen F.bytes_of entry) && is_among F.value_of numbers (F.value_of result)) }
 {
     match entry {
-        Entry::Star(_) => None,
-        Entry::Source(source) => {
-            if rpt {
-                return None;
-            }
-            Some(number_of_source::<F>(source))
+        Entry::Star(address) | Entry::Source(address) | Entry::Rpt(address) => {
+            number_of_source::<F>(address)
         }
-        Entry::Rpt(source) => {
-            if !rpt {
-                return None;
-            }
-            Some(number_of_source::<F>(source))
-        }
+    }
+}
+
+/// Whether the entry is (S,G,rpt), or (S,G).
+fn is_of_kind<F: Family>(entry: Entry<F::Addr>, rpt: bool) -> bool
+    ensures { result ≡ is_of_kind rpt (entry_seen F.bytes_of entry) }
+{
+    match entry {
+        Entry::Star(_) => false,
+        Entry::Source(_) => !rpt,
+        Entry::Rpt(_) => rpt,
     }
 }
 
@@ -71,10 +71,7 @@ fn is_listed<F: Family>(sorted: &[F::Number], rpt: bool, entry: Entry<F::Addr>) 
     requires { IsSorted F.Number.cmp sorted.now }
     ensures { result ≡ is_listed F.value_of rpt sorted.now (entry_seen F.bytes_of entry) }
 {
-    match number_of_kind::<F>(entry, rpt) {
-        Some(number) => holds::<F>(sorted, number),
-        None => false,
-    }
+    is_of_kind::<F>(entry, rpt) && holds::<F>(sorted, number_of_entry::<F>(entry))
 }
 
 /// The place of the first of so many entries that is of the kind and has its number among these, which are in order;
@@ -99,7 +96,7 @@ fn first_listed<F: Family>(sorted: &[F::Number], rpt: bool, count: u16, bytes: &
 }
 
 /// Takes as many entries as the block has room for, and puts the numbers of the sources of those that are of the kind
-/// at its front: so many.
+/// at its front: so many. No branch goes by the kind of an entry.
 fn fill<F: Family>(entries: &mut Entries<'_, F>, rpt: bool, block: &mut [F::Number]) -> usize
     requires { 0 < length block.old }
     ensures bound { result ≤ length block.new }
@@ -113,10 +110,8 @@ fn fill<F: Family>(entries: &mut Entries<'_, F>, rpt: bool, block: &mut [F::Numb
         let Some(entry) = entries.next() else {
             return used;
         };
-        if let Some(number) = number_of_kind::<F>(entry, rpt) {
-            block[used] = number;
-            used += 1;
-        }
+        block[used] = number_of_entry::<F>(entry);
+        used += usize::from(is_of_kind::<F>(entry, rpt));
     }
     used
 }
