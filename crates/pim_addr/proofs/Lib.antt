@@ -14,3 +14,4 @@ mod Inserted
 mod SameRows
 mod AnyOrder
 mod OneRow
+pub mod CountBelow

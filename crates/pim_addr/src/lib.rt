@@ -5,6 +5,7 @@
 //! their failures.
 #![tactic(auto)]
 
+mod below;
 mod counted;
 mod device;
 mod encoded;
@@ -24,6 +25,7 @@ mod search;
 mod text;
 mod written;
 
+pub use below::count_below;
 pub use counted::Counted;
 pub use device::{Drain, Failed, Feed, read_up_to, write_all};
 pub use encoded::{
