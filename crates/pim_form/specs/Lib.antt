@@ -1,1 +1,6 @@
 pub mod Laws
+pub mod Wants
+pub mod NormalForm
+pub mod Units
+pub mod Packing
+pub mod Messages

@@ -1,6 +1,6 @@
-//! What the definitions of headers and of Join/Prune messages say together. Nothing here is to be called.
+//! What the definitions say together. Nothing here is to be called.
 
-ghost use Rattle.pim_form.specs.Laws.{SealedMessageIsRead};
+ghost use Rattle.pim_form.specs.Laws.{SealedMessageIsRead, SomeSourceIsOutside};
 
 /// A canonical message that is sealed for ALL-PIM-ROUTERS opens between the same addresses as a Join/Prune without a
 /// fault, and its body is read without a fault as that message (RFC 7761, 4.9 and 4.9.5).
@@ -10,3 +10,8 @@ pub fn sealed_message_is_read()
     pim_frame::sealed_opens();
     pim_jp::canonical_is_read();
 }
+
+/// Outside any 100,000 exceptions there is a valid source, in both families.
+pub fn some_source_is_outside()
+    ensures { SomeSourceIsOutside }
+{}

@@ -1,0 +1,3 @@
+pub mod SomeBelow
+pub mod Addresses
+pub mod Counting
