@@ -50,7 +50,7 @@ unlisted_below a (x ∷ xs) below = rw (less_apart a x below.0) (unlisted_below 
 unlisted_before : (a x : List ℕ) (xs : List (List ℕ)) → slice_cmp nat_cmp a x ≡ Less → AllByRecursion (λ y. slice_cmp nat_cmp x y ≡ Less) xs → is_listed a (x ∷ xs) ≡ false
 unlisted_before a x xs less below = unlisted_below a (x ∷ xs) (less, IsBelowAll-trans a x xs less below)
 
-listed_first : (x : List ℕ) (xs : List (List ℕ)) → is_listed x (x ∷ xs) ≡ true
+pub listed_first : (x : List ℕ) (xs : List (List ℕ)) → is_listed x (x ∷ xs) ≡ true
 listed_first x xs = rw (same_itself x) refl
 
 listed_behind : (s x : List ℕ) (xs : List (List ℕ)) → same_address s x ≡ false → is_listed s (x ∷ xs) ≡ is_listed s xs

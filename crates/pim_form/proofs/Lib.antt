@@ -1,3 +1,9 @@
 pub mod SomeBelow
 pub mod Addresses
 pub mod Counting
+pub mod OneForm
+pub mod OnePacking
+pub mod Lists
+pub mod Units
+pub mod Normal
+pub mod Spelled

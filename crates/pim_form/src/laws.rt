@@ -1,6 +1,6 @@
 //! What the definitions say together. Nothing here is to be called.
 
-ghost use Rattle.pim_form.specs.Laws.{SealedMessageIsRead, SomeSourceIsOutside};
+ghost use Rattle.pim_form.specs.Laws.{SealedMessageIsRead, SomeSourceIsOutside, OneNormalForm, OnePacking, SizeIsLength};
 
 /// A canonical message that is sealed for ALL-PIM-ROUTERS opens between the same addresses as a Join/Prune without a
 /// fault, and its body is read without a fault as that message (RFC 7761, 4.9 and 4.9.5).
@@ -15,3 +15,20 @@ pub fn sealed_message_is_read()
 pub fn some_source_is_outside()
     ensures { SomeSourceIsOutside }
 {}
+
+/// Two normal forms that want the same of every valid source, every group and both trees are one.
+pub fn one_normal_form()
+    ensures { OneNormalForm }
+{}
+
+/// A list of units has at most one packing within a budget.
+pub fn one_packing()
+    ensures { OnePacking }
+{}
+
+/// The size of a run that fits is the length of the message that tells it.
+pub fn size_is_length()
+    ensures { SizeIsLength }
+{
+    pim_jp::canonical_has_its_length();
+}

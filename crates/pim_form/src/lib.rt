@@ -8,6 +8,8 @@ mod laws;
 mod tree;
 mod wanting;
 
-pub use laws::{sealed_message_is_read, some_source_is_outside};
+pub use laws::{
+    one_normal_form, one_packing, sealed_message_is_read, size_is_length, some_source_is_outside,
+};
 pub use tree::Tree;
 pub use wanting::wants;
