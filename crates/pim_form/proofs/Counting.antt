@@ -1,11 +1,11 @@
 -- There are more valid sources than a star may have exceptions.
 use Rattle.std.proofs.Common.{◌≡◌, ◌≢◌, ◌∙◌, ℕ, zero, suc, ◌+◌, ◌*◌, ◌/◌, ◌%◌, ◌≤◌, ◌<◌, Bool, true, false, ◌||◌, ◌==◌, List, [], ◌∷◌, length, map, slice_index, if◌then◌else◌, refl, sym, ap, subst, arith}
 use Rattle.std.proofs.lemmas.List.{length-map}
-use Rattle.std.specs.List.{list_any, AllByRecursion}
-use Rattle.std.proofs.lemmas.Bool.{false≢true, eqb-true, eqb-false, ne_eqb, eq-eqb}
+use Rattle.std.specs.List.{AllByRecursion}
+use Rattle.std.proofs.lemmas.Bool.{false≢true, eqb-true, ne_eqb, eq-eqb}
 use Rattle.pim_addr.specs.declared.family.AddressFamily.{AddressFamily}
 use Rattle.pim_addr.specs.declared.family.AddressFamily.TheVariants.{Ipv4, Ipv6}
-use Rattle.pim_addr.specs.Address.{IsAddress, AreBytes}
+use Rattle.pim_addr.specs.Address.{AreBytes}
 use Rattle.pim_form.specs.NormalForm.{IsSource, same_address, is_listed, most_exceptions}
 use Rattle.pim_form.specs.Laws.{Outside}
 use Rattle.pim_form.proofs.Addresses.{same_is}
@@ -118,19 +118,20 @@ numbered_is_source Ipv4 n small =
     let middle : n / 256 % 256 < 256 = omega arith in
     let low : n % 256 < 256 = omega arith in
     ((refl, bytes_are (numbered Ipv4 n) (lit, (high, (middle, (low, tt))))), refl)
-    where
-      lit : 1 < 256
-      lit = omega arith
+  where
+    lit : 1 < 256
+    lit = omega arith
 numbered_is_source Ipv6 n small =
     let high : n / 256 / 256 < 256 = omega arith in
     let middle : n / 256 % 256 < 256 = omega arith in
     let low : n % 256 < 256 = omega arith in
     ((refl, bytes_are (numbered Ipv6 n) (first, (o, (o, (o, (o, (o, (o, (o, (o, (o, (o, (o, (o, (high, (middle, (low, tt))))))))))))))))), refl)
-    where
-      first : 32 < 256
-      first = omega arith
-      o : 0 < 256
-      o = omega arith
+  where
+    first : 32 < 256
+    first = omega arith
+
+    o : 0 < 256
+    o = omega arith
 
 -- an address whose number is in no number of a list isn't in the list
 unlisted : (family : AddressFamily) (s : List ℕ) (xs : List (List ℕ)) → has (number family s) (map (number family) xs) ≡ false → is_listed s xs ≡ false
@@ -141,10 +142,10 @@ unlisted family s (x ∷ xs) h =
       | true ↦ λ e. absurd (false≢true (sym h ∙ ap (λ t. t || has (number family s) (map (number family) xs)) (eq-eqb (number family x) (number family s) (ap (number family) (sym (same_is s x e))))))
       | false ↦ λ e. unlisted family s xs (right (number family x == number family s) (has (number family s) (map (number family) xs)) h)
     ] refl
-    where
-      right : (a b : Bool) → (a || b) ≡ false → b ≡ false
-      right true b h = absurd (false≢true (sym h))
-      right false b h = h
+  where
+    right : (a b : Bool) → (a || b) ≡ false → b ≡ false
+    right true b h = absurd (false≢true (sym h))
+    right false b h = h
 
 pub outside : (family : AddressFamily) (exceptions : List (List ℕ)) → length exceptions ≤ most_exceptions → Outside family exceptions
 outside family exceptions few =

@@ -7,3 +7,4 @@ pub mod Lists
 pub mod Units
 pub mod Normal
 pub mod Spelled
+pub mod Told

@@ -1,5 +1,5 @@
 -- Normal forms that want the same are one.
-use Rattle.std.proofs.Common.{◌≡◌, ◌∙◌, ℕ, Bool, true, false, ◌&&◌, ◌||◌, not, List, [], ◌∷◌, Option, None, Some, length, ◌≤◌, refl, sym, ap, subst}
+use Rattle.std.proofs.Common.{◌≡◌, ◌∙◌, ℕ, Bool, true, false, ◌||◌, not, List, [], ◌∷◌, Option, None, Some, refl, sym, ap, subst}
 use Rattle.std.specs.declared.cmp.Ordering.TheVariants.{Less, Equal, Greater}
 use Rattle.std.specs.List.{AllByRecursion}
 use Rattle.std.specs.List.Sorted.{IsStrictlySortedBy}
@@ -9,8 +9,8 @@ use Rattle.std.proofs.lemmas.Bool.{false≢true}
 use Rattle.pim_addr.specs.declared.family.AddressFamily.{AddressFamily}
 use Rattle.pim_form.specs.declared.tree.Tree.{Tree}
 use Rattle.pim_form.specs.declared.tree.Tree.TheVariants.{Shared, Source}
-use Rattle.pim_form.specs.NormalForm.{GroupForm, IsGroup, IsSource, AreAscending, same_address, is_listed, AreExceptions, is_empty, IsNormalGroup, groups_of, IsNormal, is_excepted, group_wants, form_wants, WantTheSame}
-use Rattle.pim_form.proofs.Addresses.{same_itself, same_is, equal_is, less_apart, greater_less, less_apart_back, IsBelowAll-trans, listed_first, same_lists}
+use Rattle.pim_form.specs.NormalForm.{GroupForm, IsSource, AreAscending, same_address, is_listed, AreExceptions, is_empty, IsNormalGroup, groups_of, IsNormal, is_excepted, group_wants, form_wants, WantTheSame}
+use Rattle.pim_form.proofs.Addresses.{same_itself, same_is, equal_is, less_apart, greater_less, IsBelowAll-trans, listed_first, same_lists}
 use Rattle.pim_form.proofs.Counting.{outside}
 
 -- ---- one group
@@ -115,8 +115,8 @@ forms family (a ∷ one) (b ∷ other) up_a up_b are_a are_b same =
       | Equal ↦ λ e.
           let groups = equal_is a.group b.group e in
           let head = one_group family a b are_a.0 are_b.0 groups (λ s tree is.
-            sym (at_first a one s tree up_a.0) ∙ same s a.group tree is are_a.0.group
-            ∙ subst (λ g. form_wants (b ∷ other) s g tree ≡ group_wants b s tree) (sym groups) (at_first b other s tree up_b.0)) in
+          sym (at_first a one s tree up_a.0) ∙ same s a.group tree is are_a.0.group
+          ∙ subst (λ g. form_wants (b ∷ other) s g tree ≡ group_wants b s tree) (sym groups) (at_first b other s tree up_b.0)) in
           let tail = forms family one other up_a.1 up_b.1 are_a.1 are_b.1 (λ s group tree is is_group. same_others a b one other groups up_a.0 up_b.0 s group tree (same s group tree is is_group)) in
           λ i. head i ∷ tail i
       | Greater ↦ λ e.

@@ -1,10 +1,10 @@
 -- Units have one packing at most.
-use Rattle.std.proofs.Common.{◌≡◌, ◌∙◌, ℕ, ◌+◌, ◌*◌, ◌≤◌, ◌<◌, Bool, true, false, ◌&&◌, List, [], ◌∷◌, ◌++◌, Option, None, Some, nat_le, if◌then◌else◌, refl, sym, ap, subst, arith, append_assoc}
+use Rattle.std.proofs.Common.{◌≡◌, ◌∙◌, ℕ, ◌+◌, ◌≤◌, true, false, List, [], ◌∷◌, ◌++◌, Option, None, Some, nat_le, refl, sym, subst, arith, append_assoc}
 use Rattle.std.proofs.lemmas.Bool.{false≢true, leb-true, le-leb, and_parts, and_from}
 use Rattle.std.proofs.lemmas.List.{append_cancel_left}
 use Rattle.pim_addr.specs.declared.family.AddressFamily.{AddressFamily}
 use Rattle.pim_addr.specs.declared.family.AddressFamily.TheVariants.{Ipv4, Ipv6}
-use Rattle.pim_form.specs.Units.{WantUnit, unit_group, unit_entries, run_entries, is_of_group, groups_behind, run_groups, empty_message_size, empty_set_size, entry_size, run_size}
+use Rattle.pim_form.specs.Units.{WantUnit, unit_group, run_entries, groups_behind, run_groups, run_size}
 use Rattle.pim_form.specs.Packing.{fits, most_groups, StopsBefore, IsNonempty, joined, AreRuns, IsPacking}
 
 -- ---- the front of a run that fits
@@ -47,7 +47,7 @@ module _ (family : AddressFamily) (budget : ℕ) where
       let no_room : fits family budget ((front ++ []) ++ y ∷ []) ≡ false = subst (StopsBefore family budget (front ++ [])) h stop in
       let short : fits family budget (front ++ y ∷ []) ≡ false = subst (λ (run : List WantUnit). fits family budget run ≡ false) (simp append_assoc) no_room in
       let room : fits family budget (front ++ y ∷ []) ≡ true =
-        fits_front family budget (front ++ y ∷ []) ys (subst (λ (run : List WantUnit). fits family budget run ≡ true) (sym (one_more front y ys)) long) in
+      fits_front family budget (front ++ y ∷ []) ys (subst (λ (run : List WantUnit). fits family budget run ≡ true) (sym (one_more front y ys)) long) in
       false≢true (sym short ∙ room)
 
   cut : (front xs ys s t : List WantUnit) → xs ++ s ≡ ys ++ t → fits family budget (front ++ xs) ≡ true → fits family budget (front ++ ys) ≡ true
@@ -61,10 +61,10 @@ module _ (family : AddressFamily) (budget : ℕ) where
       let path_x = sym (one_more front x xs) in
       let path_y : front ++ y ∷ ys ≡ (front ++ x ∷ []) ++ ys = subst (λ (u : WantUnit). front ++ y ∷ ys ≡ (front ++ u ∷ []) ++ ys) (sym head) (sym (one_more front y ys)) in
       let others = cut (front ++ x ∷ []) xs ys s t tail
-        (subst (λ (run : List WantUnit). fits family budget run ≡ true) path_x fit_x)
-        (subst (λ (run : List WantUnit). fits family budget run ≡ true) path_y fit_y)
-        (subst (λ (run : List WantUnit). StopsBefore family budget run s) path_x stop_x)
-        (subst (λ (run : List WantUnit). StopsBefore family budget run t) path_y stop_y) in
+      (subst (λ (run : List WantUnit). fits family budget run ≡ true) path_x fit_x)
+      (subst (λ (run : List WantUnit). fits family budget run ≡ true) path_y fit_y)
+      (subst (λ (run : List WantUnit). StopsBefore family budget run s) path_x stop_x)
+      (subst (λ (run : List WantUnit). StopsBefore family budget run t) path_y stop_y) in
       λ i. head i ∷ others i
 
   empty_run : (run left : List WantUnit) → IsNonempty run → [] ≡ run ++ left → ⊥

@@ -1,20 +1,19 @@
 -- What is written of a part of a form: it can be spelled, and how long it is.
-use Rattle.std.proofs.Common.{◌≡◌, ◌∙◌, ℕ, ◌+◌, ◌*◌, ◌^◌, ◌≤◌, ◌<◌, Bool, true, false, List, [], ◌∷◌, ◌++◌, Option, None, Some, map, length, refl, sym, ap, subst, arith, length-append, if◌then◌else◌}
+use Rattle.std.proofs.Common.{◌≡◌, ◌∙◌, ℕ, ◌+◌, ◌*◌, ◌^◌, ◌≤◌, ◌<◌, true, false, List, [], ◌∷◌, ◌++◌, Option, None, Some, map, length, refl, sym, ap, arith, length-append}
 use Rattle.std.specs.Int.{w16, to_be_bytes}
 use Rattle.std.specs.List.{AllByRecursion, list_any}
 use Rattle.std.proofs.lemmas.List.{length-map}
 use Rattle.pim_addr.specs.declared.family.AddressFamily.{AddressFamily}
 use Rattle.pim_addr.specs.declared.family.AddressFamily.TheVariants.{Ipv4, Ipv6}
 use Rattle.pim_jp.specs.declared.entry.Entry.{Entry}
-use Rattle.pim_jp.specs.declared.entry.Entry.TheVariants.{Star, Source, Rpt}
-use Rattle.pim_jp.specs.Message.{GroupSet, Message}
-use Rattle.pim_jp.specs.Spelling.{source_of, is_star, same_source, star_count, IsLegalSet}
-use Rattle.pim_jp.specs.Canonical.{IsMessageEntry, IsMessageSet, IsMessage, canonical, canonical_head_length, canonical_set_length, canonical_sets_length}
+use Rattle.pim_jp.specs.declared.entry.Entry.TheVariants.{Source, Rpt}
+use Rattle.pim_jp.specs.Spelling.{same_source, star_count, IsLegalSet}
+use Rattle.pim_jp.specs.Canonical.{IsMessageEntry, IsMessageSet, IsMessage, canonical, canonical_head_length, canonical_sets_length}
 use Rattle.pim_frame.specs.Seal.{framed}
 use Rattle.pim_frame.specs.declared.frame.Kind.TheVariants.{JoinPrune}
 use Rattle.pim_form.specs.NormalForm.{GroupForm, IsGroup, IsSource, AreAscending, AreExceptions, is_empty, IsNormalGroup, groups_of}
-use Rattle.pim_form.specs.Units.{WantUnit, star_unit, source_unit, star_units, group_units, units_of, unit_entries, run_entries, run_groups, run_size, empty_message_size, empty_set_size, entry_size}
-use Rattle.pim_form.specs.Packing.{fits, most_groups}
+use Rattle.pim_form.specs.Units.{WantUnit, star_unit, source_unit, star_units, group_units, units_of, run_entries, run_size, empty_message_size, empty_set_size, entry_size}
+use Rattle.pim_form.specs.Packing.{fits}
 use Rattle.pim_form.specs.Messages.{Writing, IsWriting, IsRp, IsRpOf, HaveRps, star_entries, excepted_entries, told_set, told_message}
 use Rattle.pim_form.proofs.Lists.{all_append, all_front, all_behind, all_map, all_mapped}
 use Rattle.pim_form.proofs.Units.{IsSome, count_groups}
@@ -69,7 +68,7 @@ module _ (family : AddressFamily) (rps : List ℕ → Option (List ℕ)) where
     group = unit_group_valid this.group this.star this.sources some all;
     star = all_front IsValidUnit (star_units this.group this.star) (map (source_unit this.group) this.sources) all;
     sources = all_mapped (IsSource family) IsValidUnit (source_unit this.group) (unit_source this.group) this.sources
-      (all_behind IsValidUnit (star_units this.group this.star) (map (source_unit this.group) this.sources) all);
+        (all_behind IsValidUnit (star_units this.group this.star) (map (source_unit this.group) this.sources) all);
   }
 
   pub parts_valid : (part : List GroupForm) → AllByRecursion IsSome part → AllByRecursion IsValidUnit (units_of part) → AllByRecursion IsValid part
@@ -100,8 +99,8 @@ module _ (family : AddressFamily) (rps : List ℕ → Option (List ℕ)) where
   entries_valid : (this : GroupForm) → IsValid this → AllByRecursion (IsMessageEntry family) (told_set rps this).joined × AllByRecursion (IsMessageEntry family) (told_set rps this).pruned
   entries_valid this is = (
     all_append (IsMessageEntry family) (star_entries (rps this.group) this.star) (map (λ source. Source source) this.sources)
-    (joined_valid this.group (rps this.group) this.star (rp_of this is))
-    (all_map (IsSource family) (IsMessageEntry family) (λ source. Source source) (λ s s_is. s_is) this.sources is.sources),
+        (joined_valid this.group (rps this.group) this.star (rp_of this is))
+        (all_map (IsSource family) (IsMessageEntry family) (λ source. Source source) (λ s s_is. s_is) this.sources is.sources),
     pruned_valid this.group this.star is.star,
   )
 

@@ -1,6 +1,5 @@
 -- The words of the laws in `src/laws.rt`.
 use Rattle.std.specs.Prelude.{◌≡◌, ◌≤◌, false, true, List, [], ℕ, Option, length}
-use Rattle.std.specs.List.{AllByRecursion}
 use Rattle.pim_addr.specs.declared.family.AddressFamily.{AddressFamily}
 use Rattle.pim_frame.specs.Frame.{join_prune, frame_faults, content, all_routers}
 use Rattle.pim_frame.specs.Seal.{IsSealed}

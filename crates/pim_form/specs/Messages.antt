@@ -1,5 +1,5 @@
 -- The canonical messages of a normal form.
-use Rattle.std.specs.Prelude.{◌≡◌, ℕ, ◌≤◌, ◌<◌, ◌^◌, ◌≢◌, Bool, true, false, List, [], ◌∷◌, ◌++◌, Option, None, Some, map}
+use Rattle.std.specs.Prelude.{◌≡◌, ℕ, ◌≤◌, ◌<◌, ◌^◌, ◌≢◌, false, List, [], ◌∷◌, ◌++◌, Option, None, Some, map}
 use Rattle.std.specs.List.{AllByRecursion}
 use Rattle.pim_addr.specs.declared.family.AddressFamily.{AddressFamily}
 use Rattle.pim_frame.specs.Frame.{all_routers}

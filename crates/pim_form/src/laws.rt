@@ -1,6 +1,7 @@
 //! What the definitions say together. Nothing here is to be called.
 
-ghost use Rattle.pim_form.specs.Laws.{SealedMessageIsRead, SomeSourceIsOutside, OneNormalForm, OnePacking, SizeIsLength};
+ghost use Rattle.pim_form.specs.Laws.{SealedMessageIsRead, SomeSourceIsOutside, OneNormalForm, OnePacking};
+ghost use Rattle.pim_form.specs.Laws.{MessagesTellTheForm, SizeIsLength};
 
 /// A canonical message that is sealed for ALL-PIM-ROUTERS opens between the same addresses as a Join/Prune without a
 /// fault, and its body is read without a fault as that message (RFC 7761, 4.9 and 4.9.5).
@@ -31,4 +32,12 @@ pub fn size_is_length()
     ensures { SizeIsLength }
 {
     pim_jp::canonical_has_its_length();
+}
+
+/// Normal forms that one writer tells by the same canonical messages are one.
+pub fn messages_tell_the_form()
+    ensures { MessagesTellTheForm }
+{
+    pim_frame::sealed_opens();
+    pim_jp::canonical_is_read();
 }

@@ -9,7 +9,8 @@ mod tree;
 mod wanting;
 
 pub use laws::{
-    one_normal_form, one_packing, sealed_message_is_read, size_is_length, some_source_is_outside,
+    messages_tell_the_form, one_normal_form, one_packing, sealed_message_is_read, size_is_length,
+    some_source_is_outside,
 };
 pub use tree::Tree;
 pub use wanting::wants;

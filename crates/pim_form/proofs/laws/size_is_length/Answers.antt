@@ -1,4 +1,3 @@
-use Rattle.pim_form.specs.NormalForm.{IsNormalGroup}
 use Rattle.pim_form.specs.Messages.{told_message}
 use Rattle.pim_form.proofs.Normal.{groups_some}
 use Rattle.pim_form.proofs.Spelled.{IsPart, units_valid, is_message, part_size}

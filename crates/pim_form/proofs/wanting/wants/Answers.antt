@@ -1,5 +1,5 @@
-use Rattle.std.proofs.Common.{◌≡◌, ◌∙◌, sym, ap, ℕ, ◌<◌, arith, true}
-use Rattle.pim_form.specs.Wants.{wants_on, some_below, wants}
+use Rattle.std.proofs.Common.{◌∙◌, sym, ◌<◌, arith}
+use Rattle.pim_form.specs.Wants.{wants_on}
 use Rattle.pim_form.proofs.SomeBelow.{found_below}
 use Rattle.pim_form.proofs.wanting.wants.Goals as goal
 
@@ -7,5 +7,5 @@ pub returns-then-wants_on : goal.returns-then-wants_on
 returns-then-wants_on g c =
     let below : c.loop-port.port < c.args.ports.now.ports = omega (arith, c.port_count-count.ensures, c.loop-port-test.true) in
     sym (found_below
-      (wants_on c.args.ports.now.records (g.F.Family.bytes_of c.args.source) (g.F.Family.bytes_of c.args.group) c.args.tree)
-      c.args.ports.now.ports c.loop-port.port below (sym c.wants_on.ensures ∙ c.if-wants_on.true))
+    (wants_on c.args.ports.now.records (g.F.Family.bytes_of c.args.source) (g.F.Family.bytes_of c.args.group) c.args.tree)
+    c.args.ports.now.ports c.loop-port.port below (sym c.wants_on.ensures ∙ c.if-wants_on.true))
