@@ -8,3 +8,4 @@ pub mod Units
 pub mod Normal
 pub mod Spelled
 pub mod Told
+pub mod Writers

@@ -3,7 +3,7 @@ use Rattle.std.proofs.Common.{◌≡◌, ◌∙◌, ℕ, true, List, [], ◌∷�
 use Rattle.std.specs.List.{AllByRecursion}
 use Rattle.pim_addr.specs.declared.family.AddressFamily.{AddressFamily}
 use Rattle.pim_frame.specs.Frame.{join_prune, content, all_routers}
-use Rattle.pim_frame.specs.Seal.{IsSealed}
+use Rattle.pim_frame.specs.Seal.{OneChecksum, IsSealed}
 use Rattle.pim_frame.specs.declared.frame.Kind.TheVariants.{JoinPrune}
 use Rattle.pim_jp.specs.declared.entry.Entry.{Entry}
 use Rattle.pim_jp.specs.declared.entry.Entry.TheVariants.{Star, Source, Rpt}
@@ -16,6 +16,7 @@ use Rattle.pim_form.specs.Messages.{Writing, IsWriting, IsRpOf, HaveRps, star_en
 use Rattle.pim_form.proofs.Lists.{all_front, all_behind, one_mapped}
 use Rattle.pim_form.proofs.Normal.{groups_some}
 use Rattle.pim_form.proofs.Units.{one_of_units}
+use Rattle.pim_form.proofs.OnePacking.{one_packing}
 use Rattle.pim_form.proofs.Spelled.{IsValidUnit, IsValid, units_valid, parts_valid, rp_of, IsPart, is_message}
 
 -- ---- a set tells its group
@@ -145,3 +146,29 @@ module _ (family : AddressFamily) (writing : Writing) (rps : List ℕ → Option
       told_one.packing.cut told_other.packing.cut in
       let units : units_of one ≡ units_of other = sym told_one.packing.whole ∙ ap joined runs ∙ told_other.packing.whole in
       one_of_units one other is_one.ascending is_other.ascending (groups_some family one is_one.groups) (groups_some family other is_other.groups) units
+
+-- ---- a form has one list of messages
+
+module _ (family : AddressFamily) (writing : Writing) (rps : List ℕ → Option (List ℕ)) (sole : OneChecksum) where
+  bytes_of_run : (run : List WantUnit) (one other : List ℕ) → TellsRun family writing rps run one → TellsRun family writing rps run other → one ≡ other
+  bytes_of_run run one other tells_one tells_other =
+      let parts = one_of_units tells_one.part tells_other.part tells_one.ascending tells_other.ascending tells_one.some tells_other.some (tells_one.units ∙ sym tells_other.units) in
+      let sealed : IsSealed family writing.own (all_routers family) JoinPrune (canonical family (told_message writing rps tells_one.part)) other =
+      subst (λ (part : List GroupForm). IsSealed family writing.own (all_routers family) JoinPrune (canonical family (told_message writing rps part)) other) (sym parts) tells_other.sealed in
+      sole family writing.own (all_routers family) JoinPrune (canonical family (told_message writing rps tells_one.part)) one other tells_one.sealed sealed
+
+  bytes_of_runs : (runs : List (List WantUnit)) (one other : List (List ℕ)) → TellRuns family writing rps runs one → TellRuns family writing rps runs other → one ≡ other
+  bytes_of_runs [] [] [] told_one told_other = refl
+  bytes_of_runs [] [] (bytes ∷ other) told_one told_other = absurd told_other
+  bytes_of_runs [] (bytes ∷ one) other told_one told_other = absurd told_one
+  bytes_of_runs (run ∷ runs) [] other told_one told_other = absurd told_one
+  bytes_of_runs (run ∷ runs) (bytes ∷ one) [] told_one told_other = absurd told_other
+  bytes_of_runs (run ∷ runs) (a ∷ one) (b ∷ other) told_one told_other =
+      let head = bytes_of_run run a b told_one.0 told_other.0 in
+      let tail = bytes_of_runs runs one other told_one.1 told_other.1 in
+      λ i. head i ∷ tail i
+
+  pub one_list : (form : List GroupForm) (one other : List (List ℕ)) → AreCanonical family writing rps form one → AreCanonical family writing rps form other → one ≡ other
+  one_list form one other is_one is_other =
+      let runs = one_packing family writing.budget (units_of form) is_other.runs is_one.runs is_other.packing is_one.packing in
+      bytes_of_runs is_one.runs one other is_one.told (subst (λ (runs : List (List WantUnit)). TellRuns family writing rps runs other) runs is_other.told)

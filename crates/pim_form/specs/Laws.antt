@@ -55,6 +55,11 @@ MessagesTellTheForm = (family : AddressFamily) (writing : Writing) (rps : List �
     IsWriting family writing → IsNormal family one → IsNormal family other → HaveRps family rps one → HaveRps family rps other →
     AreCanonical family writing rps one messages → AreCanonical family writing rps other messages → one ≡ other
 
+-- a form has one list of canonical messages at most
+abbrev pub OneListOfMessages : Type 0
+OneListOfMessages = (family : AddressFamily) (writing : Writing) (rps : List ℕ → Option (List ℕ)) (form : List GroupForm) (one other : List (List ℕ)) →
+    AreCanonical family writing rps form one → AreCanonical family writing rps form other → one ≡ other
+
 -- The size of a run that fits is the length of the message that tells it.
 abbrev pub SizeIsLength : Type 0
 SizeIsLength = (family : AddressFamily) (writing : Writing) (rps : List ℕ → Option (List ℕ)) (part : List GroupForm) (bytes : List ℕ) →

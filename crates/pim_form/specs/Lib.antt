@@ -4,3 +4,5 @@ pub mod NormalForm
 pub mod Units
 pub mod Packing
 pub mod Messages
+pub mod Writer
+pub mod Seen

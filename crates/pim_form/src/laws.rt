@@ -1,7 +1,7 @@
 //! What the definitions say together. Nothing here is to be called.
 
 ghost use Rattle.pim_form.specs.Laws.{SealedMessageIsRead, SomeSourceIsOutside, OneNormalForm, OnePacking};
-ghost use Rattle.pim_form.specs.Laws.{MessagesTellTheForm, SizeIsLength};
+ghost use Rattle.pim_form.specs.Laws.{MessagesTellTheForm, OneListOfMessages, SizeIsLength};
 
 /// A canonical message that is sealed for ALL-PIM-ROUTERS opens between the same addresses as a Join/Prune without a
 /// fault, and its body is read without a fault as that message (RFC 7761, 4.9 and 4.9.5).
@@ -40,4 +40,11 @@ pub fn messages_tell_the_form()
 {
     pim_frame::sealed_opens();
     pim_jp::canonical_is_read();
+}
+
+/// A form has at most one list of canonical messages by a writer.
+pub fn one_list_of_messages()
+    ensures { OneListOfMessages }
+{
+    pim_frame::one_checksum();
 }

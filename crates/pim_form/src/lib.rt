@@ -7,10 +7,12 @@
 mod laws;
 mod tree;
 mod wanting;
+mod writer;
 
 pub use laws::{
-    messages_tell_the_form, one_normal_form, one_packing, sealed_message_is_read, size_is_length,
-    some_source_is_outside,
+    messages_tell_the_form, one_list_of_messages, one_normal_form, one_packing,
+    sealed_message_is_read, size_is_length, some_source_is_outside,
 };
 pub use tree::Tree;
 pub use wanting::wants;
+pub use writer::{Writer, WriterFault};
