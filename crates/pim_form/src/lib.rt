@@ -5,6 +5,8 @@
 #![tactic(auto)]
 
 mod laws;
+#[cfg(test)]
+mod tests;
 mod tree;
 mod wanting;
 mod writer;
