@@ -1,6 +1,5 @@
 pub mod Cells
 pub mod Pieces
-pub mod Moved
 pub mod ReadBack
 pub mod TextNames
 pub mod Places

@@ -2,7 +2,7 @@
 use Rattle.std.proofs.Common.{◌≡◌, ℕ, ◌+◌, ◌≤◌, List, ◌++◌, length, take, Option, None, Some, Result, Ok, Err, IsErr, sym, ap, ◌∙◌, arith, append_assoc, length-append}
 use Rattle.std.proofs.lemmas.List.{take-append-le, length-take}
 use Rattle.std.specs.Io.KnownBytes.{Appends}
-use Rattle.pim_addr.specs.Device.{AppendsFront, AppendsAll}
+use Rattle.pim_device.specs.Device.{AppendsFront, AppendsAll}
 
 -- nothing behind the first piece was written
 AppendsFront-longer : (a b : Option (List ℕ)) (bs cs : List ℕ) → AppendsFront a b bs → AppendsFront a b (bs ++ cs)

@@ -1,6 +1,6 @@
 use Rattle.std.proofs.Common.{◌∙◌, arith}
-use Rattle.pim_addr.proofs.Moved.{Appends-step}
-use Rattle.pim_addr.proofs.device.write_all.Goals as goal
+use Rattle.pim_device.proofs.Moved.{Appends-step}
+use Rattle.pim_device.proofs.device.write_all.Goals as goal
 
 pub loop-taken-preserved : goal.loop-taken-preserved
 loop-taken-preserved g c = record {

@@ -1,7 +1,7 @@
 //! A reader or a writer as a device that counts its failures.
 
 ghost use Rattle.std.specs.Prelude.{◌≡◌, ◌+◌, min};
-ghost use Rattle.pim_addr.specs.Device.{counted_inner, counted_failures, top_count};
+ghost use Rattle.pim_device.specs.Device.{counted_inner, counted_failures, top_count};
 
 use crate::device::{Drain, Failed, Feed};
 use std::io::{Read, Write};

@@ -1,8 +1,8 @@
 -- What a scripted device does: the bytes that it has, how often it has failed, how many bytes a call moves at
 -- most, and how many it moves before it fails.
 use Rattle.std.specs.Prelude.{ℕ, List, max}
-use Rattle.pim_addr.specs.declared.scripted.ScriptedFeed.{ScriptedFeed}
-use Rattle.pim_addr.specs.declared.scripted.ScriptedDrain.{ScriptedDrain}
+use Rattle.pim_device.specs.declared.scripted.ScriptedFeed.{ScriptedFeed}
+use Rattle.pim_device.specs.declared.scripted.ScriptedDrain.{ScriptedDrain}
 
 abbrev pub feed_bytes : ScriptedFeed → List ℕ
 feed_bytes feed = feed.rest.now

@@ -1,6 +1,6 @@
 use Rattle.std.proofs.Common.{◌∙◌, arith, length-append}
-use Rattle.pim_addr.proofs.Moved.{Consumes-step}
-use Rattle.pim_addr.proofs.device.read_up_to.Goals as goal
+use Rattle.pim_device.proofs.Moved.{Consumes-step}
+use Rattle.pim_device.proofs.device.read_up_to.Goals as goal
 
 pub loop-got-preserved : goal.loop-got-preserved
 loop-got-preserved g c = record {

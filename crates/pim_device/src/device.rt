@@ -2,7 +2,7 @@
 
 ghost use Rattle.std.specs.Prelude.{◌≡◌, ℕ, ◌<◌, ◌≤◌, List, Option, length, take, IfOk, OnErr};
 ghost use Rattle.std.specs.Io.KnownBytes.{ReadConsumes, WriteAppends, Consumes, IsAtEnd};
-ghost use Rattle.pim_addr.specs.Device.{failures_after, AppendsAll, ConsumesAtMost};
+ghost use Rattle.pim_device.specs.Device.{failures_after, AppendsAll, ConsumesAtMost};
 
 use thiserror::Error;
 

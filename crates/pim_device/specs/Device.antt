@@ -2,7 +2,7 @@
 use Rattle.std.specs.Prelude.{◌≡◌, ℕ, ◌+◌, ◌-◌, ◌^◌, ◌≤◌, min, List, ◌++◌, length, take, drop, Option, None, Some}
 use Rattle.std.specs.Prelude.{Result, Ok, Err, ⊤, MatchResult}
 use Rattle.std.specs.Io.KnownBytes.{Appends}
-use Rattle.pim_addr.specs.declared.counted.Counted.{Counted}
+use Rattle.pim_device.specs.declared.counted.Counted.{Counted}
 
 -- ---- how often a device has failed
 
