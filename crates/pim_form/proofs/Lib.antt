@@ -9,3 +9,4 @@ pub mod Normal
 pub mod Spelled
 pub mod Told
 pub mod Writers
+pub mod Searches
