@@ -10,3 +10,4 @@ pub mod Spelled
 pub mod Told
 pub mod Writers
 pub mod Searches
+pub mod Kept

@@ -2,7 +2,8 @@
 use Rattle.std.specs.Prelude.{◌≡◌, ℕ, ◌≤◌, Bool, List, [], Option, None, Some, length, take, drop, map, if◌then◌else◌}
 use Rattle.std.specs.List.{AllByRecursion}
 use Rattle.pim_form.specs.declared.place.Place.{Place}
-use Rattle.pim_form.specs.NormalForm.{GroupForm}
+use Rattle.pim_addr.specs.declared.family.AddressFamily.{AddressFamily}
+use Rattle.pim_form.specs.NormalForm.{GroupForm, IsNormalGroup, IsNormal}
 
 -- the part of a row from one place to another
 abbrev pub between : {A : Type 0} → ℕ → ℕ → List A → List A
@@ -34,3 +35,11 @@ module _ {A : Type 0} (bytes_of : A → List ℕ) where
 
   abbrev pub form_seen : List A → List (Place A) → List GroupForm
   form_seen row places = map (place_seen row) places
+
+  -- all places are within the row, and their groups are those of a normal form
+  abbrev pub AreKept : AddressFamily → List A → List (Place A) → Type 0
+  AreKept family row places = AllByRecursion (IsWithin (length row)) places × AllByRecursion (IsNormalGroup family) (form_seen row places)
+
+  pub record IsKept (family : AddressFamily) (row : List A) (places : List (Place A)) : Type 0 where
+    pub within : AllByRecursion (IsWithin (length row)) places
+    pub normal : IsNormal family (form_seen row places)

@@ -1,10 +1,10 @@
 //! The groups of a form, one after another.
 
-ghost use Rattle.std.specs.Prelude.{◌≡◌, map};
+ghost use Rattle.std.specs.Prelude.{◌≡◌, length, map};
 ghost use Rattle.std.specs.Option.{is_some};
 ghost use Rattle.std.specs.Iterator.{YieldsFirst, item_count};
-ghost use Rattle.pim_form.specs.NormalForm.{group_wants};
-ghost use Rattle.pim_form.specs.Rows.{exceptions_of, group_seen};
+ghost use Rattle.pim_form.specs.NormalForm.{IsNormalGroup, group_wants};
+ghost use Rattle.pim_form.specs.Rows.{IsWithin, AreKept, exceptions_of, place_seen, form_seen};
 
 use crate::place::Place;
 use crate::sorted::is_listed;
@@ -74,5 +74,76 @@ impl<'a, F: Family> GroupView<'a, F> {
             Tree::Shared => self.starred && !is_listed::<F>(self.exceptions, source),
             Tree::Source => is_listed::<F>(self.sources, source),
         }
+    }
+}
+
+/// The group that stands at this place of the row.
+pub(crate) fn group_at<'a, F: Family>(row: &'a [F::Addr], place: &Place<F::Addr>) -> GroupView<'a, F>
+    requires within { IsWithin (length row.now) place.now }
+    requires normal { IsNormalGroup F.family (place_seen F.bytes_of row.now place.now) }
+    ensures { result ≡ place_seen F.bytes_of row.now place.now }
+{
+    let (front, _) = row.split_at(place.end);
+    let (_, exceptions) = front.split_at(place.middle);
+    let (front, _) = row.split_at(place.middle);
+    let (_, sources) = front.split_at(place.start);
+    GroupView {
+        group: place.group,
+        starred: place.starred,
+        exceptions,
+        sources,
+    }
+}
+
+/// The groups of a form, in order. Contracts see those that are left.
+#[derive(Drop)]
+pub struct Groups<'a, F: Family> {
+    row: &'a [F::Addr],
+    places: &'a [Place<F::Addr>],
+}
+
+impl<'a, F: Family> Model for Groups<'a, F> {
+    ghost use Rattle.std.specs.Prelude.{List};
+    ghost use Rattle.pim_form.specs.NormalForm.{GroupForm};
+    ghost use Rattle.pim_form.specs.Rows.{form_seen, AreKept};
+
+    ghost Value = { List GroupForm };
+
+    ghost view = { λ groups. form_seen F.bytes_of groups.row.now groups.places.now };
+
+    ghost invariant = { λ groups. AreKept F.bytes_of F.family groups.row.now groups.places.now };
+}
+
+impl<'a, F: Family> Groups<'a, F> {
+    /// The groups at these places of the row.
+    pub(crate) fn new(row: &'a [F::Addr], places: &'a [Place<F::Addr>]) -> Self
+        requires { AreKept F.bytes_of F.family row.now places.now }
+        ensures { result ≡ form_seen F.bytes_of row.now places.now }
+    {
+        Groups { row, places }
+    }
+
+    /// How many groups are left.
+    #[tactic(auto, using(crate::proofs::Kept::places_count))]
+    pub fn count_left(&self) -> usize
+        ensures { result ≡ length self.now }
+    {
+        self.places.len()
+    }
+}
+
+#[tactic(auto, using(crate::proofs::Kept::form_first, crate::proofs::Kept::places_count))]
+impl<'a, F: Family> Iterator for Groups<'a, F> {
+    type Item = GroupView<'a, F>;
+
+    ghost next_gives = { YieldsFirst (λ groups. groups) };
+
+    ghost remaining = { item_count (λ groups. groups) };
+
+    fn next(&mut self) -> Option<GroupView<'a, F>> {
+        let (first, others) = self.places.split_first()?;
+        let group = group_at::<F>(self.row, first);
+        self.places = others;
+        Some(group)
     }
 }

@@ -14,7 +14,7 @@ mod tree;
 mod wanting;
 mod writer;
 
-pub use groups::GroupView;
+pub use groups::{GroupView, Groups};
 pub use laws::{
     messages_tell_the_form, one_list_of_messages, one_normal_form, one_packing,
     sealed_message_is_read, size_is_length, some_source_is_outside,
