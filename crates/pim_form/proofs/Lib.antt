@@ -9,3 +9,5 @@ pub mod Normal
 pub mod Spelled
 pub mod Told
 pub mod Writers
+pub mod Searches
+pub mod Kept

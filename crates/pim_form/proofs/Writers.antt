@@ -1,6 +1,6 @@
 -- Which writer is refused, and what is true of one that isn't.
 use Rattle.std.proofs.Common.{◌≡◌, ◌∙◌, ◌≤◌, ◌<◌, ◌^◌, Bool, true, false, ◌||◌, ◌⊎◌, not, nat_lt, ◌++◌, Result, Ok, Err, refl, sym, subst, ⊎_elim}
-use Rattle.std.proofs.lemmas.Bool.{false≢true, not-false, lt-ltb, le-ltb}
+use Rattle.std.proofs.lemmas.Bool.{false≢true, not-false, lt-ltb, le-ltb, ltb-false}
 use Rattle.pim_addr.specs.declared.family.AddressFamily.{AddressFamily}
 use Rattle.pim_addr.specs.Address.{IsAddress, is_source}
 use Rattle.pim_addr.specs.Faults.{fault_if, judged}
@@ -45,14 +45,17 @@ module _ {A : Type 0} (family : AddressFamily) (writing : Writing) (value : A) w
   pub holdtime_told : has_bad_address family writing ≡ false → writing.holdtime < 99 → Told Holdtime
   holdtime_told h less = sym (second_told (has_bad_address family writing) (nat_lt writing.holdtime 99) (nat_lt writing.budget 70 || nat_lt 65000 writing.budget) Address Holdtime Budget value h (lt-ltb writing.holdtime 99 less))
 
-  pub budget_told : has_bad_address family writing ≡ false → 99 ≤ writing.holdtime → (writing.budget < 70) ⊎ ((70 ≤ writing.budget) × (65000 < writing.budget)) → Told Budget
-  budget_told h long either =
-      let outside : (nat_lt writing.budget 70 || nat_lt 65000 writing.budget) ≡ true =
-      ⊎_elim
-      (λ (less : writing.budget < 70). rw (lt-ltb writing.budget 70 less) refl)
-      (λ (more : (70 ≤ writing.budget) × (65000 < writing.budget)). or_second (nat_lt writing.budget 70) (nat_lt 65000 writing.budget) (lt-ltb 65000 writing.budget more.1))
-      either in
-      sym (third_told (has_bad_address family writing) (nat_lt writing.holdtime 99) (nat_lt writing.budget 70 || nat_lt 65000 writing.budget) Address Holdtime Budget value h (le-ltb writing.holdtime 99 long) outside)
+  outside : (least most : Bool) → (least ≡ false → most ≡ false → ⊥) → (least || most) ≡ true
+  outside true most clash = refl
+  outside false true clash = refl
+  outside false false clash = absurd (clash refl refl)
+
+  pub budget_told : has_bad_address family writing ≡ false → 99 ≤ writing.holdtime → (70 ≤ writing.budget → writing.budget ≤ 65000 → ⊥) → Told Budget
+  budget_told h long clash =
+      let tests = outside (nat_lt writing.budget 70) (nat_lt 65000 writing.budget)
+        (λ least most. clash (ltb-false writing.budget 70 least) (ltb-false 65000 writing.budget most)) in
+      sym
+      (third_told (has_bad_address family writing) (nat_lt writing.holdtime 99) (nat_lt writing.budget 70 || nat_lt 65000 writing.budget) Address Holdtime Budget value h (le-ltb writing.holdtime 99 long) tests)
 
   pub taken : has_bad_address family writing ≡ false → 99 ≤ writing.holdtime → 70 ≤ writing.budget → writing.budget ≤ 65000 → Ok value ≡ judged (writer_faults family writing) value
   taken h long least most =

@@ -6,3 +6,4 @@ pub mod Packing
 pub mod Messages
 pub mod Writer
 pub mod Seen
+pub mod Rows

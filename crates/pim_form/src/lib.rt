@@ -4,13 +4,17 @@
 //! a fault as that message; `wants` is the macros of RFC 7761, 4.1.
 #![tactic(auto)]
 
+mod groups;
 mod laws;
+mod place;
+mod sorted;
 #[cfg(test)]
 mod tests;
 mod tree;
 mod wanting;
 mod writer;
 
+pub use groups::{GroupView, Groups};
 pub use laws::{
     messages_tell_the_form, one_list_of_messages, one_normal_form, one_packing,
     sealed_message_is_read, size_is_length, some_source_is_outside,
