@@ -196,16 +196,18 @@ fn read_body<F: Family>(body: &[u8]) -> Result<View<'_>, Fault> {
 struct List {
     count: u16,
     flags: u8,
+    others: u8,
     first: u32,
 }
 
 fn push_list(list: &List, body: &mut Vec<u8>) {
     let mut source = list.first;
     for _ in 0..list.count {
-        body.extend_from_slice(&[1, 0, list.flags, 32]);
+        let flags = if source & 0x8000_0000 != 0 { list.others } else { list.flags };
+        body.extend_from_slice(&[1, 0, flags, 32]);
         let address = (source & 0x7fff_ffff).wrapping_add(0x0100_0000);
         body.extend_from_slice(&address.to_be_bytes());
-        source = source.wrapping_add(0x009e_3779);
+        source = source.wrapping_mul(0x0019_660d).wrapping_add(0x3c6e_f35f);
     }
 }
 
@@ -278,7 +280,8 @@ fn tell(name: &str, joined: List, pruned: List, rounds: u32) {
 }
 
 fn main() {
-    let list = |count, flags, first| List { count, flags, first };
+    let list = |count, flags, first| List { count, flags, others: flags, first };
+    let mixed = |count, first| List { count, flags: SOURCE, others: RPT, first };
     let none = || list(0, SOURCE, 0);
     let rounds = 1_000_000;
     tell("91 joined", list(91, SOURCE, 1), none(), rounds);
@@ -288,4 +291,6 @@ fn main() {
     tell("4093 joined, 4094 pruned", list(4093, SOURCE, 1), list(4094, SOURCE, 2), rounds);
     tell("7600 joined, 587 pruned", list(7600, SOURCE, 1), list(587, SOURCE, 2), rounds);
     tell("587 joined, 7600 pruned", list(587, SOURCE, 1), list(7600, SOURCE, 2), rounds);
+    tell("16 joined, 8171 pruned", list(16, SOURCE, 1), list(8171, SOURCE, 2), rounds);
+    tell("4093 joined, 4094 pruned, mixed", mixed(4093, 1), mixed(4094, 2), rounds);
 }

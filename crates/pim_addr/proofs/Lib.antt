@@ -1,7 +1,5 @@
 pub mod Cells
 pub mod Pieces
-pub mod Moved
-pub mod Failures
 pub mod ReadBack
 pub mod TextNames
 pub mod Places
@@ -15,3 +13,4 @@ mod Inserted
 mod SameRows
 mod AnyOrder
 mod OneRow
+pub mod CountBelow

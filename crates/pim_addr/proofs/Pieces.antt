@@ -5,9 +5,6 @@ use Rattle.std.proofs.lemmas.List.{drop-drop, map_more, take_more, length-map, l
 use Rattle.std.specs.List.{join_with_byte}
 use Rattle.pim_addr.specs.Text.{hex_pair, hex_groups, separator, Wrote}
 
-pub Wrote-nothing : (t : List ℕ) → Wrote [] 0 t 0 t
-Wrote-nothing t = record { up_to = refl; written = refl; behind = refl }
-
 -- two pieces, one behind the other
 pub Wrote-more : {p q t u v : List ℕ} {a b c : ℕ} → Wrote p a t b u → Wrote q b u c v → Wrote (p ++ q) a t c v
 Wrote-more {p} {q} {t} {u} {v} {a} {b} {c} first second =

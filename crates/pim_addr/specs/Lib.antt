@@ -4,8 +4,6 @@ pub mod Faults
 pub mod Encoded
 pub mod Seen
 pub mod Text
-pub mod Device
-pub mod Scripted
 pub mod Canonical
 pub mod TextForms
 pub mod Order

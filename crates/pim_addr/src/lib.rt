@@ -1,12 +1,11 @@
-//! Addresses of the two families, their encoded forms and their text, and the devices that bytes come from and go to.
+//! Addresses of the two families, their encoded forms and their text, route tables, and the devices of `pim_device`.
 //!
 //! Proved: an address is its bytes; an encoded form is read as the value that it spells, or its first fault is told,
-//! and written in its one canonical spelling; an address has one text; devices move what they tell and count
-//! their failures.
+//! and written in its one canonical spelling; an address has one text; a route table is two finite maps from prefixes
+//! to addresses, of which the longest that matches answers.
 #![tactic(auto)]
 
-mod counted;
-mod device;
+mod below;
 mod encoded;
 mod family;
 mod longest;
@@ -19,13 +18,11 @@ mod route_map;
 mod route_rows;
 mod routes;
 mod rows;
-mod scripted;
 mod search;
 mod text;
 mod written;
 
-pub use counted::Counted;
-pub use device::{Drain, Failed, Feed, read_up_to, write_all};
+pub use below::count_below;
 pub use encoded::{
     AddrFault, SourceAddress, SourceBits, group_length, read_group, read_source, read_unicast,
     source_length, unicast_length,
@@ -33,6 +30,9 @@ pub use encoded::{
 pub use family::{AddressFamily, Family, V4, V6, numbers_are_in_order};
 pub use order::first_of_parts_is_least;
 pub use parsed::{read_text, text_names_one_address, written_text_names};
+pub use pim_device::{
+    Counted, Drain, Failed, Feed, ScriptedDrain, ScriptedFeed, read_up_to, write_all,
+};
 pub use route::Route;
 pub use route_fault::RouteFault;
 pub use route_laws::{
@@ -41,7 +41,6 @@ pub use route_laws::{
 };
 pub use route_rows::RouteRows;
 pub use routes::Routes;
-pub use scripted::{ScriptedDrain, ScriptedFeed};
 pub use search::place_of;
 pub use text::write_text;
 pub use written::{

@@ -1,7 +1,7 @@
 //! A capture that is read record by record.
 
 ghost use Rattle.std.specs.Prelude.{◌≡◌, ◌+◌, ◌<◌, IfOk, max, vec_len, vec_capacity, ◌⊎◌};
-ghost use Rattle.pim_addr.specs.Device.{ConsumesAtMost};
+ghost use Rattle.pim_device.specs.Device.{ConsumesAtMost};
 ghost use Rattle.std.specs.Option.{option_map};
 ghost use Rattle.pim_capture.specs.declared.capture.State.TheVariants.{Unbegun};
 ghost use Rattle.pim_capture.specs.Capture.{answers};

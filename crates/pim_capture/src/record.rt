@@ -3,7 +3,7 @@
 ghost use Rattle.std.specs.Prelude.{◌≡◌, ◌≢◌, ◌+◌, ◌-◌, ◌<◌, ◌≤◌, ◌⊎◌, ℕ, length, take, drop, min, max, Ok, Err, IfOk};
 ghost use Rattle.std.specs.Prelude.{IfErr, OnOk, OnErr, IsErr, MatchResult, vec_len, vec_capacity};
 ghost use Rattle.std.specs.Option.{option_map};
-ghost use Rattle.pim_addr.specs.Device.{ConsumesAtMost};
+ghost use Rattle.pim_device.specs.Device.{ConsumesAtMost};
 ghost use Rattle.pim_capture.specs.declared.event.Event.TheVariants.{End};
 ghost use Rattle.pim_capture.specs.Frame.{judge_frame};
 ghost use Rattle.pim_capture.specs.Capture.{records, millis_of, told_of, most_captured};

@@ -1,5 +1,5 @@
--- What is read of a message that is written.
-use Rattle.std.specs.Prelude.{◌≡◌, List, [], ℕ}
+-- The words of the laws in `src/laws.rt`.
+use Rattle.std.specs.Prelude.{◌≡◌, ◌≤◌, false, true, List, [], ℕ, Option, length}
 use Rattle.pim_addr.specs.declared.family.AddressFamily.{AddressFamily}
 use Rattle.pim_frame.specs.Frame.{join_prune, frame_faults, content, all_routers}
 use Rattle.pim_frame.specs.Seal.{IsSealed}
@@ -7,6 +7,10 @@ use Rattle.pim_frame.specs.declared.frame.Kind.TheVariants.{JoinPrune}
 use Rattle.pim_jp.specs.Message.{Message, message_of}
 use Rattle.pim_jp.specs.Faults.{faults}
 use Rattle.pim_jp.specs.Canonical.{IsMessage, canonical}
+use Rattle.pim_form.specs.NormalForm.{GroupForm, IsNormal, IsSource, is_listed, most_exceptions, WantTheSame}
+use Rattle.pim_form.specs.Units.{WantUnit, units_of, run_size}
+use Rattle.pim_form.specs.Packing.{IsPacking, fits}
+use Rattle.pim_form.specs.Messages.{Writing, IsWriting, HaveRps, AreCanonical, told_message}
 
 -- The bytes, sent from `source` to ALL-PIM-ROUTERS, are opened as a Join/Prune whose body is read as this message, and
 -- no fault is found on the way (RFC 7761, 4.9 and 4.9.5).
@@ -22,3 +26,43 @@ abbrev pub SealedMessageIsRead : Type 0
 SealedMessageIsRead = (family : AddressFamily) (source : List ℕ) (message : Message) (bytes : List ℕ) →
     IsMessage family message → IsSealed family source (all_routers family) JoinPrune (canonical family message) bytes →
     IsReadAs family source bytes message
+
+-- ---- demand
+
+-- a valid source that is none of these
+pub record Outside (family : AddressFamily) (exceptions : List (List ℕ)) : Type 0 where
+  pub source : List ℕ
+  pub valid : IsSource family source
+  pub apart : is_listed source exceptions ≡ false
+
+-- there is one outside the exceptions of any star
+abbrev pub SomeSourceIsOutside : Type 0
+SomeSourceIsOutside = (family : AddressFamily) (exceptions : List (List ℕ)) → length exceptions ≤ most_exceptions → Outside family exceptions
+
+-- normal forms that want the same are one
+abbrev pub OneNormalForm : Type 0
+OneNormalForm = (family : AddressFamily) (one other : List GroupForm) → IsNormal family one → IsNormal family other →
+    WantTheSame family one other → one ≡ other
+
+-- units have one packing at most
+abbrev pub OnePacking : Type 0
+OnePacking = (family : AddressFamily) (budget : ℕ) (units : List WantUnit) (one other : List (List WantUnit)) →
+    IsPacking family budget units one → IsPacking family budget units other → one ≡ other
+
+-- normal forms that one writer tells by the same canonical messages are one
+abbrev pub MessagesTellTheForm : Type 0
+MessagesTellTheForm = (family : AddressFamily) (writing : Writing) (rps : List ℕ → Option (List ℕ)) (one other : List GroupForm) (messages : List (List ℕ)) →
+    IsWriting family writing → IsNormal family one → IsNormal family other → HaveRps family rps one → HaveRps family rps other →
+    AreCanonical family writing rps one messages → AreCanonical family writing rps other messages → one ≡ other
+
+-- a form has one list of canonical messages at most
+abbrev pub OneListOfMessages : Type 0
+OneListOfMessages = (family : AddressFamily) (writing : Writing) (rps : List ℕ → Option (List ℕ)) (form : List GroupForm) (one other : List (List ℕ)) →
+    AreCanonical family writing rps form one → AreCanonical family writing rps form other → one ≡ other
+
+-- The size of a run that fits is the length of the message that tells it.
+abbrev pub SizeIsLength : Type 0
+SizeIsLength = (family : AddressFamily) (writing : Writing) (rps : List ℕ → Option (List ℕ)) (part : List GroupForm) (bytes : List ℕ) →
+    IsWriting family writing → IsNormal family part → HaveRps family rps part → fits family writing.budget (units_of part) ≡ true →
+    IsSealed family writing.own (all_routers family) JoinPrune (canonical family (told_message writing rps part)) bytes →
+    length bytes ≡ run_size family (units_of part)

@@ -1,6 +1,7 @@
-//! What the definitions of headers and of Join/Prune messages say together. Nothing here is to be called.
+//! What the definitions say together. Nothing here is to be called.
 
-ghost use Rattle.pim_form.specs.Laws.{SealedMessageIsRead};
+ghost use Rattle.pim_form.specs.Laws.{SealedMessageIsRead, SomeSourceIsOutside, OneNormalForm, OnePacking};
+ghost use Rattle.pim_form.specs.Laws.{MessagesTellTheForm, OneListOfMessages, SizeIsLength};
 
 /// A canonical message that is sealed for ALL-PIM-ROUTERS opens between the same addresses as a Join/Prune without a
 /// fault, and its body is read without a fault as that message (RFC 7761, 4.9 and 4.9.5).
@@ -9,4 +10,41 @@ pub fn sealed_message_is_read()
 {
     pim_frame::sealed_opens();
     pim_jp::canonical_is_read();
+}
+
+/// Outside any 100,000 exceptions there is a valid source, in both families.
+pub fn some_source_is_outside()
+    ensures { SomeSourceIsOutside }
+{}
+
+/// Two normal forms that want the same of every valid source, every group and both trees are one.
+pub fn one_normal_form()
+    ensures { OneNormalForm }
+{}
+
+/// A list of units has at most one packing within a budget.
+pub fn one_packing()
+    ensures { OnePacking }
+{}
+
+/// The size of a run that fits is the length of the message that tells it.
+pub fn size_is_length()
+    ensures { SizeIsLength }
+{
+    pim_jp::canonical_has_its_length();
+}
+
+/// Normal forms that one writer tells by the same canonical messages are one.
+pub fn messages_tell_the_form()
+    ensures { MessagesTellTheForm }
+{
+    pim_frame::sealed_opens();
+    pim_jp::canonical_is_read();
+}
+
+/// A form has at most one list of canonical messages by a writer.
+pub fn one_list_of_messages()
+    ensures { OneListOfMessages }
+{
+    pim_frame::one_checksum();
 }

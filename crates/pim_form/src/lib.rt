@@ -1,9 +1,24 @@
-//! Join/Prune messages in their frames: what is sealed is opened and read as the message that was written.
+//! The demand of the downstream machines: what they want, its one normal form, and the Join/Prune messages that tell it.
 //!
 //! Proved: a canonical message that is sealed for ALL-PIM-ROUTERS opens without a fault, and its body is read without
-//! a fault as that message.
+//! a fault as that message; `wants` is the macros of RFC 7761, 4.1.
 #![tactic(auto)]
 
+mod groups;
 mod laws;
+mod place;
+mod sorted;
+#[cfg(test)]
+mod tests;
+mod tree;
+mod wanting;
+mod writer;
 
-pub use laws::sealed_message_is_read;
+pub use groups::{GroupView, Groups};
+pub use laws::{
+    messages_tell_the_form, one_list_of_messages, one_normal_form, one_packing,
+    sealed_message_is_read, size_is_length, some_source_is_outside,
+};
+pub use tree::Tree;
+pub use wanting::wants;
+pub use writer::{Writer, WriterFault};

@@ -3,8 +3,8 @@
 ghost use Rattle.std.specs.Prelude.{◌≡◌, ◌<◌, ◌^◌, ⊤, [], length};
 
 use crate::row::{is_row, native_size};
-use crate::writing::{put_each, size_unicast};
-use pim_addr::{Family, read_unicast};
+use crate::writing::put_each;
+use pim_addr::{Family, read_unicast, unicast_length};
 use std::alloc::AllocError;
 use std::marker::PhantomData;
 
@@ -51,7 +51,7 @@ impl<'a, F: Family> Addresses<'a, F> {
     pub fn row_length(count: u16) -> usize
         ensures { result ≡ count * unicast_length F.family }
     {
-        usize::from(count) * size_unicast::<F>()
+        usize::from(count) * unicast_length::<F>()
     }
 
     /// Writes these addresses into a row, one encoded unicast address (RFC 7761, 4.9.1) after the other, and gives

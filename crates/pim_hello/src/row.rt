@@ -5,17 +5,16 @@ ghost use Rattle.std.specs.Option.{option_map};
 ghost use Rattle.pim_addr.specs.Encoded.{unicast_length};
 ghost use Rattle.pim_hello.specs.Row.{first_family, is_row};
 
-use crate::writing::size_unicast;
-use pim_addr::{V4, V6, read_unicast};
+use pim_addr::{V4, V6, read_unicast, unicast_length};
 
 /// How many bytes the address at the front takes, or `None` if no whole native address stands there.
 pub(crate) fn native_size(bytes: &[u8]) -> Option<usize>
     ensures { result ≡ option_map unicast_length (first_family bytes.now) }
 {
     if read_unicast::<V4>(bytes).is_ok() {
-        Some(size_unicast::<V4>())
+        Some(unicast_length::<V4>())
     } else if read_unicast::<V6>(bytes).is_ok() {
-        Some(size_unicast::<V6>())
+        Some(unicast_length::<V6>())
     } else {
         None
     }

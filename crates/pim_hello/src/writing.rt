@@ -13,7 +13,7 @@ use crate::addresses::Addresses;
 use crate::delay::{LanDelay, T_BIT};
 use crate::option::{ADDRESS_LIST, HEADER_LENGTH, LAN_PRUNE_DELAY};
 use byteorder::{BigEndian, ByteOrder};
-use pim_addr::{Family, unicast_length};
+use pim_addr::{Family, put_unicast, unicast_length};
 
 /// Writes an option's type and length.
 fn put_header(kind: u16, size: u16, out: &mut [u8])
@@ -99,29 +99,12 @@ pub(crate) fn put_delays(lan: Option<LanDelay>, out: &mut [u8])
     }
 }
 
-/// Writes an encoded unicast address.
-fn put_unicast<F: Family>(address: F::Addr, out: &mut [u8])
-    requires { length out.old ≡ unicast_length F.family }
-    ensures { out.new ≡ address_spelled F.family (F.bytes_of address) }
-{
-    let (form, bytes) = out.split_at_mut(2);
-    form.copy_from_slice(&[F::AFI, 0]);
-    F::put(address, bytes);
-}
-
-/// How many bytes an encoded unicast address takes.
-pub(crate) fn size_unicast<F: Family>() -> usize
-    ensures { result ≡ unicast_length F.family }
-{
-    unicast_length::<F>()
-}
-
 /// How many bytes the addresses take in their row.
 fn size_row<F: Family>(addresses: Addresses<'_, F>) -> usize
     ensures size { result ≡ length (row_spelled F.family (addresses_seen F.family addresses.entry)) }
     ensures small { result < 2 ^ 16 }
 {
-    addresses.len() * size_unicast::<F>()
+    addresses.len() * unicast_length::<F>()
 }
 
 /// Writes the addresses, one after the other.
@@ -129,7 +112,7 @@ fn put_row<F: Family>(addresses: Addresses<'_, F>, row: &mut [u8])
     requires { length row.old ≡ length (row_spelled F.family (addresses_seen F.family addresses)) }
     ensures { row.new ≡ row_spelled F.family (addresses_seen F.family addresses.entry) }
 {
-    let size = size_unicast::<F>();
+    let size = unicast_length::<F>();
     let mut at = 0;
     for address in addresses {
         let (_, rest) = row.split_at_mut(at);
@@ -145,7 +128,7 @@ pub(crate) fn put_each<F: Family>(addresses: &[F::Addr], row: &mut [u8])
     ensures row { row.new ≡ row_spelled F.family (map F.bytes_of addresses.now) }
     ensures addresses { AreAddresses F.family (map F.bytes_of addresses.now) }
 {
-    let size = size_unicast::<F>();
+    let size = unicast_length::<F>();
     let mut at = 0;
     for address in addresses {
         let (_, rest) = row.split_at_mut(at);

@@ -1,5 +1,6 @@
 -- What the reader finds in one list, told of the parts of the body.
 use Rattle.std.proofs.Common.{◌≡◌, ◌∙◌, sym, ap, ℕ, zero, suc, ◌+◌, ◌-◌, ◌*◌, ◌≤◌, ◌<◌, Bool, true, false, ◌||◌, ◌&&◌, not, List, [], ◌∷◌, ◌++◌, length, drop, nat_lt, refl, ⊎_elim, arith, append_assoc, append-nil, map, if◌then◌else◌}
+use Rattle.std.specs.Prelude.{Result, Ok, Err, IfOk, IfErr}
 use Rattle.std.specs.List.{list_any}
 use Rattle.std.proofs.lemmas.Bool.{le-ltb, or_parts, cases_lt}
 use Rattle.std.proofs.lemmas.List.Folds.{list_any-append}
@@ -16,7 +17,7 @@ use Rattle.pim_jp.specs.Message.{entry_of, entries_of}
 use Rattle.pim_jp.specs.Spelling.{is_star, same_source}
 use Rattle.pim_jp.specs.Parts.{Part, entry, entry_parts, is_kindless, kind_of}
 use Rattle.pim_jp.specs.Faults.{address_kind, kinds_at, part_faults, faults_of}
-use Rattle.pim_jp.specs.Reading.{Tells, Stops, own_kinds, lone_kinds, kinds_at_place, entry_at, AreClean, StopsAt, is_in, AreApart, is_source_entry, is_rpt_entry, EntriesPass}
+use Rattle.pim_jp.specs.Reading.{Tells, Stops, own_kinds, lone_kinds, kinds_at_place, entry_at, AreClean, StopsAt, is_in, AreApart, ClashesAt, is_source_entry, is_rpt_entry, EntriesPass}
 use Rattle.pim_jp.proofs.Front.{append_none, map_none, none_if}
 use Rattle.pim_jp.proofs.Forms.{source_legal}
 use Rattle.pim_jp.proofs.Judged.{judged_first}
@@ -193,6 +194,22 @@ list_clashes family count joined has_star at bytes few place star clean within b
     let none = star_before family joined has_star place bytes star ∙ clean place below in
     let told = entry_clash family (joined ++ entries_of family place bytes) joined (drop (place * source_length family) bytes) none clash in
     stop_at family count joined has_star at bytes place BothLists star (omega arith) (λ i h. clean i (omega arith)) apart told
+
+pub list_clashed : (family : AddressFamily) (count : ℕ) (joined : List (Entry (List ℕ))) (has_star : Bool) (at : ℕ) (bytes : List ℕ) (few : ℕ) (fault : JpFault)
+    → list_any is_star joined ≡ has_star → AreClean family has_star few bytes → few ≤ count → ClashesAt family joined few at bytes fault
+    → Stops family (entry_parts family count joined joined at bytes) fault
+list_clashed family count joined has_star at bytes few fault star clean within (place, below, apart, clash, is) =
+    rw is (list_clashes family count joined has_star at bytes few place star clean within below apart clash)
+
+-- ---- from one answer to another
+
+pub ok_then : {A E : Type 0} {P Q : Type 0} (answer : Result A E) → (P → Q) → IfOk answer (λ _. P) → IfOk answer (λ _. Q)
+ok_then (Ok x) f p = f p
+ok_then (Err e) f p = p
+
+pub err_then : {A E : Type 0} {P Q : E → Type 0} (answer : Result A E) → ((e : E) → P e → Q e) → IfErr answer P → IfErr answer Q
+err_then (Ok x) f p = p
+err_then (Err e) f p = f e p
 
 -- ---- kinds that don't meet
 

@@ -10,7 +10,7 @@ use Rattle.pim_addr.specs.Encoded.{source_faults, group_length, source_length, s
 use Rattle.pim_jp.specs.declared.entry.Entry.{Entry}
 use Rattle.pim_jp.specs.declared.entry.Entry.TheVariants.{Star, Source, Rpt}
 use Rattle.pim_jp.specs.declared.fault.JpKind.{JpKind}
-use Rattle.pim_jp.specs.declared.fault.JpKind.TheVariants.{Flags, NotSource, SecondStar}
+use Rattle.pim_jp.specs.declared.fault.JpKind.TheVariants.{Flags, NotSource, SecondStar, BothLists}
 use Rattle.pim_jp.specs.declared.fault.JpFault.{JpFault}
 use Rattle.pim_jp.specs.Message.{entry_of, entries_of}
 use Rattle.pim_jp.specs.Spelling.{is_star, same_source}
@@ -64,6 +64,12 @@ is_in other this = list_any (same_source this) other
 -- none of so many entries has its source in the other list too
 abbrev pub AreApart : AddressFamily → List (Entry (List ℕ)) → ℕ → List ℕ → Type 0
 AreApart family other count bytes = (place : ℕ) → place < count → is_in other (entry_at family place bytes) ≡ false
+
+-- The first of so many, in a list that starts at this offset, whose source is in the other list too: what is told of it.
+abbrev pub ClashesAt : AddressFamily → List (Entry (List ℕ)) → ℕ → ℕ → List ℕ → JpFault → Type 0
+ClashesAt family other count at bytes fault = (place : ℕ) × (place < count) × AreApart family other place bytes
+    × (is_in other (entry_at family place bytes) ≡ true)
+    × (fault ≡ record { at = at + place * source_length family; kind = BothLists })
 
 -- (S,G)
 abbrev pub is_source_entry : Entry (List ℕ) → Bool

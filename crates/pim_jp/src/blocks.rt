@@ -1,73 +1,88 @@
-//! Sources that are looked for among many: these are sorted block by block, on the stack.
+//! Sources that are looked for among many: the numbers of these are sorted block by block, on the stack.
 
-ghost use Rattle.std.specs.Prelude.{◌≡◌, ℕ, ◌*◌, ◌≤◌, ◌<◌, ◌||◌, true, false, Option, None, List, [], ◌∷◌, length, take, IfSome};
+ghost use Rattle.std.specs.Prelude.{◌≡◌, ℕ, ◌*◌, ◌≤◌, ◌<◌, ◌||◌, true, false};
+ghost use Rattle.std.specs.Prelude.{Bool, ◌&&◌, List, [], ◌∷◌, length, take, nat_eq};
+ghost use Rattle.std.specs.Cmp.Lexicographic.{pointwise};
 ghost use Rattle.std.specs.List.Sorted.{IsSorted};
+ghost use Rattle.pim_addr.specs.Address.{IsAddress, number_of};
 ghost use Rattle.pim_addr.specs.Encoded.{source_length};
 ghost use Rattle.pim_jp.specs.declared.entry.Entry.{Entry};
 ghost use Rattle.pim_jp.specs.Seen.{entry_seen};
 ghost use Rattle.pim_jp.specs.Spelling.{same_source};
 ghost use Rattle.pim_jp.specs.Reading.{is_in, entry_at};
-ghost use Rattle.pim_jp.specs.Sources.{is_among, is_of_kind, is_listed, AreApartInKind};
+ghost use Rattle.pim_jp.specs.Sources.{is_among, is_of_kind, IsOfKind, is_listed, AreApartInKind};
 
 use crate::entries::{Entries, first_entry};
 use crate::entry::Entry;
-use pim_addr::{Family, source_length};
+use pim_addr::{Family, count_below, numbers_are_in_order, source_length};
 
-/// The source of an entry that is (S,G,rpt), or (S,G).
-fn source_of_kind<A: Copy>(entry: Entry<A>, rpt: bool) -> Option<A>
-    ensures some { IfSome result (λ source. (bytes_of : A → List ℕ) (this : Entry (List ℕ)) → is_of_kind rpt this ≡ true →
-        same_source this (entry_seen bytes_of entry) ≡ is_listed bytes_of rpt (source ∷ []) this) }
-    ensures same { IfSome result (λ source. (bytes_of : A → List ℕ) (addresses : List A) →
-        is_listed bytes_of rpt addresses (entry_seen bytes_of entry) ≡ is_among bytes_of addresses (bytes_of source)) }
-    ensures none { result ≡ None → (bytes_of : A → List ℕ) → is_of_kind rpt (entry_seen bytes_of entry) ≡ false }
+/// The number of a source. Sources are equal exactly if their numbers are.
+fn number_of_source<F: Family>(source: F::Addr) -> F::Number
+    ensures number { F.value_of result ≡ number_of (F.bytes_of source) }
+    ensures same { (other : List ℕ) → IsAddress F.family other
+        → pointwise nat_eq other (F.bytes_of source) ≡ nat_eq (number_of other) (F.value_of result) }
+{
+    F::address_has_its_bytes(source);
+    numbers_are_in_order();
+    F::number(source)
+}
+
+/// The number of the address of an entry.
+fn number_of_entry<F: Family>(entry: Entry<F::Addr>) -> F::Number
+    ensures same { (rpt : Bool) (this : Entry (List ℕ)) → IsOfKind F.family rpt this → same_source this (entry_seen F.bytes_of entry)
+        ≡ (is_of_kind rpt (entry_seen F.bytes_of entry) && is_listed F.value_of rpt (result ∷ []) this) }
+    ensures listed { (rpt : Bool) (numbers : List F.Number) → is_listed F.value_of rpt numbers (entry_seen F.bytes_of entry)
+        ≡ (is_of_kind rpt (entry_seen F.bytes_of entry) && is_among F.value_of numbers (F.value_of result)) }
 {
     match entry {
-        Entry::Star(_) => None,
-        Entry::Source(source) => {
-            if rpt {
-                return None;
-            }
-            Some(source)
-        }
-        Entry::Rpt(source) => {
-            if !rpt {
-                return None;
-            }
-            Some(source)
+        Entry::Star(address) | Entry::Source(address) | Entry::Rpt(address) => {
+            number_of_source::<F>(address)
         }
     }
 }
 
-/// Whether the address is one of these, which are in order.
-fn holds<F: Family>(sorted: &[F::Addr], address: F::Addr) -> bool
-    requires { IsSorted F.Addr.cmp sorted.now }
-    ensures { result ≡ is_among F.bytes_of sorted.now (F.bytes_of address) }
+/// Whether the entry is (S,G,rpt), or (S,G).
+fn is_of_kind<F: Family>(entry: Entry<F::Addr>, rpt: bool) -> bool
+    ensures { result ≡ is_of_kind rpt (entry_seen F.bytes_of entry) }
 {
-    match sorted.binary_search(&address) {
-        Ok(_) => true,
-        Err(_) => false,
+    match entry {
+        Entry::Star(_) => false,
+        Entry::Source(_) => !rpt,
+        Entry::Rpt(_) => rpt,
     }
 }
 
-/// Whether the entry is of the kind and its source one of these, which are in order.
-fn is_listed<F: Family>(sorted: &[F::Addr], rpt: bool, entry: Entry<F::Addr>) -> bool
-    requires { IsSorted F.Addr.cmp sorted.now }
-    ensures { result ≡ is_listed F.bytes_of rpt sorted.now (entry_seen F.bytes_of entry) }
+/// Whether the number is one of these, which are in order. Neither the search nor the test behind it has a branch that
+/// goes by what is found.
+fn holds<F: Family>(sorted: &[F::Number], number: F::Number) -> bool
+    requires { IsSorted F.Number.cmp sorted.now }
+    ensures { result ≡ is_among F.value_of sorted.now (F.value_of number) }
 {
-    match source_of_kind(entry, rpt) {
-        Some(source) => holds::<F>(sorted, source),
-        None => false,
+    if sorted.is_empty() {
+        return false;
     }
+    let below = count_below(sorted, number);
+    let next = below - usize::from(below == sorted.len());
+    sorted[next] == number
 }
 
-/// The place of the first of so many entries that is of the kind and has its source among these, which are in order;
+/// Whether the entry is of the kind and the number of its source one of these, which are in order.
+fn is_listed<F: Family>(sorted: &[F::Number], rpt: bool, entry: Entry<F::Addr>) -> bool
+    requires { IsSorted F.Number.cmp sorted.now }
+    ensures { result ≡ is_listed F.value_of rpt sorted.now (entry_seen F.bytes_of entry) }
+{
+    is_of_kind::<F>(entry, rpt) && holds::<F>(sorted, number_of_entry::<F>(entry))
+}
+
+/// The place of the first of so many entries that is of the kind and has its number among these, which are in order;
 /// their number if there is none.
-fn first_listed<F: Family>(sorted: &[F::Addr], rpt: bool, count: u16, bytes: &[u8]) -> u16
+fn first_listed<F: Family>(sorted: &[F::Number], rpt: bool, count: u16, bytes: &[u8]) -> u16
     requires long { count * source_length F.family ≤ length bytes.now }
-    requires sorted { IsSorted F.Addr.cmp sorted.now }
+    requires sorted { IsSorted F.Number.cmp sorted.now }
     ensures bound { result ≤ count }
-    ensures before { (place : ℕ) → place < result → is_listed F.bytes_of rpt sorted.now (entry_at F.family place bytes.now) ≡ false }
-    ensures at { result < count → is_listed F.bytes_of rpt sorted.now (entry_at F.family result bytes.now) ≡ true }
+    ensures before { (place : ℕ) → place < result
+        → is_listed F.value_of rpt sorted.now (entry_at F.family place bytes.now) ≡ false }
+    ensures at { result < count → is_listed F.value_of rpt sorted.now (entry_at F.family result bytes.now) ≡ true }
 {
     let mut rest = bytes;
     for place in 0..count {
@@ -80,25 +95,23 @@ fn first_listed<F: Family>(sorted: &[F::Addr], rpt: bool, count: u16, bytes: &[u
     count
 }
 
-/// Takes as many entries as the block has room for, and puts the sources of those that are of the kind at its front:
-/// so many.
-fn fill<F: Family>(entries: &mut Entries<'_, F>, rpt: bool, block: &mut [F::Addr]) -> usize
+/// Takes as many entries as the block has room for, and puts the numbers of the sources of those that are of the kind
+/// at its front: so many. No branch goes by the kind of an entry.
+fn fill<F: Family>(entries: &mut Entries<'_, F>, rpt: bool, block: &mut [F::Number]) -> usize
     requires { 0 < length block.old }
     ensures bound { result ≤ length block.new }
     ensures room { length block.new ≡ length block.old }
     ensures fewer { 0 < length entries.old → length entries.new < length entries.old }
-    ensures listed { (this : Entry (List ℕ)) → is_of_kind rpt this ≡ true →
-        is_in entries.old this ≡ (is_listed F.bytes_of rpt (take result block.new) this || is_in entries.new this) }
+    ensures listed { (this : Entry (List ℕ)) → IsOfKind F.family rpt this →
+        is_in entries.old this ≡ (is_listed F.value_of rpt (take result block.new) this || is_in entries.new this) }
 {
     let mut used = 0;
     for index in 0..block.len() {
         let Some(entry) = entries.next() else {
             return used;
         };
-        if let Some(source) = source_of_kind(entry, rpt) {
-            block[used] = source;
-            used += 1;
-        }
+        block[used] = number_of_entry::<F>(entry);
+        used += usize::from(is_of_kind::<F>(entry, rpt));
     }
     used
 }
@@ -110,7 +123,7 @@ pub(crate) fn first_of_kind<F: Family>(
     count: u16,
     bytes: &[u8],
     joined: Entries<'_, F>,
-    block: &mut [F::Addr],
+    block: &mut [F::Number],
 ) -> u16
     requires room { 0 < length block.old }
     requires long { count * source_length F.family ≤ length bytes.now }
@@ -123,9 +136,9 @@ pub(crate) fn first_of_kind<F: Family>(
     let mut left = joined;
     while left.count_left() > 0 {
         let used = fill::<F>(&mut left, rpt, block);
-        let (sources, _) = block.split_at_mut(used);
-        sources.sort_unstable();
-        end = first_listed::<F>(sources, rpt, end, bytes);
+        let (numbers, _) = block.split_at_mut(used);
+        numbers.sort_unstable();
+        end = first_listed::<F>(numbers, rpt, end, bytes);
     }
     end
 }

@@ -63,8 +63,8 @@ fn first_clash_among_few<F: Family>(count: u16, bytes: &[u8], joined: &Entries<'
     count
 }
 
-/// The same among many: the joined sources of a kind are sorted, as many at a time as `N`, in a block on the stack, and
-/// each pruned entry of the kind is looked for in each block.
+/// The same among many: the numbers of the joined sources of a kind are sorted, as many at a time as `N`, in a block on
+/// the stack, and that of each pruned entry of the kind is looked for in each block.
 fn first_clash_among_many<F: Family, const N: usize>(
     count: u16,
     bytes: &[u8],
@@ -80,11 +80,11 @@ fn first_clash_among_many<F: Family, const N: usize>(
         return 0;
     }
     let (_, first) = bytes.split_at(4);
-    let address = F::take(first);
-    if size_of_val(&address) > 16 {
+    let number = F::number(F::take(first));
+    if size_of_val(&number) > 16 {
         return first_clash_among_few::<F>(count, bytes, joined);
     }
-    let mut block = [address; N];
+    let mut block = [number; N];
     let end = first_of_kind::<F>(false, count, bytes, joined.again(), &mut block);
     first_of_kind::<F>(true, end, bytes, joined.again(), &mut block)
 }

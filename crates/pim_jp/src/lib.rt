@@ -3,6 +3,7 @@
 
 mod blocks;
 mod clashes;
+mod debug;
 mod entries;
 mod entry;
 mod fault;

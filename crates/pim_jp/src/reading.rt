@@ -9,7 +9,8 @@ ghost use Rattle.pim_jp.specs.Spelling.{is_star};
 ghost use Rattle.pim_jp.specs.Parts.{upstream, group, rest, entry_parts, set_parts};
 ghost use Rattle.pim_jp.specs.Faults.{short_kinds, kinds_at, faults_of, faults};
 ghost use Rattle.pim_jp.specs.Whole.{set_length, HoldsSets, HoldsMessage};
-ghost use Rattle.pim_jp.specs.Reading.{Judges, is_source_entry, is_rpt_entry, Passes, Stops, EntriesPass, lists_then, lists_length, lists_end, after_lists, set_then};
+ghost use Rattle.pim_jp.specs.Reading.{Judges, is_source_entry, is_rpt_entry, Passes, Stops, EntriesPass, AreApart, ClashesAt};
+ghost use Rattle.pim_jp.specs.Reading.{lists_then, lists_length, lists_end, after_lists, set_then};
 
 use crate::clashes::first_clash;
 use crate::entries::Entries;
@@ -99,11 +100,38 @@ fn check_joined<F: Family>(at: usize, count: u16, bytes: &[u8]) -> Result<Kinds,
 {
     match check_entries::<F>(count, bytes, false) {
         Ok(kinds) => Ok(kinds),
-        Err(stop) => Err(JpFault {
-            at: at + entries_size::<F>(stop.place),
-            kind: stop.kind,
-        }),
+        Err(stop) => Err(fault_at::<F>(at, stop.place, stop.kind)),
     }
+}
+
+/// The fault of this kind at this place of a list that starts at this offset.
+fn fault_at<F: Family>(at: usize, place: u16, kind: JpKind) -> JpFault
+    requires { at + place * source_length F.family < 2 ^ 64 }
+    ensures { result ≡ record { at = at + place * source_length F.family; kind = kind } }
+{
+    JpFault {
+        at: at + entries_size::<F>(place),
+        kind,
+    }
+}
+
+/// Looks at so many pruned entries beside the joined ones: the first whose source is in both lists, if there is one.
+fn check_apart<F: Family>(
+    at: usize,
+    count: u16,
+    bytes: &[u8],
+    joined: &Entries<'_, F>,
+) -> Result<(), JpFault>
+    requires fits { at + length bytes.now < 2 ^ 64 }
+    requires long { count * source_length F.family ≤ length bytes.now }
+    ensures apart { IfOk result (λ _. AreApart F.family joined.now count bytes.now) }
+    ensures clash { IfErr result (ClashesAt F.family joined.now count at bytes.now) }
+{
+    let place = first_clash::<F>(count, bytes, joined);
+    if place < count {
+        return Err(fault_at::<F>(at, place, JpKind::BothLists));
+    }
+    Ok(())
 }
 
 /// Looks at the pruned entries of a set, behind the joined ones, which are of these kinds.
@@ -127,27 +155,11 @@ fn check_pruned<F: Family>(
             if !pruned.may_clash(kinds) {
                 return Ok(());
             }
-            let apart = first_clash::<F>(count, bytes, joined);
-            if apart < count {
-                return Err(JpFault {
-                    at: at + entries_size::<F>(apart),
-                    kind: JpKind::BothLists,
-                });
-            }
-            Ok(())
+            check_apart::<F>(at, count, bytes, joined)
         }
         Err(stop) => {
-            let apart = first_clash::<F>(stop.place, bytes, joined);
-            if apart < stop.place {
-                return Err(JpFault {
-                    at: at + entries_size::<F>(apart),
-                    kind: JpKind::BothLists,
-                });
-            }
-            Err(JpFault {
-                at: at + entries_size::<F>(stop.place),
-                kind: stop.kind,
-            })
+            check_apart::<F>(at, stop.place, bytes, joined)?;
+            Err(fault_at::<F>(at, stop.place, stop.kind))
         }
     }
 }

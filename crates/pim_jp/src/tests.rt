@@ -57,6 +57,36 @@ fn reads_star(rt: HostRuntime) -> Result<(), Fail> {
 }
 
 #[test]
+fn shows_what_was_read(rt: HostRuntime) -> Result<(), Fail> {
+    let message = JpView::<V4>::read(&STAR)?;
+    let set = message.sets().next().ok_or("one set")?;
+    let sets = message.sets();
+    let joined = set.joined();
+    let rows = [
+        (
+            format!(in rt.alloc(); "{message:?}")?,
+            "JpView { upstream: [10, 0, 0, 2], holdtime: 210, set_count: 1 }",
+        ),
+        (
+            format!(in rt.alloc(); "{set:?}")?,
+            "SetView { group: [239, 1, 1, 1], joined_count: 1, pruned_count: 0 }",
+        ),
+        (
+            format!(in rt.alloc(); "{sets:?}")?,
+            "Sets { count_left: 1 }",
+        ),
+        (
+            format!(in rt.alloc(); "{joined:?}")?,
+            "Entries { count_left: 1 }",
+        ),
+    ];
+    for (shown, want) in rows {
+        assert_eq!(rt; shown.as_str(), want);
+    }
+    Ok(())
+}
+
+#[test]
 fn reads_star_of_ipv6(rt: HostRuntime) -> Result<(), Fail> {
     let message = JpView::<V6>::read(&STAR_V6)?;
     let upstream = [0xfe, 0x80, 0, 0, 0, 0, 0, 0, 0, 0, 0, 0, 0, 0, 0, 2];
@@ -78,7 +108,7 @@ fn reads_star_of_ipv6(rt: HostRuntime) -> Result<(), Fail> {
 #[test]
 fn reads_a_source_in_both_lists(rt: HostRuntime) -> Result<(), Fail> {
     let body =
-        b"\x01\x00\x0a\x00\x00\x02\x00\x01\x00\xd2\x01\x00\x00\x20\xef\x01\x01\x01\x00\x01\x00\x01\x01\x00\x04\x20\xc0\x00\x02\x01\x01\x00\x05\x20\xc0\x00\x02\x01";
+        b"\x01\0\x0a\0\0\x02\0\x01\0\xd2\x01\0\0\x20\xef\x01\x01\x01\0\x01\0\x01\x01\0\x04\x20\xc0\0\x02\x01\x01\0\x05\x20\xc0\0\x02\x01";
     let message = JpView::<V4>::read(body)?;
     let set = message.sets().next().ok_or("one set")?;
     assert_eq!(rt; (set.joined_count(), set.pruned_count()), (1, 1));
@@ -298,7 +328,7 @@ fn writes_both_lists_in_their_order(rt: HostRuntime) {
     let pruned = [Entry::Rpt([192, 0, 2, 1]), Entry::Star([10, 9, 9, 9])];
     put_set::<V4>([239, 1, 1, 1], &joined, &pruned, &mut set);
     let want =
-        b"\x01\x00\x00\x20\xef\x01\x01\x01\x00\x01\x00\x02\x01\x00\x04\x20\xc0\x00\x02\x01\x01\x00\x05\x20\xc0\x00\x02\x01\x01\x00\x07\x20\x0a\x09\x09\x09";
+        b"\x01\0\0\x20\xef\x01\x01\x01\0\x01\0\x02\x01\0\x04\x20\xc0\0\x02\x01\x01\0\x05\x20\xc0\0\x02\x01\x01\0\x07\x20\x0a\x09\x09\x09";
     assert_eq!(rt; set, *want);
 }
 

@@ -3,7 +3,7 @@ use Rattle.std.specs.Prelude.{◌≡◌, ◌<◌, ◌≤◌, ⊤, ℕ, ◌+◌, 
 use Rattle.std.specs.Prelude.{nat_lt}
 use Rattle.std.specs.Io.KnownBytes.{Appends, Keeps}
 use Rattle.pim_addr.specs.Faults.{fault_if, judged}
-use Rattle.pim_addr.specs.Device.{AppendsFront, top_count}
+use Rattle.pim_device.specs.Device.{AppendsFront, top_count}
 use Rattle.pim_addr.specs.declared.family.AddressFamily.{AddressFamily}
 use Rattle.pim_frame.specs.Frame.{Content, hello, join_prune, other, content, frame_faults}
 use Rattle.pim_hello.specs.Value.{hello_of}

@@ -3,7 +3,7 @@ use Rattle.std.specs.Prelude.{◌≡◌, ◌⊎◌, ℕ, ◌+◌, Bool, true, fa
 use Rattle.std.specs.Io.KnownBytes.{Appends}
 use Rattle.clap.specs.declared.error.kind.ErrorKind.{ErrorKind}
 use Rattle.clap.specs.declared.error.kind.ErrorKind.TheVariants.{DisplayHelp, DisplayVersion}
-use Rattle.pim_addr.specs.Device.{AppendsFront, top_count}
+use Rattle.pim_device.specs.Device.{AppendsFront, top_count}
 use Rattle.pimtree.specs.declared.fault.Fault.{Fault}
 use Rattle.pimtree.specs.declared.fault.Fault.TheVariants.{Clap}
 use Rattle.pimtree.specs.Words.{fault_text}

@@ -1,7 +1,7 @@
 //! The command `check`: one message, read and printed.
 
 ghost use Rattle.std.specs.Prelude.{◌≡◌, ◌≤◌, length, IfOk, IfSome, IfErr, vec_len};
-ghost use Rattle.pim_addr.specs.Device.{ConsumesAtMost};
+ghost use Rattle.pim_device.specs.Device.{ConsumesAtMost};
 ghost use Rattle.pimtree.specs.Plan.{end_family, end_source, end_destination};
 ghost use Rattle.pimtree.specs.Report.{body_report, hello_report, message_report, input_report, read_failures_after};
 ghost use Rattle.pimtree.specs.Report.{write_failures_after};

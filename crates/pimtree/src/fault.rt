@@ -1,7 +1,7 @@
 //! What ends a run, and its line.
 
 ghost use Rattle.std.specs.Prelude.{◌≡◌, ◌++◌, decimal};
-ghost use Rattle.pim_addr.specs.Device.{AppendsAll, failures_after};
+ghost use Rattle.pim_device.specs.Device.{AppendsAll, failures_after};
 ghost use Rattle.pimtree.specs.Text.{line};
 ghost use Rattle.pimtree.specs.Words.{frame_words, hello_kind_name, kind_name, refusal_words, fault_words, fault_text};
 

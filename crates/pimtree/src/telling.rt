@@ -1,7 +1,7 @@
 //! How a run that met a fault ends.
 
 ghost use Rattle.std.specs.Prelude.{◌≡◌, true, false};
-ghost use Rattle.pim_addr.specs.Device.{AppendsAll, failures_after};
+ghost use Rattle.pim_device.specs.Device.{AppendsAll, failures_after};
 ghost use Rattle.pimtree.specs.Telling.{is_asked_for, told_text, IsAnswered, IsTold};
 
 use crate::fault::{Fault, fault_line};

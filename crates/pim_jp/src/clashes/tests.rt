@@ -78,6 +78,13 @@ fn number(index: u16, is_odd: bool) -> [u8; 3] {
     [high, middle, low]
 }
 
+/// The flags of the joined entries and of the pruned ones.
+#[derive(Clone, Copy)]
+struct Flags {
+    joined: u8,
+    pruned: u8,
+}
+
 fn push_entry(
     form: &Form<'_>,
     flags: u8,
@@ -90,19 +97,19 @@ fn push_entry(
     body.extend_from_slice(&number)
 }
 
-fn body_of(alloc: Global, form: &Form<'_>, flags: u8, row: Row) -> Result<Vec<u8>, AllocError> {
+fn body_of(alloc: Global, form: &Form<'_>, flags: Flags, row: Row) -> Result<Vec<u8>, AllocError> {
     let mut body = Vec::from_slice(alloc, form.front)?;
     body.extend_from_slice(&row.joined.to_be_bytes())?;
     body.extend_from_slice(&row.pruned.to_be_bytes())?;
     for index in 0..row.joined {
-        push_entry(form, flags, number(index, false), &mut body)?;
+        push_entry(form, flags.joined, number(index, false), &mut body)?;
     }
     for index in 0..row.pruned {
         let number = match row.twins {
             Some((place, twin)) if place == index => number(twin, false),
             _ => number(index, true),
         };
-        push_entry(form, flags, number, &mut body)?;
+        push_entry(form, flags.pruned, number, &mut body)?;
     }
     Ok(body)
 }
@@ -112,8 +119,8 @@ fn fault<F: Family>(body: &[u8]) -> Option<(JpKind, usize)> {
     Some((fault.kind, fault.at))
 }
 
-/// The pruned twin, where there is one: behind the counts, which end at byte 22 or 46, and the entries before it, of 8 or 20
-/// bytes each.
+/// The pruned twin, where there is one: behind the counts, which end at byte 22 or 46, and the entries before it, of 8
+/// or 20 bytes each.
 fn fault_wanted(counts_end: u8, entry: u8, row: Row) -> Option<(JpKind, usize)> {
     let (place, _) = row.twins?;
     let before = usize::from(row.joined) + usize::from(place);
@@ -125,19 +132,37 @@ fn fault_wanted(counts_end: u8, entry: u8, row: Row) -> Option<(JpKind, usize)> 
 fn finds_a_source_among_many(rt: HostRuntime) -> Result<(), Fail> {
     for row in ROWS {
         for flags in [4, 5] {
-            let body = body_of(rt.alloc(), &FORM_V4, flags, row)?;
+            let both = Flags {
+                joined: flags,
+                pruned: flags,
+            };
+            let body = body_of(rt.alloc(), &FORM_V4, both, row)?;
             assert_eq!(rt;
                 fault::<V4>(&body),
                 fault_wanted(22, 8, row),
                 "{row:?}, flags {flags}"
             );
-            let body = body_of(rt.alloc(), &FORM_V6, flags, row)?;
+            let body = body_of(rt.alloc(), &FORM_V6, both, row)?;
             assert_eq!(rt;
                 fault::<V6>(&body),
                 fault_wanted(46, 20, row),
                 "{row:?}, flags {flags} of IPv6"
             );
         }
+    }
+    Ok(())
+}
+
+/// A source that is joined as (S,G) and pruned as (S,G,rpt) doesn't clash.
+#[test]
+fn passes_twins_of_two_kinds(rt: HostRuntime) -> Result<(), Fail> {
+    let flags = Flags {
+        joined: 4,
+        pruned: 5,
+    };
+    for row in ROWS {
+        let body = body_of(rt.alloc(), &FORM_V4, flags, row)?;
+        assert_eq!(rt; fault::<V4>(&body), None, "{row:?}");
     }
     Ok(())
 }

@@ -1,9 +1,10 @@
-use Rattle.std.proofs.Common.{sym}
-use Rattle.pim_jp.proofs.SortedSources.{found, missed}
+use Rattle.std.proofs.Common.{◌<◌, length, rules}
+use Rattle.pim_jp.proofs.SortedSources.{next_place, found_or_missed}
 use Rattle.pim_jp.proofs.blocks.holds.Goals as goal
 
-pub returns-in-Ok : goal.returns-in-Ok
-returns-in-Ok g c = sym (found g.F.Family.bytes_of _ g.met.F.Family.order_of_bytes _ _ _ c.in-Ok.ensures.bound c.in-Ok.ensures.ok)
-
-pub returns-in-Err : goal.returns-in-Err
-returns-in-Err g c = sym (missed g.F.Family.bytes_of _ g.met.F.Family.order_of_bytes _ _ _ c.requires c.in-Err.ensures.position)
+pub returns : goal.returns
+returns g c =
+    let some : 0 < length c.args.sorted.now = search rules in
+    let next = next_place c.count_below-below.result (length c.args.sorted.now) c.from.result c.from.ensures c.count_below-below.ensures.bound some in
+    found_or_missed g.F.Family.value_of g.F.Number.Ord.cmp g.met.F.Family.order_of_numbers g.F.Number.PartialEq.eq c.args.sorted.now c.args.number c.index-sorted-next.result
+    c.count_below-below.result _ g.met.F.Family.equality_of_numbers c.requires next.0 next.1 c.count_below-below.ensures.parted c.index-sorted-next.is c.eq.result c.eq.ensures

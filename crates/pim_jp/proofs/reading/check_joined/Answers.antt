@@ -9,6 +9,6 @@ returns-in-Ok-clause-passes g c =
 
 pub returns-in-Err-clause-stops : goal.returns-in-Err-clause-stops
 returns-in-Err-clause-stops g c =
-    rw c.entries_size.ensures
+    rw c.fault_at.ensures
     (list_stops g.F.Family.family c.args.count [] false c.args.at c.args.bytes.now c.in-Err.stop.place c.in-Err.stop.kind refl c.in-Err.ensures.stop
     (apart_from_none g.F.Family.family c.in-Err.stop.place c.args.bytes.now))

@@ -1,6 +1,6 @@
 use Rattle.std.proofs.Common.{arith}
 use Rattle.std.proofs.lemmas.Result.{err_from_is_err_and}
-use Rattle.pim_addr.specs.Device.{ConsumesAtMost}
+use Rattle.pim_device.specs.Device.{ConsumesAtMost}
 use Rattle.pim_capture.proofs.Taken.{both_taken, none_taken, most_with_header}
 use Rattle.pim_capture.proofs.capture.Capture.next.Goals as goal
 use Rattle.pim_capture.proofs.capture.Capture.next.Goals.{in-Unbegun+in_ok-begin-in-Unbegun, in-Records}

@@ -1,0 +1,12 @@
+use Rattle.std.proofs.Common.{◌<◌, ◌^◌}
+use Rattle.pim_addr.proofs.CountBelow.{Halved}
+use Rattle.pim_addr.proofs.below.count_below.Given as goal
+
+abbrev pub invariant-loop-shift : goal.invariant-loop-shift
+invariant-loop-shift g l = record {
+  few : l.shift < 64;
+  halved : Halved g.T.Ord.cmp l.fn.sorted l.fn.item l.base (2 ^ l.shift);
+}
+
+abbrev pub decreases-loop-shift : goal.decreases-loop-shift
+decreases-loop-shift g l = l.shift

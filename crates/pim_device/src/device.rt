@@ -1,0 +1,83 @@
+//! The devices that bytes come from and go to, and the loops over them.
+
+ghost use Rattle.std.specs.Prelude.{◌≡◌, ℕ, ◌<◌, ◌≤◌, List, Option, length, take, IfOk, OnErr};
+ghost use Rattle.std.specs.Io.KnownBytes.{ReadConsumes, WriteAppends, Consumes, IsAtEnd};
+ghost use Rattle.pim_device.specs.Device.{failures_after, AppendsAll, ConsumesAtMost};
+
+use thiserror::Error;
+
+#[cfg(test)]
+mod tests;
+
+/// A device failed: it gave nothing, or took nothing, in that call.
+#[derive(Clone, Copy, Debug, PartialEq, Eq, Error)]
+#[error("the device failed")]
+pub struct Failed;
+
+/// A device that gives bytes.
+pub trait Feed {
+    // The bytes that it still gives, where it tells them.
+    ghost remaining: { Self → Option (List ℕ) };
+
+    // How often it has failed, at most 2^64 - 1.
+    ghost failures: { Self → ℕ };
+
+    /// Fills a front of the buffer, and answers how long that is. It is 0 only at the end or where the buffer
+    /// has no room.
+    fn read(&mut self, buffer: &mut [u8]) -> Result<usize, Failed>
+        ensures bound { IfOk result (λ n. n ≤ length buffer.new) }
+        ensures bytes { ReadConsumes (remaining self.old) (remaining self.new) result buffer.new }
+        ensures count { failures self.new ≡ failures_after (failures self.old) result };
+}
+
+/// A device that takes bytes.
+pub trait Drain {
+    // The bytes that it has taken, where it tells them.
+    ghost contents: { Self → Option (List ℕ) };
+
+    // How often it has failed, at most 2^64 - 1.
+    ghost failures: { Self → ℕ };
+
+    /// Takes a front of the bytes, and answers how long that is. It is 0 only where there are none: a device
+    /// that takes nothing of some bytes has failed.
+    fn write(&mut self, bytes: &[u8]) -> Result<usize, Failed>
+        ensures bound { IfOk result (λ n. n ≤ length bytes.now) }
+        ensures some { IfOk result (λ n. 0 < length bytes.now → 0 < n) }
+        ensures bytes { WriteAppends (contents self.old) (contents self.new) result bytes.now }
+        ensures count { failures self.new ≡ failures_after (failures self.old) result };
+}
+
+/// Writes all the bytes, or some front of them up to the first failure.
+pub fn write_all<D: Drain>(drain: &mut D, bytes: &[u8]) -> Result<(), Failed>
+    ensures bytes { AppendsAll (D.contents drain.old) (D.contents drain.new) result bytes.now }
+    ensures count { D.failures drain.new ≡ failures_after (D.failures drain.old) result }
+{
+    let mut taken = 0;
+    while taken < bytes.len() {
+        let (_, rest) = bytes.split_at(taken);
+        let more = drain.write(rest)?;
+        taken += more;
+    }
+    Ok(())
+}
+
+/// Fills the buffer until it is full or the device is at its end, and answers how many bytes it got. It stops
+/// at the first failure.
+pub fn read_up_to<R: Feed>(feed: &mut R, buffer: &mut [u8]) -> Result<usize, Failed>
+    ensures bound { IfOk result (λ n. n ≤ length buffer.new) }
+    ensures bytes { IfOk result (λ n. Consumes (R.remaining feed.old) (R.remaining feed.new) (take n buffer.new)) }
+    ensures end { IfOk result (λ n. n < length buffer.new → IsAtEnd (R.remaining feed.new)) }
+    ensures front { OnErr result (ConsumesAtMost (length buffer.new) (R.remaining feed.old) (R.remaining feed.new)) }
+    ensures count { R.failures feed.new ≡ failures_after (R.failures feed.old) result }
+{
+    let mut got = 0;
+    while got < buffer.len() {
+        let (_, rest) = buffer.split_at_mut(got);
+        let more = feed.read(rest)?;
+        if more == 0 {
+            return Ok(got);
+        }
+        got += more;
+    }
+    Ok(got)
+}

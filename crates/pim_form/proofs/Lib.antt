@@ -1,0 +1,13 @@
+pub mod SomeBelow
+pub mod Addresses
+pub mod Counting
+pub mod OneForm
+pub mod OnePacking
+pub mod Lists
+pub mod Units
+pub mod Normal
+pub mod Spelled
+pub mod Told
+pub mod Writers
+pub mod Searches
+pub mod Kept

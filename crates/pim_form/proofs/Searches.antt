@@ -1,0 +1,57 @@
+-- What a search among addresses in order finds.
+use Rattle.std.proofs.Common.{◌≡◌, ◌∙◌, sym, ap, ℕ, zero, suc, ◌+◌, ◌≤◌, ◌<◌, Bool, true, false, ◌||◌, List, [], ◌∷◌, Ordering, length, get_or, map, refl, ⊎_elim, arith, add-one}
+use Rattle.std.proofs.lemmas.Bool.{cases_lt}
+use Rattle.std.specs.List.{AllByRecursion, list_any}
+use Rattle.std.specs.List.Sorted.{IsSortedBy, IsStrictlySortedBy, IsNonDecreasingBy, IsPartitionPoint}
+use Rattle.std.specs.Ordering.{nat_cmp, is_lt, ordering_index, ordering_reverse}
+use Rattle.std.specs.declared.cmp.Ordering.TheVariants.{Less, Equal, Greater}
+use Rattle.std.specs.Cmp.Lexicographic.{slice_cmp}
+use Rattle.std.proofs.lemmas.Cmp.{nat_list_cmp_total}
+use Rattle.std.proofs.lemmas.List.Sorted.{searchable_from_sorted}
+use Rattle.pim_form.specs.NormalForm.{AreAscending, same_address, is_listed}
+use Rattle.pim_form.proofs.Addresses.{same_itself, equal_is, less_apart, greater_less, less_apart_back}
+
+module _ {A : Type 0} (bytes_of : A → List ℕ) where
+  steps : (xs : List A) → AreAscending (map bytes_of xs) → (k : ℕ) (d : A) → suc k < length xs → is_lt (slice_cmp nat_cmp (bytes_of (get_or xs (suc k) d)) (bytes_of (get_or xs k d))) ≡ false
+  unfolding IsStrictlySortedBy
+  steps [] up k d below = absurd (omega arith)
+  steps (x ∷ []) up k d below = absurd (omega arith)
+  steps (x ∷ y ∷ xs) up zero d below = ap is_lt (nat_list_cmp_total.antisymm (bytes_of y) (bytes_of x) ∙ ap ordering_reverse up.0.0)
+  steps (x ∷ y ∷ xs) up (suc k) d below = steps (y ∷ xs) up.1 k d (omega arith)
+
+  is_sorted : (xs : List A) → AreAscending (map bytes_of xs) → IsSortedBy (λ a b. is_lt (slice_cmp nat_cmp (bytes_of a) (bytes_of b))) xs
+  is_sorted xs up = λ k d low high. rw (add-one k) (steps xs up k d (omega arith))
+
+  listed_at : (xs : List A) (a : List ℕ) (i : ℕ) (d : A) → i < length xs → same_address a (bytes_of (get_or xs i d)) ≡ true → is_listed a (map bytes_of xs) ≡ true
+  listed_at [] a i d below same = absurd (omega arith)
+  listed_at (x ∷ xs) a zero d below same = rw same refl
+  listed_at (x ∷ xs) a (suc i) d below same =
+      let others = listed_at xs a i d (omega arith) same in
+      by (same_address a (bytes_of x)) (is_listed a (map bytes_of xs)) others
+    where
+      by : (p q : Bool) → q ≡ true → (p || q) ≡ true
+      by true q h = refl
+      by false q h = h
+
+  unlisted_all : (xs : List A) (a : List ℕ) → ((i : ℕ) (d : A) → i < length xs → same_address a (bytes_of (get_or xs i d)) ≡ false) → is_listed a (map bytes_of xs) ≡ false
+  unlisted_all [] a none = refl
+  unlisted_all (x ∷ xs) a none = rw (none 0 x (omega arith)) (unlisted_all xs a (λ i d below. none (suc i) d (omega arith)))
+
+  module _ (cmp : A → A → Ordering) (order : (a b : A) → cmp a b ≡ slice_cmp nat_cmp (bytes_of a) (bytes_of b)) where
+    pub found : (xs : List A) (x : A) (i : ℕ) → i < length xs → ((d : A) → cmp (get_or xs i d) x ≡ Equal) → is_listed (bytes_of x) (map bytes_of xs) ≡ true
+    found xs x i below same =
+        let equal = equal_is (bytes_of (get_or xs i x)) (bytes_of x) (sym (order (get_or xs i x) x) ∙ same x) in
+        listed_at xs (bytes_of x) i x below (rw equal (same_itself (bytes_of x)))
+
+    pub missed : (xs : List A) (x : A) (i : ℕ) → AreAscending (map bytes_of xs)
+        → (IsNonDecreasingBy (λ y. ordering_index (cmp y x)) xs → IsPartitionPoint (λ y. cmp y x ≡ Less) (λ y. cmp y x ≡ Greater) xs i)
+        → is_listed (bytes_of x) (map bytes_of xs) ≡ false
+    missed xs x i up point =
+        let rises = searchable_from_sorted nat_list_cmp_total bytes_of xs (bytes_of x) (is_sorted xs up) in
+        let rises' : IsNonDecreasingBy (λ y. ordering_index (cmp y x)) xs = λ j k d low high. rw (order (get_or xs j d) x, order (get_or xs k d) x) (rises j k d low high) in
+        let sides = point rises' in
+        unlisted_all xs (bytes_of x) (λ k d below.
+        ⊎_elim
+        (λ (before : k < i). less_apart_back (bytes_of (get_or xs k d)) (bytes_of x) (sym (order (get_or xs k d) x) ∙ sides.0 k d (omega arith) before))
+        (λ (behind : i ≤ k). less_apart (bytes_of x) (bytes_of (get_or xs k d)) (greater_less (bytes_of (get_or xs k d)) (bytes_of x) (sym (order (get_or xs k d) x) ∙ sides.1 k d behind below)))
+        (cases_lt k i))

@@ -1,0 +1,45 @@
+-- How a form is kept: the addresses of all groups stand in one row, and of each group it is known where its own stand.
+use Rattle.std.specs.Prelude.{◌≡◌, ℕ, ◌≤◌, Bool, List, [], Option, None, Some, length, take, drop, map, if◌then◌else◌}
+use Rattle.std.specs.List.{AllByRecursion}
+use Rattle.pim_form.specs.declared.place.Place.{Place}
+use Rattle.pim_addr.specs.declared.family.AddressFamily.{AddressFamily}
+use Rattle.pim_form.specs.NormalForm.{GroupForm, IsNormalGroup, IsNormal}
+
+-- the part of a row from one place to another
+abbrev pub between : {A : Type 0} → ℕ → ℕ → List A → List A
+between start end row = drop start (take end row)
+
+-- the sources stand first, then the exceptions
+abbrev pub IsWithin : {A : Type 0} → ℕ → Place A → Type 0
+IsWithin size place = (place.start ≤ place.middle) × (place.middle ≤ place.end) × (place.end ≤ size)
+
+abbrev pub star_of : Bool → List (List ℕ) → Option (List (List ℕ))
+star_of starred exceptions = if starred then Some exceptions else None
+
+abbrev pub exceptions_of : Option (List (List ℕ)) → List (List ℕ)
+exceptions_of None = []
+exceptions_of (Some exceptions) = exceptions
+
+module _ {A : Type 0} (bytes_of : A → List ℕ) where
+  -- a group with its lists
+  abbrev pub group_seen : A → Bool → List A → List A → GroupForm
+  group_seen group starred exceptions sources = record {
+    group = bytes_of group;
+    star = star_of starred (map bytes_of exceptions);
+    sources = map bytes_of sources;
+  }
+
+  abbrev pub place_seen : List A → Place A → GroupForm
+  place_seen row place =
+      group_seen place.group place.starred (between place.middle place.end row) (between place.start place.middle row)
+
+  abbrev pub form_seen : List A → List (Place A) → List GroupForm
+  form_seen row places = map (place_seen row) places
+
+  -- all places are within the row, and their groups are those of a normal form
+  abbrev pub AreKept : AddressFamily → List A → List (Place A) → Type 0
+  AreKept family row places = AllByRecursion (IsWithin (length row)) places × AllByRecursion (IsNormalGroup family) (form_seen row places)
+
+  pub record IsKept (family : AddressFamily) (row : List A) (places : List (Place A)) : Type 0 where
+    pub within : AllByRecursion (IsWithin (length row)) places
+    pub normal : IsNormal family (form_seen row places)

@@ -1,0 +1,12 @@
+-- What a contract sees: addresses as their lists of bytes.
+use Rattle.std.specs.Prelude.{ℕ, List}
+use Rattle.pim_form.specs.Messages.{Writing}
+
+module _ {A : Type 0} (bytes_of : A → List ℕ) where
+  abbrev pub writing_seen : A → A → ℕ → ℕ → Writing
+  writing_seen upstream own holdtime budget = record {
+    upstream = bytes_of upstream;
+    own = bytes_of own;
+    holdtime = holdtime;
+    budget = budget;
+  }
