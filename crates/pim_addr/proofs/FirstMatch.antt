@@ -2,9 +2,9 @@
 use Rattle.std.proofs.Common.{◌≡◌, ℕ, zero, suc, ◌+◌, ◌-◌, ◌/◌, ◌^◌, ◌<◌, ◌≤◌, ◌⊎◌, inl, inr, Bool, true, false, cond, List, [], ◌∷◌, ◌++◌, length, map, get_or, take, drop, replicate, filter, Option, Some, None, refl, sym, ap, subst, ◌∙◌, arith, nat_lt, position}
 use Rattle.std.specs.Prelude.{◌==◌, option_map}
 use Rattle.std.specs.List.{AllByRecursion, position_or_len}
-use Rattle.std.specs.List.Sorted.{IsStrictlySortedBy, IsNonDecreasingBy}
+use Rattle.std.specs.List.Sorted.{IsStrictlySortedBy, IsSorted}
 use Rattle.std.specs.Map.{keys_of}
-use Rattle.std.specs.Ordering.{nat_cmp, is_eq, ordering_index, ordering_then, MatchOrdering}
+use Rattle.std.specs.Ordering.{nat_cmp, is_eq, is_lt, ordering_then, MatchOrdering}
 use Rattle.std.specs.Cmp.{ranks}
 use Rattle.std.specs.Cmp.Lexicographic.{slice_cmp}
 use Rattle.std.specs.declared.cmp.Ordering.{Ordering}
@@ -128,17 +128,12 @@ same_numbers a b = by (cases_lt a b)
     by (inl l) = rw (lt-ltb a b l) (sym (ne_eqb a b (λ e. omega arith)))
     by (inr l) = rw (le-ltb a b l) (other (a == b))
 
-rises_with : (a b key : ℕ) → a ≤ b → ordering_index (nat_cmp a key) ≤ ordering_index (nat_cmp b key)
-rises_with a b key l = by (nat_cmp a key) (nat_cmp b key) (ranks a key) (ranks b key)
+not_less : (a b : ℕ) → a ≤ b → is_lt (nat_cmp b a) ≡ false
+not_less a b l = rw (le-ltb b a l) (by (b == a))
   where
-    by : (r s : Ordering) → MatchOrdering r (a < key) (a ≡ key) (key < a) → MatchOrdering s (b < key) (b ≡ key) (key < b) → ordering_index r ≤ ordering_index s
-    by Less s x y = omega arith
-    by Equal Less x y = absurd (omega arith)
-    by Equal Equal x y = omega arith
-    by Equal Greater x y = omega arith
-    by Greater Less x y = absurd (omega arith)
-    by Greater Equal x y = absurd (omega arith)
-    by Greater Greater x y = omega arith
+    by : (t : Bool) → is_lt (cond t Equal Greater) ≡ false
+    by true = refl
+    by false = refl
 
 -- ---- one run
 
@@ -213,35 +208,34 @@ module _ {N : Type 0} (value_of : N → ℕ) (cmp : N → N → Ordering) (order
     counted = stand.counted.1;
   }
 
+  row_of_none : Row
+  row_of_none = (record { bits = 0; address = [] }, [])
+
+  key_at : (k : ℕ) → k < length rows → get_or (keys_of rows) k row_of_none.0 ≡ (get_or rows k row_of_none).0
+  key_at k l = get_or_of_map (λ (row : Row). row.0) rows k row_of_none row_of_none.0 l
+
+  next_is_greater : (k : ℕ) → k + 1 < run.count → row_number family (get_or rows k row_of_none) ≤ row_number family (get_or rows (k + 1) row_of_none)
+  next_is_greater k l =
+      let less : prefix_cmp (get_or (keys_of rows) k row_of_none.0) (get_or (keys_of rows) (k + 1) row_of_none.0) ≡ Less =
+      Less-from_sorted prefix_cmp (keys_of rows) k (k + 1) row_of_none.0 stand.is_map.ascending (omega arith) (omega (arith, l, cut_here.0, length-map rows (λ (row : Row). row.0))) in
+      let less' : prefix_cmp (get_or rows k row_of_none).0 (get_or rows (k + 1) row_of_none).0 ≡ Less =
+      sym (ap (λ (p : Prefix). prefix_cmp p (get_or rows (k + 1) row_of_none).0) (key_at k (omega (arith, l, cut_here.0))))
+      ∙ sym (ap (λ (p : Prefix). prefix_cmp (get_or (keys_of rows) k row_of_none.0) p) (key_at (k + 1) (omega (arith, l, cut_here.0)))) ∙ less in
+      number_rises family (get_or rows k row_of_none) (get_or rows (k + 1) row_of_none) (real_at k row_of_none (omega (arith, l, cut_here.0))) (real_at (k + 1) row_of_none (omega (arith, l, cut_here.0)))
+      (cut_here.1 k row_of_none (omega (arith, l)) ∙ sym (cut_here.1 (k + 1) row_of_none l)) less'
+
+  value_here : (k : ℕ) (n : N) → k < run.count → value_of (get_or (take run.count numbers) k n) ≡ row_number family (get_or rows k row_of_none)
+  value_here k n l = ap value_of (get_or-take run.count numbers k n l) ∙ value_at k n row_of_none (omega (arith, l, cut_here.0))
+
+  -- the numbers of a run rise
+  pub rising : IsSorted cmp (take run.count numbers)
+  rising k n low high =
+      let inside : k + 1 < run.count = omega (arith, high, length-take run.count numbers) in
+      let up : value_of (get_or (take run.count numbers) k n) ≤ value_of (get_or (take run.count numbers) (k + 1) n) =
+      omega (arith, value_here k n (omega (arith, inside)), value_here (k + 1) n inside, next_is_greater k inside) in
+      ap is_lt (order (get_or (take run.count numbers) (k + 1) n) (get_or (take run.count numbers) k n)) ∙ not_less (value_of (get_or (take run.count numbers) k n)) (value_of (get_or (take run.count numbers) (k + 1) n)) up
+
   module _ (key : N) (keyed : value_of key ≡ first_bits family run.length address) where
-    pub rising : IsNonDecreasingBy (λ other. ordering_index (cmp other key)) (take run.count numbers)
-    rising i j n le within = by (cases_lt i j)
-      where
-        d : Row
-        d = (record { bits = 0; address = [] }, [])
-
-        inside : j < run.count
-        inside = omega (arith, length-take run.count numbers)
-
-        at : (k : ℕ) → k < run.count → cmp (get_or (take run.count numbers) k n) key ≡ nat_cmp (row_number family (get_or rows k d)) (value_of key)
-        at k l = order (get_or (take run.count numbers) k n) key ∙ ap (λ (v : N). nat_cmp (value_of v) (value_of key)) (get_or-take run.count numbers k n l)
-            ∙ ap (λ v. nat_cmp v (value_of key)) (value_at k n d (omega (arith, cut_here.0)))
-
-        keys_at : (k : ℕ) → k < length rows → get_or (keys_of rows) k d.0 ≡ (get_or rows k d).0
-        keys_at k l = get_or_of_map (λ (row : Row). row.0) rows k d d.0 l
-
-        by : (i < j) ⊎ (j ≤ i) → ordering_index (cmp (get_or (take run.count numbers) i n) key) ≤ ordering_index (cmp (get_or (take run.count numbers) j n) key)
-        by (inl l) =
-            let less : prefix_cmp (get_or (keys_of rows) i d.0) (get_or (keys_of rows) j d.0) ≡ Less = Less-from_sorted prefix_cmp (keys_of rows) i j d.0 stand.is_map.ascending l (omega (arith, inside, cut_here.0, length-map rows (λ (row : Row). row.0))) in
-            let less' : prefix_cmp (get_or rows i d).0 (get_or rows j d).0 ≡ Less =
-            sym (ap (λ (p : Prefix). prefix_cmp p (get_or rows j d).0) (keys_at i (omega (arith, inside, cut_here.0)))) ∙ sym (ap (λ (p : Prefix). prefix_cmp (get_or (keys_of rows) i d.0) p) (keys_at j (omega (arith, inside, cut_here.0)))) ∙ less in
-            let up = number_rises family (get_or rows i d) (get_or rows j d) (real_at i d (omega (arith, inside, cut_here.0))) (real_at j d (omega (arith, inside, cut_here.0))) (cut_here.1 i d (omega (arith, inside)) ∙ sym (cut_here.1 j d inside)) less' in
-            let wanted = rises_with (row_number family (get_or rows i d)) (row_number family (get_or rows j d)) (value_of key) up in
-            subst (λ r. ordering_index r ≤ ordering_index (cmp (get_or (take run.count numbers) j n) key)) (sym (at i (omega (arith, inside))))
-            (subst (λ r. ordering_index (nat_cmp (row_number family (get_or rows i d)) (value_of key)) ≤ ordering_index r) (sym (at j inside)) wanted)
-        by (inr l) = let same : i ≡ j = omega arith in
-            subst (λ k. ordering_index (cmp (get_or (take run.count numbers) i n) key) ≤ ordering_index (cmp (get_or (take run.count numbers) k n) key)) same (omega arith)
-
     answer_at : (k : ℕ) (n : N) (d : Row) → k < run.count → is_eq (cmp (get_or (take run.count numbers) k n) key) ≡ matches family address (get_or rows k d)
     answer_at k n d l =
         ap is_eq (order (get_or (take run.count numbers) k n) key) ∙ same_numbers (value_of (get_or (take run.count numbers) k n)) (value_of key)

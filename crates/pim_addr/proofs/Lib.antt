@@ -4,7 +4,7 @@ pub mod ReadBack
 pub mod TextNames
 pub mod Places
 pub mod Numbers
-mod Halving
+mod FirstEqual
 mod FirstMatch
 mod OneMoreRow
 mod RowOrder

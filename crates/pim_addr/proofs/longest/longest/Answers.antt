@@ -1,6 +1,6 @@
 use Rattle.std.proofs.Common.{◌≡◌, ℕ, ◌+◌, List, [], map, take, drop, slice_index_or, subst, sym, ap, ◌∙◌, arith, Some, None, position}
-use Rattle.std.specs.Ordering.{ordering_index, is_eq}
-use Rattle.std.specs.List.Sorted.{IsNonDecreasingBy}
+use Rattle.std.specs.Ordering.{is_eq}
+use Rattle.std.specs.List.Sorted.{IsSorted}
 use Rattle.std.proofs.Math.ListN.{get_or-map}
 use Rattle.std.proofs.lemmas.List.{drop-map, drop_all}
 use Rattle.pim_addr.specs.Routes.{Row, led_to}
@@ -18,8 +18,8 @@ pub place_of-requires : goal.place_of-requires
 place_of-requires g c =
     let run = slice_index_or c.args.runs.now c.loop-run.run-index (record { length = 0; count = 0 }) in
     let stand = stands_first g.F.Family.family (rows_seen g.F.Family.bytes_of c.loop-run.rows_left.now) (map g.F.Family.value_of c.loop-run.numbers_left.now) c.args.runs.now c.loop-run.run-index (record { length = 0; count = 0 }) (omega arith) c.loop-run.invariant.stand in
-    subst (λ (ns : List g.row.F-Number.Denot). IsNonDecreasingBy (λ other. ordering_index (g.F.Number.Ord.cmp other c.first_bits.result)) ns) (sym c.split_at.ensures.front)
-    (rising g.F.Family.value_of g.F.Number.Ord.cmp g.met.F.Family.order_of_numbers g.F.Family.family (g.F.Family.bytes_of c.args.address) (rows_seen g.F.Family.bytes_of c.loop-run.rows_left.now) c.loop-run.numbers_left.now run (drop (c.loop-run.run-index + 1) c.args.runs.now) stand c.first_bits.result c.first_bits.ensures)
+    subst (λ (ns : List g.row.F-Number.Denot). IsSorted g.F.Number.Ord.cmp ns) (sym c.split_at.ensures.front)
+    (rising g.F.Family.value_of g.F.Number.Ord.cmp g.met.F.Family.order_of_numbers g.F.Family.family (g.F.Family.bytes_of c.args.address) (rows_seen g.F.Family.bytes_of c.loop-run.rows_left.now) c.loop-run.numbers_left.now run (drop (c.loop-run.run-index + 1) c.args.runs.now) stand)
 
 pub returns-in-Some : goal.returns-in-Some
 returns-in-Some g c =
