@@ -120,16 +120,16 @@ count_none port known joins group left held e = ap (λ (es : List (Entry (List �
 
 -- ---- one set, and then the others
 
-abbrev pub sets_events : Option (List ℕ) → List GroupSet → List Event
+abbrev pub sets_events : (List ℕ → Option (List ℕ)) → List GroupSet → List Event
 sets_events known sets = flat_map (set_events known) sets
 
-abbrev joined_events : Option (List ℕ) → GroupSet → List Event
-joined_events known set = list_events known true set.group set.joined
+abbrev joined_events : (List ℕ → Option (List ℕ)) → GroupSet → List Event
+joined_events known set = list_events (known set.group) true set.group set.joined
 
-abbrev pruned_events : Option (List ℕ) → GroupSet → List Event
-pruned_events known set = list_events known false set.group set.pruned
+abbrev pruned_events : (List ℕ → Option (List ℕ)) → GroupSet → List Event
+pruned_events known set = list_events (known set.group) false set.group set.pruned
 
-pub set_room : (port : ℕ) (start : Start) (space : ℕ) (known : Option (List ℕ)) (set : GroupSet) (left rest : List GroupSet) (records : List (Record (List ℕ))) → left ≡ set ∷ rest → HasRoom port start space (sets_events known left) records →
+pub set_room : (port : ℕ) (start : Start) (space : ℕ) (known : List ℕ → Option (List ℕ)) (set : GroupSet) (left rest : List GroupSet) (records : List (Record (List ℕ))) → left ≡ set ∷ rest → HasRoom port start space (sets_events known left) records →
     HasRoom port start space (joined_events known set) records × HasRoom port start space (pruned_events known set) (act_all port start (joined_events known set) records) × HasRoom port start space (sets_events known rest) (act_all port start (pruned_events known set) (act_all port start (joined_events known set) records))
 set_room port start space known set left rest records e r =
     let all = subst (λ (s : List GroupSet). HasRoom port start space (sets_events known s) records) e r in
@@ -140,22 +140,22 @@ set_room port start space known set left rest records e r =
       subst (HasRoom port start space (sets_events known rest)) (act_append port start (joined_events known set) (pruned_events known set) records) later,
     )
 
-pub set_left : (port : ℕ) (start : Start) (known : Option (List ℕ)) (set : GroupSet) (left rest : List GroupSet) (records : List (Record (List ℕ))) → left ≡ set ∷ rest → act_all port start (sets_events known left) records ≡ act_all port start (sets_events known rest) (act_all port start (pruned_events known set) (act_all port start (joined_events known set) records))
+pub set_left : (port : ℕ) (start : Start) (known : List ℕ → Option (List ℕ)) (set : GroupSet) (left rest : List GroupSet) (records : List (Record (List ℕ))) → left ≡ set ∷ rest → act_all port start (sets_events known left) records ≡ act_all port start (sets_events known rest) (act_all port start (pruned_events known set) (act_all port start (joined_events known set) records))
 set_left port start known set left rest records e =
     ap (λ (s : List GroupSet). act_all port start (sets_events known s) records) e
     ∙ act_append port start (set_events known set) (sets_events known rest) records
     ∙ ap (act_all port start (sets_events known rest)) (act_append port start (joined_events known set) (pruned_events known set) records)
 
-pub no_set_left : (port : ℕ) (start : Start) (known : Option (List ℕ)) (left : List GroupSet) (records : List (Record (List ℕ))) → left ≡ [] → act_all port start (sets_events known left) records ≡ records
+pub no_set_left : (port : ℕ) (start : Start) (known : List ℕ → Option (List ℕ)) (left : List GroupSet) (records : List (Record (List ℕ))) → left ≡ [] → act_all port start (sets_events known left) records ≡ records
 unfolding act_all
 no_set_left port start known left records e = ap (λ (s : List GroupSet). act_all port start (sets_events known s) records) e
 
-pub set_count_is : (port : ℕ) (held : List (Record (List ℕ))) (known : Option (List ℕ)) (set : GroupSet) (left rest : List GroupSet) → left ≡ set ∷ rest → count_new port held (sets_events known left) ≡ count_new port held (joined_events known set) + count_new port held (pruned_events known set) + count_new port held (sets_events known rest)
+pub set_count_is : (port : ℕ) (held : List (Record (List ℕ))) (known : List ℕ → Option (List ℕ)) (set : GroupSet) (left rest : List GroupSet) → left ≡ set ∷ rest → count_new port held (sets_events known left) ≡ count_new port held (joined_events known set) + count_new port held (pruned_events known set) + count_new port held (sets_events known rest)
 set_count_is port held known set left rest e =
     ap (λ (s : List GroupSet). count_new port held (sets_events known s)) e
     ∙ count_append port held (set_events known set) (sets_events known rest)
     ∙ ap (λ n. n + count_new port held (sets_events known rest)) (count_append port held (joined_events known set) (pruned_events known set))
 
-pub no_set_count : (port : ℕ) (held : List (Record (List ℕ))) (known : Option (List ℕ)) (left : List GroupSet) → left ≡ [] → count_new port held (sets_events known left) ≡ 0
+pub no_set_count : (port : ℕ) (held : List (Record (List ℕ))) (known : List ℕ → Option (List ℕ)) (left : List GroupSet) → left ≡ [] → count_new port held (sets_events known left) ≡ 0
 unfolding count_new
 no_set_count port held known left e = ap (λ (s : List GroupSet). count_new port held (sets_events known s)) e

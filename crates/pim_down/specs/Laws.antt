@@ -77,8 +77,8 @@ RunKeepsSound = (family : AddressFamily) (moment : ℕ) (state after : Downstrea
 
 -- A message that can be spelled, heard on a port that is there and has room for it, keeps the machines sound.
 abbrev pub HearingKeepsSound : Type 0
-HearingKeepsSound = (family : AddressFamily) (port : ℕ) (message : Message) (known : Option (List ℕ)) (timing : Timing)
-    (state : Downstream) → IsSound family state → port < state.ports → IsMessage family message →
+HearingKeepsSound = (family : AddressFamily) (port : ℕ) (message : Message) (known : List ℕ → Option (List ℕ))
+    (timing : Timing) (state : Downstream) → IsSound family state → port < state.ports → IsMessage family message →
     needed_for port message known state ≤ state.limit →
     IsSound family (heard port message known timing state)
 

@@ -97,7 +97,7 @@ pub(crate) fn count_sets<F: Family>(
     sets: Sets<'_, F>,
 ) -> usize
     requires { IsAscending (records_seen F.bytes_of records.now) }
-    ensures count { result ≡ count_new port (records_seen F.bytes_of records.now) (flat_map (set_events (option_map F.bytes_of known)) sets.entry) }
+    ensures count { result ≡ count_new port (records_seen F.bytes_of records.now) (flat_map (set_events (λ group. option_map F.bytes_of known)) sets.entry) }
     ensures bound { result ≤ 33422850 }
 {
     let _most = sets.count_left();
@@ -120,8 +120,8 @@ pub(crate) fn hear_sets<F: Family>(
     sets: Sets<'_, F>,
 )
     requires ascending { IsAscending (records_seen F.bytes_of records.old.items) }
-    requires room { HasRoom port (start_seen start) (vec_capacity records.old) (flat_map (set_events (option_map F.bytes_of known)) sets) (records_seen F.bytes_of records.old.items) }
-    ensures records { records_seen F.bytes_of records.new.items ≡ act_all port (start_seen start) (flat_map (set_events (option_map F.bytes_of known)) sets.entry) (records_seen F.bytes_of records.old.items) }
+    requires room { HasRoom port (start_seen start) (vec_capacity records.old) (flat_map (set_events (λ group. option_map F.bytes_of known)) sets) (records_seen F.bytes_of records.old.items) }
+    ensures records { records_seen F.bytes_of records.new.items ≡ act_all port (start_seen start) (flat_map (set_events (λ group. option_map F.bytes_of known)) sets.entry) (records_seen F.bytes_of records.old.items) }
 {
     for set in sets {
         let group = set.group();
@@ -141,11 +141,11 @@ pub(crate) fn hear_message<F: Family>(
 ) -> Result<(), HearFault>
     requires ascending { IsAscending (records_seen F.bytes_of records.old.items) }
     requires within { count_on port (records_seen F.bytes_of records.old.items) ≤ 100000 }
-    ensures ok { OnOk result (records_seen F.bytes_of records.new.items ≡ hearing port (start_seen start) (events_of (option_map F.bytes_of known) message.now) (records_seen F.bytes_of records.old.items)) }
+    ensures ok { OnOk result (records_seen F.bytes_of records.new.items ≡ hearing port (start_seen start) (events_of (λ group. option_map F.bytes_of known) message.now) (records_seen F.bytes_of records.old.items)) }
     ensures err { OnErr result (records.new.items ≡ records.old.items) }
     ensures kept { OnErr result (vec_capacity records.new ≡ vec_capacity records.old) }
-    ensures memory { MayWantMemory (count_new port (records_seen F.bytes_of records.old.items) (events_of (option_map F.bytes_of known) message.now)) result }
-    ensures room { IsWithin limit (needed port (records_seen F.bytes_of records.old.items) (events_of (option_map F.bytes_of known) message.now)) result }
+    ensures memory { MayWantMemory (count_new port (records_seen F.bytes_of records.old.items) (events_of (λ group. option_map F.bytes_of known) message.now)) result }
+    ensures room { IsWithin limit (needed port (records_seen F.bytes_of records.old.items) (events_of (λ group. option_map F.bytes_of known) message.now)) result }
 {
     let fresh = count_sets::<F>(records, port, known, message.sets());
     let needed = count_on::<F>(records, port) + fresh;

@@ -154,10 +154,10 @@ impl<F: Family> Ports<F> {
     ) -> Result<(), HearFault>
         requires port { port < self.old.ports }
         requires interval { timing.override_ms ≤ 98302 }
-        ensures ok { OnOk result (self.new ≡ heard port message.now (option_map F.bytes_of rp) timing self.old) }
+        ensures ok { OnOk result (self.new ≡ heard port message.now (λ group. option_map F.bytes_of rp) timing self.old) }
         ensures err { OnErr result (self.new ≡ self.old) }
-        ensures room { IsWithin self.old.limit (needed_for port message.now (option_map F.bytes_of rp) self.old) result }
-        ensures memory { MayWantMemory (new_for port message.now (option_map F.bytes_of rp) self.old) result }
+        ensures room { IsWithin self.old.limit (needed_for port message.now (λ group. option_map F.bytes_of rp) self.old) result }
+        ensures memory { MayWantMemory (new_for port message.now (λ group. option_map F.bytes_of rp) self.old) result }
         ensures ports { self.new.ports ≡ self.old.ports }
         ensures others { OthersStay port self.old self.new }
     {

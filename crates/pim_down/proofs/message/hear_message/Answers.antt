@@ -1,4 +1,4 @@
-use Rattle.std.proofs.Common.{◌≡◌, ◌+◌, ◌≤◌, ◌∙◌, sym, length, false, Result, Ok, Err, OnOk, true≢false, vec_len, vec_capacity, arith}
+use Rattle.std.proofs.Common.{◌≡◌, ℕ, ◌+◌, ◌≤◌, List, ◌∙◌, sym, length, false, Result, Ok, Err, OnOk, true≢false, vec_len, vec_capacity, arith}
 use Rattle.std.specs.Prelude.{option_map, is_err}
 use Rattle.std.specs.List.{flat_map}
 use Rattle.std.proofs.lemmas.List.{length-map}
@@ -14,7 +14,7 @@ ok_then (Err x) P e p = absurd (true≢false e)
 pub hear_sets-requires-clause-room : goal.hear_sets-requires-clause-room
 hear_sets-requires-clause-room g c =
     let bytes_of = g.F.Family.bytes_of in
-    let events = flat_map (set_events (option_map bytes_of c.args.known)) c.args.message.now.sets in
+    let events = flat_map (set_events (λ (_ : List ℕ). option_map bytes_of c.args.known)) c.args.message.now.sets in
     let held = records_seen bytes_of c.args.records.now.items in
     let count = rw (c.deref.ensures.value, c.sets.ensures) at c.count_sets-fresh.ensures.count in
     let items = rw c.deref.ensures.value at c.deref.ensures.len in
