@@ -1,7 +1,6 @@
 -- Jumps from deadline to deadline, in records whose times count from the moment 0, are the run of milliseconds.
 use Rattle.std.proofs.Common.{◌≡◌, ℕ, zero, suc, ◌+◌, ◌-◌, ◌<◌, ◌≤◌, true, false, List, Option, Some, None, map, leb, max, refl, sym, ap, subst, ◌∙◌, arith}
 use Rattle.std.specs.Option.{is_some}
-use Rattle.std.proofs.lemmas.Bool.{false≢true}
 use Rattle.std.proofs.lemmas.Bool.Decides.{nat_tests}
 use Rattle.pim_down.specs.declared.held.Held.{Held}
 use Rattle.pim_down.specs.declared.step.Step.{Step}
@@ -36,9 +35,6 @@ module _ {A : Type 0} (bytes_of : A → List ℕ) where
   -- nothing is due before the first end
   pub quiet_until : (ports limit now k e : ℕ) (records : List (Held A)) → first_end (records_seen bytes_of records) ≡ Some e → now + k ≤ max now e → IsQuietFor k (downstream_at bytes_of ports limit now records)
   quiet_until ports limit now k e records first within j h = due_shown ports limit j now records ∙ ap (ends_by (now + j)) first ∙ not_by (now + j) e (omega arith)
-
-  pub quiet_for_ever : (ports limit now k : ℕ) (records : List (Held A)) → first_end (records_seen bytes_of records) ≡ None → IsQuietFor k (downstream_at bytes_of ports limit now records)
-  quiet_for_ever ports limit now k records none j h = due_shown ports limit j now records ∙ ap (ends_by (now + j)) none
 
   -- a jump over a quiet time
   pub jump : (ports limit moment now to : ℕ) (records : List (Held A)) (answer : Step (List ℕ)) (after : Downstream) → now ≤ to → (k : ℕ) → k ≡ to - now → IsQuietFor k (downstream_at bytes_of ports limit now records) → (now < to → to ≤ moment) → Runs moment (downstream_at bytes_of ports limit to records) answer after → Runs moment (downstream_at bytes_of ports limit now records) answer after
@@ -80,12 +76,6 @@ module _ {A : Type 0} (bytes_of : A → List ℕ) where
       let old = weight_later now (records_seen bytes_of records) in
       let after = weight_later now (records_seen bytes_of new) in
       omega arith
-
-  -- something fires where the first end is reached
-  pub fires_by : (now e : ℕ) (records : List (Held A)) → first_end (records_seen bytes_of records) ≡ Some e → e ≤ now → fired (shown bytes_of now records) ≡ None → ⊥
-  fires_by now e records first le none =
-      let some : is_some (fired (shown bytes_of now records)) ≡ true = fired_by now (records_seen bytes_of records) ∙ ap (ends_by now) first ∙ is_by now e le in
-      false≢true (rw none at some)
 
   -- the next moment at which a timer fires
   pub next_some : (ports limit now e : ℕ) (records : List (Held A)) → first_end (records_seen bytes_of records) ≡ Some e → IsNextDue (downstream_at bytes_of ports limit now records) (Some (max now e))

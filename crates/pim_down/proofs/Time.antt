@@ -10,7 +10,7 @@ use Rattle.pim_down.specs.declared.machine.Machine.{Machine}
 use Rattle.pim_down.specs.declared.machine.Record.{Record}
 use Rattle.pim_down.specs.declared.step.Step.{Step}
 use Rattle.pim_down.specs.declared.step.Step.TheVariants.{Echo, Reached}
-use Rattle.pim_down.specs.Time.{Downstream, expiry_after, pending_after, machine_after, record_after, tick, expiry_due, pending_due, et_due, ppt_due, after_ppt, echo_of, first_due, with_first, fire_et, fired, Outcome, rests, moves, echoes, with_records, told, step, run_on, run_within, Runs, ticks, is_due_after, IsQuietFor}
+use Rattle.pim_down.specs.Time.{Downstream, expiry_after, pending_after, machine_after, record_after, tick, expiry_due, pending_due, et_due, ppt_due, after_ppt, echo_of, first_due, with_first, fire_et, fired, Outcome, rests, moves, echoes, with_records, told, step, run_on, run_within, Runs, ticks, IsQuietFor}
 use Rattle.pim_down.specs.Ends.{sooner, pending_end, first_end, ends_by}
 
 -- ---- milliseconds add up
@@ -140,9 +140,6 @@ either_by k (held ∷ records) =
 -- something fires after so many milliseconds exactly where the first end is no later
 pub fired_by : (k : ℕ) (records : List (Record (List ℕ))) → is_some (fired (map (record_after k) records)) ≡ ends_by k (first_end records)
 fired_by k records = fired_is (map (record_after k) records) ∙ either_by k records
-
-pub due_by : (k : ℕ) (state : Downstream) → is_due_after k state ≡ ends_by k (first_end state.records)
-due_by k state = ap (λ (s : Downstream). is_some (fired s.records)) (ticks_is k state) ∙ fired_by k state.records
 
 -- ---- runs
 

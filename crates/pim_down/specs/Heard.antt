@@ -36,4 +36,5 @@ MayWantMemory new (Err Memory) = 1 ≤ new
 
 -- The machines of the other ports stay.
 abbrev pub OthersStay : ℕ → Downstream → Downstream → Type 0
-OthersStay port old new = (key : Key (List ℕ)) → key.port ≢ port → machine_at key new.records ≡ machine_at key old.records
+OthersStay port old new =
+    (key : Key (List ℕ)) → key.port ≢ port → machine_at key new.records ≡ machine_at key old.records

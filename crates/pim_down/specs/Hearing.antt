@@ -1,5 +1,6 @@
 -- What hearing a Join/Prune message does to the machines of a port (RFC 7761, 4.5).
-use Rattle.std.specs.Prelude.{ℕ, ◌+◌, ◌*◌, Bool, true, false, ◌&&◌, not, List, [], ◌∷◌, ◌++◌, Option, None, Some, ◌==◌, nat_eq, if◌then◌else◌}
+use Rattle.std.specs.Prelude.{ℕ, ◌+◌, ◌*◌, Bool, true, false, ◌&&◌, not, ◌==◌, nat_eq, if◌then◌else◌}
+use Rattle.std.specs.Prelude.{List, [], ◌∷◌, ◌++◌, Option, None, Some}
 use Rattle.std.specs.Option.{is_some}
 use Rattle.std.specs.List.{flat_map}
 use Rattle.std.specs.Cmp.Lexicographic.{pointwise}
@@ -32,8 +33,8 @@ is_known (Some known) rp = pointwise nat_eq known rp
 abbrev pub event : Bool → List ℕ → What (List ℕ) → List Event
 event joins group what = record { joins = joins; group = group; what = what } ∷ []
 
--- An entry of the joined or of the pruned list of a group of which this RP is known. A Join(*,G) whose RP isn't that one
--- is no event.
+-- An entry of the joined or of the pruned list of a group of which this RP is known. A Join(*,G) whose RP isn't that
+-- one is no event.
 abbrev pub entry_events : Option (List ℕ) → Bool → List ℕ → Entry (List ℕ) → List Event
 entry_events group_rp joins group (entry.Star rp) =
     if joins && not (is_known group_rp rp) then [] else event joins group Star

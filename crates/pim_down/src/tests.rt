@@ -1,5 +1,5 @@
-//! Worked examples: the group 239.1.1.1 with the RP 10.9.9.9 and the sources 192.0.2.1 and 192.0.2.2. Each is a table of
-//! rows that are played one after the other.
+//! Worked examples: the group 239.1.1.1 with the RP 10.9.9.9 and the sources 192.0.2.1 and 192.0.2.2. Each is a table
+//! of rows that are played one after the other.
 
 mod hearing;
 mod limits;
