@@ -5,3 +5,7 @@ pub mod Failures
 pub mod ReadBack
 pub mod TextNames
 pub mod Places
+pub mod Numbers
+mod Halving
+mod FirstMatch
+mod OneMoreRow

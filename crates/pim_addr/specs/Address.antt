@@ -1,6 +1,10 @@
 -- Addresses as lists of bytes (RFC 7761, 4.9.1).
-use Rattle.std.specs.Prelude.{◌≡◌, ◌<◌, ℕ, Bool, List, length, slice_index, nat_lt, nat_le, ◌&&◌, ◌==◌, not}
+use Rattle.std.specs.Prelude.{◌≡◌, ◌<◌, ◌-◌, ◌/◌, ◌%◌, ◌^◌, ℕ, Bool, List, length, slice_index, nat_lt, nat_le, ◌&&◌}
+use Rattle.std.specs.Prelude.{◌==◌, not}
 use Rattle.std.specs.List.{list_all}
+use Rattle.std.specs.Ordering.{nat_cmp}
+use Rattle.std.specs.Cmp.Lexicographic.{slice_cmp}
+use Rattle.std.specs.Slice.Scan.{big_endian}
 use Rattle.pim_addr.specs.declared.family.AddressFamily.{AddressFamily}
 use Rattle.pim_addr.specs.declared.family.AddressFamily.TheVariants.{Ipv4, Ipv6}
 
@@ -40,3 +44,22 @@ is_unspecified address = list_all (λ b. b == 0) address
 abbrev pub is_source : AddressFamily → List ℕ → Bool
 is_source Ipv4 address = nat_lt (slice_index address 0) 224 && not (is_unspecified address)
 is_source Ipv6 address = not (slice_index address 0 == 255) && not (is_unspecified address)
+
+-- ---- addresses as numbers
+
+-- the number that the bytes spell, the first byte the highest
+abbrev pub number_of : List ℕ → ℕ
+number_of address = big_endian 0 address
+
+-- the number that the first so many bits of an address spell
+abbrev pub first_bits : AddressFamily → ℕ → List ℕ → ℕ
+first_bits family count address = number_of address / 2 ^ (mask_length family - count)
+
+-- no bit past the first so many is set
+abbrev pub ends_within : AddressFamily → ℕ → List ℕ → Bool
+ends_within family count address = number_of address % 2 ^ (mask_length family - count) == 0
+
+-- addresses of a family are in order as their numbers are
+abbrev pub NumbersAreInOrder : Type 0
+NumbersAreInOrder = (family : AddressFamily) (this that : List ℕ) → IsAddress family this → IsAddress family that →
+    slice_cmp nat_cmp this that ≡ nat_cmp (number_of this) (number_of that)

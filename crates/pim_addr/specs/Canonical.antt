@@ -2,7 +2,8 @@
 -- source's flags the S bit (0x04) is set.
 use Rattle.std.specs.Prelude.{◌≡◌, ℕ, ◌+◌, Bool, List, [], ◌∷◌, ◌++◌, length, if◌then◌else◌}
 use Rattle.pim_addr.specs.Address.{address_length, mask_length, family_byte}
-use Rattle.pim_addr.specs.Encoded.{SourceValue, unicast_faults, unicast_address, group_faults, masked_address, source_faults, source_value}
+use Rattle.pim_addr.specs.Encoded.{SourceValue, unicast_faults, unicast_address, group_faults, masked_address}
+use Rattle.pim_addr.specs.Encoded.{source_faults, source_value}
 use Rattle.pim_addr.specs.declared.family.AddressFamily.{AddressFamily}
 
 -- family, encoding 0, address

@@ -1,5 +1,6 @@
 -- What the devices that bytes come from and go to have done.
-use Rattle.std.specs.Prelude.{◌≡◌, ℕ, ◌+◌, ◌-◌, ◌^◌, ◌≤◌, min, List, ◌++◌, length, take, drop, Option, None, Some, Result, Ok, Err, ⊤, MatchResult}
+use Rattle.std.specs.Prelude.{◌≡◌, ℕ, ◌+◌, ◌-◌, ◌^◌, ◌≤◌, min, List, ◌++◌, length, take, drop, Option, None, Some}
+use Rattle.std.specs.Prelude.{Result, Ok, Err, ⊤, MatchResult}
 use Rattle.std.specs.Io.KnownBytes.{Appends}
 use Rattle.pim_addr.specs.declared.counted.Counted.{Counted}
 

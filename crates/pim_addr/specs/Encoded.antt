@@ -1,6 +1,7 @@
 -- The encoded forms of an address in a PIM message (RFC 7761, 4.9.1), and what is wrong with bytes that
 -- should hold one.
-use Rattle.std.specs.Prelude.{◌≡◌, ℕ, ◌+◌, Bool, List, [], ◌∷◌, ◌++◌, length, take, drop, slice_index, nat_lt, ◌==◌, not, bit_and, if◌then◌else◌}
+use Rattle.std.specs.Prelude.{◌≡◌, ℕ, ◌+◌, Bool, List, [], ◌∷◌, ◌++◌, length, take, drop, slice_index, nat_lt, ◌==◌}
+use Rattle.std.specs.Prelude.{not, bit_and, if◌then◌else◌}
 use Rattle.pim_addr.specs.Address.{address_length, mask_length, family_byte}
 use Rattle.pim_addr.specs.Faults.{fault_if}
 use Rattle.pim_addr.specs.declared.family.AddressFamily.{AddressFamily}
@@ -57,7 +58,8 @@ IsSource family source bytes = (length source.address ≡ address_length family)
 
 abbrev pub family_faults : AddressFamily → List ℕ → List AddrFault
 family_faults family bytes =
-    fault_if (not (slice_index bytes 0 == family_byte family)) Family ++ fault_if (not (slice_index bytes 1 == 0)) Encoding
+    fault_if (not (slice_index bytes 0 == family_byte family)) Family ++
+    fault_if (not (slice_index bytes 1 == 0)) Encoding
 
 abbrev pub mask_faults : AddressFamily → List ℕ → List AddrFault
 mask_faults family bytes = fault_if (not (slice_index bytes 3 == mask_length family)) Mask

@@ -1,6 +1,11 @@
 -- Two byte lists compare equal exactly where they are equal.
 use Rattle.std.specs.Prelude.{◌≡◌, ◌↔◌, ℕ, List, IsTrue, nat_eq}
+use Rattle.std.specs.Cmp.{unsigned_Decides}
 use Rattle.std.specs.Cmp.Lexicographic.{pointwise, bytes_decides}
 
 pub bytes_equal : (xs ys : List ℕ) → IsTrue (pointwise nat_eq xs ys) ↔ (xs ≡ ys)
 bytes_equal = bytes_decides
+
+-- Two numbers compare equal exactly where they are equal.
+pub numbers_equal : (x y : ℕ) → IsTrue (nat_eq x y) ↔ (x ≡ y)
+numbers_equal x y = unsigned_Decides x y

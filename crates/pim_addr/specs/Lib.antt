@@ -9,3 +9,5 @@ pub mod Scripted
 pub mod Canonical
 pub mod TextForms
 pub mod Order
+pub mod Routes
+pub mod RouteRows

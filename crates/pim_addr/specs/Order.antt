@@ -20,7 +20,8 @@ abbrev pub NumbersRise : ℕ → List ℕ → Type 0
 NumbersRise least [] = ⊤
 NumbersRise least (number ∷ numbers) = (least ≤ number) × NumbersRise (suc number) numbers
 
--- Parts, each an offset and the numbers of the faults there: the offsets rise, from this one on, and the numbers at each.
+-- Parts, each an offset and the numbers of the faults there: the offsets rise, from this one on, and at each the
+-- numbers.
 abbrev pub OffsetsRise : ℕ → List (ℕ × List ℕ) → Type 0
 OffsetsRise least [] = ⊤
 OffsetsRise least (part ∷ parts) = (least ≤ part.0) × NumbersRise 0 part.1 × OffsetsRise (suc part.0) parts

@@ -3,7 +3,8 @@
 ghost use Rattle.std.specs.Prelude.{◌≡◌, ◌≤◌, ◌↔◌, ℕ, List, length, take, IsTrue};
 ghost use Rattle.std.specs.Ordering.{nat_cmp};
 ghost use Rattle.std.specs.Cmp.Lexicographic.{slice_cmp};
-ghost use Rattle.pim_addr.specs.Address.{IsAddress, address_length, mask_length, family_byte, is_group, is_source, is_unspecified};
+ghost use Rattle.pim_addr.specs.Address.{IsAddress, address_length, mask_length, family_byte, is_group, is_source};
+ghost use Rattle.pim_addr.specs.Address.{is_unspecified, number_of, first_bits, ends_within, NumbersAreInOrder};
 
 use std::fmt::Debug;
 
@@ -24,9 +25,14 @@ pub trait Family {
     /// An address. Its order is the order of its bytes.
     type Addr: Copy + Ord + Debug;
 
+    /// The number that an address spells: a type of 32 or of 128 bits. Its order is that of numbers.
+    type Number: Copy + Ord + Debug;
+
     ghost use Rattle.pim_addr.specs.declared.family.AddressFamily.{AddressFamily};
 
     ghost family: { AddressFamily };
+
+    ghost value_of: { Self.Number → ℕ };
 
     ghost bytes_of: { Self.Addr → List ℕ };
 
@@ -70,6 +76,20 @@ pub trait Family {
     fn is_source(address: Self::Addr) -> bool
         ensures { result ≡ is_source family (bytes_of address) };
 
+    /// The number that the address spells, its first byte the highest.
+    fn number(address: Self::Addr) -> Self::Number
+        ensures { value_of result ≡ number_of (bytes_of address) };
+
+    /// The number that its first `count` bits spell, 0 where `count` is 0.
+    fn first_bits(address: Self::Addr, count: u8) -> Self::Number
+        requires { count ≤ mask_length family }
+        ensures { value_of result ≡ first_bits family count (bytes_of address) };
+
+    /// Whether no bit past its first `count` is set.
+    fn ends_within(address: Self::Addr, count: u8) -> bool
+        requires { count ≤ mask_length family }
+        ensures { result ≡ ends_within family count (bytes_of address) };
+
     /// A law: an address has as many bytes as its family says, and they are bytes. It does nothing.
     fn address_has_its_bytes(address: Self::Addr)
         ensures { IsAddress family (bytes_of address) };
@@ -89,6 +109,10 @@ pub trait Family {
     ghost order_of_bytes: { (a b : Self.Addr) → Self.Addr.cmp a b ≡ slice_cmp nat_cmp (bytes_of a) (bytes_of b) };
 
     ghost equality_of_bytes: { (a b : Self.Addr) → IsTrue (Self.Addr.eq a b) ↔ (bytes_of a ≡ bytes_of b) };
+
+    ghost order_of_numbers: { (a b : Self.Number) → Self.Number.cmp a b ≡ nat_cmp (value_of a) (value_of b) };
+
+    ghost equality_of_numbers: { (a b : Self.Number) → IsTrue (Self.Number.eq a b) ↔ (value_of a ≡ value_of b) };
 }
 
 /// IPv4.
@@ -99,22 +123,24 @@ pub struct V4;
 #[derive(Clone, Copy, Debug, PartialEq, Eq)]
 pub struct V6;
 
-/// Whether all bytes are 0.
-fn is_unspecified(bytes: &[u8]) -> bool
-    ensures { result ≡ is_unspecified bytes.now }
-{
-    bytes.iter().all(|byte| *byte == 0)
-}
+/// A law: addresses of a family are in order as their numbers are. It does nothing.
+pub fn numbers_are_in_order()
+    ensures { NumbersAreInOrder }
+{}
 
 impl Family for V4 {
     type Addr = [u8; 4];
 
+    type Number = u32;
+
     ghost use Rattle.std.specs.Prelude.{refl};
     ghost use Rattle.std.proofs.Common.{lit≤};
     ghost use Rattle.pim_addr.specs.declared.family.AddressFamily.TheVariants.{Ipv4};
-    ghost use Rattle.pim_addr.specs.Equality.{bytes_equal};
+    ghost use Rattle.pim_addr.specs.Equality.{bytes_equal, numbers_equal};
 
     ghost family = { Ipv4 };
+
+    ghost value_of = { λ n. n };
 
     ghost bytes_of = { λ a. a };
 
@@ -149,8 +175,32 @@ impl Family for V4 {
         address[0] >= 224 && address[0] < 240
     }
 
+    #[tactic(auto, using(crate::proofs::Numbers::first_of_four, crate::proofs::Numbers::unspecified_is_zero))]
     fn is_source(address: [u8; 4]) -> bool {
-        address[0] < 224 && !is_unspecified(&address)
+        Self::address_has_its_bytes(address);
+        let number = Self::number(address);
+        number < 0xe000_0000 && number != 0
+    }
+
+    fn number(address: [u8; 4]) -> u32 {
+        u32::from_be_bytes(address)
+    }
+
+    fn first_bits(address: [u8; 4], count: u8) -> u32 {
+        if count == 0 {
+            Self::address_has_its_bytes(address);
+            return 0;
+        }
+        Self::number(address) >> (32 - count)
+    }
+
+    fn ends_within(address: [u8; 4], count: u8) -> bool {
+        let number = Self::number(address);
+        if count == 0 {
+            return number == 0;
+        }
+        let past = 32 - count;
+        (number >> past) << past == number
     }
 
     fn address_has_its_bytes(_address: [u8; 4]) {}
@@ -170,17 +220,25 @@ impl Family for V4 {
     ghost order_of_bytes = { λ a b. refl };
 
     ghost equality_of_bytes = { bytes_equal };
+
+    ghost order_of_numbers = { λ a b. refl };
+
+    ghost equality_of_numbers = { numbers_equal };
 }
 
 impl Family for V6 {
     type Addr = [u8; 16];
 
+    type Number = u128;
+
     ghost use Rattle.std.specs.Prelude.{refl};
     ghost use Rattle.std.proofs.Common.{lit≤};
     ghost use Rattle.pim_addr.specs.declared.family.AddressFamily.TheVariants.{Ipv6};
-    ghost use Rattle.pim_addr.specs.Equality.{bytes_equal};
+    ghost use Rattle.pim_addr.specs.Equality.{bytes_equal, numbers_equal};
 
     ghost family = { Ipv6 };
+
+    ghost value_of = { λ n. n };
 
     ghost bytes_of = { λ a. a };
 
@@ -218,8 +276,30 @@ impl Family for V6 {
         address[0] == 255
     }
 
+    #[tactic(auto, using(crate::proofs::Numbers::unspecified_is_zero))]
     fn is_source(address: [u8; 16]) -> bool {
-        address[0] != 255 && !is_unspecified(&address)
+        address[0] != 255 && Self::number(address) != 0
+    }
+
+    fn number(address: [u8; 16]) -> u128 {
+        u128::from_be_bytes(address)
+    }
+
+    fn first_bits(address: [u8; 16], count: u8) -> u128 {
+        if count == 0 {
+            Self::address_has_its_bytes(address);
+            return 0;
+        }
+        Self::number(address) >> (128 - count)
+    }
+
+    fn ends_within(address: [u8; 16], count: u8) -> bool {
+        let number = Self::number(address);
+        if count == 0 {
+            return number == 0;
+        }
+        let past = 128 - count;
+        (number >> past) << past == number
     }
 
     fn address_has_its_bytes(_address: [u8; 16]) {}
@@ -239,4 +319,8 @@ impl Family for V6 {
     ghost order_of_bytes = { λ a b. refl };
 
     ghost equality_of_bytes = { bytes_equal };
+
+    ghost order_of_numbers = { λ a b. refl };
+
+    ghost equality_of_numbers = { numbers_equal };
 }

@@ -2,8 +2,8 @@
 
 ghost use Rattle.pim_addr.specs.Order.{FirstOfPartsIsLeast};
 
-/// A law: where the offsets of a body's parts rise, and the numbers of the faults at each, the first fault has the least
-/// offset, and of those at its offset the least number.
+/// A law: where the offsets of a body's parts rise, and the numbers of the faults at each, the first fault has the
+/// least offset, and of those at its offset the least number.
 pub fn first_of_parts_is_least()
     ensures { FirstOfPartsIsLeast }
 {}

@@ -3,7 +3,8 @@
 ghost use Rattle.std.specs.Prelude.{◌≡◌, ◌+◌, ◌<◌, ◌≤◌, ◌↔◌, min, max, Some, [], length, IfOk, OnErr, IsErr};
 ghost use Rattle.std.specs.Io.KnownBytes.{ReadConsumes, WriteAppends};
 ghost use Rattle.pim_addr.specs.Device.{failures_after};
-ghost use Rattle.pim_addr.specs.Scripted.{feed_bytes, feed_failures, feed_most, feed_until_failure, drain_bytes, drain_failures, drain_most, drain_until_failure};
+ghost use Rattle.pim_addr.specs.Scripted.{feed_bytes, feed_failures, feed_most, feed_until_failure, drain_bytes};
+ghost use Rattle.pim_addr.specs.Scripted.{drain_failures, drain_most, drain_until_failure};
 
 use crate::device::{Drain, Failed, Feed};
 use std::alloc::Global;

@@ -2,8 +2,10 @@
 
 ghost use Rattle.std.specs.Prelude.{◌≡◌, ◌+◌, ◌∷◌, length};
 ghost use Rattle.pim_addr.specs.Address.{address_length, mask_length, family_byte};
-ghost use Rattle.pim_addr.specs.Encoded.{unicast_length, group_length, source_length, IsUnicast, IsGroup, IsSource, wildcard_bit, rpt_bit};
-ghost use Rattle.pim_addr.specs.Canonical.{canonical_unicast, canonical_group, canonical_flags, canonical_source, UnicastReadsBack, GroupReadsBack, SourceReadsBack};
+ghost use Rattle.pim_addr.specs.Encoded.{unicast_length, group_length, source_length, IsUnicast, IsGroup, IsSource};
+ghost use Rattle.pim_addr.specs.Encoded.{wildcard_bit, rpt_bit};
+ghost use Rattle.pim_addr.specs.Canonical.{canonical_unicast, canonical_group, canonical_flags, canonical_source};
+ghost use Rattle.pim_addr.specs.Canonical.{UnicastReadsBack, GroupReadsBack, SourceReadsBack};
 ghost use Rattle.pim_addr.specs.Seen.{source_seen};
 
 #[cfg(test)]

@@ -1,6 +1,7 @@
 -- What a capture answers: a function from the bytes of its file to the list of answers, of which the last is End or
 -- a fault.
-use Rattle.std.specs.Prelude.{ℕ, zero, suc, ◌+◌, ◌*◌, ◌/◌, Bool, true, false, List, [], ◌∷◌, ◌++◌, length, take, drop, nat_lt, Result, Ok, Err, if◌then◌else◌}
+use Rattle.std.specs.Prelude.{ℕ, zero, suc, ◌+◌, ◌*◌, ◌/◌, Bool, true, false, List, [], ◌∷◌, ◌++◌, length, take, drop}
+use Rattle.std.specs.Prelude.{nat_lt, Result, Ok, Err, if◌then◌else◌}
 use Rattle.pim_addr.specs.Faults.{fault_if, judged}
 use Rattle.pim_capture.specs.declared.event.Why.{Why}
 use Rattle.pim_capture.specs.declared.fault.CaptureFault.{CaptureFault}
@@ -32,7 +33,9 @@ per_millisecond Microseconds = 1000
 per_millisecond Nanoseconds = 1000000
 
 abbrev pub millis_of : Format → List ℕ → ℕ
-millis_of format header = number format.endianness 4 header * 1000 + number format.endianness 4 (drop 4 header) / per_millisecond format.resolution
+millis_of format header =
+    number format.endianness 4 header * 1000
+    + number format.endianness 4 (drop 4 header) / per_millisecond format.resolution
 
 abbrev pub captured_length : Format → List ℕ → ℕ
 captured_length format header = number format.endianness 4 (drop 8 header)
@@ -56,7 +59,8 @@ told_of millis frame (Ok datagram) = packet millis frame datagram
 told_of millis frame (Err why) = skipped millis why
 
 abbrev pub record_told : Format → List ℕ → Told
-record_told format bytes = told_of (millis_of format (take 16 bytes)) (frame_of format bytes) (judge_frame format.link (frame_of format bytes))
+record_told format bytes =
+    told_of (millis_of format (take 16 bytes)) (frame_of format bytes) (judge_frame format.link (frame_of format bytes))
 
 -- ---- the file
 

@@ -1,6 +1,7 @@
 -- What a captured frame holds of PIM, and why it may hold none: IPv4 (RFC 791, 3.1) or IPv6 (RFC 8200, 3), over
 -- Ethernet with at most one 802.1Q tag, or with nothing before it.
-use Rattle.std.specs.Prelude.{ℕ, ◌+◌, ◌*◌, ◌/◌, ◌%◌, Bool, false, ◌||◌, ◌==◌, not, List, ◌++◌, length, take, drop, slice_index, slice_range, nat_lt, bit_and, Option, None, Some, Result, Err, if◌then◌else◌}
+use Rattle.std.specs.Prelude.{ℕ, ◌+◌, ◌*◌, ◌/◌, ◌%◌, Bool, false, ◌||◌, ◌==◌, not, List, ◌++◌, length, take, drop}
+use Rattle.std.specs.Prelude.{slice_index, slice_range, nat_lt, bit_and, Option, None, Some, Result, Err, if◌then◌else◌}
 use Rattle.byteorder.specs.Endian.{big_number}
 use Rattle.pim_addr.specs.declared.family.AddressFamily.{AddressFamily}
 use Rattle.pim_addr.specs.declared.family.AddressFamily.TheVariants.{Ipv4, Ipv6}
@@ -71,11 +72,13 @@ protocol Ipv6 packet = slice_index packet 6
 
 -- more fragments follow (0x2000), or the offset (0x1fff) is above 0
 abbrev pub is_fragment : AddressFamily → List ℕ → Bool
-is_fragment Ipv4 packet = not (bit_and (big_number 2 (drop 6 packet)) 0x2000 == 0) || not (bit_and (big_number 2 (drop 6 packet)) 0x1fff == 0)
+is_fragment Ipv4 packet =
+    not (bit_and (big_number 2 (drop 6 packet)) 0x2000 == 0) || not (bit_and (big_number 2 (drop 6 packet)) 0x1fff == 0)
 is_fragment Ipv6 packet = false
 
 abbrev pub is_bad_header : AddressFamily → List ℕ → Bool
-is_bad_header Ipv4 packet = not (version packet == 4) || nat_lt (header_length Ipv4 packet) 20 || nat_lt (packet_length Ipv4 packet) (header_length Ipv4 packet)
+is_bad_header Ipv4 packet = not (version packet == 4) || nat_lt (header_length Ipv4 packet) 20 ||
+    nat_lt (packet_length Ipv4 packet) (header_length Ipv4 packet)
 is_bad_header Ipv6 packet = not (version packet == 6)
 
 -- why an IP packet of this family is passed over, in the order in which it is judged
@@ -112,4 +115,5 @@ judge_packet (Some family) packet = judged (packet_whys family packet) (datagram
 
 abbrev pub judge_frame : Link → List ℕ → Result Datagram Why
 judge_frame link frame =
-    if is_link_cut link frame then Err Cut else judge_packet (named_family link frame) (drop (link_length link frame) frame)
+    if is_link_cut link frame then Err Cut
+    else judge_packet (named_family link frame) (drop (link_length link frame) frame)

@@ -1,6 +1,7 @@
 -- The header of a classic pcap file: a magic, two version numbers, two numbers, a snapshot length, all ignored but
 -- the magic, and the link word.
-use Rattle.std.specs.Prelude.{ℕ, ◌%◌, ◌^◌, Bool, ◌&&◌, ◌||◌, ◌==◌, not, List, [], ◌∷◌, ◌++◌, length, drop, nat_lt, Result, ⊤, if◌then◌else◌}
+use Rattle.std.specs.Prelude.{ℕ, ◌%◌, ◌^◌, Bool, ◌&&◌, ◌||◌, ◌==◌, not, List, [], ◌∷◌, ◌++◌, length, drop, nat_lt}
+use Rattle.std.specs.Prelude.{Result, ⊤, if◌then◌else◌}
 use Rattle.byteorder.specs.Endian.{big_number, little_number}
 use Rattle.pim_addr.specs.Faults.{fault_if, judged}
 use Rattle.pim_capture.specs.declared.fault.CaptureFault.{CaptureFault}
@@ -26,7 +27,8 @@ abbrev pub nanoseconds_magic : ℕ
 nanoseconds_magic = 0xa1b23c4d
 
 abbrev pub is_magic : Endianness → List ℕ → Bool
-is_magic endianness header = number endianness 4 header == microseconds_magic || number endianness 4 header == nanoseconds_magic
+is_magic endianness header =
+    number endianness 4 header == microseconds_magic || number endianness 4 header == nanoseconds_magic
 
 -- the byte order in which the magic reads so is that of the whole file
 abbrev pub endianness_of : List ℕ → Endianness
@@ -51,7 +53,8 @@ header_faults header =
     ++ fault_if (not (link_type header == 1) && not (link_type header == 101)) fault.LinkType
 
 abbrev pub format_of : List ℕ → Format
-format_of header = record { endianness = endianness_of header; resolution = resolution_of header; link = link_of header }
+format_of header =
+    record { endianness = endianness_of header; resolution = resolution_of header; link = link_of header }
 
 -- what is wrong with the bytes, and not with the reader or the memory
 abbrev pub IsOfBytes : CaptureFault → Type 0

@@ -1,5 +1,6 @@
 -- What a call of `next` answers, and what is still to come.
-use Rattle.std.specs.Prelude.{◌≡◌, ◌+◌, ◌<◌, ◌≤◌, ◌==◌, ◌||◌, nat_lt, min, ℕ, List, [], ◌∷◌, length, take, drop, Option, Some, None, Result, Ok, Err, IsSomeAnd, ⊤, ◌⊎◌, if◌then◌else◌}
+use Rattle.std.specs.Prelude.{◌≡◌, ◌+◌, ◌<◌, ◌≤◌, ◌==◌, ◌||◌, nat_lt, min, ℕ, List, [], ◌∷◌, length, take, drop, Option}
+use Rattle.std.specs.Prelude.{Some, None, Result, Ok, Err, IsSomeAnd, ⊤, ◌⊎◌, if◌then◌else◌}
 use Rattle.std.specs.Option.{option_map}
 use Rattle.pim_addr.specs.Device.{FailedIn, top_count}
 use Rattle.pim_capture.specs.declared.fault.CaptureFault.{CaptureFault}
@@ -12,7 +13,8 @@ use Rattle.pim_capture.specs.declared.capture.State.TheVariants.{Unbegun, Record
 use Rattle.pim_capture.specs.declared.capture.Capture.{Capture}
 use Rattle.pim_capture.specs.Seen.{ip_seen, LiesIn}
 use Rattle.pim_capture.specs.Header.{judge_header}
-use Rattle.pim_capture.specs.Capture.{Told, packet, skipped, ended, Answer, most_captured, most_records, captured_length, answers, records}
+use Rattle.pim_capture.specs.Capture.{Told, packet, skipped, ended, Answer, most_captured, most_records}
+use Rattle.pim_capture.specs.Capture.{captured_length, answers, records}
 
 -- ---- an answer, beside a buffer that holds these bytes
 
@@ -70,7 +72,8 @@ IsRefusal failures failures' (Err _) = ⊥
 
 -- A read failed in the call exactly where it answered Read for that cause, which isn't the other one.
 abbrev pub CountsReads : {A : Type 0} → Type 0 → ℕ → ℕ → Result A CaptureFault → Type 0
-CountsReads other failures failures' (Err fault.Read) = (failures' ≡ min (failures + 1) top_count) ⊎ (other × (failures' ≡ failures))
+CountsReads other failures failures' (Err fault.Read) =
+    (failures' ≡ min (failures + 1) top_count) ⊎ (other × (failures' ≡ failures))
 CountsReads other failures failures' _ = failures' ≡ failures
 
 -- a fact where Memory was answered

@@ -7,8 +7,18 @@ use Rattle.pim_capture.specs.Frame.{Datagram}
 
 -- a packet in a buffer that holds these bytes
 abbrev pub ip_seen : List ℕ → Ip → Datagram
-ip_seen bytes (V4 source destination payload) = record { family = Ipv4; source = source; destination = destination; payload = slice_range bytes payload.start payload.end }
-ip_seen bytes (V6 source destination payload) = record { family = Ipv6; source = source; destination = destination; payload = slice_range bytes payload.start payload.end }
+ip_seen bytes (V4 source destination payload) = record {
+  family = Ipv4;
+  source = source;
+  destination = destination;
+  payload = slice_range bytes payload.start payload.end;
+}
+ip_seen bytes (V6 source destination payload) = record {
+  family = Ipv6;
+  source = source;
+  destination = destination;
+  payload = slice_range bytes payload.start payload.end;
+}
 
 -- its payload lies in them
 abbrev pub LiesIn : List ℕ → Ip → Type 0

@@ -5,7 +5,9 @@ ghost use Rattle.pim_addr.specs.Device.{ConsumesAtMost};
 ghost use Rattle.std.specs.Option.{option_map};
 ghost use Rattle.pim_capture.specs.declared.capture.State.TheVariants.{Unbegun};
 ghost use Rattle.pim_capture.specs.Capture.{answers};
-ghost use Rattle.pim_capture.specs.Next.{coming, seen, reader_of, state_of, IsNext, IsRefusal, CountsReads, CountsRecord, records_left, most_taken, OnMemory, IsRepeated, StaysOver, PayloadLiesIn, IsBy, latest_moment, named, LacksRoom, FitsRecord};
+ghost use Rattle.pim_capture.specs.Next.{coming, seen, reader_of, state_of, IsNext, IsRefusal, CountsReads};
+ghost use Rattle.pim_capture.specs.Next.{CountsRecord, records_left, most_taken, OnMemory, IsRepeated, StaysOver};
+ghost use Rattle.pim_capture.specs.Next.{PayloadLiesIn, IsBy, latest_moment, named, LacksRoom, FitsRecord};
 
 use crate::event::Event;
 use crate::fault::CaptureFault;

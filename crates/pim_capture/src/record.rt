@@ -1,13 +1,15 @@
 //! The parts of a capture, read one after the other.
 
-ghost use Rattle.std.specs.Prelude.{◌≡◌, ◌≢◌, ◌+◌, ◌-◌, ◌<◌, ◌≤◌, ◌⊎◌, ℕ, length, take, drop, min, max, Ok, Err, IfOk, IfErr, OnOk, OnErr, IsErr, MatchResult, vec_len, vec_capacity};
+ghost use Rattle.std.specs.Prelude.{◌≡◌, ◌≢◌, ◌+◌, ◌-◌, ◌<◌, ◌≤◌, ◌⊎◌, ℕ, length, take, drop, min, max, Ok, Err, IfOk};
+ghost use Rattle.std.specs.Prelude.{IfErr, OnOk, OnErr, IsErr, MatchResult, vec_len, vec_capacity};
 ghost use Rattle.std.specs.Option.{option_map};
 ghost use Rattle.pim_addr.specs.Device.{ConsumesAtMost};
 ghost use Rattle.pim_capture.specs.declared.event.Event.TheVariants.{End};
 ghost use Rattle.pim_capture.specs.Frame.{judge_frame};
 ghost use Rattle.pim_capture.specs.Capture.{records, millis_of, told_of, most_captured};
 ghost use Rattle.pim_capture.specs.Parts.{BeginsWith, FillsExactly};
-ghost use Rattle.pim_capture.specs.Next.{event_seen, seen, IsNext, IsRefusal, CountsReads, OnMemory, most_taken, PayloadLiesIn, IsBy, latest_moment, length_named, LacksRoom, FitsRecord};
+ghost use Rattle.pim_capture.specs.Next.{event_seen, seen, IsNext, IsRefusal, CountsReads, OnMemory, most_taken};
+ghost use Rattle.pim_capture.specs.Next.{PayloadLiesIn, IsBy, latest_moment, length_named, LacksRoom, FitsRecord};
 
 use crate::event::Event;
 use crate::fault::CaptureFault;

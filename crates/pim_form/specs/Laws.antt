@@ -8,8 +8,8 @@ use Rattle.pim_jp.specs.Message.{Message, message_of}
 use Rattle.pim_jp.specs.Faults.{faults}
 use Rattle.pim_jp.specs.Canonical.{IsMessage, canonical}
 
--- The bytes, sent from `source` to ALL-PIM-ROUTERS, are opened as a Join/Prune whose body is read as this message, and no
--- fault is found on the way (RFC 7761, 4.9 and 4.9.5).
+-- The bytes, sent from `source` to ALL-PIM-ROUTERS, are opened as a Join/Prune whose body is read as this message, and
+-- no fault is found on the way (RFC 7761, 4.9 and 4.9.5).
 pub record IsReadAs (family : AddressFamily) (source : List ℕ) (bytes : List ℕ) (message : Message) : Type 0 where
   pub body : List ℕ
   pub opened : frame_faults family source (all_routers family) bytes ≡ []

@@ -1,5 +1,6 @@
 -- The header of a PIM message (RFC 7761, 4.9): what is wrong with it, and what follows it.
-use Rattle.std.specs.Prelude.{◌≡◌, ℕ, ◌≤◌, IsTrue, ◌/◌, ◌%◌, Bool, List, [], ◌∷◌, ◌++◌, length, drop, slice_index, nat_lt, nat_eq, ◌==◌, ◌&&◌, ◌||◌, not, if◌then◌else◌}
+use Rattle.std.specs.Prelude.{◌≡◌, ℕ, ◌≤◌, IsTrue, ◌/◌, ◌%◌, Bool, List, [], ◌∷◌, ◌++◌, length, drop, slice_index}
+use Rattle.std.specs.Prelude.{nat_lt, nat_eq, ◌==◌, ◌&&◌, ◌||◌, not, if◌then◌else◌}
 use Rattle.std.specs.Cmp.Lexicographic.{pointwise}
 use Rattle.pim_addr.specs.Faults.{fault_if}
 use Rattle.pim_addr.specs.declared.family.AddressFamily.{AddressFamily}

@@ -24,7 +24,7 @@ fn add_word(sum: u16, word: u16) -> u16
 
 /// The number that one to four bytes make, zero bytes following fewer than four. By 65,535 it leaves what the sum of
 /// their words leaves, since 65,536 leaves 1.
-#[tactic(auto, using(crate::proofs::Sums::folded_one, crate::proofs::Sums::folded_two, crate::proofs::Sums::folded_three, crate::proofs::Sums::folded_four))]
+#[tactic(auto, using(crate::proofs::Sums::folded_one, crate::proofs::Sums::folded_two, crate::proofs::Sums::folded_three, crate::proofs::Sums::folded_four,))]
 fn wide_word_of(bytes: &[u8]) -> u32
     requires some { 0 < length bytes.now }
     requires few { length bytes.now ≤ 4 }

@@ -2,7 +2,8 @@
 
 ghost use Rattle.std.specs.Prelude.{◌≡◌, ◌≢◌, ◌↔◌, ◌^◌, ◌<◌, ◌≤◌, length, drop, IsErrAnd, IsFalse, IsOk, Ok, Err};
 ghost use Rattle.pim_addr.specs.Faults.{judged, Answers};
-ghost use Rattle.pim_frame.specs.Frame.{all_routers, frame_faults, content, version, message_type, is_hello_or_join_prune, IsAccepted};
+ghost use Rattle.pim_frame.specs.Frame.{all_routers, frame_faults, content, version, message_type};
+ghost use Rattle.pim_frame.specs.Frame.{is_hello_or_join_prune, IsAccepted};
 ghost use Rattle.pim_frame.specs.Seal.{first_byte, framed, IsSealed, OneChecksum, SealedOpens};
 ghost use Rattle.pim_frame.specs.Seen.{content_of};
 

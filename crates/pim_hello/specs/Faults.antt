@@ -22,7 +22,8 @@ has_other_length kind value =
 
 -- the kinds at one part, in the order of their numbers
 abbrev pub kinds_at : Content → List HelloKind
-kinds_at (whole kind value) = fault_if (has_other_length kind value) OptionLength ++ fault_if (kind == 24 && not (is_row value)) Address
+kinds_at (whole kind value) =
+    fault_if (has_other_length kind value) OptionLength ++ fault_if (kind == 24 && not (is_row value)) Address
 kinds_at partial = Short ∷ []
 
 abbrev pub part_faults : Part → List HelloFault

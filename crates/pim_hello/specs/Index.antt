@@ -36,16 +36,20 @@ module _ {A : Type 0} (cmp : A → A → Ordering) where
 
   -- the index has exactly the ends of the neighbours
   abbrev pub IndexesEnds : List (ℕ × A) → List (A × Kept) → Type 0
-  IndexesEnds ends neighbours = (end : ℕ) (address : A) → has_end ends end address ≡ kept_ends_at end (lookup (is_at (cmp address)) neighbours)
+  IndexesEnds ends neighbours =
+      (end : ℕ) (address : A) → has_end ends end address ≡ kept_ends_at end (lookup (is_at (cmp address)) neighbours)
 
   -- the index gets this end of this address, where there is one
   abbrev pub AddsEnd : Option ℕ → A → List (ℕ × A) → List (ℕ × A) → Type 0
-  AddsEnd added owner old new = (end : ℕ) (address : A) → has_end new end address ≡ ((ends_at end added && is_at (cmp owner) address) || has_end old end address)
+  AddsEnd added owner old new = (end : ℕ) (address : A) → has_end new end address ≡
+      ((ends_at end added && is_at (cmp owner) address) || has_end old end address)
 
   -- the index loses it
   abbrev pub RemovesEnd : Option ℕ → A → List (ℕ × A) → List (ℕ × A) → Type 0
-  RemovesEnd removed owner old new = (end : ℕ) (address : A) → has_end new end address ≡ (not (ends_at end removed && is_at (cmp owner) address) && has_end old end address)
+  RemovesEnd removed owner old new = (end : ℕ) (address : A) → has_end new end address ≡
+      (not (ends_at end removed && is_at (cmp owner) address) && has_end old end address)
 
   -- no neighbour's time has ended by this moment
   abbrev pub NoneEnded : ℕ → List (A × Kept) → Type 0
-  NoneEnded moment neighbours = (address : A) → ended_by moment (end_kept (lookup (is_at (cmp address)) neighbours)) ≡ false
+  NoneEnded moment neighbours =
+      (address : A) → ended_by moment (end_kept (lookup (is_at (cmp address)) neighbours)) ≡ false

@@ -7,11 +7,17 @@ use Rattle.pim_hello.specs.declared.parameters.Parameters.{Parameters as Sent}
 use Rattle.pim_hello.specs.declared.parameters.Kept.{Kept}
 
 abbrev pub parameters_seen : Sent → Parameters
-parameters_seen hello = record { holdtime = hello.holdtime; lan = option_map delays_seen hello.lan; priority = hello.priority; generation = hello.generation }
+parameters_seen hello = record {
+  holdtime = hello.holdtime;
+  lan = option_map delays_seen hello.lan;
+  priority = hello.priority;
+  generation = hello.generation;
+}
 
 -- an end is seen as the time until then
 abbrev pub kept_seen : ℕ → Kept → Neighbour
-kept_seen moment kept = record { parameters = parameters_seen kept.parameters; left = option_map (λ end. end - moment) kept.end }
+kept_seen moment kept =
+    record { parameters = parameters_seen kept.parameters; left = option_map (λ end. end - moment) kept.end }
 
 abbrev pub entry_seen : {A : Type 0} → (A → List ℕ) → ℕ → A × Kept → List ℕ × Neighbour
 entry_seen bytes_of moment entry = (bytes_of entry.0, kept_seen moment entry.1)

@@ -6,7 +6,8 @@ use Rattle.pim_addr.specs.Order.{Place, IsToldBefore}
 use Rattle.pim_hello.specs.declared.fault.HelloFault.{HelloFault}
 use Rattle.pim_hello.specs.Faults.{number_of, faults}
 use Rattle.pim_hello.specs.Hello.{Parameters}
-use Rattle.pim_hello.specs.Neighbours.{Neighbour, Table, neighbour_at, waited, passed_to, is_over, without_ended, says_goodbye, lifetime, heard_from, IsAscending}
+use Rattle.pim_hello.specs.Neighbours.{Neighbour, Table, neighbour_at, waited, passed_to, is_over, without_ended}
+use Rattle.pim_hello.specs.Neighbours.{says_goodbye, lifetime, heard_from, IsAscending}
 
 -- what the order of faults sees of one
 abbrev pub place : HelloFault → Place
@@ -21,7 +22,8 @@ FirstFaultIsLeast = (body : List ℕ) (first : HelloFault) (others : List HelloF
 
 -- what is kept of the sender of a Hello
 abbrev pub kept_of_sender : Parameters → Option Neighbour
-kept_of_sender hello = if says_goodbye hello then None else Some (record { parameters = hello; left = lifetime hello.holdtime })
+kept_of_sender hello =
+    if says_goodbye hello then None else Some (record { parameters = hello; left = lifetime hello.holdtime })
 
 -- what stays of a neighbour when those go whose time has ended
 abbrev pub unless_ended : Option Neighbour → Option Neighbour
@@ -31,7 +33,8 @@ unless_ended (Some neighbour) = if is_over neighbour.left then None else Some ne
 abbrev pub HearingChangesItsSenderAlone : Type 0
 HearingChangesItsSenderAlone = (table : Table) (sender : List ℕ) (hello : Parameters) → IsAscending table →
     (neighbour_at sender (heard_from sender hello table) ≡ kept_of_sender hello)
-    × ((other : List ℕ) → (sender ≡ other → ⊥) → neighbour_at other (heard_from sender hello table) ≡ neighbour_at other table)
+    × ((other : List ℕ) → (sender ≡ other → ⊥) → neighbour_at other (heard_from sender hello table) ≡
+    neighbour_at other table)
     × IsAscending (heard_from sender hello table)
 
 abbrev pub TimePassesForAll : Type 0
@@ -48,7 +51,8 @@ expired_at now table = without_ended (passed_to now table)
 
 -- Expiry at one moment and then at another is expiry at the later one.
 abbrev pub ExpiringTwiceIsExpiringOnce : Type 0
-ExpiringTwiceIsExpiringOnce = (table : Table) (first second : ℕ) → expired_at second (expired_at first table) ≡ expired_at (max first second) table
+ExpiringTwiceIsExpiringOnce = (table : Table) (first second : ℕ) → expired_at second (expired_at first table) ≡
+    expired_at (max first second) table
 
 abbrev pub TablesThatAgreeAreOne : Type 0
 TablesThatAgreeAreOne = (one other : Table) → IsAscending one → IsAscending other → one.moment ≡ other.moment →

@@ -1,6 +1,8 @@
 -- The neighbours of one port (RFC 7761, 4.3.1, 4.3.2 and 4.9.2): a finite map from an address, as its list of
 -- bytes, to what its last accepted Hello said and the time that is left to it.
-use Rattle.std.specs.Prelude.{◌≡◌, ◌↔◌, ℕ, ◌+◌, ◌-◌, ◌*◌, ◌^◌, ◌≤◌, Bool, false, not, ◌&&◌, ◌||◌, ◌==◌, nat_le, nat_eq, List, [], length, map, filter, Option, Some, None, option_map, is_some, Result, Err, IfOk, IsOk, OnOk, OnErr, IsTrue, if◌then◌else◌}
+use Rattle.std.specs.Prelude.{◌≡◌, ◌↔◌, ℕ, ◌+◌, ◌-◌, ◌*◌, ◌^◌, ◌≤◌, Bool, false, not, ◌&&◌, ◌||◌, ◌==◌, nat_le, nat_eq}
+use Rattle.std.specs.Prelude.{List, [], length, map, filter, Option, Some, None, option_map, is_some, Result, Err, IfOk}
+use Rattle.std.specs.Prelude.{IsOk, OnOk, OnErr, IsTrue, if◌then◌else◌}
 use Rattle.std.specs.Option.{option_eq}
 use Rattle.std.specs.Ordering.{nat_cmp}
 use Rattle.std.specs.Cmp.Lexicographic.{slice_cmp}
@@ -47,7 +49,8 @@ hellos_of table = map (λ entry. entry.1.parameters) table.entries
 
 -- milliseconds pass: the countdown falls, and stops at 0
 abbrev pub waited : ℕ → Neighbour → Neighbour
-waited passed neighbour = record { parameters = neighbour.parameters; left = option_map (λ left. left - passed) neighbour.left }
+waited passed neighbour =
+    record { parameters = neighbour.parameters; left = option_map (λ left. left - passed) neighbour.left }
 
 -- time passes up to this moment; an earlier one counts as the present
 abbrev pub passed_to : ℕ → Table → Table
@@ -61,7 +64,8 @@ is_over (Some left) = left == 0
 
 -- without the neighbours whose time has ended
 abbrev pub without_ended : Table → Table
-without_ended table = record { moment = table.moment; entries = filter (λ entry. not (is_over entry.1.left)) table.entries }
+without_ended table =
+    record { moment = table.moment; entries = filter (λ entry. not (is_over entry.1.left)) table.entries }
 
 -- ---- a Hello
 
@@ -81,7 +85,8 @@ heard_from sender hello table = record {
   moment = table.moment;
   entries = if says_goodbye hello
       then remove_entry (is_address sender) table.entries
-      else insert_entry (slice_cmp nat_cmp) table.entries sender (record { parameters = hello; left = lifetime hello.holdtime });
+      else insert_entry (slice_cmp nat_cmp) table.entries sender
+      (record { parameters = hello; left = lifetime hello.holdtime });
 }
 
 -- what is told of a known sender: its Generation ID, present or absent, is as it was, or it has restarted
@@ -98,14 +103,17 @@ told known hello = if says_goodbye hello then Gone else told_unless_goodbye know
 
 -- no room: the sender is new, says no goodbye, and the port has its neighbours
 abbrev pub is_full : List ℕ → Parameters → Table → Bool
-is_full sender hello table = not (says_goodbye hello) && not (is_some (neighbour_at sender table)) && nat_le neighbour_limit (length table.entries)
+is_full sender hello table = not (says_goodbye hello) && not (is_some (neighbour_at sender table)) &&
+    nat_le neighbour_limit (length table.entries)
 
 -- A Hello that takes no memory: a goodbye, or one of a known sender whose time never ends by it.
 abbrev pub needs_no_memory : List ℕ → Parameters → Table → Bool
-needs_no_memory sender hello table = says_goodbye hello || (is_some (neighbour_at sender table) && not (is_some (lifetime hello.holdtime)))
+needs_no_memory sender hello table =
+    says_goodbye hello || (is_some (neighbour_at sender table) && not (is_some (lifetime hello.holdtime)))
 
 -- What a call that hears a Hello answers, and the table that it leaves.
-pub record Hears (sender : List ℕ) (hello : Parameters) (now : ℕ) (old : Table) (result : Result Heard NeighbourFault) (new : Table) : Type 0 where
+pub record Hears (sender : List ℕ) (hello : Parameters) (now : ℕ) (old : Table)
+    (result : Result Heard NeighbourFault) (new : Table) : Type 0 where
   pub answer : IfOk result (λ heard. heard ≡ told (neighbour_at sender old) hello)
   pub table : OnOk result (new ≡ heard_from sender hello (passed_to now old))
   pub full : (result ≡ Err Full) ↔ IsTrue (is_full sender hello old)

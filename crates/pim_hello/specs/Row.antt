@@ -1,5 +1,6 @@
 -- The value of an Address List (RFC 7761, 4.9.2): a row of encoded unicast addresses, of either family.
-use Rattle.std.specs.Prelude.{ℕ, zero, suc, Bool, true, false, ◌==◌, List, [], ◌∷◌, length, drop, Option, Some, None, if◌then◌else◌}
+use Rattle.std.specs.Prelude.{ℕ, zero, suc, Bool, true, false, ◌==◌, List, [], ◌∷◌, length, drop, Option, Some, None}
+use Rattle.std.specs.Prelude.{if◌then◌else◌}
 use Rattle.std.specs.List.{list_all, flat_map}
 use Rattle.pim_addr.specs.declared.family.AddressFamily.{AddressFamily}
 use Rattle.pim_addr.specs.declared.family.AddressFamily.TheVariants.{Ipv4, Ipv6}
@@ -21,12 +22,14 @@ pub data Listed : Type 0 where
 -- the address at the front and then those behind it
 abbrev pub address_then : Option AddressFamily → List ℕ → (List ℕ → List Listed) → List Listed
 address_then None bytes next = other ∷ []
-address_then (Some family) bytes next = native family (unicast_address family bytes) ∷ next (drop (unicast_length family) bytes)
+address_then (Some family) bytes next =
+    native family (unicast_address family bytes) ∷ next (drop (unicast_length family) bytes)
 
 -- at most so many addresses
 unfoldable pub row_within : ℕ → List ℕ → List Listed
 row_within zero bytes = []
-row_within (suc count) bytes = if length bytes == 0 then [] else address_then (first_family bytes) bytes (row_within count)
+row_within (suc count) bytes =
+    if length bytes == 0 then [] else address_then (first_family bytes) bytes (row_within count)
 
 -- each address has bytes of its own, so there are no more addresses than bytes
 abbrev pub row : List ℕ → List Listed

@@ -63,4 +63,5 @@ pub record Fits (family : AddressFamily) (hello : Hello) : Type 0 where
 
 -- What is written is read: no fault, and the same message.
 abbrev pub ReadsBack : AddressFamily → Type 0
-ReadsBack family = (hello : Hello) → Fits family hello → (faults (spelling_of family hello) ≡ []) × (hello_of family (spelling_of family hello) ≡ hello)
+ReadsBack family = (hello : Hello) → Fits family hello → (faults (spelling_of family hello) ≡ []) ×
+    (hello_of family (spelling_of family hello) ≡ hello)

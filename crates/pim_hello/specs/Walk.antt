@@ -5,4 +5,5 @@ use Rattle.pim_hello.specs.Kept.{parameters_seen}
 use Rattle.pim_hello.specs.declared.walk.KnownNeighbour.{KnownNeighbour}
 
 abbrev pub neighbour_seen : {A : Type 0} → (A → List ℕ) → KnownNeighbour A → List ℕ × Neighbour
-neighbour_seen bytes_of known = (bytes_of known.address, record { parameters = parameters_seen known.parameters; left = known.left })
+neighbour_seen bytes_of known =
+    (bytes_of known.address, record { parameters = parameters_seen known.parameters; left = known.left })

@@ -1,7 +1,8 @@
 //! What the definitions mean: the fault that is told is the least, and a change of the table of neighbours is one of
 //! one address. Nothing here is to be called.
 
-ghost use Rattle.pim_hello.specs.Laws.{FirstFaultIsLeast, HearingChangesItsSenderAlone, TimePassesForAll, ExactlyTheEndedGo, ExpiringTwiceIsExpiringOnce, TablesThatAgreeAreOne};
+ghost use Rattle.pim_hello.specs.Laws.{FirstFaultIsLeast, HearingChangesItsSenderAlone, TimePassesForAll};
+ghost use Rattle.pim_hello.specs.Laws.{ExactlyTheEndedGo, ExpiringTwiceIsExpiringOnce, TablesThatAgreeAreOne};
 
 use pim_addr::first_of_parts_is_least;
 

@@ -1,6 +1,7 @@
 //! What is kept of each neighbour, with an index of the moments at which their times end.
 
-ghost use Rattle.std.specs.Prelude.{◌≡◌, ◌<◌, ◌≤◌, ◌+◌, [], map, length, OnOk, OnErr, IfSome, not, false, ◌&&◌, is_some, true, if◌then◌else◌};
+ghost use Rattle.std.specs.Prelude.{◌≡◌, ◌<◌, ◌≤◌, ◌+◌, [], map, length, OnOk, OnErr, IfSome, not, false, ◌&&◌};
+ghost use Rattle.std.specs.Prelude.{is_some, true, if◌then◌else◌};
 ghost use Rattle.std.specs.Option.{OnSome, IfNone};
 ghost use Rattle.std.specs.BTreeMap.{get, insert_entry, is_at, IsOrdered, values};
 ghost use Rattle.std.specs.Map.{remove_entry};

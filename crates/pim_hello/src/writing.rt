@@ -6,7 +6,8 @@ ghost use Rattle.byteorder.specs.Endian.{big_bytes};
 ghost use Rattle.pim_addr.specs.Encoded.{unicast_length};
 ghost use Rattle.pim_hello.specs.Delays.{delays_seen};
 ghost use Rattle.pim_hello.specs.Seen.{addresses_seen};
-ghost use Rattle.pim_hello.specs.Spelling.{if_there, delays_spelled, address_spelled, row_spelled, row_there, AreAddresses};
+ghost use Rattle.pim_hello.specs.Spelling.{if_there, delays_spelled, address_spelled, row_spelled, row_there};
+ghost use Rattle.pim_hello.specs.Spelling.{AreAddresses};
 
 use crate::addresses::Addresses;
 use crate::delay::{LanDelay, T_BIT};

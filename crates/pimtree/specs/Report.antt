@@ -1,5 +1,6 @@
 -- What `check` answers for an input.
-use Rattle.std.specs.Prelude.{◌≡◌, ◌<◌, ◌≤◌, ⊤, ℕ, ◌+◌, List, [], ◌++◌, length, map, min, Option, Result, Ok, Err, nat_lt}
+use Rattle.std.specs.Prelude.{◌≡◌, ◌<◌, ◌≤◌, ⊤, ℕ, ◌+◌, List, [], ◌++◌, length, map, min, Option, Result, Ok, Err}
+use Rattle.std.specs.Prelude.{nat_lt}
 use Rattle.std.specs.Io.KnownBytes.{Appends, Keeps}
 use Rattle.pim_addr.specs.Faults.{fault_if, judged}
 use Rattle.pim_addr.specs.Device.{AppendsFront, top_count}
@@ -10,7 +11,8 @@ use Rattle.pim_hello.specs.Faults.{faults as hello_option_faults}
 use Rattle.pim_jp.specs.Message.{message_of}
 use Rattle.pim_jp.specs.Faults.{faults}
 use Rattle.pimtree.specs.declared.fault.Fault.{Fault}
-use Rattle.pimtree.specs.declared.fault.Fault.TheVariants.{Frame, Hello, JoinPrune, InputTooLong, InputRead, Output, Memory}
+use Rattle.pimtree.specs.declared.fault.Fault.TheVariants.{Frame, Hello, JoinPrune, InputTooLong, InputRead, Output}
+use Rattle.pimtree.specs.declared.fault.Fault.TheVariants.{Memory}
 use Rattle.pimtree.specs.Text.{message_text, type_text}
 use Rattle.pimtree.specs.HelloText.{hello_text}
 

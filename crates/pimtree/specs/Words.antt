@@ -11,7 +11,8 @@ use Rattle.pim_jp.specs.declared.fault.JpKind.{JpKind}
 use Rattle.pim_jp.specs.declared.fault.JpKind.TheVariants as kind
 use Rattle.pim_jp.specs.declared.fault.JpFault.{JpFault}
 use Rattle.pimtree.specs.declared.fault.Fault.{Fault}
-use Rattle.pimtree.specs.declared.fault.Fault.TheVariants.{Clap, Address, Family, Frame, Hello, JoinPrune, InputTooLong, InputRead, Output, Memory}
+use Rattle.pimtree.specs.declared.fault.Fault.TheVariants.{Clap, Address, Family, Frame, Hello, JoinPrune, InputTooLong}
+use Rattle.pimtree.specs.declared.fault.Fault.TheVariants.{InputRead, Output, Memory}
 use Rattle.pimtree.specs.Text.{line}
 
 abbrev pub frame_words : FrameFault → List ℕ

@@ -3,7 +3,8 @@
 ghost use Rattle.std.specs.Prelude.{◌≡◌, ◌≤◌, length, IfOk, IfSome, IfErr, vec_len};
 ghost use Rattle.pim_addr.specs.Device.{ConsumesAtMost};
 ghost use Rattle.pimtree.specs.Plan.{end_family, end_source, end_destination};
-ghost use Rattle.pimtree.specs.Report.{body_report, hello_report, message_report, input_report, read_failures_after, write_failures_after};
+ghost use Rattle.pimtree.specs.Report.{body_report, hello_report, message_report, input_report, read_failures_after};
+ghost use Rattle.pimtree.specs.Report.{write_failures_after};
 ghost use Rattle.pimtree.specs.Report.{Reports, GivesReport, GivesInput, IsReadFault};
 
 use crate::fault::Fault;

@@ -7,7 +7,8 @@ ghost use Rattle.pim_hello.specs.Delays.{delays_seen};
 ghost use Rattle.pim_hello.specs.Kept.{parameters_seen};
 ghost use Rattle.pim_hello.specs.Seen.{addresses_seen, hello_seen};
 ghost use Rattle.pimtree.specs.Text.{line};
-ghost use Rattle.pimtree.specs.HelloText.{number_text, bit, delays_line, delays_text, parameters_text, address_line, hello_text};
+ghost use Rattle.pimtree.specs.HelloText.{number_text, bit, delays_line, delays_text, parameters_text, address_line};
+ghost use Rattle.pimtree.specs.HelloText.{hello_text};
 
 use crate::text::{push_address, push_number};
 use pim_addr::Family;

@@ -4,7 +4,8 @@ ghost use Rattle.std.specs.Prelude.{◌≡◌, ◌++◌, decimal, OnOk, IfOk};
 ghost use Rattle.std.specs.List.{flat_map};
 ghost use Rattle.pim_addr.specs.Text.{address_text};
 ghost use Rattle.pim_jp.specs.Seen.{entry_seen};
-ghost use Rattle.pimtree.specs.Text.{message_line, set_line, entry_words, entry_line, set_text, message_text, type_text};
+ghost use Rattle.pimtree.specs.Text.{message_line, set_line, entry_words, entry_line, set_text, message_text};
+ghost use Rattle.pimtree.specs.Text.{type_text};
 
 use itoa::Buffer;
 use pim_addr::{Family, write_text};
