@@ -30,7 +30,7 @@ unfoldable pub Falls : List Row → Type 0
 Falls [] = Unit {0}
 Falls (row ∷ rows) = AllByRecursion (λ other. other.0.bits ≤ row.0.bits) rows × Falls rows
 
-shorter_next : (p q : Prefix) → prefix_cmp p q ≡ Less → q.bits ≤ p.bits
+pub shorter_next : (p q : Prefix) → prefix_cmp p q ≡ Less → q.bits ≤ p.bits
 unfolding prefix_cmp
 shorter_next p q e = by (nat_cmp q.bits p.bits) (ranks q.bits p.bits) e
   where
@@ -39,7 +39,7 @@ shorter_next p q e = by (nat_cmp q.bits p.bits) (ranks q.bits p.bits) e
     by Equal l e = omega arith
     by Greater l e = absurd (cc)
 
-all_shorter : (row : Row) (rows : List Row) → AllByRecursion (λ q. prefix_cmp row.0 q ≡ Less) (keys_of rows) → AllByRecursion (λ other. other.0.bits ≤ row.0.bits) rows
+pub all_shorter : (row : Row) (rows : List Row) → AllByRecursion (λ q. prefix_cmp row.0 q ≡ Less) (keys_of rows) → AllByRecursion (λ other. other.0.bits ≤ row.0.bits) rows
 all_shorter row [] h = tt
 all_shorter row (other ∷ rows) h = (shorter_next row.0 other.0 h.0, all_shorter row rows h.1)
 

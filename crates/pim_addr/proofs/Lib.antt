@@ -9,3 +9,7 @@ pub mod Numbers
 mod Halving
 mod FirstMatch
 mod OneMoreRow
+mod RowOrder
+mod RunLengths
+mod Inserted
+mod SameRows

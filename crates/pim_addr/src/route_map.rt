@@ -1,13 +1,20 @@
 //! One map of a route table, from prefixes to addresses.
 
-ghost use Rattle.std.specs.Prelude.{◌≡◌, [], option_map};
-ghost use Rattle.pim_addr.specs.Routes.{led_to, IsRouteMap};
+ghost use Rattle.std.specs.Prelude.{◌≡◌, ◌↔◌, [], option_map, IsTrue, OnOk, OnErr};
+ghost use Rattle.pim_addr.specs.Routes.{led_to, with_row, room_faults, IsRefusedBy, IsRealRow, IsRouteMap};
+ghost use Rattle.pim_addr.specs.RouteRows.{row_seen};
 
 use crate::family::Family;
 use crate::longest::longest;
 use crate::route::{Route, Run};
+use crate::route_fault::RouteFault;
+use crate::route_rows::RouteRows;
+use crate::rows::{are_same, find_place, insert_row, reserve_one};
 use std::alloc::Global;
 use std::marker::Model;
+
+/// How many rows a map has at most.
+const ROW_LIMIT: usize = 4096;
 
 /// Rows in their order, the longer prefix first; beside each the number that its prefix spells, and how they are cut
 /// into runs of one length, so that a look-up reads numbers alone.
@@ -54,5 +61,45 @@ impl<F: Family> RouteMap<F> {
         ensures { option_map F.bytes_of result ≡ led_to F.family (F.bytes_of address) self.now }
     {
         longest::<F>(&self.rows, &self.numbers, &self.runs, address)
+    }
+
+    /// Adds a row: `Twice` where one of its prefix and length is there, `Full` where there are 4,096, else `Memory`.
+    pub(crate) fn add(&mut self, row: Route<F::Addr>) -> Result<(), RouteFault>
+        requires { IsRealRow F.family (row_seen F.bytes_of row) }
+        ensures ok { OnOk result (self.new ≡ with_row (row_seen F.bytes_of row).0 (row_seen F.bytes_of row).1 self.old) }
+        ensures err { OnErr result (self.new ≡ self.old) }
+        ensures told { IsRefusedBy (room_faults (row_seen F.bytes_of row).0 self.old) result }
+    {
+        let Err(place) = find_place::<F>(&self.rows, &row) else {
+            return Err(RouteFault::Twice);
+        };
+        if self.rows.len() >= ROW_LIMIT {
+            return Err(RouteFault::Full);
+        }
+        reserve_one(&mut self.rows)?;
+        reserve_one(&mut self.numbers)?;
+        reserve_one(&mut self.runs)?;
+        insert_row::<F>(
+            &mut self.rows,
+            &mut self.numbers,
+            &mut self.runs,
+            place,
+            row,
+        );
+        Ok(())
+    }
+
+    /// Whether the two maps are equal.
+    pub(crate) fn equals(&self, other: &RouteMap<F>) -> bool
+        ensures { IsTrue result ↔ (self.now ≡ other.now) }
+    {
+        are_same::<F>(&self.rows, &other.rows)
+    }
+
+    /// The rows in their order.
+    pub(crate) fn rows(&self) -> RouteRows<'_, F>
+        ensures { result ≡ self.now }
+    {
+        RouteRows::new(&self.rows)
     }
 }
