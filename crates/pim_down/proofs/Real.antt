@@ -43,23 +43,22 @@ pub record IsRealEvent (family : AddressFamily) (event : Event) : Type 0 where
   pub group : IsGroupAddress family event.group
   pub source : HasSource family event.what
 
-real_entry : (family : AddressFamily) (rp : Option (List ℕ)) (joins : Bool) (group : List ℕ) → IsGroupAddress family group → (this : Entry (List ℕ)) → IsMessageEntry family this → AllByRecursion (IsRealEvent family) (entry_events rp joins group this)
-real_entry family rp joins group g (entry.Star root) e =
-    elim (joins && not (is_known rp root)) as (λ b. AllByRecursion (IsRealEvent family) (cond b [] (record { joins = joins; group = group; what = Star } ∷ []))) [
-      | true ↦ tt
-      | false ↦ (record { group = g; source = tt }, tt)
-    ]
-real_entry family rp joins group g (entry.Source source) e = (record { group = g; source = e }, tt)
-real_entry family rp joins group g (entry.Rpt source) e = (record { group = g; source = e }, tt)
-
 module _ (family : AddressFamily) (known : List ℕ → Option (List ℕ)) where
+  real_entry : (joins : Bool) (group : List ℕ) → IsGroupAddress family group → (this : Entry (List ℕ)) → IsMessageEntry family this → AllByRecursion (IsRealEvent family) (entry_events known joins group this)
+  real_entry joins group g (entry.Star rp) e =
+      elim (joins && not (is_known (known group) rp)) as (λ b. AllByRecursion (IsRealEvent family) (cond b [] (record { joins = joins; group = group; what = Star } ∷ []))) [
+        | true ↦ tt
+        | false ↦ (record { group = g; source = tt }, tt)
+      ]
+  real_entry joins group g (entry.Source source) e = (record { group = g; source = e }, tt)
+  real_entry joins group g (entry.Rpt source) e = (record { group = g; source = e }, tt)
+
   real_set : (set : GroupSet) → IsMessageSet family set → AllByRecursion (IsRealEvent family) (set_events known set)
   real_set set e =
       let group : IsGroupAddress family set.group = (e.0, e.1) in
-      let rp = known set.group in
-      all_append (IsRealEvent family) (list_events rp true set.group set.joined) (list_events rp false set.group set.pruned)
-      (all_flat (IsMessageEntry family) (IsRealEvent family) (entry_events rp true set.group) (real_entry family rp true set.group group) set.joined e.4)
-      (all_flat (IsMessageEntry family) (IsRealEvent family) (entry_events rp false set.group) (real_entry family rp false set.group group) set.pruned e.6)
+      all_append (IsRealEvent family) (list_events known true set.group set.joined) (list_events known false set.group set.pruned)
+      (all_flat (IsMessageEntry family) (IsRealEvent family) (entry_events known true set.group) (real_entry true set.group group) set.joined e.4)
+      (all_flat (IsMessageEntry family) (IsRealEvent family) (entry_events known false set.group) (real_entry false set.group group) set.pruned e.6)
 
   pub real_events : (message : Message) → IsMessage family message → AllByRecursion (IsRealEvent family) (events_of known message)
   real_events message e = all_flat (IsMessageSet family) (IsRealEvent family) (set_events known) real_set message.sets e.3

@@ -25,7 +25,9 @@ pub record Event : Type 0 where
   pub group : List ℕ
   pub what : What (List ℕ)
 
--- whether this is the RP that is known of a group
+-- `known` tells the RP of each group; `None` where none is known
+
+-- whether this RP is the one that is known
 abbrev pub is_known : Option (List ℕ) → List ℕ → Bool
 is_known None rp = false
 is_known (Some known) rp = pointwise nat_eq known rp
@@ -33,22 +35,18 @@ is_known (Some known) rp = pointwise nat_eq known rp
 abbrev pub event : Bool → List ℕ → What (List ℕ) → List Event
 event joins group what = record { joins = joins; group = group; what = what } ∷ []
 
--- An entry of the joined or of the pruned list of a group of which this RP is known. A Join(*,G) whose RP isn't that
--- one is no event.
-abbrev pub entry_events : Option (List ℕ) → Bool → List ℕ → Entry (List ℕ) → List Event
-entry_events group_rp joins group (entry.Star rp) =
-    if joins && not (is_known group_rp rp) then [] else event joins group Star
-entry_events group_rp joins group (entry.Source source) = event joins group (Source source)
-entry_events group_rp joins group (entry.Rpt source) = event joins group (Rpt source)
+-- An entry of the joined or of the pruned list. A Join(*,G) whose RP isn't the one known of G is no event.
+abbrev pub entry_events : (List ℕ → Option (List ℕ)) → Bool → List ℕ → Entry (List ℕ) → List Event
+entry_events known joins group (entry.Star rp) =
+    if joins && not (is_known (known group) rp) then [] else event joins group Star
+entry_events known joins group (entry.Source source) = event joins group (Source source)
+entry_events known joins group (entry.Rpt source) = event joins group (Rpt source)
 
-abbrev pub list_events : Option (List ℕ) → Bool → List ℕ → List (Entry (List ℕ)) → List Event
-list_events group_rp joins group entries = flat_map (entry_events group_rp joins group) entries
+abbrev pub list_events : (List ℕ → Option (List ℕ)) → Bool → List ℕ → List (Entry (List ℕ)) → List Event
+list_events known joins group entries = flat_map (entry_events known joins group) entries
 
--- `known` tells the RP of each group, `None` where none is known
 abbrev pub set_events : (List ℕ → Option (List ℕ)) → GroupSet → List Event
-set_events known set =
-    list_events (known set.group) true set.group set.joined
-    ++ list_events (known set.group) false set.group set.pruned
+set_events known set = list_events known true set.group set.joined ++ list_events known false set.group set.pruned
 
 -- in the order of the message: its sets, and of each the joined entries and then the pruned ones
 abbrev pub events_of : (List ℕ → Option (List ℕ)) → Message → List Event

@@ -1,9 +1,9 @@
 //! Running to a moment: from one deadline to the next.
 
-ghost use Rattle.std.specs.Prelude.{◌≡◌, ◌≤◌, ◌+◌, ℕ, max};
+ghost use Rattle.std.specs.Prelude.{◌≡◌, ◌≤◌, ℕ, max};
 ghost use Rattle.pim_down.specs.declared.step.Step.TheVariants.{Reached};
 ghost use Rattle.pim_down.specs.Time.{Runs};
-ghost use Rattle.pim_down.specs.Seen.{step_seen, shown};
+ghost use Rattle.pim_down.specs.Seen.{step_seen};
 ghost use Rattle.pim_down.specs.Running.{downstream_at};
 
 use crate::held::Held;
