@@ -6,11 +6,11 @@ use Rattle.pim_down.specs.declared.held.Held.{Held}
 use Rattle.pim_down.specs.declared.step.Step.{Step}
 use Rattle.pim_down.specs.declared.step.Step.TheVariants.{Reached, Echo}
 use Rattle.pim_down.specs.declared.key.What.{What}
-use Rattle.pim_down.specs.Time.{Downstream, record_after, fired, Runs, ticks, is_due_after, IsQuietFor, IsNextDue, step, moves, echoes}
+use Rattle.pim_down.specs.Time.{Downstream, record_after, fired, Runs, ticks, is_due_after, IsQuietFor, IsNextDue, turn, moves, echoes}
 use Rattle.pim_down.specs.Ends.{first_end, ends_by, weight}
 use Rattle.pim_down.specs.Seen.{records_seen, shown}
 use Rattle.pim_down.specs.Running.{downstream_at}
-use Rattle.pim_down.proofs.Time.{records_more, ticks_is, fired_by, run_more, run_echo, run_rest, step_rests, run_quiet}
+use Rattle.pim_down.proofs.Time.{records_more, ticks_is, fired_by, run_more, run_echo, run_rest, turn_rests, run_quiet}
 use Rattle.pim_down.proofs.Firing.{weight_fired, weight_later}
 
 module _ {A : Type 0} (bytes_of : A → List ℕ) where
@@ -52,22 +52,22 @@ module _ {A : Type 0} (bytes_of : A → List ℕ) where
 
   -- a timer fires, and nothing is told
   pub fires_on : (ports limit moment now : ℕ) (records new : List (Held A)) (answer : Step (List ℕ)) (after : Downstream) → fired (shown bytes_of now records) ≡ Some (Reached, shown bytes_of now new) → Runs moment (downstream_at bytes_of ports limit now new) answer after → Runs moment (downstream_at bytes_of ports limit now records) answer after
-  unfolding step
+  unfolding turn
   fires_on ports limit moment now records new answer after e runs =
-      let moved : step moment (downstream_at bytes_of ports limit now records) ≡ moves (downstream_at bytes_of ports limit now new) = rw e refl in
+      let moved : turn moment (downstream_at bytes_of ports limit now records) ≡ moves (downstream_at bytes_of ports limit now new) = rw e refl in
       run_more moment (downstream_at bytes_of ports limit now records) (downstream_at bytes_of ports limit now new) after answer moved runs
 
   -- a timer fires, and an echo is told
   pub fires_echo : (ports limit moment now : ℕ) (records new : List (Held A)) (port : ℕ) (group : List ℕ) (what : What (List ℕ)) → fired (shown bytes_of now records) ≡ Some (Echo port group what, shown bytes_of now new) → Runs moment (downstream_at bytes_of ports limit now records) (Echo port group what) (downstream_at bytes_of ports limit now new)
-  unfolding step
+  unfolding turn
   fires_echo ports limit moment now records new port group what e =
-      let told : step moment (downstream_at bytes_of ports limit now records) ≡ echoes (Echo port group what) (downstream_at bytes_of ports limit now new) = rw e refl in
+      let told : turn moment (downstream_at bytes_of ports limit now records) ≡ echoes (Echo port group what) (downstream_at bytes_of ports limit now new) = rw e refl in
       run_echo moment (downstream_at bytes_of ports limit now records) (downstream_at bytes_of ports limit now new) (Echo port group what) told
 
   -- nothing is due by the last moment
   pub rests_at : (ports limit moment last : ℕ) (records : List (Held A)) → ends_by last (first_end (records_seen bytes_of records)) ≡ false → moment ≤ last → Runs moment (downstream_at bytes_of ports limit last records) Reached (downstream_at bytes_of ports limit last records)
   rests_at ports limit moment last records quiet le =
-      run_rest moment (downstream_at bytes_of ports limit last records) (step_rests moment (downstream_at bytes_of ports limit last records) (fired_by last (records_seen bytes_of records) ∙ quiet) le)
+      run_rest moment (downstream_at bytes_of ports limit last records) (turn_rests moment (downstream_at bytes_of ports limit last records) (fired_by last (records_seen bytes_of records) ∙ quiet) le)
 
   -- the records are lighter after a timer has fired
   pub lighter : (now : ℕ) (records new : List (Held A)) (answer : Step (List ℕ)) → fired (shown bytes_of now records) ≡ Some (answer, shown bytes_of now new) → weight (records_seen bytes_of new) < weight (records_seen bytes_of records)

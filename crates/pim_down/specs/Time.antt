@@ -121,7 +121,7 @@ fired records = fire_ppt records (first_due ppt_due records)
 
 -- ---- the machine of milliseconds
 
--- a step: nothing is left to do, or the machines move on, or an echo is told
+-- a turn: nothing is left to do, or the machines move on, or an echo is told
 pub data Outcome : Type 0 where
   rests : Outcome
   moves : Downstream → Outcome
@@ -136,14 +136,14 @@ told Reached state = moves state
 told (Echo port group what) state = echoes (Echo port group what) state
 
 -- something fires, or else a millisecond passes, unless the moment is reached
-abbrev pub step_by : ℕ → Downstream → Option (Step (List ℕ) × List (Record (List ℕ))) → Outcome
-step_by moment state None = if nat_lt state.moment moment then moves (tick state) else rests
-step_by moment state (Some (answer, records)) = told answer (with_records state records)
+abbrev pub turn_by : ℕ → Downstream → Option (Step (List ℕ) × List (Record (List ℕ))) → Outcome
+turn_by moment state None = if nat_lt state.moment moment then moves (tick state) else rests
+turn_by moment state (Some (answer, records)) = told answer (with_records state records)
 
-unfoldable pub step : ℕ → Downstream → Outcome
-step moment state = step_by moment state (fired state.records)
+unfoldable pub turn : ℕ → Downstream → Outcome
+turn moment state = turn_by moment state (fired state.records)
 
--- steps until an echo is told or nothing is left to do, if these many are enough
+-- turns until an echo is told or nothing is left to do, if these many are enough
 abbrev pub run_on : Outcome → Downstream → (Downstream → Option (Step (List ℕ) × Downstream)) →
     Option (Step (List ℕ) × Downstream)
 run_on rests state more = Some (Reached, state)
@@ -152,12 +152,12 @@ run_on (moves after) state more = more after
 
 unfoldable pub run_within : ℕ → ℕ → Downstream → Option (Step (List ℕ) × Downstream)
 run_within zero moment state = None
-run_within (suc steps) moment state = run_on (step moment state) state (run_within steps moment)
+run_within (suc turns) moment state = run_on (turn moment state) state (run_within turns moment)
 
 -- The run up to the moment tells this and leaves that.
 pub record Runs (moment : ℕ) (state : Downstream) (answer : Step (List ℕ)) (after : Downstream) : Type 0 where
-  pub steps : ℕ
-  pub within : run_within steps moment state ≡ Some (answer, after)
+  pub turns : ℕ
+  pub within : run_within turns moment state ≡ Some (answer, after)
 
 -- Some run up to the moment starts here.
 pub record HasRun (moment : ℕ) (state : Downstream) : Type 0 where
