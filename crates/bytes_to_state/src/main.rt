@@ -3,7 +3,7 @@
 
 ghost use Rattle.std.specs.Prelude.{◌≡◌, ◌↔◌, IsTrue};
 
-use pim_addr::V4;
+use pim_addr::{Routes, V4};
 use pim_down::{Ports, Timing, What};
 use pim_frame::{Body, all_routers, open};
 use pim_jp::JpView;
@@ -18,6 +18,9 @@ const MESSAGE: [u8; 34] = [
 const GROUP: [u8; 4] = [239, 1, 1, 1];
 
 const OWN_ADDRESS: [u8; 4] = [10, 0, 0, 2];
+
+/// All groups begin with the 4 bits of this prefix.
+const ALL_GROUPS: [u8; 4] = [224, 0, 0, 0];
 
 const RENDEZVOUS_POINT: [u8; 4] = [10, 9, 9, 9];
 
@@ -42,12 +45,16 @@ fn main(rt: HostRuntime) -> io::Result<()> {
     if !is_for(&message, OWN_ADDRESS) {
         return println!(rt; "for another router");
     }
+    let mut routes = Routes::<V4>::new(rt.alloc());
+    if let Err(fault) = routes.add_rp(ALL_GROUPS, 4, RENDEZVOUS_POINT) {
+        return println!(rt; "{fault}");
+    }
     let mut ports = Ports::<V4>::new(rt.alloc(), 1, 100);
     let timing = Timing {
         override_ms: 3_000,
         several: false,
     };
-    if let Err(fault) = ports.hear(0, &message, Some(RENDEZVOUS_POINT), timing) {
+    if let Err(fault) = ports.hear(0, &message, &routes, timing) {
         return println!(rt; "{fault}");
     }
     ports.run_to(60_000);

@@ -62,8 +62,8 @@ room_for port start space events held a fits = room_from port start space [] eve
 
 -- ---- a bound on the count of a list
 
-entry_bound : (port : ℕ) (held : List (Record (List ℕ))) (known : Option (List ℕ)) (joins : Bool) (group : List ℕ) (this : Entry (List ℕ)) → length (entry_events known joins group this) ≤ 1
-entry_bound port held known joins group (entry.Star rp) = by (joins && not (is_known known rp))
+entry_bound : (port : ℕ) (held : List (Record (List ℕ))) (known : List ℕ → Option (List ℕ)) (joins : Bool) (group : List ℕ) (this : Entry (List ℕ)) → length (entry_events known joins group this) ≤ 1
+entry_bound port held known joins group (entry.Star rp) = by (joins && not (is_known (known group) rp))
   where
     by : (b : Bool) → length {A = Event} (cond b [] (record { joins = joins; group = group; what = Star } ∷ [])) ≤ 1
     by true = omega arith
@@ -80,7 +80,7 @@ unfolding count_new
 count_length port held [] = omega arith
 count_length port held (x ∷ xs) = omega (arith, count_length port held xs, one_new (is_new port held x))
 
-pub list_bound : (port : ℕ) (held : List (Record (List ℕ))) (known : Option (List ℕ)) (joins : Bool) (group : List ℕ) (entries : List (Entry (List ℕ))) → count_new port held (list_events known joins group entries) ≤ length entries
+pub list_bound : (port : ℕ) (held : List (Record (List ℕ))) (known : List ℕ → Option (List ℕ)) (joins : Bool) (group : List ℕ) (entries : List (Entry (List ℕ))) → count_new port held (list_events known joins group entries) ≤ length entries
 unfolding count_new
 list_bound port held known joins group [] = omega arith
 list_bound port held known joins group (this ∷ entries) =
@@ -91,7 +91,7 @@ list_bound port held known joins group (this ∷ entries) =
 
 -- ---- one entry, and then the others
 
-pub events_one : (known : Option (List ℕ)) (joins : Bool) (group : List ℕ) (left rest : List (Entry (List ℕ))) (this : Entry (List ℕ)) (event : Event) → left ≡ this ∷ rest → event ∷ [] ≡ entry_events known joins group this → list_events known joins group left ≡ event ∷ list_events known joins group rest
+pub events_one : (known : List ℕ → Option (List ℕ)) (joins : Bool) (group : List ℕ) (left rest : List (Entry (List ℕ))) (this : Entry (List ℕ)) (event : Event) → left ≡ this ∷ rest → event ∷ [] ≡ entry_events known joins group this → list_events known joins group left ≡ event ∷ list_events known joins group rest
 events_one known joins group left rest this event split is = ap (list_events known joins group) split ∙ ap (λ (es : List Event). es ++ list_events known joins group rest) (sym is)
 
 pub room_at : (port : ℕ) (start : Start) (space : ℕ) (event : Event) (all events : List Event) (records : List (Record (List ℕ))) → all ≡ event ∷ events → HasRoom port start space all records → (length (act port start event records) ≤ space) × HasRoom port start space events (act port start event records)
@@ -102,7 +102,7 @@ pub left_at : (port : ℕ) (start : Start) (event : Event) (all events : List Ev
 unfolding act_all
 left_at port start event all events records e = ap (λ (es : List Event). act_all port start es records) e
 
-pub nothing_left : (port : ℕ) (start : Start) (known : Option (List ℕ)) (joins : Bool) (group : List ℕ) (left : List (Entry (List ℕ))) (records : List (Record (List ℕ))) → left ≡ [] → act_all port start (list_events known joins group left) records ≡ records
+pub nothing_left : (port : ℕ) (start : Start) (known : List ℕ → Option (List ℕ)) (joins : Bool) (group : List ℕ) (left : List (Entry (List ℕ))) (records : List (Record (List ℕ))) → left ≡ [] → act_all port start (list_events known joins group left) records ≡ records
 unfolding act_all
 nothing_left port start known joins group left records e = ap (λ (es : List (Entry (List ℕ))). act_all port start (list_events known joins group es) records) e
 
@@ -114,22 +114,22 @@ pub count_no : (port : ℕ) (held : List (Record (List ℕ))) (event : Event) (a
 unfolding count_new
 count_no port held event all events e is = ap (count_new port held) e ∙ ap (λ b. cond b 1 0 + count_new port held events) is ∙ (omega arith)
 
-pub count_none : (port : ℕ) (known : Option (List ℕ)) (joins : Bool) (group : List ℕ) (left : List (Entry (List ℕ))) (held : List (Record (List ℕ))) → left ≡ [] → count_new port held (list_events known joins group left) ≡ 0
+pub count_none : (port : ℕ) (known : List ℕ → Option (List ℕ)) (joins : Bool) (group : List ℕ) (left : List (Entry (List ℕ))) (held : List (Record (List ℕ))) → left ≡ [] → count_new port held (list_events known joins group left) ≡ 0
 unfolding count_new
 count_none port known joins group left held e = ap (λ (es : List (Entry (List ℕ))). count_new port held (list_events known joins group es)) e
 
 -- ---- one set, and then the others
 
-abbrev pub sets_events : Option (List ℕ) → List GroupSet → List Event
+abbrev pub sets_events : (List ℕ → Option (List ℕ)) → List GroupSet → List Event
 sets_events known sets = flat_map (set_events known) sets
 
-abbrev joined_events : Option (List ℕ) → GroupSet → List Event
+abbrev joined_events : (List ℕ → Option (List ℕ)) → GroupSet → List Event
 joined_events known set = list_events known true set.group set.joined
 
-abbrev pruned_events : Option (List ℕ) → GroupSet → List Event
+abbrev pruned_events : (List ℕ → Option (List ℕ)) → GroupSet → List Event
 pruned_events known set = list_events known false set.group set.pruned
 
-pub set_room : (port : ℕ) (start : Start) (space : ℕ) (known : Option (List ℕ)) (set : GroupSet) (left rest : List GroupSet) (records : List (Record (List ℕ))) → left ≡ set ∷ rest → HasRoom port start space (sets_events known left) records →
+pub set_room : (port : ℕ) (start : Start) (space : ℕ) (known : List ℕ → Option (List ℕ)) (set : GroupSet) (left rest : List GroupSet) (records : List (Record (List ℕ))) → left ≡ set ∷ rest → HasRoom port start space (sets_events known left) records →
     HasRoom port start space (joined_events known set) records × HasRoom port start space (pruned_events known set) (act_all port start (joined_events known set) records) × HasRoom port start space (sets_events known rest) (act_all port start (pruned_events known set) (act_all port start (joined_events known set) records))
 set_room port start space known set left rest records e r =
     let all = subst (λ (s : List GroupSet). HasRoom port start space (sets_events known s) records) e r in
@@ -140,22 +140,22 @@ set_room port start space known set left rest records e r =
       subst (HasRoom port start space (sets_events known rest)) (act_append port start (joined_events known set) (pruned_events known set) records) later,
     )
 
-pub set_left : (port : ℕ) (start : Start) (known : Option (List ℕ)) (set : GroupSet) (left rest : List GroupSet) (records : List (Record (List ℕ))) → left ≡ set ∷ rest → act_all port start (sets_events known left) records ≡ act_all port start (sets_events known rest) (act_all port start (pruned_events known set) (act_all port start (joined_events known set) records))
+pub set_left : (port : ℕ) (start : Start) (known : List ℕ → Option (List ℕ)) (set : GroupSet) (left rest : List GroupSet) (records : List (Record (List ℕ))) → left ≡ set ∷ rest → act_all port start (sets_events known left) records ≡ act_all port start (sets_events known rest) (act_all port start (pruned_events known set) (act_all port start (joined_events known set) records))
 set_left port start known set left rest records e =
     ap (λ (s : List GroupSet). act_all port start (sets_events known s) records) e
     ∙ act_append port start (set_events known set) (sets_events known rest) records
     ∙ ap (act_all port start (sets_events known rest)) (act_append port start (joined_events known set) (pruned_events known set) records)
 
-pub no_set_left : (port : ℕ) (start : Start) (known : Option (List ℕ)) (left : List GroupSet) (records : List (Record (List ℕ))) → left ≡ [] → act_all port start (sets_events known left) records ≡ records
+pub no_set_left : (port : ℕ) (start : Start) (known : List ℕ → Option (List ℕ)) (left : List GroupSet) (records : List (Record (List ℕ))) → left ≡ [] → act_all port start (sets_events known left) records ≡ records
 unfolding act_all
 no_set_left port start known left records e = ap (λ (s : List GroupSet). act_all port start (sets_events known s) records) e
 
-pub set_count_is : (port : ℕ) (held : List (Record (List ℕ))) (known : Option (List ℕ)) (set : GroupSet) (left rest : List GroupSet) → left ≡ set ∷ rest → count_new port held (sets_events known left) ≡ count_new port held (joined_events known set) + count_new port held (pruned_events known set) + count_new port held (sets_events known rest)
+pub set_count_is : (port : ℕ) (held : List (Record (List ℕ))) (known : List ℕ → Option (List ℕ)) (set : GroupSet) (left rest : List GroupSet) → left ≡ set ∷ rest → count_new port held (sets_events known left) ≡ count_new port held (joined_events known set) + count_new port held (pruned_events known set) + count_new port held (sets_events known rest)
 set_count_is port held known set left rest e =
     ap (λ (s : List GroupSet). count_new port held (sets_events known s)) e
     ∙ count_append port held (set_events known set) (sets_events known rest)
     ∙ ap (λ n. n + count_new port held (sets_events known rest)) (count_append port held (joined_events known set) (pruned_events known set))
 
-pub no_set_count : (port : ℕ) (held : List (Record (List ℕ))) (known : Option (List ℕ)) (left : List GroupSet) → left ≡ [] → count_new port held (sets_events known left) ≡ 0
+pub no_set_count : (port : ℕ) (held : List (Record (List ℕ))) (known : List ℕ → Option (List ℕ)) (left : List GroupSet) → left ≡ [] → count_new port held (sets_events known left) ≡ 0
 unfolding count_new
 no_set_count port held known left e = ap (λ (s : List GroupSet). count_new port held (sets_events known s)) e

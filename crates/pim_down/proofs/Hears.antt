@@ -20,7 +20,7 @@ use Rattle.pim_down.proofs.Origin.{hearing_later, count_on_later, count_new_late
 use Rattle.pim_down.proofs.Heard.{hearing_elsewhere}
 use Rattle.pim_down.proofs.SoundHeard.{sound_heard}
 
-module _ {A : Type 0} (bytes_of : A → List ℕ) (ports limit moment port : ℕ) (message : Message) (known : Option (List ℕ)) (timing : Timing) where
+module _ {A : Type 0} (bytes_of : A → List ℕ) (ports limit moment port : ℕ) (message : Message) (known : List ℕ → Option (List ℕ)) (timing : Timing) where
   pub heard_is : (start : Start) (old new : List (Held A)) (state : Downstream) → start_after moment start ≡ start_of message.holdtime timing → downstream_at bytes_of ports limit moment old ≡ state → records_seen bytes_of new ≡ hearing port start (events_of known message) (records_seen bytes_of old) → downstream_at bytes_of ports limit moment new ≡ heard port message known timing state
   heard_is start old new state starts view is =
       let events = events_of known message in

@@ -1,17 +1,16 @@
 -- Jumps from deadline to deadline, in records whose times count from the moment 0, are the run of milliseconds.
 use Rattle.std.proofs.Common.{◌≡◌, ℕ, zero, suc, ◌+◌, ◌-◌, ◌<◌, ◌≤◌, true, false, List, Option, Some, None, map, leb, max, refl, sym, ap, subst, ◌∙◌, arith}
 use Rattle.std.specs.Option.{is_some}
-use Rattle.std.proofs.lemmas.Bool.{false≢true}
 use Rattle.std.proofs.lemmas.Bool.Decides.{nat_tests}
 use Rattle.pim_down.specs.declared.held.Held.{Held}
 use Rattle.pim_down.specs.declared.step.Step.{Step}
 use Rattle.pim_down.specs.declared.step.Step.TheVariants.{Reached, Echo}
 use Rattle.pim_down.specs.declared.key.What.{What}
-use Rattle.pim_down.specs.Time.{Downstream, record_after, fired, Runs, ticks, is_due_after, IsQuietFor, IsNextDue, step, moves, echoes}
+use Rattle.pim_down.specs.Time.{Downstream, record_after, fired, Runs, ticks, is_due_after, IsQuietFor, IsNextDue, turn, moves, echoes}
 use Rattle.pim_down.specs.Ends.{first_end, ends_by, weight}
 use Rattle.pim_down.specs.Seen.{records_seen, shown}
 use Rattle.pim_down.specs.Running.{downstream_at}
-use Rattle.pim_down.proofs.Time.{records_more, ticks_is, fired_by, run_more, run_echo, run_rest, step_rests, run_quiet}
+use Rattle.pim_down.proofs.Time.{records_more, ticks_is, fired_by, run_more, run_echo, run_rest, turn_rests, run_quiet}
 use Rattle.pim_down.proofs.Firing.{weight_fired, weight_later}
 
 module _ {A : Type 0} (bytes_of : A → List ℕ) where
@@ -37,9 +36,6 @@ module _ {A : Type 0} (bytes_of : A → List ℕ) where
   pub quiet_until : (ports limit now k e : ℕ) (records : List (Held A)) → first_end (records_seen bytes_of records) ≡ Some e → now + k ≤ max now e → IsQuietFor k (downstream_at bytes_of ports limit now records)
   quiet_until ports limit now k e records first within j h = due_shown ports limit j now records ∙ ap (ends_by (now + j)) first ∙ not_by (now + j) e (omega arith)
 
-  pub quiet_for_ever : (ports limit now k : ℕ) (records : List (Held A)) → first_end (records_seen bytes_of records) ≡ None → IsQuietFor k (downstream_at bytes_of ports limit now records)
-  quiet_for_ever ports limit now k records none j h = due_shown ports limit j now records ∙ ap (ends_by (now + j)) none
-
   -- a jump over a quiet time
   pub jump : (ports limit moment now to : ℕ) (records : List (Held A)) (answer : Step (List ℕ)) (after : Downstream) → now ≤ to → (k : ℕ) → k ≡ to - now → IsQuietFor k (downstream_at bytes_of ports limit now records) → (now < to → to ≤ moment) → Runs moment (downstream_at bytes_of ports limit to records) answer after → Runs moment (downstream_at bytes_of ports limit now records) answer after
   jump ports limit moment now to records answer after le k is quiet within runs = by k is quiet
@@ -56,22 +52,22 @@ module _ {A : Type 0} (bytes_of : A → List ℕ) where
 
   -- a timer fires, and nothing is told
   pub fires_on : (ports limit moment now : ℕ) (records new : List (Held A)) (answer : Step (List ℕ)) (after : Downstream) → fired (shown bytes_of now records) ≡ Some (Reached, shown bytes_of now new) → Runs moment (downstream_at bytes_of ports limit now new) answer after → Runs moment (downstream_at bytes_of ports limit now records) answer after
-  unfolding step
+  unfolding turn
   fires_on ports limit moment now records new answer after e runs =
-      let moved : step moment (downstream_at bytes_of ports limit now records) ≡ moves (downstream_at bytes_of ports limit now new) = rw e refl in
+      let moved : turn moment (downstream_at bytes_of ports limit now records) ≡ moves (downstream_at bytes_of ports limit now new) = rw e refl in
       run_more moment (downstream_at bytes_of ports limit now records) (downstream_at bytes_of ports limit now new) after answer moved runs
 
   -- a timer fires, and an echo is told
   pub fires_echo : (ports limit moment now : ℕ) (records new : List (Held A)) (port : ℕ) (group : List ℕ) (what : What (List ℕ)) → fired (shown bytes_of now records) ≡ Some (Echo port group what, shown bytes_of now new) → Runs moment (downstream_at bytes_of ports limit now records) (Echo port group what) (downstream_at bytes_of ports limit now new)
-  unfolding step
+  unfolding turn
   fires_echo ports limit moment now records new port group what e =
-      let told : step moment (downstream_at bytes_of ports limit now records) ≡ echoes (Echo port group what) (downstream_at bytes_of ports limit now new) = rw e refl in
+      let told : turn moment (downstream_at bytes_of ports limit now records) ≡ echoes (Echo port group what) (downstream_at bytes_of ports limit now new) = rw e refl in
       run_echo moment (downstream_at bytes_of ports limit now records) (downstream_at bytes_of ports limit now new) (Echo port group what) told
 
   -- nothing is due by the last moment
   pub rests_at : (ports limit moment last : ℕ) (records : List (Held A)) → ends_by last (first_end (records_seen bytes_of records)) ≡ false → moment ≤ last → Runs moment (downstream_at bytes_of ports limit last records) Reached (downstream_at bytes_of ports limit last records)
   rests_at ports limit moment last records quiet le =
-      run_rest moment (downstream_at bytes_of ports limit last records) (step_rests moment (downstream_at bytes_of ports limit last records) (fired_by last (records_seen bytes_of records) ∙ quiet) le)
+      run_rest moment (downstream_at bytes_of ports limit last records) (turn_rests moment (downstream_at bytes_of ports limit last records) (fired_by last (records_seen bytes_of records) ∙ quiet) le)
 
   -- the records are lighter after a timer has fired
   pub lighter : (now : ℕ) (records new : List (Held A)) (answer : Step (List ℕ)) → fired (shown bytes_of now records) ≡ Some (answer, shown bytes_of now new) → weight (records_seen bytes_of new) < weight (records_seen bytes_of records)
@@ -80,12 +76,6 @@ module _ {A : Type 0} (bytes_of : A → List ℕ) where
       let old = weight_later now (records_seen bytes_of records) in
       let after = weight_later now (records_seen bytes_of new) in
       omega arith
-
-  -- something fires where the first end is reached
-  pub fires_by : (now e : ℕ) (records : List (Held A)) → first_end (records_seen bytes_of records) ≡ Some e → e ≤ now → fired (shown bytes_of now records) ≡ None → ⊥
-  fires_by now e records first le none =
-      let some : is_some (fired (shown bytes_of now records)) ≡ true = fired_by now (records_seen bytes_of records) ∙ ap (ends_by now) first ∙ is_by now e le in
-      false≢true (rw none at some)
 
   -- the next moment at which a timer fires
   pub next_some : (ports limit now e : ℕ) (records : List (Held A)) → first_end (records_seen bytes_of records) ≡ Some e → IsNextDue (downstream_at bytes_of ports limit now records) (Some (max now e))

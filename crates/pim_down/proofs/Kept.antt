@@ -14,7 +14,7 @@ use Rattle.pim_down.specs.declared.step.Step.TheVariants.{Reached, Echo}
 use Rattle.pim_down.specs.Key.{same_key}
 use Rattle.pim_down.specs.Records.{IsBelow, IsAscending, machine_at, recorded, count_on, state_of_machine, state_of}
 use Rattle.pim_down.specs.Running.{downstream_at}
-use Rattle.pim_down.specs.Time.{Downstream, record_after, machine_after, tick, on_ppt, after_et, after_ppt, et_due, ppt_due, first_due, with_first, fire_et, fire_ppt, fired, echo_of, Outcome, rests, moves, echoes, with_records, told, step_by, step, run_on, run_within, Runs}
+use Rattle.pim_down.specs.Time.{Downstream, record_after, machine_after, tick, on_ppt, after_et, after_ppt, et_due, ppt_due, first_due, with_first, fire_et, fire_ppt, fired, echo_of, Outcome, rests, moves, echoes, with_records, told, turn_by, turn, run_on, run_within, Runs}
 use Rattle.pim_down.specs.Sound.{is_temporary, IsSettled, IsReal, IsSound}
 use Rattle.pim_down.proofs.Real.{real_later, real_ppt}
 use Rattle.pim_down.proofs.Map.{IsBelow-recorded, IsAscending-recorded}
@@ -153,15 +153,15 @@ sound_told : (family : AddressFamily) (answer : Step (List ℕ)) (next : Downstr
 sound_told family Reached next sound = sound
 sound_told family (Echo port group what) next sound = sound
 
-sound_step : (family : AddressFamily) (moment : ℕ) (state : Downstream) → moment ≤ 1000000000000000 → IsSound family state → SoundThen family (step moment state)
-unfolding step
-sound_step family moment state small sound = by (fired state.records) refl
+sound_turn : (family : AddressFamily) (moment : ℕ) (state : Downstream) → moment ≤ 1000000000000000 → IsSound family state → SoundThen family (turn moment state)
+unfolding turn
+sound_turn family moment state small sound = by (fired state.records) refl
   where
     passes : (b : Bool) → ltb state.moment moment ≡ b → SoundThen family (cond b (moves (tick state)) rests)
     passes true e = let lt = ltb-true state.moment moment e in sound_kept family state (state.moment + 1) (map (record_after 1) state.records) (omega arith) (kept_later 1 state.records) sound
     passes false e = tt
 
-    by : (o : Option (Step (List ℕ) × List (Record (List ℕ)))) → fired state.records ≡ o → SoundThen family (step_by moment state o)
+    by : (o : Option (Step (List ℕ) × List (Record (List ℕ)))) → fired state.records ≡ o → SoundThen family (turn_by moment state o)
     by None e = passes (ltb state.moment moment) refl
     by (Some (answer, records)) e = sound_told family answer (with_records state records) (sound_kept family state state.moment records sound.moment (kept_fired state.records records answer e) sound)
 
@@ -173,19 +173,19 @@ pair_sound family state after step answer e sound =
 no_run : (answer : Step (List ℕ)) (after : Downstream) → ◌≡◌ {A = Option (Step (List ℕ) × Downstream)} None (Some (answer, after)) → ⊥
 no_run answer after e = cc
 
-sound_on : (family : AddressFamily) (outcome : Outcome) (steps moment : ℕ) (state after : Downstream) (answer : Step (List ℕ)) → ((next : Downstream) → IsSound family next → run_within steps moment next ≡ Some (answer, after) → IsSound family after) → IsSound family state → SoundThen family outcome → run_on outcome state (run_within steps moment) ≡ Some (answer, after) → IsSound family after
-sound_on family rests steps moment state after answer more sound s f = pair_sound family state after Reached answer f sound
-sound_on family (moves next) steps moment state after answer more sound s f = more next s f
-sound_on family (echoes echo next) steps moment state after answer more sound s f = pair_sound family next after echo answer f s
+sound_on : (family : AddressFamily) (outcome : Outcome) (turns moment : ℕ) (state after : Downstream) (answer : Step (List ℕ)) → ((next : Downstream) → IsSound family next → run_within turns moment next ≡ Some (answer, after) → IsSound family after) → IsSound family state → SoundThen family outcome → run_on outcome state (run_within turns moment) ≡ Some (answer, after) → IsSound family after
+sound_on family rests turns moment state after answer more sound s f = pair_sound family state after Reached answer f sound
+sound_on family (moves next) turns moment state after answer more sound s f = more next s f
+sound_on family (echoes echo next) turns moment state after answer more sound s f = pair_sound family next after echo answer f s
 
-sound_within : (family : AddressFamily) (steps moment : ℕ) (state after : Downstream) (answer : Step (List ℕ)) → moment ≤ 1000000000000000 → IsSound family state → run_within steps moment state ≡ Some (answer, after) → IsSound family after
+sound_within : (family : AddressFamily) (turns moment : ℕ) (state after : Downstream) (answer : Step (List ℕ)) → moment ≤ 1000000000000000 → IsSound family state → run_within turns moment state ≡ Some (answer, after) → IsSound family after
 unfolding run_within
 sound_within family zero moment state after answer small sound e = absurd (no_run answer after e)
-sound_within family (suc steps) moment state after answer small sound e =
-    sound_on family (step moment state) steps moment state after answer (λ next s f. sound_within family steps moment next after answer small s f) sound (sound_step family moment state small sound) e
+sound_within family (suc turns) moment state after answer small sound e =
+    sound_on family (turn moment state) turns moment state after answer (λ next s f. sound_within family turns moment next after answer small s f) sound (sound_turn family moment state small sound) e
 
 pub sound_runs : (family : AddressFamily) (moment : ℕ) (state after : Downstream) (answer : Step (List ℕ)) → moment ≤ 1000000000000000 → IsSound family state → Runs moment state answer after → IsSound family after
-sound_runs family moment state after answer small sound runs = sound_within family runs.steps moment state after answer small sound runs.within
+sound_runs family moment state after answer small sound runs = sound_within family runs.turns moment state after answer small sound runs.within
 
 -- ---- what callers see
 

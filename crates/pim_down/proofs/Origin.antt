@@ -28,9 +28,6 @@ greater_later k None b = refl
 greater_later k (Some a) None = refl
 greater_later k (Some a) (Some b) = let e : max a b - k ≡ max (a - k) (b - k) = omega arith in ap (λ n. Some n) e
 
-with_expiry : State → (m : Machine) → Option ℕ → Machine
-with_expiry state m e = record { state = state; expires_in = e; pending = m.pending }
-
 join_later : (k : ℕ) (start : Start) (state : State) (m : Machine) → m.state ≡ state → option_after k (join_in state start m) ≡ join_in state (start_after k start) (machine_after k m)
 join_later k start Join m e = ap (λ (x : Option ℕ). Some (record { state = Join; expires_in = x; pending = (machine_after k m).pending })) (greater_later k m.expires_in start.expires_in)
 join_later k start PrunePending m e = ap (λ (x : Option ℕ). Some (record { state = Join; expires_in = x; pending = None })) (greater_later k m.expires_in start.expires_in)

@@ -43,10 +43,10 @@ pub record IsRealEvent (family : AddressFamily) (event : Event) : Type 0 where
   pub group : IsGroupAddress family event.group
   pub source : HasSource family event.what
 
-module _ (family : AddressFamily) (known : Option (List ℕ)) where
+module _ (family : AddressFamily) (known : List ℕ → Option (List ℕ)) where
   real_entry : (joins : Bool) (group : List ℕ) → IsGroupAddress family group → (this : Entry (List ℕ)) → IsMessageEntry family this → AllByRecursion (IsRealEvent family) (entry_events known joins group this)
   real_entry joins group g (entry.Star rp) e =
-      elim (joins && not (is_known known rp)) as (λ b. AllByRecursion (IsRealEvent family) (cond b [] (record { joins = joins; group = group; what = Star } ∷ []))) [
+      elim (joins && not (is_known (known group) rp)) as (λ b. AllByRecursion (IsRealEvent family) (cond b [] (record { joins = joins; group = group; what = Star } ∷ []))) [
         | true ↦ tt
         | false ↦ (record { group = g; source = tt }, tt)
       ]

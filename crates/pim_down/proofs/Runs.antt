@@ -1,41 +1,41 @@
--- What a run leaves: by induction on its steps.
+-- What a run leaves: by induction on its turns.
 use Rattle.std.proofs.Common.{◌≡◌, ℕ, zero, suc, ◌+◌, ◌-◌, ◌<◌, ◌≤◌, Bool, true, false, List, Some, None, ltb, max, refl, sym, ap, subst, arith}
 use Rattle.std.proofs.lemmas.Bool.{false≢true, ltb-true, ltb-false}
 use Rattle.pim_down.specs.declared.key.What.{What}
 use Rattle.pim_down.specs.declared.machine.Record.{Record}
 use Rattle.pim_down.specs.declared.step.Step.{Step}
 use Rattle.pim_down.specs.declared.step.Step.TheVariants.{Reached, Echo}
-use Rattle.pim_down.specs.Time.{Downstream, tick, fired, rests, moves, echoes, with_records, step, run_within, Runs, HasRun}
+use Rattle.pim_down.specs.Time.{Downstream, tick, fired, rests, moves, echoes, with_records, turn, run_within, Runs, HasRun}
 use Rattle.pim_down.specs.Ends.{weight}
 use Rattle.pim_down.proofs.Time.{Answer, run_more, run_echo, run_rest}
 use Rattle.pim_down.proofs.Firing.{weight_fired, weight_later}
 
--- ---- one step
+-- ---- one turn
 
-data Stepped (moment : ℕ) (state : Downstream) : Type 0 where
-  resting : fired state.records ≡ None → moment ≤ state.moment → step moment state ≡ rests → Stepped moment state
-  passing : fired state.records ≡ None → state.moment < moment → step moment state ≡ moves (tick state) → Stepped moment state
-  firing : (records : List (Record (List ℕ))) → fired state.records ≡ Some (Reached, records) → step moment state ≡ moves (with_records state records) → Stepped moment state
-  telling : (port : ℕ) (group : List ℕ) (what : What (List ℕ)) (records : List (Record (List ℕ))) → fired state.records ≡ Some (Echo port group what, records) → step moment state ≡ echoes (Echo port group what) (with_records state records) → Stepped moment state
+data Turned (moment : ℕ) (state : Downstream) : Type 0 where
+  resting : fired state.records ≡ None → moment ≤ state.moment → turn moment state ≡ rests → Turned moment state
+  passing : fired state.records ≡ None → state.moment < moment → turn moment state ≡ moves (tick state) → Turned moment state
+  firing : (records : List (Record (List ℕ))) → fired state.records ≡ Some (Reached, records) → turn moment state ≡ moves (with_records state records) → Turned moment state
+  telling : (port : ℕ) (group : List ℕ) (what : What (List ℕ)) (records : List (Record (List ℕ))) → fired state.records ≡ Some (Echo port group what, records) → turn moment state ≡ echoes (Echo port group what) (with_records state records) → Turned moment state
 
-stepped_fired : (moment : ℕ) (state : Downstream) (answer : Step (List ℕ)) (records : List (Record (List ℕ))) → fired state.records ≡ Some (answer, records) → Stepped moment state
-unfolding step
-stepped_fired moment state Reached records e = firing records e (rw e refl)
-stepped_fired moment state (Echo port group what) records e = telling port group what records e (rw e refl)
+turned_fired : (moment : ℕ) (state : Downstream) (answer : Step (List ℕ)) (records : List (Record (List ℕ))) → fired state.records ≡ Some (answer, records) → Turned moment state
+unfolding turn
+turned_fired moment state Reached records e = firing records e (rw e refl)
+turned_fired moment state (Echo port group what) records e = telling port group what records e (rw e refl)
 
-stepped_quiet : (moment : ℕ) (state : Downstream) → fired state.records ≡ None → Stepped moment state
-unfolding step
-stepped_quiet moment state e =
-    elim (ltb state.moment moment) as (λ b. ltb state.moment moment ≡ b → Stepped moment state) [
+turned_quiet : (moment : ℕ) (state : Downstream) → fired state.records ≡ None → Turned moment state
+unfolding turn
+turned_quiet moment state e =
+    elim (ltb state.moment moment) as (λ b. ltb state.moment moment ≡ b → Turned moment state) [
       | true ↦ λ t. passing e (ltb-true state.moment moment t) (rw (e, t) refl)
       | false ↦ λ t. resting e (ltb-false state.moment moment t) (rw (e, t) refl)
     ] refl
 
-stepped : (moment : ℕ) (state : Downstream) → Stepped moment state
-stepped moment state =
-    elim (fired state.records) as (λ o. fired state.records ≡ o → Stepped moment state) [
-      | None ↦ λ e. stepped_quiet moment state e
-      | Some fire ↦ λ e. stepped_fired moment state fire.0 fire.1 e
+turned : (moment : ℕ) (state : Downstream) → Turned moment state
+turned moment state =
+    elim (fired state.records) as (λ o. fired state.records ≡ o → Turned moment state) [
+      | None ↦ λ e. turned_quiet moment state e
+      | Some fire ↦ λ e. turned_fired moment state fire.0 fire.1 e
     ] refl
 
 -- ---- induction on runs
@@ -47,26 +47,26 @@ no_run : (answer : Step (List ℕ)) (after : Downstream) → ◌≡◌ {A = Answ
 no_run answer after e = cc
 
 module _ (moment : ℕ) (P : Downstream → Step (List ℕ) → Downstream → Type 0) (rested : (state : Downstream) → fired state.records ≡ None → moment ≤ state.moment → P state Reached state) (passed : (state after : Downstream) (answer : Step (List ℕ)) → fired state.records ≡ None → state.moment < moment → P (tick state) answer after → P state answer after) (went : (state after : Downstream) (answer : Step (List ℕ)) (records : List (Record (List ℕ))) → fired state.records ≡ Some (Reached, records) → P (with_records state records) answer after → P state answer after) (said : (state : Downstream) (port : ℕ) (group : List ℕ) (what : What (List ℕ)) (records : List (Record (List ℕ))) → fired state.records ≡ Some (Echo port group what, records) → P state (Echo port group what) (with_records state records)) where
-  by_steps : (steps : ℕ) (state after : Downstream) (answer : Step (List ℕ)) → run_within steps moment state ≡ Some (answer, after) → P state answer after
+  by_turns : (turns : ℕ) (state after : Downstream) (answer : Step (List ℕ)) → run_within turns moment state ≡ Some (answer, after) → P state answer after
   unfolding run_within
-  by_steps zero state after answer e = absurd (no_run answer after e)
-  by_steps (suc steps) state after answer e =
-      elim (stepped moment state) [
+  by_turns zero state after answer e = absurd (no_run answer after e)
+  by_turns (suc turns) state after answer e =
+      elim (turned moment state) [
         | resting quiet reached s ↦ subst (λ (x : Step (List ℕ) × Downstream). P state x.0 x.1) (pair_of Reached answer state after (rw s at e)) (rested state quiet reached)
-        | passing quiet before s ↦ passed state after answer quiet before (by_steps steps (tick state) after answer (rw s at e))
-        | firing records f s ↦ went state after answer records f (by_steps steps (with_records state records) after answer (rw s at e))
+        | passing quiet before s ↦ passed state after answer quiet before (by_turns turns (tick state) after answer (rw s at e))
+        | firing records f s ↦ went state after answer records f (by_turns turns (with_records state records) after answer (rw s at e))
         | telling port group what records f s ↦ subst (λ (x : Step (List ℕ) × Downstream). P state x.0 x.1) (pair_of (Echo port group what) answer (with_records state records) after (rw s at e)) (said state port group what records f)
       ]
 
   pub by_run : (state after : Downstream) (answer : Step (List ℕ)) → Runs moment state answer after → P state answer after
-  by_run state after answer runs = by_steps runs.steps state after answer runs.within
+  by_run state after answer runs = by_turns runs.turns state after answer runs.within
 
 -- ---- each state has a run
 
 has_run : (n moment : ℕ) (state : Downstream) → (moment - state.moment) + weight state.records < n → HasRun moment state
 has_run zero moment state less = absurd (omega arith)
 has_run (suc n) moment state less =
-    elim (stepped moment state) [
+    elim (turned moment state) [
       | resting quiet reached s ↦ record { answer = Reached; after = state; runs = run_rest moment state s }
       | passing quiet before s ↦
           let w = weight_later 1 state.records in

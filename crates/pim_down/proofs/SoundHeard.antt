@@ -12,7 +12,7 @@ use Rattle.pim_down.proofs.Act.{IsAscending-hearing}
 use Rattle.pim_down.proofs.Heard.{settled_hearing, within_hearing}
 use Rattle.pim_down.proofs.Real.{real_events, real_hearing}
 
-pub sound_heard : (family : AddressFamily) (port : ℕ) (message : Message) (known : Option (List ℕ)) (timing : Timing) (state : Downstream) → IsSound family state → port < state.ports → IsMessage family message → needed_for port message known state ≤ state.limit → IsSound family (heard port message known timing state)
+pub sound_heard : (family : AddressFamily) (port : ℕ) (message : Message) (known : List ℕ → Option (List ℕ)) (timing : Timing) (state : Downstream) → IsSound family state → port < state.ports → IsMessage family message → needed_for port message known state ≤ state.limit → IsSound family (heard port message known timing state)
 sound_heard family port message known timing state sound there legal room =
     let start = start_of message.holdtime timing in
     let events = events_of known message in

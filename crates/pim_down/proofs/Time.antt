@@ -10,7 +10,7 @@ use Rattle.pim_down.specs.declared.machine.Machine.{Machine}
 use Rattle.pim_down.specs.declared.machine.Record.{Record}
 use Rattle.pim_down.specs.declared.step.Step.{Step}
 use Rattle.pim_down.specs.declared.step.Step.TheVariants.{Echo, Reached}
-use Rattle.pim_down.specs.Time.{Downstream, expiry_after, pending_after, machine_after, record_after, tick, expiry_due, pending_due, et_due, ppt_due, after_ppt, echo_of, first_due, with_first, fire_et, fired, Outcome, rests, moves, echoes, with_records, told, step, run_on, run_within, Runs, ticks, is_due_after, IsQuietFor}
+use Rattle.pim_down.specs.Time.{Downstream, expiry_after, pending_after, machine_after, record_after, tick, expiry_due, pending_due, et_due, ppt_due, after_ppt, echo_of, first_due, with_first, fire_et, fired, Outcome, rests, moves, echoes, with_records, told, turn, run_on, run_within, Runs, ticks, IsQuietFor}
 use Rattle.pim_down.specs.Ends.{sooner, pending_end, first_end, ends_by}
 
 -- ---- milliseconds add up
@@ -141,35 +141,32 @@ either_by k (held ∷ records) =
 pub fired_by : (k : ℕ) (records : List (Record (List ℕ))) → is_some (fired (map (record_after k) records)) ≡ ends_by k (first_end records)
 fired_by k records = fired_is (map (record_after k) records) ∙ either_by k records
 
-pub due_by : (k : ℕ) (state : Downstream) → is_due_after k state ≡ ends_by k (first_end state.records)
-due_by k state = ap (λ (s : Downstream). is_some (fired s.records)) (ticks_is k state) ∙ fired_by k state.records
-
 -- ---- runs
 
-pub run_more : (moment : ℕ) (state next after : Downstream) (answer : Step (List ℕ)) → step moment state ≡ moves next → Runs moment next answer after → Runs moment state answer after
+pub run_more : (moment : ℕ) (state next after : Downstream) (answer : Step (List ℕ)) → turn moment state ≡ moves next → Runs moment next answer after → Runs moment state answer after
 unfolding run_within
-run_more moment state next after answer moved runs = record { steps = suc runs.steps; within = rw moved runs.within }
+run_more moment state next after answer moved runs = record { turns = suc runs.turns; within = rw moved runs.within }
 
-pub run_echo : (moment : ℕ) (state after : Downstream) (answer : Step (List ℕ)) → step moment state ≡ echoes answer after → Runs moment state answer after
+pub run_echo : (moment : ℕ) (state after : Downstream) (answer : Step (List ℕ)) → turn moment state ≡ echoes answer after → Runs moment state answer after
 unfolding run_within
-run_echo moment state after answer told = record { steps = 1; within = rw told refl }
+run_echo moment state after answer told = record { turns = 1; within = rw told refl }
 
-pub run_rest : (moment : ℕ) (state : Downstream) → step moment state ≡ rests → Runs moment state Reached state
+pub run_rest : (moment : ℕ) (state : Downstream) → turn moment state ≡ rests → Runs moment state Reached state
 unfolding run_within
-run_rest moment state rested = record { steps = 1; within = rw rested refl }
+run_rest moment state rested = record { turns = 1; within = rw rested refl }
 
 none_from_quiet : (o : Option (Step (List ℕ) × List (Record (List ℕ)))) → is_some o ≡ false → o ≡ None
 none_from_quiet None e = refl
 none_from_quiet (Some o) e = absurd (false≢true (sym e))
 
 -- nothing is due
-pub step_passes : (moment : ℕ) (state : Downstream) → is_some (fired state.records) ≡ false → state.moment < moment → step moment state ≡ moves (tick state)
-unfolding step
-step_passes moment state quiet before = rw (none_from_quiet (fired state.records) quiet, lt-ltb state.moment moment before) refl
+pub turn_passes : (moment : ℕ) (state : Downstream) → is_some (fired state.records) ≡ false → state.moment < moment → turn moment state ≡ moves (tick state)
+unfolding turn
+turn_passes moment state quiet before = rw (none_from_quiet (fired state.records) quiet, lt-ltb state.moment moment before) refl
 
-pub step_rests : (moment : ℕ) (state : Downstream) → is_some (fired state.records) ≡ false → moment ≤ state.moment → step moment state ≡ rests
-unfolding step
-step_rests moment state quiet reached = rw (none_from_quiet (fired state.records) quiet, le-ltb state.moment moment reached) refl
+pub turn_rests : (moment : ℕ) (state : Downstream) → is_some (fired state.records) ≡ false → moment ≤ state.moment → turn moment state ≡ rests
+unfolding turn
+turn_rests moment state quiet reached = rw (none_from_quiet (fired state.records) quiet, le-ltb state.moment moment reached) refl
 
 -- whatever runs from the end of a quiet time runs from its start
 pub run_quiet : (k moment : ℕ) (state after : Downstream) (answer : Step (List ℕ)) → IsQuietFor k state → state.moment + k ≤ moment → Runs moment (ticks k state) answer after → Runs moment state answer after
@@ -177,7 +174,7 @@ unfolding ticks
 run_quiet zero moment state after answer quiet within runs = runs
 run_quiet (suc k) moment state after answer quiet within runs =
     let here : is_some (fired state.records) ≡ false = quiet 0 (omega arith) in
-    let moved = step_passes moment state here (omega arith) in
+    let moved = turn_passes moment state here (omega arith) in
     let later : IsQuietFor k (tick state) = λ j h. quiet (suc j) (omega arith) in
     run_more moment state (tick state) after answer moved (run_quiet k moment (tick state) after answer later (omega arith) runs)
 
@@ -186,28 +183,28 @@ run_quiet (suc k) moment state after answer quiet within runs =
 abbrev pub Answer : Type 0
 Answer = Option (Step (List ℕ) × Downstream)
 
--- what one step leads to, at an earlier and at a later moment
-data Steps (earlier later : ℕ) (state : Downstream) : Type 0 where
-  goes : (next : Downstream) → step earlier state ≡ moves next → step later state ≡ moves next → Steps earlier later state
-  stays : step earlier state ≡ rests → Steps earlier later state
-  tells : (port : ℕ) (group : List ℕ) (what : What (List ℕ)) (next : Downstream) → step earlier state ≡ echoes (Echo port group what) next → Steps earlier later state
+-- what one turn leads to, at an earlier and at a later moment
+data Turns (earlier later : ℕ) (state : Downstream) : Type 0 where
+  goes : (next : Downstream) → turn earlier state ≡ moves next → turn later state ≡ moves next → Turns earlier later state
+  stays : turn earlier state ≡ rests → Turns earlier later state
+  tells : (port : ℕ) (group : List ℕ) (what : What (List ℕ)) (next : Downstream) → turn earlier state ≡ echoes (Echo port group what) next → Turns earlier later state
 
-steps_fired : (earlier later : ℕ) (state : Downstream) (answer : Step (List ℕ)) (records : List (Record (List ℕ))) → fired state.records ≡ Some (answer, records) → Steps earlier later state
-unfolding step
+steps_fired : (earlier later : ℕ) (state : Downstream) (answer : Step (List ℕ)) (records : List (Record (List ℕ))) → fired state.records ≡ Some (answer, records) → Turns earlier later state
+unfolding turn
 steps_fired earlier later state Reached records e = goes (with_records state records) (rw e refl) (rw e refl)
 steps_fired earlier later state (Echo port group what) records e = tells port group what (with_records state records) (rw e refl)
 
-steps_passed : (earlier later : ℕ) (state : Downstream) → earlier ≤ later → fired state.records ≡ None → Steps earlier later state
-unfolding step
+steps_passed : (earlier later : ℕ) (state : Downstream) → earlier ≤ later → fired state.records ≡ None → Turns earlier later state
+unfolding turn
 steps_passed earlier later state le e =
-    elim (ltb state.moment earlier) as (λ b. ltb state.moment earlier ≡ b → Steps earlier later state) [
+    elim (ltb state.moment earlier) as (λ b. ltb state.moment earlier ≡ b → Turns earlier later state) [
       | true ↦ λ t. let lt : state.moment < earlier = ltb-true state.moment earlier t in goes (tick state) (rw (e, t) refl) (rw (e, lt-ltb state.moment later (omega arith)) refl)
       | false ↦ λ t. stays (rw (e, t) refl)
     ] refl
 
-steps_of : (earlier later : ℕ) (state : Downstream) → earlier ≤ later → Steps earlier later state
+steps_of : (earlier later : ℕ) (state : Downstream) → earlier ≤ later → Turns earlier later state
 steps_of earlier later state le =
-    elim (fired state.records) as (λ o. fired state.records ≡ o → Steps earlier later state) [
+    elim (fired state.records) as (λ o. fired state.records ≡ o → Turns earlier later state) [
       | None ↦ λ e. steps_passed earlier later state le e
       | Some fire ↦ λ e. steps_fired earlier later state fire.0 fire.1 e
     ] refl
@@ -226,19 +223,19 @@ no_echo port group what next middle e =
     let pairs : ◌≡◌ {A = Step (List ℕ) × Downstream} (Echo port group what, next) (Reached, middle) = cc in
     true≢false (ap (λ (x : Step (List ℕ) × Downstream). is_echo x.0) pairs)
 
-run_then : (steps earlier later : ℕ) (state middle after : Downstream) (answer : Step (List ℕ)) → earlier ≤ later → run_within steps earlier state ≡ Some (Reached, middle) → Runs later middle answer after → Runs later state answer after
+run_then : (turns earlier later : ℕ) (state middle after : Downstream) (answer : Step (List ℕ)) → earlier ≤ later → run_within turns earlier state ≡ Some (Reached, middle) → Runs later middle answer after → Runs later state answer after
 unfolding run_within
 run_then zero earlier later state middle after answer le e runs = cc
-run_then (suc steps) earlier later state middle after answer le e runs =
+run_then (suc turns) earlier later state middle after answer le e runs =
     elim (steps_of earlier later state le) [
-      | goes next first second ↦ run_more later state next after answer second (run_then steps earlier later next middle after answer le (rw first at e) runs)
+      | goes next first second ↦ run_more later state next after answer second (run_then turns earlier later next middle after answer le (rw first at e) runs)
       | stays rest ↦ subst (λ (s : Downstream). Runs later s answer after) (sym (reached_at state middle (rw rest at e))) runs
       | tells port group what next echo ↦ absurd (no_echo port group what next middle (rw echo at e))
     ]
 
 -- a run that reaches a moment, and then one up to a later moment, are one run up to the later
 pub runs_then : (earlier later : ℕ) (state middle after : Downstream) (answer : Step (List ℕ)) → earlier ≤ later → Runs earlier state Reached middle → Runs later middle answer after → Runs later state answer after
-runs_then earlier later state middle after answer le first second = run_then first.steps earlier later state middle after answer le first.within second
+runs_then earlier later state middle after answer le first second = run_then first.turns earlier later state middle after answer le first.within second
 
 -- ---- a run has one end
 
@@ -251,9 +248,9 @@ one_within : (n m moment : ℕ) (state : Downstream) (x y : Step (List ℕ) × D
 unfolding run_within
 one_within zero m moment state x y e f = cc
 one_within (suc n) zero moment state x y e f = cc
-one_within (suc n) (suc m) moment state x y e f = one_by (step moment state) moment n m state x y (λ next. one_within n m moment next x y) e f
+one_within (suc n) (suc m) moment state x y e f = one_by (turn moment state) moment n m state x y (λ next. one_within n m moment next x y) e f
 
 pub runs_once : (moment : ℕ) (state after other : Downstream) (answer told : Step (List ℕ)) → Runs moment state answer after → Runs moment state told other → (answer ≡ told) × (after ≡ other)
 runs_once moment state after other answer told first second =
-    let same = one_within first.steps second.steps moment state (answer, after) (told, other) first.within second.within in
+    let same = one_within first.turns second.turns moment state (answer, after) (told, other) first.within second.within in
     (ap (λ (x : Step (List ℕ) × Downstream). x.0) same, ap (λ (x : Step (List ℕ) × Downstream). x.1) same)

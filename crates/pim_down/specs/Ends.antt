@@ -16,7 +16,8 @@ pending_end (Some timer) = Some timer.ends_in
 
 unfoldable pub first_end : List (Record (List ℕ)) → Option ℕ
 first_end [] = None
-first_end (held ∷ records) = sooner (sooner held.machine.expires_in (pending_end held.machine.pending)) (first_end records)
+first_end (held ∷ records) =
+    sooner (sooner held.machine.expires_in (pending_end held.machine.pending)) (first_end records)
 
 abbrev pub ends_by : ℕ → Option ℕ → Bool
 ends_by moment None = false

@@ -9,16 +9,17 @@ use Rattle.pim_down.specs.Records.{machine_at}
 use Rattle.pim_down.specs.Hearing.{events_of, start_of, hearing, count_new, needed}
 use Rattle.pim_down.specs.Time.{Downstream, with_records}
 
--- the machines after the message; no timer fires
-abbrev pub heard : ℕ → Message → Option (List ℕ) → Timing → Downstream → Downstream
-heard port message known timing state = with_records state (hearing port (start_of message.holdtime timing) (events_of known message) state.records)
+-- the machines after the message, where `known` tells the RP of each group; no timer fires
+abbrev pub heard : ℕ → Message → (List ℕ → Option (List ℕ)) → Timing → Downstream → Downstream
+heard port message known timing state =
+    with_records state (hearing port (start_of message.holdtime timing) (events_of known message) state.records)
 
 -- how many records the port may need for it
-abbrev pub needed_for : ℕ → Message → Option (List ℕ) → Downstream → ℕ
+abbrev pub needed_for : ℕ → Message → (List ℕ → Option (List ℕ)) → Downstream → ℕ
 needed_for port message known state = needed port state.records (events_of known message)
 
 -- how many records the message makes, repeats counted
-abbrev pub new_for : ℕ → Message → Option (List ℕ) → Downstream → ℕ
+abbrev pub new_for : ℕ → Message → (List ℕ → Option (List ℕ)) → Downstream → ℕ
 new_for port message known state = count_new port state.records (events_of known message)
 
 -- Full exactly where more are needed than the limit, and then it tells how many; want of memory only where they aren't.
@@ -35,4 +36,5 @@ MayWantMemory new (Err Memory) = 1 ≤ new
 
 -- The machines of the other ports stay.
 abbrev pub OthersStay : ℕ → Downstream → Downstream → Type 0
-OthersStay port old new = (key : Key (List ℕ)) → key.port ≢ port → machine_at key new.records ≡ machine_at key old.records
+OthersStay port old new =
+    (key : Key (List ℕ)) → key.port ≢ port → machine_at key new.records ≡ machine_at key old.records

@@ -1,5 +1,6 @@
 -- What hearing a Join/Prune message does to the machines of a port (RFC 7761, 4.5).
-use Rattle.std.specs.Prelude.{ℕ, ◌+◌, ◌*◌, Bool, true, false, ◌&&◌, not, List, [], ◌∷◌, ◌++◌, Option, None, Some, ◌==◌, nat_eq, if◌then◌else◌}
+use Rattle.std.specs.Prelude.{ℕ, ◌+◌, ◌*◌, Bool, true, false, ◌&&◌, not, ◌==◌, nat_eq, if◌then◌else◌}
+use Rattle.std.specs.Prelude.{List, [], ◌∷◌, ◌++◌, Option, None, Some}
 use Rattle.std.specs.Option.{is_some}
 use Rattle.std.specs.List.{flat_map}
 use Rattle.std.specs.Cmp.Lexicographic.{pointwise}
@@ -24,7 +25,9 @@ pub record Event : Type 0 where
   pub group : List ℕ
   pub what : What (List ℕ)
 
--- whether this is the RP that is known
+-- `known` tells the RP of each group; `None` where none is known
+
+-- whether this RP is the one that is known
 abbrev pub is_known : Option (List ℕ) → List ℕ → Bool
 is_known None rp = false
 is_known (Some known) rp = pointwise nat_eq known rp
@@ -32,20 +35,21 @@ is_known (Some known) rp = pointwise nat_eq known rp
 abbrev pub event : Bool → List ℕ → What (List ℕ) → List Event
 event joins group what = record { joins = joins; group = group; what = what } ∷ []
 
--- An entry of the joined or of the pruned list. A Join(*,G) whose RP isn't the known one is no event.
-abbrev pub entry_events : Option (List ℕ) → Bool → List ℕ → Entry (List ℕ) → List Event
-entry_events known joins group (entry.Star rp) = if joins && not (is_known known rp) then [] else event joins group Star
+-- An entry of the joined or of the pruned list. A Join(*,G) whose RP isn't the one known of G is no event.
+abbrev pub entry_events : (List ℕ → Option (List ℕ)) → Bool → List ℕ → Entry (List ℕ) → List Event
+entry_events known joins group (entry.Star rp) =
+    if joins && not (is_known (known group) rp) then [] else event joins group Star
 entry_events known joins group (entry.Source source) = event joins group (Source source)
 entry_events known joins group (entry.Rpt source) = event joins group (Rpt source)
 
-abbrev pub list_events : Option (List ℕ) → Bool → List ℕ → List (Entry (List ℕ)) → List Event
+abbrev pub list_events : (List ℕ → Option (List ℕ)) → Bool → List ℕ → List (Entry (List ℕ)) → List Event
 list_events known joins group entries = flat_map (entry_events known joins group) entries
 
-abbrev pub set_events : Option (List ℕ) → GroupSet → List Event
+abbrev pub set_events : (List ℕ → Option (List ℕ)) → GroupSet → List Event
 set_events known set = list_events known true set.group set.joined ++ list_events known false set.group set.pruned
 
 -- in the order of the message: its sets, and of each the joined entries and then the pruned ones
-abbrev pub events_of : Option (List ℕ) → Message → List Event
+abbrev pub events_of : (List ℕ → Option (List ℕ)) → Message → List Event
 events_of known message = flat_map (set_events known) message.sets
 
 -- ---- what an event does

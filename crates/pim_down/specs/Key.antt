@@ -25,7 +25,8 @@ unfoldable pub what_cmp : What (List ℕ) → What (List ℕ) → Ordering
 what_cmp a b = ordering_then (nat_cmp (rank a) (rank b)) (address_cmp (source_of a) (source_of b))
 
 unfoldable pub key_cmp : Key (List ℕ) → Key (List ℕ) → Ordering
-key_cmp a b = ordering_then (ordering_then (nat_cmp a.port b.port) (address_cmp a.group b.group)) (what_cmp a.what b.what)
+key_cmp a b =
+    ordering_then (ordering_then (nat_cmp a.port b.port) (address_cmp a.group b.group)) (what_cmp a.what b.what)
 
 abbrev pub same_key : Key (List ℕ) → Key (List ℕ) → Bool
 same_key a b = is_eq (key_cmp a b)

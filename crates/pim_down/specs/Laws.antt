@@ -22,12 +22,17 @@ use Rattle.pim_down.specs.Heard.{heard, needed_for}
 
 -- A change of one machine makes of it what the change says, and of no other machine anything.
 abbrev pub ChangeActsAtItsKey : Type 0
-ChangeActsAtItsKey = (key : Key (List ℕ)) (change : Option Machine → Option Machine) (records : List (Record (List ℕ))) → IsAscending records →
-    (machine_at key (changed key change records) ≡ change (machine_at key records)) × ((other : Key (List ℕ)) → same_key other key ≡ false → machine_at other (changed key change records) ≡ machine_at other records)
+ChangeActsAtItsKey =
+    (key : Key (List ℕ)) (change : Option Machine → Option Machine) (records : List (Record (List ℕ))) →
+    IsAscending records →
+    (machine_at key (changed key change records) ≡ change (machine_at key records))
+    × ((other : Key (List ℕ)) → same_key other key ≡ false →
+    machine_at other (changed key change records) ≡ machine_at other records)
 
 -- Two lists in key order that have the same machine at every key are one: the list is a way to write down a map.
 abbrev pub AMapHasOneList : Type 0
-AMapHasOneList = (a b : List (Record (List ℕ))) → IsAscending a → IsAscending b → ((key : Key (List ℕ)) → machine_at key a ≡ machine_at key b) → a ≡ b
+AMapHasOneList = (a b : List (Record (List ℕ))) → IsAscending a → IsAscending b →
+    ((key : Key (List ℕ)) → machine_at key a ≡ machine_at key b) → a ≡ b
 
 -- A run that reaches a moment, and then a run up to a later one, are one run up to the later moment.
 abbrev pub RunGoesOn : Type 0
@@ -54,7 +59,8 @@ abbrev pub HearingActsAtEachKey : Type 0
 HearingActsAtEachKey = (port : ℕ) (start : Start) (events : List Event) (records : List (Record (List ℕ))) →
     IsAscending records → ChangesAtEach (heard_at port start events) records (hearing port start events records)
 
--- A run keeps the ports and the limit, and ends between its start and the moment, or at the later of both where it reaches.
+-- A run keeps the ports and the limit, and ends between its start and the moment, or where it reaches at the later of
+-- both.
 abbrev pub RunKeepsItsBounds : Type 0
 RunKeepsItsBounds = (moment : ℕ) (state after : Downstream) (answer : Step (List ℕ)) → Runs moment state answer after →
     (after.ports ≡ state.ports) × (after.limit ≡ state.limit) × (state.moment ≤ after.moment)
@@ -77,8 +83,8 @@ RunKeepsSound = (family : AddressFamily) (moment : ℕ) (state after : Downstrea
 
 -- A message that can be spelled, heard on a port that is there and has room for it, keeps the machines sound.
 abbrev pub HearingKeepsSound : Type 0
-HearingKeepsSound = (family : AddressFamily) (port : ℕ) (message : Message) (known : Option (List ℕ)) (timing : Timing)
-    (state : Downstream) → IsSound family state → port < state.ports → IsMessage family message →
+HearingKeepsSound = (family : AddressFamily) (port : ℕ) (message : Message) (known : List ℕ → Option (List ℕ))
+    (timing : Timing) (state : Downstream) → IsSound family state → port < state.ports → IsMessage family message →
     needed_for port message known state ≤ state.limit →
     IsSound family (heard port message known timing state)
 
@@ -104,5 +110,6 @@ HearingKeepsTheOrder = (port : ℕ) (start : Start) (events : List Event) (recor
 
 -- Machines of other ports stay as they are.
 abbrev pub HearingLeavesOtherPorts : Type 0
-HearingLeavesOtherPorts = (port : ℕ) (start : Start) (events : List Event) (records : List (Record (List ℕ))) (key : Key (List ℕ)) →
+HearingLeavesOtherPorts =
+    (port : ℕ) (start : Start) (events : List Event) (records : List (Record (List ℕ))) (key : Key (List ℕ)) →
     IsAscending records → key.port ≢ port → machine_at key (hearing port start events records) ≡ machine_at key records

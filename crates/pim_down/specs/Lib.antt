@@ -2,6 +2,7 @@ pub mod Key
 pub mod Tables
 pub mod Records
 pub mod Hearing
+pub mod Known
 pub mod Time
 pub mod Seen
 pub mod Ends

@@ -36,14 +36,16 @@ abbrev pub recorded : Key (List ℕ) → Option Machine → List (Record (List �
 recorded key None = []
 recorded key (Some machine) = record { key = key; machine = machine } ∷ []
 
--- The change of one machine, and a change of every machine that is held. What they leave at each key is said by the laws
--- `change_acts_at_its_key`, `event_acts_at_each_key` and `end_acts_at_each_key`.
-abbrev pub at_rank : Ordering → List (Record (List ℕ)) → List (Record (List ℕ)) → List (Record (List ℕ)) → List (Record (List ℕ))
+-- The change of one machine, and a change of every machine that is held. What they leave at each key is said by the
+-- laws `change_acts_at_its_key`, `event_acts_at_each_key` and `end_acts_at_each_key`.
+abbrev pub at_rank : Ordering → List (Record (List ℕ)) → List (Record (List ℕ)) → List (Record (List ℕ)) →
+    List (Record (List ℕ))
 at_rank Less below at above = below
 at_rank Equal below at above = at
 at_rank Greater below at above = above
 
-unfoldable pub changed : Key (List ℕ) → (Option Machine → Option Machine) → List (Record (List ℕ)) → List (Record (List ℕ))
+unfoldable pub changed : Key (List ℕ) → (Option Machine → Option Machine) → List (Record (List ℕ)) →
+    List (Record (List ℕ))
 changed key change [] = recorded key (change None)
 changed key change (held ∷ records) =
     at_rank (key_cmp key held.key)
@@ -51,12 +53,15 @@ changed key change (held ∷ records) =
     (recorded held.key (change (Some held.machine)) ++ records)
     (held ∷ changed key change records)
 
-unfoldable pub each_changed : (Key (List ℕ) → Option Machine → Option Machine) → List (Record (List ℕ)) → List (Record (List ℕ))
+unfoldable pub each_changed : (Key (List ℕ) → Option Machine → Option Machine) → List (Record (List ℕ)) →
+    List (Record (List ℕ))
 each_changed change [] = []
-each_changed change (held ∷ records) = recorded held.key (change held.key (Some held.machine)) ++ each_changed change records
+each_changed change (held ∷ records) =
+    recorded held.key (change held.key (Some held.machine)) ++ each_changed change records
 
 -- Each key's machine is what the change makes of the one before: what a change means, whatever the order of a list.
-abbrev pub ChangesAtEach : (Key (List ℕ) → Option Machine → Option Machine) → List (Record (List ℕ)) → List (Record (List ℕ)) → Type 0
+abbrev pub ChangesAtEach : (Key (List ℕ) → Option Machine → Option Machine) → List (Record (List ℕ)) →
+    List (Record (List ℕ)) → Type 0
 ChangesAtEach change before after = (key : Key (List ℕ)) → machine_at key after ≡ change key (machine_at key before)
 
 -- the state of a key's machine; `None` is NoInfo

@@ -9,11 +9,15 @@ use Rattle.pim_down.specs.Sound.{is_temporary}
 use Rattle.pim_down.specs.Seen.{shown}
 
 abbrev pub downstream_at : {A : Type 0} → (A → List ℕ) → ℕ → ℕ → ℕ → List (Held A) → Downstream
-downstream_at bytes_of ports limit moment records = record { ports = ports; limit = limit; moment = moment; records = shown bytes_of moment records }
+downstream_at bytes_of ports limit moment records =
+    record { ports = ports; limit = limit; moment = moment; records = shown bytes_of moment records }
 
 -- the timers that a message starts, counted from a later moment
 abbrev pub start_after : ℕ → Start → Start
-start_after passed start = record { expires_in = expiry_after passed start.expires_in; pending = record { ends_in = start.pending.ends_in - passed; several = start.pending.several } }
+start_after passed start = record {
+  expires_in = expiry_after passed start.expires_in;
+  pending = record { ends_in = start.pending.ends_in - passed; several = start.pending.several };
+}
 
 -- an (S,G,rpt) machine of the port, in a state that ends with the message
 abbrev pub is_over : ℕ → Record (List ℕ) → Bool

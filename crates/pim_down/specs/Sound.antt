@@ -55,7 +55,8 @@ abbrev pub is_pending : State → Bool
 is_pending PrunePending = true
 is_pending _ = false
 
--- its port is there, its addresses are those of its kind, and PPT runs exactly in Prune-Pending
+-- its port is there, its group is a group, its source, where it has one, a valid source, and PPT runs exactly in
+-- Prune-Pending
 pub record IsReal (family : AddressFamily) (ports : ℕ) (held : Record (List ℕ)) : Type 0 where
   pub port : held.key.port < ports
   pub group : IsGroupAddress family held.key.group

@@ -8,4 +8,5 @@ use Rattle.pim_down.specs.Hearing.{act}
 -- after each event there are no more records than this
 unfoldable pub HasRoom : ℕ → Start → ℕ → List Event → List (Record (List ℕ)) → Type 0
 HasRoom port start room [] records = Unit {0}
-HasRoom port start room (event ∷ events) records = (length (act port start event records) ≤ room) × HasRoom port start room events (act port start event records)
+HasRoom port start room (event ∷ events) records =
+    (length (act port start event records) ≤ room) × HasRoom port start room events (act port start event records)

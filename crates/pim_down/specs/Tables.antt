@@ -62,7 +62,8 @@ on_rpt_join _ = None
 abbrev pub rpt_prune_in : State → Start → Machine → Option Machine
 rpt_prune_in Prune start held = machine_in Prune (greater held.expires_in start.expires_in) held.pending
 rpt_prune_in PruneTmp start held = machine_in Prune (greater held.expires_in start.expires_in) held.pending
-rpt_prune_in PrunePendingTmp start held = machine_in PrunePending (greater held.expires_in start.expires_in) held.pending
+rpt_prune_in PrunePendingTmp start held =
+    machine_in PrunePending (greater held.expires_in start.expires_in) held.pending
 rpt_prune_in _ start held = Some held
 
 unfoldable pub on_rpt_prune : Start → Option Machine → Option Machine

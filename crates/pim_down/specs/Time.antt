@@ -1,5 +1,6 @@
 -- What time does: the machine of milliseconds. Timers are countdowns, and a timer at 0 is due.
-use Rattle.std.specs.Prelude.{◌≡◌, ℕ, zero, suc, ◌+◌, ◌-◌, ◌≤◌, ◌<◌, Bool, true, false, List, [], ◌∷◌, ◌++◌, Option, None, Some, ◌==◌, nat_lt, map, if◌then◌else◌}
+use Rattle.std.specs.Prelude.{◌≡◌, ℕ, zero, suc, ◌+◌, ◌-◌, ◌≤◌, ◌<◌, Bool, true, false, ◌==◌, nat_lt, if◌then◌else◌}
+use Rattle.std.specs.Prelude.{List, [], ◌∷◌, ◌++◌, map, Option, None, Some}
 use Rattle.std.specs.Option.{is_some}
 use Rattle.pim_down.specs.declared.key.What.{What}
 use Rattle.pim_down.specs.declared.key.What.TheVariants.{Star, Source, Rpt}
@@ -32,13 +33,22 @@ pending_after passed None = None
 pending_after passed (Some timer) = Some (record { ends_in = timer.ends_in - passed; several = timer.several })
 
 abbrev pub machine_after : ℕ → Machine → Machine
-machine_after passed held = record { state = held.state; expires_in = expiry_after passed held.expires_in; pending = pending_after passed held.pending }
+machine_after passed held = record {
+  state = held.state;
+  expires_in = expiry_after passed held.expires_in;
+  pending = pending_after passed held.pending;
+}
 
 abbrev pub record_after : ℕ → Record (List ℕ) → Record (List ℕ)
 record_after passed held = record { key = held.key; machine = machine_after passed held.machine }
 
 abbrev pub tick : Downstream → Downstream
-tick state = record { ports = state.ports; limit = state.limit; moment = state.moment + 1; records = map (record_after 1) state.records }
+tick state = record {
+  ports = state.ports;
+  limit = state.limit;
+  moment = state.moment + 1;
+  records = map (record_after 1) state.records;
+}
 
 -- ---- a timer fires
 
@@ -81,7 +91,8 @@ echoes_at (Rpt source) several = false
 
 abbrev pub echo_of : Record (List ℕ) → Step (List ℕ)
 echo_of held =
-    if echoes_at held.key.what (had_several held.machine.pending) then Echo held.key.port held.key.group held.key.what else Reached
+    if echoes_at held.key.what (had_several held.machine.pending)
+    then Echo held.key.port held.key.group held.key.what else Reached
 
 -- the first record, in key order, that is due
 unfoldable pub first_due : (Record (List ℕ) → Bool) → List (Record (List ℕ)) → Option (Record (List ℕ))
@@ -89,7 +100,8 @@ first_due due [] = None
 first_due due (held ∷ records) = if due held then Some held else first_due due records
 
 -- the records, of which the first that is due is replaced
-unfoldable pub with_first : (Record (List ℕ) → Bool) → (Record (List ℕ) → List (Record (List ℕ))) → List (Record (List ℕ)) → List (Record (List ℕ))
+unfoldable pub with_first : (Record (List ℕ) → Bool) → (Record (List ℕ) → List (Record (List ℕ))) →
+    List (Record (List ℕ)) → List (Record (List ℕ))
 with_first due after [] = []
 with_first due after (held ∷ records) = if due held then after held ++ records else held ∷ with_first due after records
 
@@ -99,7 +111,8 @@ abbrev pub fire_et : List (Record (List ℕ)) → Option (Record (List ℕ)) →
 fire_et records None = None
 fire_et records (Some held) = Some (Reached, with_first et_due after_et records)
 
-abbrev pub fire_ppt : List (Record (List ℕ)) → Option (Record (List ℕ)) → Option (Step (List ℕ) × List (Record (List ℕ)))
+abbrev pub fire_ppt : List (Record (List ℕ)) → Option (Record (List ℕ)) →
+    Option (Step (List ℕ) × List (Record (List ℕ)))
 fire_ppt records None = fire_et records (first_due et_due records)
 fire_ppt records (Some held) = Some (echo_of held, with_first ppt_due after_ppt records)
 
@@ -108,41 +121,43 @@ fired records = fire_ppt records (first_due ppt_due records)
 
 -- ---- the machine of milliseconds
 
--- a step: nothing is left to do, or the machines move on, or an echo is told
+-- a turn: nothing is left to do, or the machines move on, or an echo is told
 pub data Outcome : Type 0 where
   rests : Outcome
   moves : Downstream → Outcome
   echoes : Step (List ℕ) → Downstream → Outcome
 
 abbrev pub with_records : Downstream → List (Record (List ℕ)) → Downstream
-with_records state records = record { ports = state.ports; limit = state.limit; moment = state.moment; records = records }
+with_records state records =
+    record { ports = state.ports; limit = state.limit; moment = state.moment; records = records }
 
 abbrev pub told : Step (List ℕ) → Downstream → Outcome
 told Reached state = moves state
 told (Echo port group what) state = echoes (Echo port group what) state
 
 -- something fires, or else a millisecond passes, unless the moment is reached
-abbrev pub step_by : ℕ → Downstream → Option (Step (List ℕ) × List (Record (List ℕ))) → Outcome
-step_by moment state None = if nat_lt state.moment moment then moves (tick state) else rests
-step_by moment state (Some (answer, records)) = told answer (with_records state records)
+abbrev pub turn_by : ℕ → Downstream → Option (Step (List ℕ) × List (Record (List ℕ))) → Outcome
+turn_by moment state None = if nat_lt state.moment moment then moves (tick state) else rests
+turn_by moment state (Some (answer, records)) = told answer (with_records state records)
 
-unfoldable pub step : ℕ → Downstream → Outcome
-step moment state = step_by moment state (fired state.records)
+unfoldable pub turn : ℕ → Downstream → Outcome
+turn moment state = turn_by moment state (fired state.records)
 
--- steps until an echo is told or nothing is left to do, if these many are enough
-abbrev pub run_on : Outcome → Downstream → (Downstream → Option (Step (List ℕ) × Downstream)) → Option (Step (List ℕ) × Downstream)
+-- turns until an echo is told or nothing is left to do, if these many are enough
+abbrev pub run_on : Outcome → Downstream → (Downstream → Option (Step (List ℕ) × Downstream)) →
+    Option (Step (List ℕ) × Downstream)
 run_on rests state more = Some (Reached, state)
 run_on (echoes echo after) state more = Some (echo, after)
 run_on (moves after) state more = more after
 
 unfoldable pub run_within : ℕ → ℕ → Downstream → Option (Step (List ℕ) × Downstream)
 run_within zero moment state = None
-run_within (suc steps) moment state = run_on (step moment state) state (run_within steps moment)
+run_within (suc turns) moment state = run_on (turn moment state) state (run_within turns moment)
 
 -- The run up to the moment tells this and leaves that.
 pub record Runs (moment : ℕ) (state : Downstream) (answer : Step (List ℕ)) (after : Downstream) : Type 0 where
-  pub steps : ℕ
-  pub within : run_within steps moment state ≡ Some (answer, after)
+  pub turns : ℕ
+  pub within : run_within turns moment state ≡ Some (answer, after)
 
 -- Some run up to the moment starts here.
 pub record HasRun (moment : ℕ) (state : Downstream) : Type 0 where
@@ -157,14 +172,14 @@ abbrev pub settled_at : What (List ℕ) → Machine → Option Machine
 settled_at what held =
     if expiry_due held.expires_in then None else (if pending_due held.pending then on_ppt what held else Some held)
 
--- What silence of so many milliseconds makes of a machine: nothing where its ET ends by then, else what its PPT makes of
--- it where that ends by then, else the machine with so much less time left.
+-- What silence of so many milliseconds makes of a machine: nothing where its ET ends by then, else what its PPT makes
+-- of it where that ends by then, else the machine with so much less time left.
 abbrev pub after_silence : ℕ → Key (List ℕ) → Option Machine → Option Machine
 after_silence passed key None = None
 after_silence passed key (Some held) = settled_at key.what (machine_after passed held)
 
--- The machine that a PruneEcho names was held; its PPT, started with several neighbours, ends at the moment of the echo;
--- it is gone behind it.
+-- The machine that a PruneEcho names was held; its PPT, started with several neighbours, ends at the moment of the
+-- echo; it is gone behind it.
 pub record IsEchoOf (key : Key (List ℕ)) (state after : Downstream) : Type 0 where
   pub machine : Machine
   pub held : machine_at key state.records ≡ Some machine
@@ -188,4 +203,5 @@ IsQuietFor passed state = (k : ℕ) → k < passed → is_due_after k state ≡ 
 -- the first moment, from now on, at which a timer fires; `None` where none ever does
 abbrev pub IsNextDue : Downstream → Option ℕ → Type 0
 IsNextDue state None = (k : ℕ) → is_due_after k state ≡ false
-IsNextDue state (Some due) = (state.moment ≤ due) × (is_due_after (due - state.moment) state ≡ true) × IsQuietFor (due - state.moment) state
+IsNextDue state (Some due) =
+    (state.moment ≤ due) × (is_due_after (due - state.moment) state ≡ true) × IsQuietFor (due - state.moment) state

@@ -1,6 +1,7 @@
 //! Looking up and changing one machine in a list of records in key order.
 
-ghost use Rattle.std.specs.Prelude.{◌≡◌, ◌+◌, ◌<◌, ◌≤◌, ℕ, List, ◌++◌, Option, take, drop, length, vec_len, vec_capacity};
+ghost use Rattle.std.specs.Prelude.{◌≡◌, ◌+◌, ◌<◌, ◌≤◌, ℕ, List, ◌++◌, Option, take, drop, length};
+ghost use Rattle.std.specs.Prelude.{vec_len, vec_capacity};
 ghost use Rattle.pim_down.specs.Records.{IsAscending, machine_at, recorded, changed};
 ghost use Rattle.pim_down.specs.Seen.{key_seen, machine_seen, records_seen};
 ghost use Rattle.pim_down.specs.Places.{IsPlace};
@@ -32,7 +33,10 @@ pub(crate) fn replace_at<A: Copy>(
     machine: Option<Timed>,
 )
     requires { place < vec_len records.old }
-    ensures left { (bytes_of : A → List ℕ) → records_seen bytes_of records.new.items ≡ take place (records_seen bytes_of records.old.items) ++ (recorded (key_seen bytes_of key) (machine_seen machine) ++ drop (place + 1) (records_seen bytes_of records.old.items)) }
+    ensures left { (bytes_of : A → List ℕ) → records_seen bytes_of records.new.items
+        ≡ take place (records_seen bytes_of records.old.items)
+        ++ (recorded (key_seen bytes_of key) (machine_seen machine)
+        ++ drop (place + 1) (records_seen bytes_of records.old.items)) }
     ensures len { vec_len records.new ≤ vec_len records.old }
     ensures capacity { vec_capacity records.new ≡ vec_capacity records.old }
 {
@@ -61,8 +65,10 @@ pub(crate) fn put_machine<F: Family>(
     key: Key<F::Addr>,
     machine: Option<Timed>,
 )
-    requires { length (changed (key_seen F.bytes_of key) (λ _. machine_seen machine) (records_seen F.bytes_of records.old.items)) ≤ vec_capacity records.old }
-    ensures left { records_seen F.bytes_of records.new.items ≡ changed (key_seen F.bytes_of key) (λ _. machine_seen machine) (records_seen F.bytes_of records.old.items) }
+    requires { length (changed (key_seen F.bytes_of key) (λ _. machine_seen machine)
+        (records_seen F.bytes_of records.old.items)) ≤ vec_capacity records.old }
+    ensures left { records_seen F.bytes_of records.new.items
+        ≡ changed (key_seen F.bytes_of key) (λ _. machine_seen machine) (records_seen F.bytes_of records.old.items) }
     ensures capacity { vec_capacity records.old ≤ vec_capacity records.new }
 {
     match (find_place::<F>(records, &key), machine) {

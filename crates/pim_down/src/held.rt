@@ -5,7 +5,7 @@ use crate::key::Key;
 use crate::machine::State;
 
 /// A prune-pending timer that runs.
-#[derive(Clone, Copy)]
+#[derive(Clone, Copy, Debug)]
 pub(crate) struct Waiting {
     pub(crate) ends_at: u64,
     /// Whether the port had more than one neighbour when it started.
@@ -13,7 +13,7 @@ pub(crate) struct Waiting {
 }
 
 /// A machine's state and deadlines.
-#[derive(Clone, Copy)]
+#[derive(Clone, Copy, Debug)]
 pub(crate) struct Timed {
     pub(crate) state: State,
     /// `None` is never.
@@ -22,7 +22,7 @@ pub(crate) struct Timed {
 }
 
 /// A machine with its key.
-#[derive(Clone, Copy)]
+#[derive(Clone, Copy, Debug)]
 pub(crate) struct Held<A> {
     pub(crate) key: Key<A>,
     pub(crate) machine: Timed,

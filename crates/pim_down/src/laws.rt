@@ -1,8 +1,11 @@
 //! Laws of the definitions: what runs mean together, and what a message means for one machine. Nothing here is to be
 //! called.
 
-ghost use Rattle.pim_down.specs.Laws.{ChangeActsAtItsKey, AMapHasOneList, RunGoesOn, RunHasOneEnd, EventActsAtEachKey, EndActsAtEachKey, HearingKeepsTheOrder, HearingLeavesOtherPorts};
-ghost use Rattle.pim_down.specs.Laws.{EventKeepsTheOrder, RunKeepsSound, HearingKeepsSound, HearingActsAtEachKey, RunKeepsItsBounds, SilenceActsAtEachKey, EveryStateHasARun, EchoNamesAMachine, KeysAreToldApart};
+ghost use Rattle.pim_down.specs.Laws.{ChangeActsAtItsKey, AMapHasOneList, KeysAreToldApart, EventActsAtEachKey};
+ghost use Rattle.pim_down.specs.Laws.{EndActsAtEachKey, EventKeepsTheOrder, HearingKeepsTheOrder, HearingKeepsSound};
+ghost use Rattle.pim_down.specs.Laws.{HearingLeavesOtherPorts, HearingActsAtEachKey, RunGoesOn, RunHasOneEnd};
+ghost use Rattle.pim_down.specs.Laws.{RunKeepsSound, RunKeepsItsBounds, SilenceActsAtEachKey, EveryStateHasARun};
+ghost use Rattle.pim_down.specs.Laws.{EchoNamesAMachine};
 
 /// A change of one machine leaves the others.
 pub fn change_acts_at_its_key()

@@ -2,7 +2,7 @@
 
 ghost use Rattle.std.specs.Prelude.{◌≡◌};
 ghost use Rattle.pim_down.specs.Seen.{start_seen, timed_seen, machine_seen};
-ghost use Rattle.pim_down.specs.Tables.{greater, on_join, on_prune, on_star_join, on_rpt_prune, on_end};
+ghost use Rattle.pim_down.specs.Tables.{greater, on_join, on_prune, on_star_join, on_rpt_prune};
 
 use crate::held::{Start, Timed};
 use crate::key::Key;

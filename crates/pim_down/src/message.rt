@@ -1,21 +1,23 @@
 //! A message's entries, counted and heard.
 
-ghost use Rattle.std.specs.Prelude.{◌≡◌, ◌≤◌, ℕ, List, length, option_map, vec_capacity, OnOk, OnErr};
+ghost use Rattle.std.specs.Prelude.{◌≡◌, ◌≤◌, ℕ, List, vec_capacity, OnOk, OnErr};
 ghost use Rattle.std.specs.List.{flat_map};
 ghost use Rattle.pim_down.specs.Records.{IsAscending, count_on};
-ghost use Rattle.pim_down.specs.Hearing.{list_events, set_events, events_of, act_all, hearing, is_new, count_new, needed, creates};
+ghost use Rattle.pim_down.specs.Hearing.{list_events, set_events, events_of, act_all, hearing};
+ghost use Rattle.pim_down.specs.Hearing.{creates, is_new, count_new, needed};
 ghost use Rattle.pim_down.specs.Heard.{IsWithin, MayWantMemory};
+ghost use Rattle.pim_down.specs.Known.{known_in};
 ghost use Rattle.pim_down.specs.Space.{HasRoom};
-ghost use Rattle.pim_down.specs.Seen.{start_seen, records_seen, what_seen, event_seen};
+ghost use Rattle.pim_down.specs.Seen.{start_seen, records_seen, event_seen};
 
 use crate::edits::machine_at;
 use crate::event::Event;
 use crate::fault::HearFault;
-use crate::hear::{act, end, event_of};
+use crate::hear::{act, end_message, event_of};
 use crate::held::{Held, Start};
 use crate::key::{Key, What};
 use crate::walk::count_on;
-use pim_addr::Family;
+use pim_addr::{Family, Routes};
 use pim_jp::{Entries, JpView, Sets};
 
 /// Whether the event makes a record where none is held.
@@ -45,19 +47,20 @@ fn is_new<F: Family>(records: &[Held<F::Addr>], port: usize, event: &Event<F::Ad
 fn count_list<F: Family>(
     records: &[Held<F::Addr>],
     port: usize,
-    known: Option<F::Addr>,
+    routes: &Routes<F>,
     joins: bool,
     group: F::Addr,
     entries: Entries<'_, F>,
 ) -> usize
     requires { IsAscending (records_seen F.bytes_of records.now) }
-    ensures count { result ≡ count_new port (records_seen F.bytes_of records.now) (list_events (option_map F.bytes_of known) joins (F.bytes_of group) entries.entry) }
+    ensures count { result ≡ count_new port (records_seen F.bytes_of records.now)
+        (list_events (known_in F.family routes.now) joins (F.bytes_of group) entries.entry) }
     ensures bound { result ≤ 65535 }
 {
     let _most = entries.count_left();
     let mut count = 0;
     for entry in entries {
-        if let Some(event) = event_of::<F>(known, joins, group, entry) {
+        if let Some(event) = event_of::<F>(routes, joins, group, entry) {
             if is_new::<F>(records, port, &event) {
                 count += 1;
             }
@@ -71,18 +74,22 @@ fn hear_list<F: Family>(
     records: &mut Vec<Held<F::Addr>>,
     port: usize,
     start: Start,
-    known: Option<F::Addr>,
+    routes: &Routes<F>,
     joins: bool,
     group: F::Addr,
     entries: Entries<'_, F>,
 )
     requires ascending { IsAscending (records_seen F.bytes_of records.old.items) }
-    requires room { HasRoom port (start_seen start) (vec_capacity records.old) (list_events (option_map F.bytes_of known) joins (F.bytes_of group) entries) (records_seen F.bytes_of records.old.items) }
-    ensures records { records_seen F.bytes_of records.new.items ≡ act_all port (start_seen start) (list_events (option_map F.bytes_of known) joins (F.bytes_of group) entries.entry) (records_seen F.bytes_of records.old.items) }
+    requires room { HasRoom port (start_seen start) (vec_capacity records.old)
+        (list_events (known_in F.family routes.now) joins (F.bytes_of group) entries)
+        (records_seen F.bytes_of records.old.items) }
+    ensures records { records_seen F.bytes_of records.new.items ≡ act_all port (start_seen start)
+        (list_events (known_in F.family routes.now) joins (F.bytes_of group) entries.entry)
+        (records_seen F.bytes_of records.old.items) }
     ensures capacity { vec_capacity records.old ≤ vec_capacity records.new }
 {
     for entry in entries {
-        match event_of::<F>(known, joins, group, entry) {
+        match event_of::<F>(routes, joins, group, entry) {
             Some(event) => act::<F>(records, port, start, event),
             None => {}
         }
@@ -93,19 +100,20 @@ fn hear_list<F: Family>(
 pub(crate) fn count_sets<F: Family>(
     records: &[Held<F::Addr>],
     port: usize,
-    known: Option<F::Addr>,
+    routes: &Routes<F>,
     sets: Sets<'_, F>,
 ) -> usize
     requires { IsAscending (records_seen F.bytes_of records.now) }
-    ensures count { result ≡ count_new port (records_seen F.bytes_of records.now) (flat_map (set_events (option_map F.bytes_of known)) sets.entry) }
+    ensures count { result ≡ count_new port (records_seen F.bytes_of records.now)
+        (flat_map (set_events (known_in F.family routes.now)) sets.entry) }
     ensures bound { result ≤ 33422850 }
 {
     let _most = sets.count_left();
     let mut count = 0;
     for set in sets {
         let group = set.group();
-        let joined = count_list::<F>(records, port, known, true, group, set.joined());
-        let pruned = count_list::<F>(records, port, known, false, group, set.pruned());
+        let joined = count_list::<F>(records, port, routes, true, group, set.joined());
+        let pruned = count_list::<F>(records, port, routes, false, group, set.pruned());
         count += joined + pruned;
     }
     count
@@ -116,17 +124,19 @@ pub(crate) fn hear_sets<F: Family>(
     records: &mut Vec<Held<F::Addr>>,
     port: usize,
     start: Start,
-    known: Option<F::Addr>,
+    routes: &Routes<F>,
     sets: Sets<'_, F>,
 )
     requires ascending { IsAscending (records_seen F.bytes_of records.old.items) }
-    requires room { HasRoom port (start_seen start) (vec_capacity records.old) (flat_map (set_events (option_map F.bytes_of known)) sets) (records_seen F.bytes_of records.old.items) }
-    ensures records { records_seen F.bytes_of records.new.items ≡ act_all port (start_seen start) (flat_map (set_events (option_map F.bytes_of known)) sets.entry) (records_seen F.bytes_of records.old.items) }
+    requires room { HasRoom port (start_seen start) (vec_capacity records.old)
+        (flat_map (set_events (known_in F.family routes.now)) sets) (records_seen F.bytes_of records.old.items) }
+    ensures records { records_seen F.bytes_of records.new.items ≡ act_all port (start_seen start)
+        (flat_map (set_events (known_in F.family routes.now)) sets.entry) (records_seen F.bytes_of records.old.items) }
 {
     for set in sets {
         let group = set.group();
-        hear_list::<F>(records, port, start, known, true, group, set.joined());
-        hear_list::<F>(records, port, start, known, false, group, set.pruned());
+        hear_list::<F>(records, port, start, routes, true, group, set.joined());
+        hear_list::<F>(records, port, start, routes, false, group, set.pruned());
     }
 }
 
@@ -136,18 +146,21 @@ pub(crate) fn hear_message<F: Family>(
     limit: usize,
     port: usize,
     start: Start,
-    known: Option<F::Addr>,
+    routes: &Routes<F>,
     message: &JpView<'_, F>,
 ) -> Result<(), HearFault>
     requires ascending { IsAscending (records_seen F.bytes_of records.old.items) }
     requires within { count_on port (records_seen F.bytes_of records.old.items) ≤ 100000 }
-    ensures ok { OnOk result (records_seen F.bytes_of records.new.items ≡ hearing port (start_seen start) (events_of (option_map F.bytes_of known) message.now) (records_seen F.bytes_of records.old.items)) }
+    ensures ok { OnOk result (records_seen F.bytes_of records.new.items ≡ hearing port (start_seen start)
+        (events_of (known_in F.family routes.now) message.now) (records_seen F.bytes_of records.old.items)) }
     ensures err { OnErr result (records.new.items ≡ records.old.items) }
     ensures kept { OnErr result (vec_capacity records.new ≡ vec_capacity records.old) }
-    ensures memory { MayWantMemory (count_new port (records_seen F.bytes_of records.old.items) (events_of (option_map F.bytes_of known) message.now)) result }
-    ensures room { IsWithin limit (needed port (records_seen F.bytes_of records.old.items) (events_of (option_map F.bytes_of known) message.now)) result }
+    ensures memory { MayWantMemory (count_new port (records_seen F.bytes_of records.old.items)
+        (events_of (known_in F.family routes.now) message.now)) result }
+    ensures room { IsWithin limit (needed port (records_seen F.bytes_of records.old.items)
+        (events_of (known_in F.family routes.now) message.now)) result }
 {
-    let fresh = count_sets::<F>(records, port, known, message.sets());
+    let fresh = count_sets::<F>(records, port, routes, message.sets());
     let needed = count_on::<F>(records, port) + fresh;
     if needed > limit {
         return Err(HearFault::Full { needed });
@@ -155,7 +168,7 @@ pub(crate) fn hear_message<F: Family>(
     if records.reserve(fresh).is_err() {
         return Err(HearFault::Memory);
     }
-    hear_sets::<F>(records, port, start, known, message.sets());
-    end::<F>(records, port);
+    hear_sets::<F>(records, port, start, routes, message.sets());
+    end_message::<F>(records, port);
     Ok(())
 }

@@ -1,11 +1,12 @@
 //! The downstream machines of a router's ports.
 
-ghost use Rattle.std.specs.Prelude.{◌≡◌, ◌≤◌, ◌<◌, ℕ, List, [], None, max, option_map, OnOk, OnErr};
+ghost use Rattle.std.specs.Prelude.{◌≡◌, ◌≤◌, ◌<◌, [], None, max, OnOk, OnErr};
 ghost use Rattle.std.specs.List.{filter};
 ghost use Rattle.pim_down.specs.declared.step.Step.TheVariants.{Reached};
 ghost use Rattle.pim_down.specs.Records.{state_of, is_on, count_on};
 ghost use Rattle.pim_down.specs.Heard.{heard, needed_for, new_for, IsWithin, MayWantMemory, OthersStay};
 ghost use Rattle.pim_down.specs.Time.{Downstream, Runs, IsNextDue};
+ghost use Rattle.pim_down.specs.Known.{known_in};
 ghost use Rattle.pim_down.specs.Seen.{key_at, step_seen};
 ghost use Rattle.pim_down.specs.Sound.{IsSound};
 
@@ -21,13 +22,13 @@ use crate::run::run;
 use crate::step::Step;
 use crate::timers::next_end;
 use crate::walk::{Records, count_on, on_port};
-use pim_addr::Family;
+use pim_addr::{Family, Routes};
 use pim_jp::JpView;
 use std::alloc::Global;
 use std::marker::{Model, PhantomData};
 
 /// The downstream machines of all ports, with their timers (RFC 7761, 4.5). It begins at the moment 0.
-#[derive(Drop)]
+#[derive(Debug, Drop)]
 pub struct Ports<F: Family> {
     ports: usize,
     limit: usize,
@@ -96,9 +97,9 @@ impl<F: Family> Ports<F> {
         count_on::<F>(&self.records, port)
     }
 
-    /// A law: what is true of the machines between calls. Each record's port is there, its group and source are
-    /// those of its kind, its state and its timers go together; the records stand in key order, and no port has more
-    /// than the limit. It does nothing.
+    /// A law: what is true of the machines between calls. Each record's port is there, its group is a group, its
+    /// source, where it has one, a valid source, and its state and timers go together; the records stand in key order,
+    /// and no port has more than the limit. It does nothing.
     pub fn is_sound(&self)
         ensures { IsSound F.family self.now }
     {
@@ -143,27 +144,31 @@ impl<F: Family> Ports<F> {
         Records::new(on_port::<F>(&self.records, port), self.moment)
     }
 
-    /// Hears a message on a port, where this RP is known. No timer fires, and the machines of other ports stay. A refusal
-    /// changes nothing. The override interval is at most 98,302 ms.
+    /// Hears a message on a port. A Join(*,G) counts only where its RP is the one to which the table leads G. No timer
+    /// fires, and the machines of other ports stay. A refusal changes nothing. The override interval is at most
+    /// 98,302 ms.
+    ///
+    /// The table is asked for each Join(*,G) alone: when the records that it needs are counted, and when it acts.
     pub fn hear(
         &mut self,
         port: usize,
         message: &JpView<'_, F>,
-        rp: Option<F::Addr>,
+        routes: &Routes<F>,
         timing: Timing,
     ) -> Result<(), HearFault>
         requires port { port < self.old.ports }
         requires interval { timing.override_ms ≤ 98302 }
-        ensures ok { OnOk result (self.new ≡ heard port message.now (option_map F.bytes_of rp) timing self.old) }
+        ensures ok { OnOk result (self.new ≡ heard port message.now (known_in F.family routes.now) timing self.old) }
         ensures err { OnErr result (self.new ≡ self.old) }
-        ensures room { IsWithin self.old.limit (needed_for port message.now (option_map F.bytes_of rp) self.old) result }
-        ensures memory { MayWantMemory (new_for port message.now (option_map F.bytes_of rp) self.old) result }
+        ensures room { IsWithin self.old.limit
+            (needed_for port message.now (known_in F.family routes.now) self.old) result }
+        ensures memory { MayWantMemory (new_for port message.now (known_in F.family routes.now) self.old) result }
         ensures ports { self.new.ports ≡ self.old.ports }
         ensures others { OthersStay port self.old self.new }
     {
         message.is_legal();
         let start = start_at(message.holdtime(), timing, self.moment);
-        hear_message::<F>(&mut self.records, self.limit, port, start, rp, message)
+        hear_message::<F>(&mut self.records, self.limit, port, start, routes, message)
     }
 
     /// Runs to this moment, in milliseconds, at most 10^15, or to the first echo; an earlier moment counts as now. What

@@ -1,9 +1,9 @@
 //! Running to a moment: from one deadline to the next.
 
-ghost use Rattle.std.specs.Prelude.{◌≡◌, ◌≤◌, ◌+◌, ℕ, max};
+ghost use Rattle.std.specs.Prelude.{◌≡◌, ◌≤◌, ℕ, max};
 ghost use Rattle.pim_down.specs.declared.step.Step.TheVariants.{Reached};
 ghost use Rattle.pim_down.specs.Time.{Runs};
-ghost use Rattle.pim_down.specs.Seen.{step_seen, shown};
+ghost use Rattle.pim_down.specs.Seen.{step_seen};
 ghost use Rattle.pim_down.specs.Running.{downstream_at};
 
 use crate::held::Held;
@@ -17,7 +17,9 @@ pub(crate) fn run<F: Family>(
     now: u64,
     moment: u64,
 ) -> (Step<F::Addr>, u64)
-    ensures runs { (ports limit : ℕ) → Runs moment (downstream_at F.bytes_of ports limit now records.old.items) (step_seen F.bytes_of result.0) (downstream_at F.bytes_of ports limit result.1 records.new.items) }
+    ensures runs { (ports limit : ℕ) →
+        Runs moment (downstream_at F.bytes_of ports limit now records.old.items)
+        (step_seen F.bytes_of result.0) (downstream_at F.bytes_of ports limit result.1 records.new.items) }
     ensures later { now ≤ result.1 }
     ensures moment { result.1 ≤ max now moment }
     ensures reached { result.0 ≡ Reached → result.1 ≡ max now moment }

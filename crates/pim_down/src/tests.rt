@@ -1,17 +1,21 @@
-//! Worked examples: the group 239.1.1.1 with the RP 10.9.9.9 and the sources 192.0.2.1 and 192.0.2.2. Each is a table of
-//! rows that are played one after the other.
+//! Worked examples: the group 239.1.1.1 with the RP 10.9.9.9 and the sources 192.0.2.1 and 192.0.2.2. Each is a table
+//! of rows that are played one after the other.
 
 mod hearing;
 mod limits;
 mod running;
+mod tables;
 
 use crate::{HearFault, Key, Machine, Pending, Ports, Record, Records, State, Step, Timing, What};
-use pim_addr::V4;
+use pim_addr::{Routes, V4};
 use pim_jp::{Entry, JpView};
 use std::alloc::{AllocError, Global};
 use std::test::Fail;
 
 const RP: [u8; 4] = [10, 9, 9, 9];
+
+/// The prefix of all groups, and its length.
+const GROUPS: ([u8; 4], u8) = ([224, 0, 0, 0], 4);
 
 const GROUP: [u8; 4] = [239, 1, 1, 1];
 
@@ -193,9 +197,18 @@ fn body(alloc: Global, holdtime: u16, sets: &[Lists<'_>]) -> Result<Vec<u8>, All
     Ok(bytes)
 }
 
+/// The table that leads all groups to the RP.
+fn one_rp(alloc: Global) -> Result<Routes<V4>, Fail> {
+    let mut routes = Routes::new(alloc);
+    let (prefix, length) = GROUPS;
+    routes.add_rp(prefix, length, RP)?;
+    Ok(routes)
+}
+
 /// Hears a body on a port. `None` where the body is no message or the port isn't there.
 fn hear_body(
     ports: &mut Ports<V4>,
+    routes: &Routes<V4>,
     port: usize,
     body: &[u8],
     timing: Timing,
@@ -204,7 +217,7 @@ fn hear_body(
     if port >= ports.port_count() || timing.override_ms > 98_302 {
         return None;
     }
-    Some(ports.hear(port, &message, Some(RP), timing))
+    Some(ports.hear(port, &message, routes, timing))
 }
 
 /// Whether a walk tells these records.
@@ -217,32 +230,27 @@ fn tells(mut told: Records<'_, V4>, wanted: &[Record<[u8; 4]>]) -> bool {
     told.next().is_none()
 }
 
-/// Whether a message of these sets is answered so.
-fn answers(
+/// Plays a row: whether it goes as it says.
+fn goes(
     alloc: Global,
     ports: &mut Ports<V4>,
-    port: usize,
-    holdtime: u16,
-    timing: Timing,
-    sets: &[Lists<'_>],
-    wanted: Result<(), HearFault>,
+    routes: &Routes<V4>,
+    row: Row<'_>,
 ) -> Result<bool, AllocError> {
-    let bytes = body(alloc, holdtime, sets)?;
-    Ok(hear_body(ports, port, &bytes, timing) == Some(wanted))
-}
-
-/// Plays a row: whether it goes as it says.
-fn goes(alloc: Global, ports: &mut Ports<V4>, row: Row<'_>) -> Result<bool, AllocError> {
     match row {
         Row::Hear {
             port,
             holdtime,
             timing,
             sets,
-        } => answers(alloc, ports, port, holdtime, timing, sets, Ok(())),
+        } => {
+            let bytes = body(alloc, holdtime, sets)?;
+            Ok(hear_body(ports, routes, port, &bytes, timing) == Some(Ok(())))
+        }
         Row::Full(port, sets, needed) => {
+            let bytes = body(alloc, 300, sets)?;
             let full = HearFault::Full { needed };
-            answers(alloc, ports, port, 300, ALONE, sets, Err(full))
+            Ok(hear_body(ports, routes, port, &bytes, ALONE) == Some(Err(full)))
         }
         Row::Run(moment, wanted) => {
             Ok(moment <= 1_000_000_000_000_000 && ports.run_to(moment) == wanted)
@@ -257,10 +265,11 @@ fn goes(alloc: Global, ports: &mut Ports<V4>, row: Row<'_>) -> Result<bool, Allo
     }
 }
 
-/// Plays rows up to the first that doesn't go as it says, and tells its index.
+/// Plays rows, where all groups have the RP, up to the first that doesn't go as it says, and tells its index.
 fn play(alloc: Global, ports: &mut Ports<V4>, rows: &[Row<'_>]) -> Result<Option<usize>, Fail> {
+    let routes = one_rp(alloc)?;
     for (index, row) in rows.iter().enumerate() {
-        if !goes(alloc, ports, *row)? {
+        if !goes(alloc, ports, &routes, *row)? {
             return Ok(Some(index));
         }
     }

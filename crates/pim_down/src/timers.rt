@@ -3,9 +3,11 @@
 ghost use Rattle.std.specs.Prelude.{◌≡◌, ◌<◌, IsTrue, ◌+◌, ℕ, List, ◌++◌, take, drop, vec_len};
 ghost use Rattle.std.specs.List.{position};
 ghost use Rattle.std.specs.Option.{is_some};
-ghost use Rattle.pim_down.specs.Time.{expiry_after, pending_after, record_after, expiry_due, pending_due, et_due, ppt_due, on_ppt, after_ppt, echo_of, fired};
+ghost use Rattle.pim_down.specs.Time.{expiry_after, pending_after, record_after, expiry_due, pending_due, et_due};
+ghost use Rattle.pim_down.specs.Time.{ppt_due, on_ppt, after_ppt, echo_of, fired};
 ghost use Rattle.pim_down.specs.Ends.{sooner, pending_end, first_end, IsEndBy};
-ghost use Rattle.pim_down.specs.Seen.{waiting_seen, timed_seen, machine_seen, what_seen, record_seen, records_seen, step_seen, shown};
+ghost use Rattle.pim_down.specs.Seen.{waiting_seen, timed_seen, machine_seen, what_seen, record_seen, records_seen};
+ghost use Rattle.pim_down.specs.Seen.{step_seen, shown};
 
 use crate::edits::replace_at;
 use crate::held::{Held, Timed};
@@ -98,7 +100,8 @@ fn first_expired<F: Family>(records: &[Held<F::Addr>], now: u64) -> Option<usize
 
 /// Where a machine goes whose prune-pending timer fires: to Prune if it is of (S,G,rpt), else to NoInfo.
 fn on_ppt<A>(what: &What<A>, machine: &Timed) -> Option<Timed>
-    ensures { (bytes_of : A → List ℕ) → machine_seen result ≡ on_ppt (what_seen bytes_of what.now) (timed_seen machine.now) }
+    ensures { (bytes_of : A → List ℕ) → machine_seen result
+        ≡ on_ppt (what_seen bytes_of what.now) (timed_seen machine.now) }
 {
     match what {
         What::Star | What::Source(_) => None,
@@ -133,7 +136,9 @@ fn fire_pending<F: Family>(
 ) -> Step<F::Addr>
     requires { place < vec_len records.old }
     ensures told { step_seen F.bytes_of result ≡ echo_of (record_seen F.bytes_of fired) }
-    ensures left { records_seen F.bytes_of records.new.items ≡ take place (records_seen F.bytes_of records.old.items) ++ (after_ppt (record_seen F.bytes_of fired) ++ drop (place + 1) (records_seen F.bytes_of records.old.items)) }
+    ensures left { records_seen F.bytes_of records.new.items
+        ≡ take place (records_seen F.bytes_of records.old.items)
+        ++ (after_ppt (record_seen F.bytes_of fired) ++ drop (place + 1) (records_seen F.bytes_of records.old.items)) }
 {
     let machine = on_ppt(&fired.key.what, &fired.machine);
     replace_at(records, place, fired.key, machine);
@@ -143,7 +148,8 @@ fn fire_pending<F: Family>(
 /// Fires the first due timer: prune-pending timers come before expiry timers.
 pub(crate) fn fire_first<F: Family>(records: &mut Vec<Held<F::Addr>>, now: u64) -> Step<F::Addr>
     requires { IsTrue (is_some (fired (shown F.bytes_of now records.old.items))) }
-    ensures { fired (shown F.bytes_of now records.old.items) ≡ Some (step_seen F.bytes_of result, shown F.bytes_of now records.new.items) }
+    ensures { fired (shown F.bytes_of now records.old.items)
+        ≡ Some (step_seen F.bytes_of result, shown F.bytes_of now records.new.items) }
 {
     match first_pending::<F>(records, now) {
         Some(place) => {

@@ -65,7 +65,7 @@ pub(crate) fn count_on<F: Family>(records: &[Held<F::Addr>], port: usize) -> usi
 }
 
 /// The records in key order, with what is left of their timers. Contracts see those that are left.
-#[derive(Drop)]
+#[derive(Debug, Drop)]
 pub struct Records<'a, F: Family> {
     left: &'a [Held<F::Addr>],
     moment: u64,

@@ -5,7 +5,7 @@ use super::{
     hear, hear_among, hear_for, joined, play, pruned, reach, waiting,
 };
 use crate::{Ports, State, What};
-use pim_addr::{V4, V6};
+use pim_addr::{Routes, V4, V6};
 use pim_jp::JpView;
 use std::test::Fail;
 
@@ -136,9 +136,11 @@ fn hears_of_ipv6(rt: HostRuntime) -> Result<(), Fail> {
     let message = JpView::<V6>::read(&STAR_V6)?;
     let rp = [0x20, 1, 0x0d, 0xb8, 0, 0, 0, 0, 0, 0, 0, 0, 0, 0, 0, 9];
     let group = [0xff, 0x0e, 0, 0, 0, 0, 0, 0, 0, 0, 0, 0, 0, 0, 0, 1];
-    assert_eq!(rt; ports.hear(0, &message, None, ALONE), Ok(()));
+    let mut routes: Routes<V6> = Routes::new(rt.alloc());
+    assert_eq!(rt; ports.hear(0, &message, &routes, ALONE), Ok(()));
     assert_eq!(rt; ports.next_due(), None);
-    assert_eq!(rt; ports.hear(0, &message, Some(rp), ALONE), Ok(()));
+    routes.add_rp([0xff, 0, 0, 0, 0, 0, 0, 0, 0, 0, 0, 0, 0, 0, 0, 0], 8, rp)?;
+    assert_eq!(rt; ports.hear(0, &message, &routes, ALONE), Ok(()));
     assert_eq!(rt; ports.state_of(0, group, What::Star), Some(State::Join));
     assert_eq!(rt; ports.next_due(), Some(210_000));
     Ok(())

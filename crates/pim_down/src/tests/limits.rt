@@ -5,7 +5,7 @@ use super::{
     joined, play,
 };
 use crate::{HearFault, Ports, State, Step, What};
-use pim_addr::V4;
+use pim_addr::{Routes, V4};
 use std::test::Fail;
 
 #[test]
@@ -34,6 +34,18 @@ fn refuses_past_the_limit(rt: HostRuntime) -> Result<(), Fail> {
     Ok(())
 }
 
+#[test]
+fn shows_what_is_held(rt: HostRuntime) -> Result<(), Fail> {
+    let mut ports: Ports<V4> = Ports::new(rt.alloc(), 1, 2);
+    let text = format!(in rt.alloc(); "{ports:?}")?;
+    assert!(rt; text.starts_with("Ports { ports: 1, limit: 2, moment: 0, records: []"));
+    let rows = [hear(0, &[(&[JOIN_STAR], &[])])];
+    assert_eq!(rt; play(rt.alloc(), &mut ports, &rows)?, None);
+    let text = format!(in rt.alloc(); "{:?}", ports.records())?;
+    assert!(rt; text.starts_with("Records { left: [Held { key: Key { port: 0, "));
+    Ok(())
+}
+
 /// Upstream 10.0.0.2, holdtime 210, and the group with 192.0.2.0 as an (S,G) joined and as an (S,G,rpt) pruned.
 const SOURCE: [u8; 38] = [
     1, 0, 10, 0, 0, 2, 0, 1, 0, 210, 1, 0, 0, 32, 239, 1, 1, 1, 0, 1, 0, 1, 1, 0, 4, 32, 192, 0, 2,
@@ -45,18 +57,22 @@ const SOURCE: [u8; 38] = [
 #[test]
 fn refusals_change_nothing(rt: HostRuntime) {
     let mut ports: Ports<V4> = Ports::new(rt.alloc(), 1, 100);
+    let routes: Routes<V4> = Routes::new(rt.alloc());
     let mut bytes = SOURCE;
     assert_eq!(rt; ports.run_to(7), Step::Reached);
     for fourth in 1..40 {
         bytes[29] = fourth;
         bytes[37] = fourth;
         let source = [192, 0, 2, fourth];
-        let heard = hear_body(&mut ports, 0, &bytes, SEVERAL);
+        let heard = hear_body(&mut ports, &routes, 0, &bytes, SEVERAL);
         if heard == Some(Err(HearFault::Memory)) {
             assert_eq!(rt; ports.now(), 7);
             assert_eq!(rt; ports.count_on(0), 2 * (usize::from(fourth) - 1));
             assert_eq!(rt; ports.state_of(0, GROUP, What::Source(source)), None);
-            assert_eq!(rt; hear_body(&mut ports, 0, &bytes, SEVERAL), Some(Ok(())));
+            assert_eq!(rt;
+                hear_body(&mut ports, &routes, 0, &bytes, SEVERAL),
+                Some(Ok(()))
+            );
         } else {
             assert_eq!(rt; heard, Some(Ok(())));
         }

@@ -1,7 +1,7 @@
 use Rattle.std.proofs.Common.{◌∙◌, sym, arith}
-use Rattle.std.specs.Prelude.{option_map}
 use Rattle.pim_jp.specs.Seen.{entry_seen}
 use Rattle.pim_down.specs.Hearing.{list_events}
+use Rattle.pim_down.specs.Known.{known_in}
 use Rattle.pim_down.specs.Seen.{records_seen, event_seen}
 use Rattle.pim_down.proofs.Events.{events_one, count_yes, count_no, count_none, list_bound}
 use Rattle.pim_down.proofs.message.count_list.Goals as goal
@@ -9,7 +9,7 @@ use Rattle.pim_down.proofs.message.count_list.Goals as goal
 pub overflow_add-count : goal.overflow_add-count
 overflow_add-count g c =
     let bytes_of = g.F.Family.bytes_of in
-    let known = option_map bytes_of c.args.known in
+    let known = known_in g.F.Family.family c.args.routes.now in
     let group = bytes_of c.args.group in
     let event = event_seen bytes_of c.in-Some-event_of.event in
     let rest = c.next.new.self in
@@ -23,7 +23,7 @@ overflow_add-count g c =
 pub loop-entry-preserved-then-is_new : goal.loop-entry-preserved-then-is_new
 loop-entry-preserved-then-is_new g c =
     let bytes_of = g.F.Family.bytes_of in
-    let known = option_map bytes_of c.args.known in
+    let known = known_in g.F.Family.family c.args.routes.now in
     let group = bytes_of c.args.group in
     let event = event_seen bytes_of c.in-Some-event_of.event in
     let rest = c.next.new.self in
@@ -36,7 +36,7 @@ loop-entry-preserved-then-is_new g c =
 pub loop-entry-preserved-else-is_new : goal.loop-entry-preserved-else-is_new
 loop-entry-preserved-else-is_new g c =
     let bytes_of = g.F.Family.bytes_of in
-    let known = option_map bytes_of c.args.known in
+    let known = known_in g.F.Family.family c.args.routes.now in
     let group = bytes_of c.args.group in
     let event = event_seen bytes_of c.in-Some-event_of.event in
     let rest = c.next.new.self in
@@ -49,14 +49,14 @@ loop-entry-preserved-else-is_new g c =
 pub returns-clause-count : goal.returns-clause-count
 returns-clause-count g c =
     let bytes_of = g.F.Family.bytes_of in
-    let none = count_none c.args.port (option_map bytes_of c.args.known) c.args.joins (bytes_of c.args.group) c.loop-entry.entry-iterator (records_seen bytes_of c.args.records.now) c.in-None.ensures.steps.0 in
+    let none = count_none c.args.port (known_in g.F.Family.family c.args.routes.now) c.args.joins (bytes_of c.args.group) c.loop-entry.entry-iterator (records_seen bytes_of c.args.records.now) c.in-None.ensures.steps.0 in
     let so_far = c.loop-entry.invariant in
     omega arith
 
 pub returns-clause-bound : goal.returns-clause-bound
 returns-clause-bound g c =
     let bytes_of = g.F.Family.bytes_of in
-    let known = option_map bytes_of c.args.known in
+    let known = known_in g.F.Family.family c.args.routes.now in
     let none = count_none c.args.port known c.args.joins (bytes_of c.args.group) c.loop-entry.entry-iterator (records_seen bytes_of c.args.records.now) c.in-None.ensures.steps.0 in
     let most = list_bound c.args.port (records_seen bytes_of c.args.records.now) known c.args.joins (bytes_of c.args.group) c.args.entries in
     let so_far = c.loop-entry.invariant in

@@ -1,7 +1,7 @@
 use Rattle.std.proofs.Common.{◌∙◌, sym, ap, arith, vec_capacity}
-use Rattle.std.specs.Prelude.{option_map}
 use Rattle.pim_jp.specs.Seen.{entry_seen}
 use Rattle.pim_down.specs.Hearing.{list_events, act_all, act}
+use Rattle.pim_down.specs.Known.{known_in}
 use Rattle.pim_down.specs.Seen.{start_seen, records_seen, event_seen}
 use Rattle.pim_down.proofs.Act.{IsAscending-act}
 use Rattle.pim_down.proofs.Events.{events_one, room_at, left_at, nothing_left, room_grows}
@@ -10,7 +10,7 @@ use Rattle.pim_down.proofs.message.hear_list.Goals as goal
 pub act-requires-clause-room : goal.act-requires-clause-room
 act-requires-clause-room g c =
     let bytes_of = g.F.Family.bytes_of in
-    let known = option_map bytes_of c.args.known in
+    let known = known_in g.F.Family.family c.args.routes.now in
     let group = bytes_of c.args.group in
     let event = event_seen bytes_of c.in-Some-event_of.event in
     let rest = c.next.new.self in
@@ -21,7 +21,7 @@ act-requires-clause-room g c =
 pub loop-entry-preserved-in-Some-event_of : goal.loop-entry-preserved-in-Some-event_of
 loop-entry-preserved-in-Some-event_of g c =
     let bytes_of = g.F.Family.bytes_of in
-    let known = option_map bytes_of c.args.known in
+    let known = known_in g.F.Family.family c.args.routes.now in
     let group = bytes_of c.args.group in
     let event = event_seen bytes_of c.in-Some-event_of.event in
     let rest = c.next.new.self in
@@ -40,4 +40,4 @@ loop-entry-preserved-in-Some-event_of g c =
 pub returns-clause-records : goal.returns-clause-records
 returns-clause-records g c =
     let bytes_of = g.F.Family.bytes_of in
-    sym (nothing_left c.args.port (start_seen c.args.start) (option_map bytes_of c.args.known) c.args.joins (bytes_of c.args.group) c.loop-entry.entry-iterator (records_seen bytes_of c.loop-entry.records.items) c.in-None.ensures.steps.0) ∙ c.loop-entry.invariant.left
+    sym (nothing_left c.args.port (start_seen c.args.start) (known_in g.F.Family.family c.args.routes.now) c.args.joins (bytes_of c.args.group) c.loop-entry.entry-iterator (records_seen bytes_of c.loop-entry.records.items) c.in-None.ensures.steps.0) ∙ c.loop-entry.invariant.left

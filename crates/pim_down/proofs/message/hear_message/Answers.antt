@@ -1,8 +1,9 @@
 use Rattle.std.proofs.Common.{◌≡◌, ◌+◌, ◌≤◌, ◌∙◌, sym, length, false, Result, Ok, Err, OnOk, true≢false, vec_len, vec_capacity, arith}
-use Rattle.std.specs.Prelude.{option_map, is_err}
+use Rattle.std.specs.Prelude.{is_err}
 use Rattle.std.specs.List.{flat_map}
 use Rattle.std.proofs.lemmas.List.{length-map}
 use Rattle.pim_down.specs.Hearing.{set_events}
+use Rattle.pim_down.specs.Known.{known_in}
 use Rattle.pim_down.specs.Seen.{start_seen, records_seen}
 use Rattle.pim_down.proofs.Events.{room_for}
 use Rattle.pim_down.proofs.message.hear_message.Goals as goal
@@ -14,7 +15,7 @@ ok_then (Err x) P e p = absurd (true≢false e)
 pub hear_sets-requires-clause-room : goal.hear_sets-requires-clause-room
 hear_sets-requires-clause-room g c =
     let bytes_of = g.F.Family.bytes_of in
-    let events = flat_map (set_events (option_map bytes_of c.args.known)) c.args.message.now.sets in
+    let events = flat_map (set_events (known_in g.F.Family.family c.args.routes.now)) c.args.message.now.sets in
     let held = records_seen bytes_of c.args.records.now.items in
     let count = rw (c.deref.ensures.value, c.sets.ensures) at c.count_sets-fresh.ensures.count in
     let items = rw c.deref.ensures.value at c.deref.ensures.len in

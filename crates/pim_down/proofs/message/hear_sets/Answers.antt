@@ -1,6 +1,6 @@
 use Rattle.std.proofs.Common.{◌∙◌, true, false, sym, ap, vec_capacity}
-use Rattle.std.specs.Prelude.{option_map}
 use Rattle.pim_down.specs.Hearing.{list_events, act_all}
+use Rattle.pim_down.specs.Known.{known_in}
 use Rattle.pim_down.specs.Seen.{start_seen, records_seen}
 use Rattle.pim_down.proofs.Act.{IsAscending-act_all}
 use Rattle.pim_down.proofs.Events.{sets_events, set_room, set_left, no_set_left, room_grows}
@@ -9,7 +9,7 @@ use Rattle.pim_down.proofs.message.hear_sets.Goals as goal
 pub hear_list-requires-clause-room : goal.hear_list-requires-clause-room
 hear_list-requires-clause-room g c =
     let bytes_of = g.F.Family.bytes_of in
-    let known = option_map bytes_of c.args.known in
+    let known = known_in g.F.Family.family c.args.routes.now in
     let seen = records_seen bytes_of c.loop-set.records.items in
     let space = set_room c.args.port (start_seen c.args.start) (vec_capacity c.loop-set.records) known c.in-Some.set c.loop-set.set-iterator c.next.new.self seen c.in-Some.ensures.steps c.loop-set.invariant.room in
     rw (c.group-group.ensures, c.joined.ensures) space.0
@@ -22,7 +22,7 @@ hear_list-requires-in-loop-set-clause-ascending g c =
 pub hear_list-requires-in-loop-set-clause-room : goal.hear_list-requires-in-loop-set-clause-room
 hear_list-requires-in-loop-set-clause-room g c =
     let bytes_of = g.F.Family.bytes_of in
-    let known = option_map bytes_of c.args.known in
+    let known = known_in g.F.Family.family c.args.routes.now in
     let set = c.in-Some.set in
     let seen = records_seen bytes_of c.loop-set.records.items in
     let space = set_room c.args.port (start_seen c.args.start) (vec_capacity c.loop-set.records) known set c.loop-set.set-iterator c.next.new.self seen c.in-Some.ensures.steps c.loop-set.invariant.room in
@@ -33,7 +33,7 @@ hear_list-requires-in-loop-set-clause-room g c =
 pub loop-set-preserved : goal.loop-set-preserved
 loop-set-preserved g c =
     let bytes_of = g.F.Family.bytes_of in
-    let known = option_map bytes_of c.args.known in
+    let known = known_in g.F.Family.family c.args.routes.now in
     let set = c.in-Some.set in
     let rest = sets_events known c.next.new.self in
     let seen = records_seen bytes_of c.loop-set.records.items in
@@ -56,5 +56,5 @@ pub returns : goal.returns
 returns g c =
     let bytes_of = g.F.Family.bytes_of in
     record {
-      records = sym (no_set_left c.args.port (start_seen c.args.start) (option_map bytes_of c.args.known) c.loop-set.set-iterator (records_seen bytes_of c.loop-set.records.items) c.in-None.ensures.steps.0) ∙ c.loop-set.invariant.left;
+      records = sym (no_set_left c.args.port (start_seen c.args.start) (known_in g.F.Family.family c.args.routes.now) c.loop-set.set-iterator (records_seen bytes_of c.loop-set.records.items) c.in-None.ensures.steps.0) ∙ c.loop-set.invariant.left;
     }

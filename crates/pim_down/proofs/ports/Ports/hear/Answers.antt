@@ -1,10 +1,10 @@
 use Rattle.std.proofs.Common.{◌≡◌, ◌≢◌, ◌<◌, ℕ, List, refl, sym, ap, subst, arith}
-use Rattle.std.specs.Prelude.{option_map}
 use Rattle.std.proofs.lemmas.Result.{on_ok_weaker}
 use Rattle.pim_down.specs.declared.key.Key.{Key}
 use Rattle.pim_down.specs.Records.{machine_at}
 use Rattle.pim_down.specs.Time.{Downstream}
 use Rattle.pim_down.specs.Running.{downstream_at}
+use Rattle.pim_down.specs.Known.{known_in}
 use Rattle.pim_down.specs.Seen.{start_seen, records_seen}
 use Rattle.pim_down.proofs.Kept.{ascending_back}
 use Rattle.pim_down.proofs.Origin.{count_on_later}
@@ -27,7 +27,7 @@ pub invariant_of-self : goal.invariant_of-self
 invariant_of-self g c =
     let p = c.self.inside in
     let bytes_of = g.F.Family.bytes_of in
-    let known = option_map bytes_of c.args.rp in
+    let known = known_in g.F.Family.family c.args.routes.now in
     let message = c.args.message.now in
     let starts = rw c.holdtime.ensures at c.start_at-start.ensures in
     let old = downstream_at bytes_of p.ports p.limit p.moment p.records.items in
@@ -42,25 +42,25 @@ returns-clause-ok g c =
     let p = c.self.inside in
     let bytes_of = g.F.Family.bytes_of in
     let starts = rw c.holdtime.ensures at c.start_at-start.ensures in
-    on_ok_weaker c.hear_message.result (heard_is bytes_of p.ports p.limit p.moment c.args.port c.args.message.now (option_map bytes_of c.args.rp) c.args.timing (start_seen c.start_at-start.result) p.records.items c.hear_message.new.records.items c.args.self.now starts c.self.view_is) c.hear_message.ensures.ok
+    on_ok_weaker c.hear_message.result (heard_is bytes_of p.ports p.limit p.moment c.args.port c.args.message.now (known_in g.F.Family.family c.args.routes.now) c.args.timing (start_seen c.start_at-start.result) p.records.items c.hear_message.new.records.items c.args.self.now starts c.self.view_is) c.hear_message.ensures.ok
 
 pub returns-clause-room : goal.returns-clause-room
 returns-clause-room g c =
     let p = c.self.inside in
     let bytes_of = g.F.Family.bytes_of in
-    within_is bytes_of p.ports p.limit p.moment c.args.port c.args.message.now (option_map bytes_of c.args.rp) c.args.timing c.hear_message.result p.records.items c.args.self.now c.self.view_is c.hear_message.ensures.room
+    within_is bytes_of p.ports p.limit p.moment c.args.port c.args.message.now (known_in g.F.Family.family c.args.routes.now) c.args.timing c.hear_message.result p.records.items c.args.self.now c.self.view_is c.hear_message.ensures.room
 
 pub returns-clause-memory : goal.returns-clause-memory
 returns-clause-memory g c =
     let p = c.self.inside in
     let bytes_of = g.F.Family.bytes_of in
-    memory_is bytes_of p.ports p.limit p.moment c.args.port c.args.message.now (option_map bytes_of c.args.rp) c.args.timing c.hear_message.result p.records.items c.args.self.now c.self.view_is c.hear_message.ensures.memory
+    memory_is bytes_of p.ports p.limit p.moment c.args.port c.args.message.now (known_in g.F.Family.family c.args.routes.now) c.args.timing c.hear_message.result p.records.items c.args.self.now c.self.view_is c.hear_message.ensures.memory
 
 pub returns-clause-others : goal.returns-clause-others
 returns-clause-others g c =
     let p = c.self.inside in
     let bytes_of = g.F.Family.bytes_of in
-    let known = option_map bytes_of c.args.rp in
+    let known = known_in g.F.Family.family c.args.routes.now in
     let message = c.args.message.now in
     let starts = rw c.holdtime.ensures at c.start_at-start.ensures in
     let old = downstream_at bytes_of p.ports p.limit p.moment p.records.items in

@@ -4,7 +4,7 @@ use Rattle.pim_down.specs.declared.held.Held.{Held}
 use Rattle.pim_down.specs.Running.{is_over}
 use Rattle.pim_down.specs.Seen.{record_seen, records_seen}
 use Rattle.pim_down.proofs.Each.{end_filter, seen_filter}
-use Rattle.pim_down.proofs.hear.end.Goals as goal
+use Rattle.pim_down.proofs.hear.end_message.Goals as goal
 
 pub returns : goal.returns
 returns g c =
