@@ -1,6 +1,7 @@
 -- A body is cut into parts by the number of sets and their counts alone; the cut ends at the first part that
 -- isn't whole.
-use Rattle.std.specs.Prelude.{ℕ, zero, suc, ◌+◌, Bool, ◌&&◌, not, List, [], ◌∷◌, ◌++◌, length, drop, slice_index, nat_lt, if◌then◌else◌}
+use Rattle.std.specs.Prelude.{ℕ, zero, suc, ◌+◌, Bool, ◌&&◌, not, List, [], ◌∷◌, ◌++◌, length, drop, slice_index}
+use Rattle.std.specs.Prelude.{nat_lt, if◌then◌else◌}
 use Rattle.byteorder.specs.Endian.{big_number}
 use Rattle.pim_addr.specs.declared.family.AddressFamily.{AddressFamily}
 use Rattle.pim_addr.specs.Encoded.{SourceValue, unicast_length, group_length, source_length, source_value}
@@ -25,7 +26,8 @@ pub record Part : Type 0 where
 -- a part of this length, and if it is whole those behind it
 abbrev pub part_then : Shape → ℕ → ℕ → List ℕ → (ℕ → List ℕ → List Part) → List Part
 part_then shape size at bytes next =
-    record { shape = shape; at = at; bytes = bytes } ∷ (if nat_lt (length bytes) size then [] else next (at + size) (drop size bytes))
+    record { shape = shape; at = at; bytes = bytes }
+    ∷ (if nat_lt (length bytes) size then [] else next (at + size) (drop size bytes))
 
 -- W without R: of no kind
 abbrev pub is_kindless : SourceValue → Bool
@@ -36,7 +38,8 @@ abbrev pub kind_of : SourceValue → List (Entry (List ℕ))
 kind_of source = if is_kindless source then [] else entry_of source ∷ []
 
 -- so many entries of one list; `next` is given the set's entries up to there
-unfoldable pub entry_parts : AddressFamily → ℕ → List (Entry (List ℕ)) → List (Entry (List ℕ)) → ℕ → List ℕ → (List (Entry (List ℕ)) → ℕ → List ℕ → List Part) → List Part
+unfoldable pub entry_parts : AddressFamily → ℕ → List (Entry (List ℕ)) → List (Entry (List ℕ)) → ℕ → List ℕ
+    → (List (Entry (List ℕ)) → ℕ → List ℕ → List Part) → List Part
 entry_parts family zero earlier other at bytes next = next earlier at bytes
 entry_parts family (suc count) earlier other at bytes next =
     part_then (entry earlier other) (source_length family) at bytes
