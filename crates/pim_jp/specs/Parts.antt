@@ -34,8 +34,8 @@ abbrev pub is_kindless : SourceValue → Bool
 is_kindless source = source.wildcard && not source.rpt
 
 -- the entry, if it is of a kind
-abbrev pub kind_of : SourceValue → List (Entry (List ℕ))
-kind_of source = if is_kindless source then [] else entry_of source ∷ []
+abbrev pub named_entry : SourceValue → List (Entry (List ℕ))
+named_entry source = if is_kindless source then [] else entry_of source ∷ []
 
 -- so many entries of one list; `next` is given the set's entries up to there
 unfoldable pub entry_parts : AddressFamily → ℕ → List (Entry (List ℕ)) → List (Entry (List ℕ)) → ℕ → List ℕ
@@ -43,7 +43,7 @@ unfoldable pub entry_parts : AddressFamily → ℕ → List (Entry (List ℕ)) �
 entry_parts family zero earlier other at bytes next = next earlier at bytes
 entry_parts family (suc count) earlier other at bytes next =
     part_then (entry earlier other) (source_length family) at bytes
-    (λ at bytes'. entry_parts family count (earlier ++ kind_of (source_value family bytes)) other at bytes' next)
+    (λ at bytes'. entry_parts family count (earlier ++ named_entry (source_value family bytes)) other at bytes' next)
 
 unfoldable pub set_parts : AddressFamily → ℕ → ℕ → List ℕ → List Part
 set_parts family zero at bytes = record { shape = rest; at = at; bytes = bytes } ∷ []

@@ -15,7 +15,7 @@ use Rattle.pim_jp.specs.declared.fault.JpKind.TheVariants.{Flags, NotSource, Sec
 use Rattle.pim_jp.specs.declared.fault.JpFault.{JpFault}
 use Rattle.pim_jp.specs.Message.{entry_of, entries_of}
 use Rattle.pim_jp.specs.Spelling.{is_star, same_source}
-use Rattle.pim_jp.specs.Parts.{Part, group, counts, part_then, entry_parts, is_kindless, kind_of}
+use Rattle.pim_jp.specs.Parts.{Part, group, counts, part_then, entry_parts, is_kindless, named_entry}
 use Rattle.pim_jp.specs.Faults.{address_kind, faults_of}
 
 -- the first of the faults is this one
@@ -40,7 +40,7 @@ abbrev pub lone_kinds : AddressFamily → Bool → List ℕ → List JpKind
 lone_kinds family has_star bytes =
     own_kinds family bytes
     ++ (if nat_lt (length bytes) (source_length family) then [] else
-    fault_if (list_any is_star (kind_of (source_value family bytes)) && has_star) SecondStar)
+    fault_if (list_any is_star (named_entry (source_value family bytes)) && has_star) SecondStar)
 
 -- the entry at this place of a list
 abbrev pub entry_at : AddressFamily → ℕ → List ℕ → Entry (List ℕ)
