@@ -1,4 +1,3 @@
-pub mod Cells
 pub mod Pieces
 pub mod ReadBack
 pub mod TextNames

@@ -162,9 +162,11 @@ impl Family for V4 {
         AddressFamily::Ipv4
     }
 
-    #[tactic(auto, using(crate::proofs::Cells::four_cells))]
     fn take(bytes: &[u8]) -> [u8; 4] {
-        [bytes[0], bytes[1], bytes[2], bytes[3]]
+        match bytes.split_first_chunk::<4>() {
+            Some((address, _)) => *address,
+            None => unreachable!(),
+        }
     }
 
     fn put(address: [u8; 4], bytes: &mut [u8]) {
@@ -260,12 +262,11 @@ impl Family for V6 {
         AddressFamily::Ipv6
     }
 
-    #[tactic(auto, using(crate::proofs::Cells::sixteen_cells))]
     fn take(bytes: &[u8]) -> [u8; 16] {
-        [
-            bytes[0], bytes[1], bytes[2], bytes[3], bytes[4], bytes[5], bytes[6], bytes[7],
-            bytes[8], bytes[9], bytes[10], bytes[11], bytes[12], bytes[13], bytes[14], bytes[15],
-        ]
+        match bytes.split_first_chunk::<16>() {
+            Some((address, _)) => *address,
+            None => unreachable!(),
+        }
     }
 
     fn put(address: [u8; 16], bytes: &mut [u8]) {

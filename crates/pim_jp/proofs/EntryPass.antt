@@ -15,7 +15,7 @@ use Rattle.pim_jp.specs.declared.fault.JpKind.TheVariants.{Flags, NotSource, Sec
 use Rattle.pim_jp.specs.declared.fault.JpFault.{JpFault}
 use Rattle.pim_jp.specs.Message.{entry_of, entries_of}
 use Rattle.pim_jp.specs.Spelling.{is_star, same_source}
-use Rattle.pim_jp.specs.Parts.{Part, entry, entry_parts, is_kindless, kind_of}
+use Rattle.pim_jp.specs.Parts.{Part, entry, entry_parts, is_kindless, named_entry}
 use Rattle.pim_jp.specs.Faults.{address_kind, kinds_at, part_faults, faults_of}
 use Rattle.pim_jp.specs.Reading.{Tells, Stops, own_kinds, lone_kinds, kinds_at_place, entry_at, AreClean, StopsAt, is_in, AreApart, ClashesAt, is_source_entry, is_rpt_entry, EntriesPass}
 use Rattle.pim_jp.proofs.Front.{append_none, map_none, none_if}
@@ -34,7 +34,7 @@ split_kinds false a b c d e = simp append_assoc refl
 -- its kinds are those but for the other list, and then that of the other list
 abbrev both_kinds : AddressFamily → List (Entry (List ℕ)) → List ℕ → List JpKind
 both_kinds family other bytes =
-    if nat_lt (length bytes) (source_length family) then [] else fault_if (list_any (λ this. list_any (same_source this) other) (kind_of (source_value family bytes))) BothLists
+    if nat_lt (length bytes) (source_length family) then [] else fault_if (list_any (λ this. list_any (same_source this) other) (named_entry (source_value family bytes))) BothLists
 
 entry_split : (family : AddressFamily) (earlier other : List (Entry (List ℕ))) (bytes : List ℕ)
     → kinds_at family (entry earlier other) bytes ≡ lone_kinds family (list_any is_star earlier) bytes ++ both_kinds family other bytes
@@ -42,8 +42,8 @@ entry_split family earlier other bytes =
     split_kinds (nat_lt (length bytes) (source_length family)) (map address_kind (source_faults family bytes))
     (fault_if (is_kindless (source_value family bytes)) Flags)
     (fault_if (not (is_source family (source_value family bytes).address)) NotSource)
-    (fault_if (list_any is_star (kind_of (source_value family bytes)) && list_any is_star earlier) SecondStar)
-    (fault_if (list_any (λ this. list_any (same_source this) other) (kind_of (source_value family bytes))) BothLists)
+    (fault_if (list_any is_star (named_entry (source_value family bytes)) && list_any is_star earlier) SecondStar)
+    (fault_if (list_any (λ this. list_any (same_source this) other) (named_entry (source_value family bytes))) BothLists)
 
 -- an entry without such a fault is whole and of a kind
 clean_entry : (family : AddressFamily) (has_star : Bool) (bytes : List ℕ) → lone_kinds family has_star bytes ≡ []
@@ -96,10 +96,10 @@ entry_step : (family : AddressFamily) (count : ℕ) (earlier other : List (Entry
     ≡ faults_of family (entry_parts family count (earlier ++ entry_of (source_value family bytes) ∷ []) other (at + source_length family) (drop (source_length family) bytes) next)
 unfolding entry_parts
 entry_step family count earlier other at bytes next none kind whole =
-    let named : kind_of (source_value family bytes) ≡ entry_of (source_value family bytes) ∷ [] = rw kind refl in
+    let named : named_entry (source_value family bytes) ≡ entry_of (source_value family bytes) ∷ [] = rw kind refl in
     let none' : part_faults family (record { shape = entry earlier other; at = at; bytes = bytes }) ≡ [] = rw none refl in
     part_passes family (entry earlier other) (source_length family) at bytes
-    (λ at bytes'. entry_parts family count (earlier ++ kind_of (source_value family bytes)) other at bytes' next) none' whole
+    (λ at bytes'. entry_parts family count (earlier ++ named_entry (source_value family bytes)) other at bytes' next) none' whole
     ∙ ap (λ kinds. faults_of family (entry_parts family count (earlier ++ kinds) other (at + source_length family) (drop (source_length family) bytes) next)) named
 
 entry_stop : (family : AddressFamily) (count : ℕ) (earlier other : List (Entry (List ℕ))) (at : ℕ) (bytes : List ℕ) (next : List (Entry (List ℕ)) → ℕ → List ℕ → List Part) (kind : JpKind)
@@ -108,7 +108,7 @@ entry_stop : (family : AddressFamily) (count : ℕ) (earlier other : List (Entry
 unfolding entry_parts
 entry_stop family count earlier other at bytes next kind told =
     part_stops family (entry earlier other) (source_length family) at bytes
-    (λ at bytes'. entry_parts family count (earlier ++ kind_of (source_value family bytes)) other at bytes' next) (record { at = at; kind = kind })
+    (λ at bytes'. entry_parts family count (earlier ++ named_entry (source_value family bytes)) other at bytes' next) (record { at = at; kind = kind })
     (told_at at (kinds_at family (entry earlier other) bytes) kind told)
 
 entry_end : (family : AddressFamily) (count : ℕ) (earlier other : List (Entry (List ℕ))) (at : ℕ) (bytes : List ℕ) (next : List (Entry (List ℕ)) → ℕ → List ℕ → List Part)

@@ -16,7 +16,7 @@ use Rattle.pim_jp.specs.declared.fault.JpKind.{JpKind}
 use Rattle.pim_jp.specs.declared.fault.JpKind.TheVariants.{Short, NotGroup, Flags, NotSource, SecondStar, BothLists, Trailing}
 use Rattle.pim_jp.specs.declared.fault.JpFault.{JpFault}
 use Rattle.pim_jp.specs.Spelling.{is_star, same_source}
-use Rattle.pim_jp.specs.Parts.{Shape, upstream, head, group, counts, entry, rest, Part, part_then, is_kindless, kind_of, entry_parts, set_parts, body_parts}
+use Rattle.pim_jp.specs.Parts.{Shape, upstream, head, group, counts, entry, rest, Part, part_then, is_kindless, named_entry, entry_parts, set_parts, body_parts}
 use Rattle.pim_jp.specs.Faults.{number_of, address_kind, entry_kinds, kinds_at, part_faults, faults_of, faults}
 use Rattle.pim_jp.specs.Laws.{place, ToldBefore}
 
@@ -74,8 +74,8 @@ entry_rises : (family : AddressFamily) (earlier other : List (Entry (List ℕ)))
 entry_rises family earlier other source =
     let flags = rises_if number_of 6 7 (is_kindless source) Flags (omega arith) (omega arith) in
     let invalid = rises_if number_of 7 8 (not (is_source family source.address)) NotSource (omega arith) (omega arith) in
-    let again = rises_if number_of 8 9 (list_any is_star (kind_of source) && list_any is_star earlier) SecondStar (omega arith) (omega arith) in
-    let twice = rises_if number_of 9 10 (list_any (λ this. list_any (same_source this) other) (kind_of source)) BothLists (omega arith) (omega arith) in
+    let again = rises_if number_of 8 9 (list_any is_star (named_entry source) && list_any is_star earlier) SecondStar (omega arith) (omega arith) in
+    let twice = rises_if number_of 9 10 (list_any (λ this. list_any (same_source this) other) (named_entry source)) BothLists (omega arith) (omega arith) in
     rises_then number_of 6 9 10 _ _ (rises_then number_of 6 8 9 _ _ (rises_then number_of 6 7 8 _ _ flags invalid) again) twice
 
 rises_none : (low high : ℕ) → low ≤ high → RisesWithin number_of low high []
@@ -123,8 +123,8 @@ entries_from : (family : AddressFamily) (count : ℕ) (earlier other : List (Ent
 unfolding entry_parts
 entries_from family zero earlier other at bytes next behind = behind earlier at bytes
 entries_from family (suc count) earlier other at bytes next behind =
-    from_then (entry earlier other) (source_length family) at bytes (λ at bytes'. entry_parts family count (earlier ++ kind_of (source_value family bytes)) other at bytes' next) (omega arith)
-    (λ at bytes'. entries_from family count (earlier ++ kind_of (source_value family bytes)) other at bytes' next behind)
+    from_then (entry earlier other) (source_length family) at bytes (λ at bytes'. entry_parts family count (earlier ++ named_entry (source_value family bytes)) other at bytes' next) (omega arith)
+    (λ at bytes'. entries_from family count (earlier ++ named_entry (source_value family bytes)) other at bytes' next behind)
 
 from_one : (shape : Shape) (at : ℕ) (bytes : List ℕ) → FromOn at (record { shape = shape; at = at; bytes = bytes } ∷ [])
 unfolding FromOn

@@ -14,7 +14,8 @@ use Rattle.pim_jp.specs.Spelling.{source_of, IsLegalSet}
 -- ---- messages that can be spelled
 
 abbrev pub IsMessageEntry : AddressFamily → Entry (List ℕ) → Type 0
-IsMessageEntry family entry = IsAddress family (source_of entry).address × (is_source family (source_of entry).address ≡ true)
+IsMessageEntry family entry = IsAddress family (source_of entry).address
+    × (is_source family (source_of entry).address ≡ true)
 
 abbrev pub IsMessageSet : AddressFamily → GroupSet → Type 0
 IsMessageSet family set = IsAddress family set.group × (is_group family set.group ≡ true) × IsLegalSet set
@@ -51,9 +52,11 @@ canonical_head_length family = unicast_length family + 4
 
 -- of a set with so many joined entries and so many pruned ones
 abbrev pub canonical_set_length : AddressFamily → ℕ → ℕ → ℕ
-canonical_set_length family joined pruned = group_length family + 4 + joined * source_length family + pruned * source_length family
+canonical_set_length family joined pruned =
+    group_length family + 4 + joined * source_length family + pruned * source_length family
 
 -- of the sets of a message
 unfoldable pub canonical_sets_length : AddressFamily → List GroupSet → ℕ
 canonical_sets_length family [] = 0
-canonical_sets_length family (set ∷ sets) = canonical_set_length family (length set.joined) (length set.pruned) + canonical_sets_length family sets
+canonical_sets_length family (set ∷ sets) =
+    canonical_set_length family (length set.joined) (length set.pruned) + canonical_sets_length family sets

@@ -6,13 +6,16 @@ use Rattle.pim_addr.specs.declared.encoded.AddrFault.{AddrFault}
 use Rattle.pim_addr.specs.declared.encoded.AddrFault.TheVariants as address
 use Rattle.pim_addr.specs.Address.{is_group, is_source}
 use Rattle.pim_addr.specs.Faults.{fault_if}
-use Rattle.pim_addr.specs.Encoded.{SourceValue, unicast_faults, group_faults, source_faults, group_length, source_length, masked_address, source_value}
+use Rattle.pim_addr.specs.Encoded.{SourceValue, unicast_faults, group_faults, source_faults, group_length}
+use Rattle.pim_addr.specs.Encoded.{source_length, masked_address, source_value}
 use Rattle.pim_jp.specs.declared.entry.Entry.{Entry}
 use Rattle.pim_jp.specs.declared.fault.JpKind.{JpKind}
-use Rattle.pim_jp.specs.declared.fault.JpKind.TheVariants.{Short, Family, Encoding, Mask, NotGroup, Flags, NotSource, SecondStar, BothLists, Trailing}
+use Rattle.pim_jp.specs.declared.fault.JpKind.TheVariants.{Short, Family, Encoding, Mask, NotGroup, Flags, NotSource}
+use Rattle.pim_jp.specs.declared.fault.JpKind.TheVariants.{SecondStar, BothLists, Trailing}
 use Rattle.pim_jp.specs.declared.fault.JpFault.{JpFault}
 use Rattle.pim_jp.specs.Spelling.{is_star, same_source}
-use Rattle.pim_jp.specs.Parts.{Shape, upstream, head, group, counts, entry, rest, Part, is_kindless, kind_of, body_parts}
+use Rattle.pim_jp.specs.Parts.{Shape, upstream, head, group, counts, entry, rest, Part, is_kindless, named_entry}
+use Rattle.pim_jp.specs.Parts.{body_parts}
 
 -- the order in which faults of one part are told
 abbrev pub number_of : JpKind → ℕ
@@ -42,8 +45,8 @@ abbrev pub entry_kinds : AddressFamily → List (Entry (List ℕ)) → List (Ent
 entry_kinds family earlier other source =
     fault_if (is_kindless source) Flags
     ++ fault_if (not (is_source family source.address)) NotSource
-    ++ fault_if (list_any is_star (kind_of source) && list_any is_star earlier) SecondStar
-    ++ fault_if (list_any (λ this. list_any (same_source this) other) (kind_of source)) BothLists
+    ++ fault_if (list_any is_star (named_entry source) && list_any is_star earlier) SecondStar
+    ++ fault_if (list_any (λ this. list_any (same_source this) other) (named_entry source)) BothLists
 
 -- the kinds at one part, in the order of their numbers
 abbrev pub kinds_at : AddressFamily → Shape → List ℕ → List JpKind
@@ -51,11 +54,13 @@ kinds_at family upstream bytes = map address_kind (unicast_faults family bytes)
 kinds_at family head bytes = short_kinds 4 bytes
 kinds_at family group bytes =
     map address_kind (group_faults family bytes)
-    ++ fault_if (not (nat_lt (length bytes) (group_length family)) && not (is_group family (masked_address family bytes))) NotGroup
+    ++ fault_if (not (nat_lt (length bytes) (group_length family))
+    && not (is_group family (masked_address family bytes))) NotGroup
 kinds_at family counts bytes = short_kinds 4 bytes
 kinds_at family (entry earlier other) bytes =
     map address_kind (source_faults family bytes)
-    ++ (if nat_lt (length bytes) (source_length family) then [] else entry_kinds family earlier other (source_value family bytes))
+    ++ (if nat_lt (length bytes) (source_length family) then []
+    else entry_kinds family earlier other (source_value family bytes))
 kinds_at family rest bytes = fault_if (nat_lt 0 (length bytes)) Trailing
 
 abbrev pub part_faults : AddressFamily → Part → List JpFault

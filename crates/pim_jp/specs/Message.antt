@@ -2,7 +2,8 @@
 use Rattle.std.specs.Prelude.{ℕ, zero, suc, ◌*◌, List, [], ◌∷◌, drop, slice_index, if◌then◌else◌}
 use Rattle.byteorder.specs.Endian.{big_number}
 use Rattle.pim_addr.specs.declared.family.AddressFamily.{AddressFamily}
-use Rattle.pim_addr.specs.Encoded.{SourceValue, unicast_length, group_length, source_length, unicast_address, masked_address, source_value}
+use Rattle.pim_addr.specs.Encoded.{SourceValue, unicast_length, group_length, source_length, unicast_address}
+use Rattle.pim_addr.specs.Encoded.{masked_address, source_value}
 use Rattle.pim_jp.specs.declared.entry.Entry.{Entry}
 use Rattle.pim_jp.specs.declared.entry.Entry.TheVariants.{Star, Source, Rpt}
 
@@ -21,11 +22,13 @@ pub record Message : Type 0 where
 
 -- the bits W and R name the kind; W alone names none, and no legal body has it
 abbrev pub entry_of : SourceValue → Entry (List ℕ)
-entry_of source = if source.rpt then (if source.wildcard then Star source.address else Rpt source.address) else Source source.address
+entry_of source =
+    if source.rpt then (if source.wildcard then Star source.address else Rpt source.address) else Source source.address
 
 unfoldable pub entries_of : AddressFamily → ℕ → List ℕ → List (Entry (List ℕ))
 entries_of family zero bytes = []
-entries_of family (suc count) bytes = entry_of (source_value family bytes) ∷ entries_of family count (drop (source_length family) bytes)
+entries_of family (suc count) bytes =
+    entry_of (source_value family bytes) ∷ entries_of family count (drop (source_length family) bytes)
 
 -- The parts of the set at the front: behind the group the two counts, behind them the joined entries and then
 -- the pruned ones.

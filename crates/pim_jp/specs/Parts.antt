@@ -1,6 +1,7 @@
 -- A body is cut into parts by the number of sets and their counts alone; the cut ends at the first part that
 -- isn't whole.
-use Rattle.std.specs.Prelude.{ℕ, zero, suc, ◌+◌, Bool, ◌&&◌, not, List, [], ◌∷◌, ◌++◌, length, drop, slice_index, nat_lt, if◌then◌else◌}
+use Rattle.std.specs.Prelude.{ℕ, zero, suc, ◌+◌, Bool, ◌&&◌, not, List, [], ◌∷◌, ◌++◌, length, drop, slice_index}
+use Rattle.std.specs.Prelude.{nat_lt, if◌then◌else◌}
 use Rattle.byteorder.specs.Endian.{big_number}
 use Rattle.pim_addr.specs.declared.family.AddressFamily.{AddressFamily}
 use Rattle.pim_addr.specs.Encoded.{SourceValue, unicast_length, group_length, source_length, source_value}
@@ -25,22 +26,24 @@ pub record Part : Type 0 where
 -- a part of this length, and if it is whole those behind it
 abbrev pub part_then : Shape → ℕ → ℕ → List ℕ → (ℕ → List ℕ → List Part) → List Part
 part_then shape size at bytes next =
-    record { shape = shape; at = at; bytes = bytes } ∷ (if nat_lt (length bytes) size then [] else next (at + size) (drop size bytes))
+    record { shape = shape; at = at; bytes = bytes }
+    ∷ (if nat_lt (length bytes) size then [] else next (at + size) (drop size bytes))
 
 -- W without R: of no kind
 abbrev pub is_kindless : SourceValue → Bool
 is_kindless source = source.wildcard && not source.rpt
 
 -- the entry, if it is of a kind
-abbrev pub kind_of : SourceValue → List (Entry (List ℕ))
-kind_of source = if is_kindless source then [] else entry_of source ∷ []
+abbrev pub named_entry : SourceValue → List (Entry (List ℕ))
+named_entry source = if is_kindless source then [] else entry_of source ∷ []
 
 -- so many entries of one list; `next` is given the set's entries up to there
-unfoldable pub entry_parts : AddressFamily → ℕ → List (Entry (List ℕ)) → List (Entry (List ℕ)) → ℕ → List ℕ → (List (Entry (List ℕ)) → ℕ → List ℕ → List Part) → List Part
+unfoldable pub entry_parts : AddressFamily → ℕ → List (Entry (List ℕ)) → List (Entry (List ℕ)) → ℕ → List ℕ
+    → (List (Entry (List ℕ)) → ℕ → List ℕ → List Part) → List Part
 entry_parts family zero earlier other at bytes next = next earlier at bytes
 entry_parts family (suc count) earlier other at bytes next =
     part_then (entry earlier other) (source_length family) at bytes
-    (λ at bytes'. entry_parts family count (earlier ++ kind_of (source_value family bytes)) other at bytes' next)
+    (λ at bytes'. entry_parts family count (earlier ++ named_entry (source_value family bytes)) other at bytes' next)
 
 unfoldable pub set_parts : AddressFamily → ℕ → ℕ → List ℕ → List Part
 set_parts family zero at bytes = record { shape = rest; at = at; bytes = bytes } ∷ []

@@ -1,5 +1,5 @@
--- Which of the spellings of a message is the one that is written: what is ignored when a body is read is 0, but for the S
--- bit of each entry, which is 1 (RFC 7761, 4.9.1 and 4.9.5).
+-- Which of the spellings of a message is the one that is written: what is ignored when a body is read is 0, but for
+-- the S bit of each entry, which is 1 (RFC 7761, 4.9.1 and 4.9.5).
 use Rattle.std.specs.Prelude.{◌≡◌, ℕ, ◌/◌, List, [], ◌∷◌, ◌++◌, length, slice_index}
 use Rattle.byteorder.specs.Endian.{big_bytes}
 use Rattle.pim_addr.specs.declared.family.AddressFamily.{AddressFamily}
@@ -37,4 +37,5 @@ IsPlainHead sets holdtime bytes = bytes ≡ 0 ∷ sets ∷ big_bytes 2 holdtime
 -- The body spells the message, and what is ignored in it stands as it is written.
 abbrev pub SpellsPlainly : AddressFamily → Message → List ℕ → Type 0
 SpellsPlainly family message body = Spells family message body
-    × Then (IsUnicast family message.upstream) (Then (IsPlainHead (length message.sets) message.holdtime) (ArePlainSets family message.sets)) body
+    × Then (IsUnicast family message.upstream)
+    (Then (IsPlainHead (length message.sets) message.holdtime) (ArePlainSets family message.sets)) body

@@ -1,6 +1,7 @@
 -- What the steps of the reader promise. One that looks at a part speaks of the part's kinds; one that passes over
 -- several speaks of the faults of all the parts from there on, whatever parts `next` gives behind them.
-use Rattle.std.specs.Prelude.{◌≡◌, ℕ, ◌+◌, ◌*◌, ◌<◌, Bool, true, false, ◌&&◌, ◌||◌, not, List, [], ◌++◌, Result, Ok, Err, length, map, drop, nat_lt, if◌then◌else◌}
+use Rattle.std.specs.Prelude.{◌≡◌, ℕ, ◌+◌, ◌*◌, ◌<◌, Bool, true, false, ◌&&◌, ◌||◌, not, List, [], ◌++◌, Result, Ok}
+use Rattle.std.specs.Prelude.{Err, length, map, drop, nat_lt, if◌then◌else◌}
 use Rattle.std.specs.List.{list_any}
 use Rattle.byteorder.specs.Endian.{big_number}
 use Rattle.pim_addr.specs.declared.family.AddressFamily.{AddressFamily}
@@ -14,7 +15,7 @@ use Rattle.pim_jp.specs.declared.fault.JpKind.TheVariants.{Flags, NotSource, Sec
 use Rattle.pim_jp.specs.declared.fault.JpFault.{JpFault}
 use Rattle.pim_jp.specs.Message.{entry_of, entries_of}
 use Rattle.pim_jp.specs.Spelling.{is_star, same_source}
-use Rattle.pim_jp.specs.Parts.{Part, group, counts, part_then, entry_parts, is_kindless, kind_of}
+use Rattle.pim_jp.specs.Parts.{Part, group, counts, part_then, entry_parts, is_kindless, named_entry}
 use Rattle.pim_jp.specs.Faults.{address_kind, faults_of}
 
 -- the first of the faults is this one
@@ -31,14 +32,15 @@ abbrev pub own_kinds : AddressFamily → List ℕ → List JpKind
 own_kinds family bytes =
     map address_kind (source_faults family bytes)
     ++ (if nat_lt (length bytes) (source_length family) then [] else
-    fault_if (is_kindless (source_value family bytes)) Flags ++ fault_if (not (is_source family (source_value family bytes).address)) NotSource)
+    fault_if (is_kindless (source_value family bytes)) Flags
+    ++ fault_if (not (is_source family (source_value family bytes).address)) NotSource)
 
 -- those that it has but for the other list; `has_star` says whether a (*,G) stands before it in its set
 abbrev pub lone_kinds : AddressFamily → Bool → List ℕ → List JpKind
 lone_kinds family has_star bytes =
     own_kinds family bytes
     ++ (if nat_lt (length bytes) (source_length family) then [] else
-    fault_if (list_any is_star (kind_of (source_value family bytes)) && has_star) SecondStar)
+    fault_if (list_any is_star (named_entry (source_value family bytes)) && has_star) SecondStar)
 
 -- the entry at this place of a list
 abbrev pub entry_at : AddressFamily → ℕ → List ℕ → Entry (List ℕ)
@@ -46,7 +48,8 @@ entry_at family place bytes = entry_of (source_value family (drop (place * sourc
 
 abbrev pub kinds_at_place : AddressFamily → Bool → ℕ → List ℕ → List JpKind
 kinds_at_place family has_star place bytes =
-    lone_kinds family (has_star || list_any is_star (entries_of family place bytes)) (drop (place * source_length family) bytes)
+    lone_kinds family (has_star || list_any is_star (entries_of family place bytes))
+    (drop (place * source_length family) bytes)
 
 -- So many entries of a list have no fault but for the other list.
 abbrev pub AreClean : AddressFamily → Bool → ℕ → List ℕ → Type 0
@@ -65,7 +68,7 @@ is_in other this = list_any (same_source this) other
 abbrev pub AreApart : AddressFamily → List (Entry (List ℕ)) → ℕ → List ℕ → Type 0
 AreApart family other count bytes = (place : ℕ) → place < count → is_in other (entry_at family place bytes) ≡ false
 
--- The first of so many, in a list that starts at this offset, whose source is in the other list too: what is told of it.
+-- The first of so many whose source is in the other list too: what is told of it, where the list starts at this offset.
 abbrev pub ClashesAt : AddressFamily → List (Entry (List ℕ)) → ℕ → ℕ → List ℕ → JpFault → Type 0
 ClashesAt family other count at bytes fault = (place : ℕ) × (place < count) × AreApart family other place bytes
     × (is_in other (entry_at family place bytes) ≡ true)
@@ -96,7 +99,8 @@ Stops {Next} family run fault = (next : Next) → Tells (faults_of family (run n
 -- so many entries have no fault, and behind them `next` goes on
 abbrev pub EntriesPass : AddressFamily → ℕ → List (Entry (List ℕ)) → ℕ → List ℕ → Type 0
 EntriesPass family count joined at bytes = Passes family (entry_parts family count joined joined at bytes)
-    (λ next. next (joined ++ entries_of family count bytes) (at + count * source_length family) (drop (count * source_length family) bytes))
+    (λ next. next (joined ++ entries_of family count bytes) (at + count * source_length family)
+    (drop (count * source_length family) bytes))
 
 -- the parts of a set from its counts on
 abbrev pub lists_then : AddressFamily → ℕ → List ℕ → (ℕ → List ℕ → List Part) → List Part
@@ -106,15 +110,20 @@ lists_then family at bytes next =
     entry_parts family (big_number 2 (drop 2 bytes)) joined joined at entries (λ _ at bytes. next at bytes)))
 
 abbrev pub lists_length : AddressFamily → List ℕ → ℕ
-lists_length family bytes = 4 + big_number 2 bytes * source_length family + big_number 2 (drop 2 bytes) * source_length family
+lists_length family bytes =
+    4 + big_number 2 bytes * source_length family + big_number 2 (drop 2 bytes) * source_length family
 
 -- where they end
 abbrev pub lists_end : AddressFamily → ℕ → List ℕ → ℕ
-lists_end family at bytes = at + 4 + big_number 2 bytes * source_length family + big_number 2 (drop 2 bytes) * source_length family
+lists_end family at bytes =
+    at + 4 + big_number 2 bytes * source_length family + big_number 2 (drop 2 bytes) * source_length family
 
 abbrev pub after_lists : AddressFamily → List ℕ → List ℕ
-after_lists family bytes = drop (big_number 2 (drop 2 bytes) * source_length family) (drop (big_number 2 bytes * source_length family) (drop 4 bytes))
+after_lists family bytes =
+    drop (big_number 2 (drop 2 bytes) * source_length family)
+    (drop (big_number 2 bytes * source_length family) (drop 4 bytes))
 
 -- the parts of a set
 abbrev pub set_then : AddressFamily → ℕ → List ℕ → (ℕ → List ℕ → List Part) → List Part
-set_then family at bytes next = part_then group (group_length family) at bytes (λ at bytes. lists_then family at bytes next)
+set_then family at bytes next =
+    part_then group (group_length family) at bytes (λ at bytes. lists_then family at bytes next)

@@ -11,4 +11,8 @@ entry_seen bytes_of (Rpt source) = Rpt (bytes_of source)
 
 -- the set of a group and the entries of its two lists
 abbrev pub set_seen : {A : Type 0} → (A → List ℕ) → A → List (Entry A) → List (Entry A) → GroupSet
-set_seen bytes_of group joined pruned = record { group = bytes_of group; joined = map (entry_seen bytes_of) joined; pruned = map (entry_seen bytes_of) pruned }
+set_seen bytes_of group joined pruned = record {
+  group = bytes_of group;
+  joined = map (entry_seen bytes_of) joined;
+  pruned = map (entry_seen bytes_of) pruned;
+}

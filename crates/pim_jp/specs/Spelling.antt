@@ -1,6 +1,7 @@
 -- How a Join/Prune message is spelled (RFC 7761, 4.9.5): a relation from the value to its bytes. Reserved bytes and
 -- ignored bits are free.
-use Rattle.std.specs.Prelude.{◌≡◌, ℕ, ◌+◌, ◌≤◌, ◌<◌, ◌^◌, Bool, true, false, List, [], ◌∷◌, ◌++◌, length, slice_index, nat_eq, if◌then◌else◌}
+use Rattle.std.specs.Prelude.{◌≡◌, ℕ, ◌+◌, ◌≤◌, ◌<◌, ◌^◌, Bool, true, false, List, [], ◌∷◌, ◌++◌, length, slice_index}
+use Rattle.std.specs.Prelude.{nat_eq, if◌then◌else◌}
 use Rattle.std.specs.List.{list_any}
 use Rattle.std.specs.Cmp.Lexicographic.{pointwise}
 use Rattle.byteorder.specs.Endian.{big_bytes}
@@ -22,7 +23,8 @@ source_of (Source source) = record { address = source; wildcard = false; rpt = f
 source_of (Rpt source) = record { address = source; wildcard = false; rpt = true }
 
 abbrev pub IsEntry : AddressFamily → Entry (List ℕ) → List ℕ → Type 0
-IsEntry family entry bytes = IsSource family (source_of entry) bytes × (is_source family (source_of entry).address ≡ true)
+IsEntry family entry bytes = IsSource family (source_of entry) bytes
+    × (is_source family (source_of entry).address ≡ true)
 
 unfoldable pub AreEntries : AddressFamily → List (Entry (List ℕ)) → List ℕ → Type 0
 AreEntries family [] bytes = bytes ≡ []
@@ -47,10 +49,12 @@ star_count (entry ∷ entries) = (if is_star entry then 1 else 0) + star_count e
 
 -- at most one (*,G) over both lists, and no source in both lists as the same kind
 abbrev pub IsLegalSet : GroupSet → Type 0
-IsLegalSet set = (star_count (set.joined ++ set.pruned) ≤ 1) × (list_any (λ entry. list_any (same_source entry) set.joined) set.pruned ≡ false)
+IsLegalSet set = (star_count (set.joined ++ set.pruned) ≤ 1)
+    × (list_any (λ entry. list_any (same_source entry) set.joined) set.pruned ≡ false)
 
 abbrev pub IsSet : AddressFamily → GroupSet → List ℕ → Type 0
-IsSet family set bytes = IsLegalSet set × (is_group family set.group ≡ true) × (length set.joined < 2 ^ 16) × (length set.pruned < 2 ^ 16)
+IsSet family set bytes = IsLegalSet set × (is_group family set.group ≡ true)
+    × (length set.joined < 2 ^ 16) × (length set.pruned < 2 ^ 16)
     × Then (IsGroup family set.group)
     (Then (λ counts. counts ≡ big_bytes 2 (length set.joined) ++ big_bytes 2 (length set.pruned))
     (Then (AreEntries family set.joined) (AreEntries family set.pruned))) bytes
@@ -61,9 +65,11 @@ AreSets family (set ∷ sets) bytes = Then (IsSet family set) (AreSets family se
 
 -- a reserved byte, which is free, the number of sets and the holdtime
 abbrev pub IsHead : ℕ → ℕ → List ℕ → Type 0
-IsHead sets holdtime bytes = (sets < 2 ^ 8) × (holdtime < 2 ^ 16) × (bytes ≡ slice_index bytes 0 ∷ sets ∷ big_bytes 2 holdtime)
+IsHead sets holdtime bytes = (sets < 2 ^ 8) × (holdtime < 2 ^ 16)
+    × (bytes ≡ slice_index bytes 0 ∷ sets ∷ big_bytes 2 holdtime)
 
 -- The body spells the message.
 abbrev pub Spells : AddressFamily → Message → List ℕ → Type 0
 Spells family message body =
-    Then (IsUnicast family message.upstream) (Then (IsHead (length message.sets) message.holdtime) (AreSets family message.sets)) body
+    Then (IsUnicast family message.upstream)
+    (Then (IsHead (length message.sets) message.holdtime) (AreSets family message.sets)) body

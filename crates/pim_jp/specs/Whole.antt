@@ -6,11 +6,15 @@ use Rattle.pim_jp.specs.Message.{joined_count, pruned_count, after_set, head_of,
 
 -- how many bytes the set at the front has, by its counts
 abbrev pub set_length : AddressFamily → List ℕ → ℕ
-set_length family bytes = group_length family + 4 + joined_count family bytes * source_length family + pruned_count family bytes * source_length family
+set_length family bytes =
+    group_length family + 4 + joined_count family bytes * source_length family
+    + pruned_count family bytes * source_length family
 
 unfoldable pub HoldsSets : AddressFamily → ℕ → List ℕ → Type 0
 HoldsSets family zero bytes = Unit {0}
-HoldsSets family (suc count) bytes = (set_length family bytes ≤ length bytes) × HoldsSets family count (after_set family bytes)
+HoldsSets family (suc count) bytes =
+    (set_length family bytes ≤ length bytes) × HoldsSets family count (after_set family bytes)
 
 abbrev pub HoldsMessage : AddressFamily → List ℕ → Type 0
-HoldsMessage family body = (unicast_length family + 4 ≤ length body) × HoldsSets family (set_count family body) (drop 4 (head_of family body))
+HoldsMessage family body = (unicast_length family + 4 ≤ length body)
+    × HoldsSets family (set_count family body) (drop 4 (head_of family body))

@@ -29,9 +29,11 @@ fn number_of_source<F: Family>(source: F::Addr) -> F::Number
 
 /// The number of the address of an entry.
 fn number_of_entry<F: Family>(entry: Entry<F::Addr>) -> F::Number
-    ensures same { (rpt : Bool) (this : Entry (List ℕ)) → IsOfKind F.family rpt this → same_source this (entry_seen F.bytes_of entry)
+    ensures same { (rpt : Bool) (this : Entry (List ℕ)) → IsOfKind F.family rpt this
+        → same_source this (entry_seen F.bytes_of entry)
         ≡ (is_of_kind rpt (entry_seen F.bytes_of entry) && is_listed F.value_of rpt (result ∷ []) this) }
-    ensures listed { (rpt : Bool) (numbers : List F.Number) → is_listed F.value_of rpt numbers (entry_seen F.bytes_of entry)
+    ensures listed { (rpt : Bool) (numbers : List F.Number)
+        → is_listed F.value_of rpt numbers (entry_seen F.bytes_of entry)
         ≡ (is_of_kind rpt (entry_seen F.bytes_of entry) && is_among F.value_of numbers (F.value_of result)) }
 {
     match entry {

@@ -17,7 +17,7 @@ use std::mem::size_of_val;
 mod tests;
 
 /// So few entries are compared one by one sooner than sorted.
-const FEW: u16 = 16;
+const FEW: u16 = 4;
 
 /// So many fit into the smaller block.
 const SOME: u16 = 128;

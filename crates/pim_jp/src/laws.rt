@@ -10,7 +10,8 @@ ghost use Rattle.pim_jp.specs.Message.{GroupSet, Message, message_of};
 ghost use Rattle.pim_jp.specs.Spelling.{Spells};
 ghost use Rattle.pim_jp.specs.Faults.{faults_of, faults};
 ghost use Rattle.pim_jp.specs.Parts.{set_parts};
-ghost use Rattle.pim_jp.specs.Canonical.{IsMessageSet, IsMessage, canonical_head, canonical_set, canonical, canonical_head_length, canonical_set_length, canonical_sets_length};
+ghost use Rattle.pim_jp.specs.Canonical.{IsMessageSet, IsMessage, canonical_head, canonical_set, canonical};
+ghost use Rattle.pim_jp.specs.Canonical.{canonical_head_length, canonical_set_length, canonical_sets_length};
 ghost use Rattle.pim_jp.specs.Plain.{SpellsPlainly};
 ghost use Rattle.pim_jp.specs.Laws.{ToldBefore, ReadsHead, ReadsSet};
 

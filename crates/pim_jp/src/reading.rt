@@ -9,7 +9,8 @@ ghost use Rattle.pim_jp.specs.Spelling.{is_star};
 ghost use Rattle.pim_jp.specs.Parts.{upstream, group, rest, entry_parts, set_parts};
 ghost use Rattle.pim_jp.specs.Faults.{short_kinds, kinds_at, faults_of, faults};
 ghost use Rattle.pim_jp.specs.Whole.{set_length, HoldsSets, HoldsMessage};
-ghost use Rattle.pim_jp.specs.Reading.{Judges, is_source_entry, is_rpt_entry, Passes, Stops, EntriesPass, AreApart, ClashesAt};
+ghost use Rattle.pim_jp.specs.Reading.{Judges, is_source_entry, is_rpt_entry, Passes, Stops, EntriesPass, AreApart};
+ghost use Rattle.pim_jp.specs.Reading.{ClashesAt};
 ghost use Rattle.pim_jp.specs.Reading.{lists_then, lists_length, lists_end, after_lists, set_then};
 
 use crate::clashes::first_clash;
@@ -79,7 +80,8 @@ fn check_rest<F: Family>(bytes: &[u8]) -> Result<(), JpKind>
 
 /// The same answer, with the fault told at this offset.
 fn told_at<T>(at: usize, part: Result<T, JpKind>) -> Result<T, JpFault>
-    ensures told { (kinds : List JpKind) → Judges part kinds → Judges result (map (λ kind. record { at = at; kind = kind }) kinds) }
+    ensures told { (kinds : List JpKind) → Judges part kinds
+        → Judges result (map (λ kind. record { at = at; kind = kind }) kinds) }
     ensures value { IfOk result (λ value. part ≡ Ok value) }
 {
     match part {
@@ -94,7 +96,8 @@ fn check_joined<F: Family>(at: usize, count: u16, bytes: &[u8]) -> Result<Kinds,
     ensures passes { IfOk result (λ _. EntriesPass F.family count [] at bytes.now) }
     ensures whole { IfOk result (λ _. count * source_length F.family ≤ length bytes.now) }
     ensures star { IfOk result (λ kinds. kinds.star ≡ list_any is_star (entries_of F.family count bytes.now)) }
-    ensures source { IfOk result (λ kinds. kinds.source ≡ list_any is_source_entry (entries_of F.family count bytes.now)) }
+    ensures source { IfOk result (λ kinds. kinds.source
+        ≡ list_any is_source_entry (entries_of F.family count bytes.now)) }
     ensures rpt { IfOk result (λ kinds. kinds.rpt ≡ list_any is_rpt_entry (entries_of F.family count bytes.now)) }
     ensures stops { IfErr result (Stops F.family (entry_parts F.family count [] [] at bytes.now)) }
 {
@@ -168,7 +171,8 @@ fn check_pruned<F: Family>(
 #[tactic(auto, using(crate::proofs::Walks::entries_end))]
 fn check_lists<F: Family>(at: usize, bytes: &[u8]) -> Result<&[u8], JpFault>
     requires fits { at + length bytes.now < 2 ^ 64 }
-    ensures passes { IfOk result (λ _. Passes F.family (lists_then F.family at bytes.now) (λ next. next (lists_end F.family at bytes.now) (after_lists F.family bytes.now))) }
+    ensures passes { IfOk result (λ _. Passes F.family (lists_then F.family at bytes.now)
+        (λ next. next (lists_end F.family at bytes.now) (after_lists F.family bytes.now))) }
     ensures whole { IfOk result (λ _. lists_length F.family bytes.now ≤ length bytes.now) }
     ensures after { IfOk result (λ after. after.now ≡ after_lists F.family bytes.now) }
     ensures stops { IfErr result (Stops F.family (lists_then F.family at bytes.now)) }
@@ -191,7 +195,8 @@ fn check_lists<F: Family>(at: usize, bytes: &[u8]) -> Result<&[u8], JpFault>
 fn check_set<F: Family>(at: usize, bytes: &[u8]) -> Result<&[u8], JpFault>
     requires fits { at + length bytes.now < 2 ^ 64 }
     ensures passes { IfOk result (λ _. Passes F.family (set_then F.family at bytes.now)
-        (λ next. next (lists_end F.family (at + group_length F.family) (drop (group_length F.family) bytes.now)) (after_set F.family bytes.now))) }
+        (λ next. next (lists_end F.family (at + group_length F.family) (drop (group_length F.family) bytes.now))
+        (after_set F.family bytes.now))) }
     ensures whole { IfOk result (λ _. set_length F.family bytes.now ≤ length bytes.now) }
     ensures after { IfOk result (λ after. after.now ≡ after_set F.family bytes.now) }
     ensures stops { IfErr result (Stops F.family (set_then F.family at bytes.now)) }

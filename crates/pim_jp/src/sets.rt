@@ -2,7 +2,8 @@
 
 ghost use Rattle.std.specs.Prelude.{◌≡◌, ◌≤◌, length};
 ghost use Rattle.std.specs.Iterator.{YieldsFirst, item_count};
-ghost use Rattle.pim_jp.specs.Message.{joined_count, pruned_count, joined_bytes, pruned_bytes, after_set, set_of, sets_of};
+ghost use Rattle.pim_jp.specs.Message.{joined_count, pruned_count, joined_bytes, pruned_bytes, after_set, set_of};
+ghost use Rattle.pim_jp.specs.Message.{sets_of};
 ghost use Rattle.pim_jp.specs.Whole.{set_length, HoldsSets};
 
 use crate::entries::Entries;

@@ -107,9 +107,11 @@ fn reads_star_of_ipv6(rt: HostRuntime) -> Result<(), Fail> {
 
 #[test]
 fn reads_a_source_in_both_lists(rt: HostRuntime) -> Result<(), Fail> {
-    let body =
-        b"\x01\0\x0a\0\0\x02\0\x01\0\xd2\x01\0\0\x20\xef\x01\x01\x01\0\x01\0\x01\x01\0\x04\x20\xc0\0\x02\x01\x01\0\x05\x20\xc0\0\x02\x01";
-    let message = JpView::<V4>::read(body)?;
+    let body = [
+        1, 0, 10, 0, 0, 2, 0, 1, 0, 210, 1, 0, 0, 32, 239, 1, 1, 1, 0, 1, 0, 1, 1, 0, 4, 32, 192,
+        0, 2, 1, 1, 0, 5, 32, 192, 0, 2, 1,
+    ];
+    let message = JpView::<V4>::read(&body)?;
     let set = message.sets().next().ok_or("one set")?;
     assert_eq!(rt; (set.joined_count(), set.pruned_count()), (1, 1));
     assert_eq!(rt; set.joined().next(), Some(Entry::Source([192, 0, 2, 1])));
@@ -327,9 +329,11 @@ fn writes_both_lists_in_their_order(rt: HostRuntime) {
     let joined = [Entry::Source([192, 0, 2, 1])];
     let pruned = [Entry::Rpt([192, 0, 2, 1]), Entry::Star([10, 9, 9, 9])];
     put_set::<V4>([239, 1, 1, 1], &joined, &pruned, &mut set);
-    let want =
-        b"\x01\0\0\x20\xef\x01\x01\x01\0\x01\0\x02\x01\0\x04\x20\xc0\0\x02\x01\x01\0\x05\x20\xc0\0\x02\x01\x01\0\x07\x20\x0a\x09\x09\x09";
-    assert_eq!(rt; set, *want);
+    let want = [
+        1, 0, 0, 32, 239, 1, 1, 1, 0, 1, 0, 2, 1, 0, 4, 32, 192, 0, 2, 1, 1, 0, 5, 32, 192, 0, 2,
+        1, 1, 0, 7, 32, 10, 9, 9, 9,
+    ];
+    assert_eq!(rt; set, want);
 }
 
 #[test]

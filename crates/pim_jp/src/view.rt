@@ -30,7 +30,8 @@ impl<'a, F: Family> Model for JpView<'a, F> {
 
     ghost view = { λ message. message_of F.family message.body.now };
 
-    ghost invariant = { λ message. HoldsMessage F.family message.body.now × IsMessage F.family (message_of F.family message.body.now) };
+    ghost invariant = { λ message. HoldsMessage F.family message.body.now
+        × IsMessage F.family (message_of F.family message.body.now) };
 }
 
 impl<'a, F: Family> JpView<'a, F> {
@@ -38,12 +39,13 @@ impl<'a, F: Family> JpView<'a, F> {
     /// offset, and of several at one part the first in the order of `JpKind`.
     ///
     /// It reads once, forward, and takes no memory; its cost grows with the length of the body. Where both lists of a
-    /// set have entries (S,G), or both have (S,G,rpt), which no message needs, the sources are looked for too: among 16
-    /// joined entries or fewer one by one, among more in blocks of at most 4,096 that are sorted on the stack (16 KiB
-    /// for IPv4, 64 KiB for IPv6). So at worst it costs, for n entries, n log n steps, as long as a set joins at most
-    /// 4,096 sources of a kind, and one search of each pruned entry for each further 4,096.
+    /// set have entries (S,G), or both have (S,G,rpt), which no message needs, the sources are looked for too: among 4
+    /// joined entries or fewer one by one, among more by their numbers, in blocks of at most 4,096 that are sorted on
+    /// the stack (16 KiB for IPv4, 64 KiB for IPv6). So at worst it costs, for n entries, n log n steps, as long as a
+    /// set joins at most 4,096 sources of a kind, and one search of each pruned entry for each further 4,096.
     pub fn read(body: &'a [u8]) -> Result<JpView<'a, F>, JpFault>
-        ensures answer { Answers (λ message. message) result (judged (faults F.family body.now) (message_of F.family body.now)) }
+        ensures answer { Answers (λ message. message) result
+            (judged (faults F.family body.now) (message_of F.family body.now)) }
 
         // The same, apart from the order in which a reader goes over the bytes.
         ensures spelled { IfOk result (λ message. Spells F.family message body.now) }

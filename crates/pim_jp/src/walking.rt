@@ -96,7 +96,8 @@ fn kind_of<F: Family>(bytes: &[u8]) -> Kinds
 fn check_entry<F: Family>(bytes: &[u8], has_star: bool) -> Result<Kinds, JpKind>
     ensures told { Judges result (lone_kinds F.family has_star bytes.now) }
     ensures star { IfOk result (λ kinds. kinds.star ≡ is_star (entry_of (source_value F.family bytes.now))) }
-    ensures source { IfOk result (λ kinds. kinds.source ≡ is_source_entry (entry_of (source_value F.family bytes.now))) }
+    ensures source { IfOk result (λ kinds. kinds.source
+        ≡ is_source_entry (entry_of (source_value F.family bytes.now))) }
     ensures rpt { IfOk result (λ kinds. kinds.rpt ≡ is_rpt_entry (entry_of (source_value F.family bytes.now))) }
     ensures whole { IfOk result (λ _. source_length F.family ≤ length bytes.now) }
 {
@@ -117,8 +118,10 @@ pub(crate) fn check_entries<F: Family>(
     has_star: bool,
 ) -> Result<Kinds, Stop>
     ensures clean { IfOk result (λ _. AreClean F.family has_star count bytes.now) }
-    ensures star { IfOk result (λ kinds. kinds.star ≡ (has_star || list_any is_star (entries_of F.family count bytes.now))) }
-    ensures source { IfOk result (λ kinds. kinds.source ≡ list_any is_source_entry (entries_of F.family count bytes.now)) }
+    ensures star { IfOk result (λ kinds. kinds.star
+        ≡ (has_star || list_any is_star (entries_of F.family count bytes.now))) }
+    ensures source { IfOk result (λ kinds. kinds.source
+        ≡ list_any is_source_entry (entries_of F.family count bytes.now)) }
     ensures rpt { IfOk result (λ kinds. kinds.rpt ≡ list_any is_rpt_entry (entries_of F.family count bytes.now)) }
     ensures whole { IfOk result (λ _. count * source_length F.family ≤ length bytes.now) }
     ensures stop { IfErr result (λ stop. StopsAt F.family has_star count bytes.now stop.place stop.kind) }

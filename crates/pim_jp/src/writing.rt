@@ -7,7 +7,8 @@ ghost use Rattle.pim_addr.specs.Encoded.{source_length, group_length};
 ghost use Rattle.pim_addr.specs.Canonical.{canonical_group};
 ghost use Rattle.pim_addr.specs.Seen.{source_seen};
 ghost use Rattle.pim_jp.specs.Spelling.{source_of};
-ghost use Rattle.pim_jp.specs.Canonical.{canonical_entry, canonical_set, canonical_head, canonical_head_length, canonical_set_length};
+ghost use Rattle.pim_jp.specs.Canonical.{canonical_entry, canonical_set, canonical_head, canonical_head_length};
+ghost use Rattle.pim_jp.specs.Canonical.{canonical_set_length};
 ghost use Rattle.pim_jp.specs.Seen.{entry_seen, set_seen};
 
 use crate::entry::Entry;
@@ -80,7 +81,8 @@ pub fn put_entry<F: Family>(entry: Entry<F::Addr>, bytes: &mut [u8])
 /// Writes an entry at this place.
 fn put_entry_at<F: Family>(entry: Entry<F::Addr>, at: usize, bytes: &mut [u8])
     requires { at + source_length F.family ≤ length bytes.old }
-    ensures written { bytes.new ≡ take at bytes.old ++ canonical_entry F.family (entry_seen F.bytes_of entry) ++ drop (at + source_length F.family) bytes.old }
+    ensures written { bytes.new ≡ take at bytes.old ++ canonical_entry F.family (entry_seen F.bytes_of entry)
+        ++ drop (at + source_length F.family) bytes.old }
     ensures length { length bytes.new ≡ length bytes.old }
 {
     let (_, behind) = bytes.split_at_mut(at);

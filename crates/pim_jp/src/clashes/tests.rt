@@ -20,7 +20,10 @@ const FORM_V4: Form<'static> = Form {
 };
 
 const FORM_V6: Form<'static> = Form {
-    front: b"\x02\0\xfe\x80\0\0\0\0\0\0\0\0\0\0\0\0\0\x02\0\x01\0\xd2\x02\0\0\x80\xff\x0e\0\0\0\0\0\0\0\0\0\0\0\0\0\x01",
+    front: &[
+        2, 0, 0xfe, 0x80, 0, 0, 0, 0, 0, 0, 0, 0, 0, 0, 0, 0, 0, 2, 0, 1, 0, 210, 2, 0, 0, 128,
+        0xff, 0x0e, 0, 0, 0, 0, 0, 0, 0, 0, 0, 0, 0, 0, 0, 1,
+    ],
     flags_before: b"\x02\0",
     flags_behind: b"\x80\x20\x01\x0d\xb8\0\0\0\0\0\0\0\0\0",
 };
@@ -33,7 +36,17 @@ struct Row {
     twins: Option<(u16, u16)>,
 }
 
-const ROWS: [Row; 7] = [
+const ROWS: [Row; 9] = [
+    Row {
+        joined: 4,
+        pruned: 4,
+        twins: Some((3, 3)),
+    },
+    Row {
+        joined: 5,
+        pruned: 3,
+        twins: Some((0, 4)),
+    },
     Row {
         joined: 16,
         pruned: 4,
