@@ -78,7 +78,10 @@ impl<'a, F: Family> GroupView<'a, F> {
 }
 
 /// The group that stands at this place of the row.
-pub(crate) fn group_at<'a, F: Family>(row: &'a [F::Addr], place: &Place<F::Addr>) -> GroupView<'a, F>
+pub(crate) fn group_at<'a, F: Family>(
+    row: &'a [F::Addr],
+    place: &Place<F::Addr>,
+) -> GroupView<'a, F>
     requires within { IsWithin (length row.now) place.now }
     requires normal { IsNormalGroup F.family (place_seen F.bytes_of row.now place.now) }
     ensures { result ≡ place_seen F.bytes_of row.now place.now }

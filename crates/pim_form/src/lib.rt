@@ -4,6 +4,7 @@
 //! a fault as that message; `wants` is the macros of RFC 7761, 4.1.
 #![tactic(auto)]
 
+mod form;
 mod groups;
 mod laws;
 mod place;
@@ -14,6 +15,7 @@ mod tree;
 mod wanting;
 mod writer;
 
+pub use form::NormalForm;
 pub use groups::{GroupView, Groups};
 pub use laws::{
     messages_tell_the_form, one_list_of_messages, one_normal_form, one_packing,
