@@ -1,6 +1,6 @@
 //! The normal form of a demand.
 
-ghost use Rattle.std.specs.Prelude.{◌≡◌, List, []};
+ghost use Rattle.std.specs.Prelude.{◌≡◌, List, [], IfOk};
 ghost use Rattle.pim_form.specs.NormalForm.{IsNormal, form_wants};
 
 use crate::groups::{Groups, group_at};
@@ -8,7 +8,7 @@ use crate::place::Place;
 use crate::sorted::find_group;
 use crate::tree::Tree;
 use pim_addr::Family;
-use std::alloc::Global;
+use std::alloc::{AllocError, Global};
 use std::marker::Model;
 
 /// A demand in its normal form. Contracts see the list of its groups, each with the exceptions of its star, if it has
@@ -68,4 +68,25 @@ impl<F: Family> NormalForm<F> {
     {
         let _row = &self.row;
     }
+}
+
+/// A copy of these values.
+fn copied<T: Copy>(alloc: Global, values: &[T]) -> Result<Vec<T>, AllocError>
+    ensures { IfOk result (λ copy. copy.items ≡ values.now) }
+{
+    let mut copy = Vec::new(alloc);
+    copy.extend_from_slice(values)?;
+    Ok(copy)
+}
+
+/// The normal form of what a normal form wants, which is that form again. The only refusal is want of memory.
+pub fn normal_again<F: Family>(
+    alloc: Global,
+    normal: &NormalForm<F>,
+) -> Result<NormalForm<F>, AllocError>
+    ensures { IfOk result (λ form. form ≡ normal.now) }
+{
+    let row = copied(alloc, &normal.row)?;
+    let places = copied(alloc, &normal.places)?;
+    Ok(NormalForm { row, places })
 }

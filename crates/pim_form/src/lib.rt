@@ -15,7 +15,7 @@ mod tree;
 mod wanting;
 mod writer;
 
-pub use form::NormalForm;
+pub use form::{NormalForm, normal_again};
 pub use groups::{GroupView, Groups};
 pub use laws::{
     messages_tell_the_form, one_list_of_messages, one_normal_form, one_packing,
