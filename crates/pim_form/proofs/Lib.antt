@@ -12,3 +12,4 @@ pub mod Headline
 pub mod Writers
 pub mod Searches
 pub mod Kept
+pub mod Spans

@@ -7,3 +7,4 @@ pub mod Messages
 pub mod Writer
 pub mod Seen
 pub mod Rows
+pub mod Blocks

@@ -7,6 +7,7 @@
 mod form;
 mod groups;
 mod laws;
+mod messages;
 mod place;
 mod sorted;
 #[cfg(test)]
@@ -21,6 +22,7 @@ pub use laws::{
     messages_tell_the_form, one_list_of_messages, one_normal_form, one_packing,
     sealed_message_is_read, size_is_length, some_source_is_outside,
 };
+pub use messages::Messages;
 pub use tree::Tree;
 pub use wanting::wants;
 pub use writer::{Writer, WriterFault};
