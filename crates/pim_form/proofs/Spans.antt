@@ -16,3 +16,13 @@ pub no_span_at : (bytes : List ℕ) (spans : List Span) (i : ℕ) → length spa
 no_span_at bytes [] i beyond = refl
 no_span_at bytes (span ∷ spans) zero beyond = absurd (omega arith)
 no_span_at bytes (span ∷ spans) (suc i) beyond = no_span_at bytes spans i (omega arith)
+
+pub same_by_items : (xs ys : List (List ℕ)) → length xs ≡ length ys → ((k : ℕ) → k < length xs → slice_get xs k ≡ slice_get ys k) → xs ≡ ys
+same_by_items [] [] long same = refl
+same_by_items [] (y ∷ ys) long same = absurd (omega arith)
+same_by_items (x ∷ xs) [] long same = absurd (omega arith)
+same_by_items (x ∷ xs) (y ∷ ys) long same =
+    let first : Some x ≡ Some y = same 0 (omega arith) in
+    let head : x ≡ y = cc in
+    let tail = same_by_items xs ys (omega arith) (λ k below. same (suc k) (omega arith)) in
+    λ i. head i ∷ tail i

@@ -1,6 +1,6 @@
 //! Messages in one block of bytes.
 
-ghost use Rattle.std.specs.Prelude.{◌≡◌, ◌<◌, [], length, slice_get, slice_index_or};
+ghost use Rattle.std.specs.Prelude.{IsTrue, ◌↔◌, ◌≡◌, ◌<◌, [], length, slice_get, slice_index_or};
 ghost use Rattle.pim_form.specs.Blocks.{told_bytes};
 
 use std::alloc::Global;
@@ -64,5 +64,32 @@ impl Messages {
         let (front, _) = self.bytes.split_at(span.end);
         let (_, message) = front.split_at(span.start);
         Some(message)
+    }
+
+    /// Whether both are the same messages, byte for byte.
+    pub fn same_bytes(&self, other: &Messages) -> bool
+        ensures { IsTrue result ↔ (self.now ≡ other.now) }
+    {
+        let count = self.count();
+        if count != other.count() {
+            return false;
+        }
+        for index in 0..count {
+            if !same_at(self, other, index) {
+                return false;
+            }
+        }
+        true
+    }
+}
+
+/// Whether both have the same message with this number, or none.
+fn same_at(one: &Messages, other: &Messages, index: usize) -> bool
+    ensures { IsTrue result ↔ (slice_get one.now index ≡ slice_get other.now index) }
+{
+    match (one.get(index), other.get(index)) {
+        (Some(a), Some(b)) => a == b,
+        (None, None) => true,
+        _ => false,
     }
 }
