@@ -13,3 +13,4 @@ pub mod Writers
 pub mod Searches
 pub mod Kept
 pub mod Spans
+pub mod StarSize

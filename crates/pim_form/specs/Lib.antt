@@ -8,3 +8,4 @@ pub mod Writer
 pub mod Seen
 pub mod Rows
 pub mod Blocks
+pub mod TooBig

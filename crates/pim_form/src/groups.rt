@@ -66,6 +66,13 @@ impl<'a, F: Family> GroupView<'a, F> {
         self.sources
     }
 
+    /// A law: what is true of each group. It does nothing.
+    pub fn is_normal(&self)
+        ensures { IsNormalGroup F.family self.now }
+    {
+        let _starred = self.starred;
+    }
+
     /// Whether the traffic of this source is wanted on this tree.
     pub fn wants(&self, source: F::Addr, tree: Tree) -> bool
         ensures { result ≡ group_wants self.now (F.bytes_of source) tree }

@@ -9,6 +9,7 @@ mod groups;
 mod laws;
 mod messages;
 mod place;
+mod sizes;
 mod sorted;
 #[cfg(test)]
 mod tests;
