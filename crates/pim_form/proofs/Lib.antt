@@ -8,6 +8,9 @@ pub mod Units
 pub mod Normal
 pub mod Spelled
 pub mod Told
+pub mod Headline
 pub mod Writers
 pub mod Searches
 pub mod Kept
+pub mod Spans
+pub mod StarSize

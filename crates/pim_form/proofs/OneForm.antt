@@ -73,7 +73,7 @@ none_before : (a : GroupForm) (form : List GroupForm) (s group : List ℕ) (tree
     → form_wants (a ∷ form) s group tree ≡ false
 none_before a form s group tree less below = none_below (a ∷ form) s group tree (less, IsBelowAll-trans group a.group (groups_of form) less below)
 
-of_others : (a : GroupForm) (form : List GroupForm) (s group : List ℕ) (tree : Tree) → same_address group a.group ≡ false → form_wants (a ∷ form) s group tree ≡ form_wants form s group tree
+pub of_others : (a : GroupForm) (form : List GroupForm) (s group : List ℕ) (tree : Tree) → same_address group a.group ≡ false → form_wants (a ∷ form) s group tree ≡ form_wants form s group tree
 of_others a form s group tree apart = rw apart refl
 
 or_false : (b : Bool) → (b || false) ≡ b
@@ -81,7 +81,7 @@ or_false true = refl
 or_false false = refl
 
 -- at the first group the others say nothing
-at_first : (a : GroupForm) (form : List GroupForm) (s : List ℕ) (tree : Tree) → AllByRecursion (λ other. slice_cmp nat_cmp a.group other ≡ Less) (groups_of form) → form_wants (a ∷ form) s a.group tree ≡ group_wants a s tree
+pub at_first : (a : GroupForm) (form : List GroupForm) (s : List ℕ) (tree : Tree) → AllByRecursion (λ other. slice_cmp nat_cmp a.group other ≡ Less) (groups_of form) → form_wants (a ∷ form) s a.group tree ≡ group_wants a s tree
 at_first a form s tree below = rw (same_itself a.group, none_below form s a.group tree below) (or_false (group_wants a s tree))
 
 same_others : (a b : GroupForm) (one other : List GroupForm) → a.group ≡ b.group

@@ -1,7 +1,6 @@
 -- What a search among addresses in order finds.
-use Rattle.std.proofs.Common.{◌≡◌, ◌∙◌, sym, ap, ℕ, zero, suc, ◌+◌, ◌≤◌, ◌<◌, Bool, true, false, ◌||◌, List, [], ◌∷◌, Ordering, length, get_or, map, refl, ⊎_elim, arith, add-one}
+use Rattle.std.proofs.Common.{◌≡◌, ◌∙◌, sym, ap, ℕ, zero, suc, ◌≤◌, ◌<◌, Bool, true, false, ◌||◌, List, [], ◌∷◌, Ordering, length, get_or, map, refl, ⊎_elim, arith, add-one}
 use Rattle.std.proofs.lemmas.Bool.{cases_lt}
-use Rattle.std.specs.List.{AllByRecursion, list_any}
 use Rattle.std.specs.List.Sorted.{IsSortedBy, IsStrictlySortedBy, IsNonDecreasingBy, IsPartitionPoint}
 use Rattle.std.specs.Ordering.{nat_cmp, is_lt, ordering_index, ordering_reverse}
 use Rattle.std.specs.declared.cmp.Ordering.TheVariants.{Less, Equal, Greater}
@@ -37,21 +36,23 @@ module _ {A : Type 0} (bytes_of : A → List ℕ) where
   unlisted_all [] a none = refl
   unlisted_all (x ∷ xs) a none = rw (none 0 x (omega arith)) (unlisted_all xs a (λ i d below. none (suc i) d (omega arith)))
 
-  module _ (cmp : A → A → Ordering) (order : (a b : A) → cmp a b ≡ slice_cmp nat_cmp (bytes_of a) (bytes_of b)) where
-    pub found : (xs : List A) (x : A) (i : ℕ) → i < length xs → ((d : A) → cmp (get_or xs i d) x ≡ Equal) → is_listed (bytes_of x) (map bytes_of xs) ≡ true
-    found xs x i below same =
-        let equal = equal_is (bytes_of (get_or xs i x)) (bytes_of x) (sym (order (get_or xs i x) x) ∙ same x) in
-        listed_at xs (bytes_of x) i x below (rw equal (same_itself (bytes_of x)))
+  -- `cmp` compares with the address that is looked for
+  module _ (sought : List ℕ) (cmp : A → Ordering) (order : (a : A) → cmp a ≡ slice_cmp nat_cmp (bytes_of a) sought) where
+    pub same_at : (xs : List A) (i : ℕ) (d : A) → ((d : A) → cmp (get_or xs i d) ≡ Equal) → bytes_of (get_or xs i d) ≡ sought
+    same_at xs i d same = equal_is (bytes_of (get_or xs i d)) sought (sym (order (get_or xs i d)) ∙ same d)
 
-    pub missed : (xs : List A) (x : A) (i : ℕ) → AreAscending (map bytes_of xs)
-        → (IsNonDecreasingBy (λ y. ordering_index (cmp y x)) xs → IsPartitionPoint (λ y. cmp y x ≡ Less) (λ y. cmp y x ≡ Greater) xs i)
-        → is_listed (bytes_of x) (map bytes_of xs) ≡ false
-    missed xs x i up point =
-        let rises = searchable_from_sorted nat_list_cmp_total bytes_of xs (bytes_of x) (is_sorted xs up) in
-        let rises' : IsNonDecreasingBy (λ y. ordering_index (cmp y x)) xs = λ j k d low high. rw (order (get_or xs j d) x, order (get_or xs k d) x) (rises j k d low high) in
+    pub found : (xs : List A) (i : ℕ) (d : A) → i < length xs → ((d : A) → cmp (get_or xs i d) ≡ Equal) → is_listed sought (map bytes_of xs) ≡ true
+    found xs i d below same = listed_at xs sought i d below (rw (same_at xs i d same) (same_itself sought))
+
+    pub missed : (xs : List A) (i : ℕ) → AreAscending (map bytes_of xs)
+        → (IsNonDecreasingBy (λ y. ordering_index (cmp y)) xs → IsPartitionPoint (λ y. cmp y ≡ Less) (λ y. cmp y ≡ Greater) xs i)
+        → is_listed sought (map bytes_of xs) ≡ false
+    missed xs i up point =
+        let rises = searchable_from_sorted nat_list_cmp_total bytes_of xs sought (is_sorted xs up) in
+        let rises' : IsNonDecreasingBy (λ y. ordering_index (cmp y)) xs = λ j k d low high. rw (order (get_or xs j d), order (get_or xs k d)) (rises j k d low high) in
         let sides = point rises' in
-        unlisted_all xs (bytes_of x) (λ k d below.
+        unlisted_all xs sought (λ k d below.
         ⊎_elim
-        (λ (before : k < i). less_apart_back (bytes_of (get_or xs k d)) (bytes_of x) (sym (order (get_or xs k d) x) ∙ sides.0 k d (omega arith) before))
-        (λ (behind : i ≤ k). less_apart (bytes_of x) (bytes_of (get_or xs k d)) (greater_less (bytes_of (get_or xs k d)) (bytes_of x) (sym (order (get_or xs k d) x) ∙ sides.1 k d behind below)))
+        (λ (before : k < i). less_apart_back (bytes_of (get_or xs k d)) sought (sym (order (get_or xs k d)) ∙ sides.0 k d (omega arith) before))
+        (λ (behind : i ≤ k). less_apart sought (bytes_of (get_or xs k d)) (greater_less (bytes_of (get_or xs k d)) sought (sym (order (get_or xs k d)) ∙ sides.1 k d behind below)))
         (cases_lt k i))

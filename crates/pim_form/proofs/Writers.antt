@@ -1,5 +1,5 @@
 -- Which writer is refused, and what is true of one that isn't.
-use Rattle.std.proofs.Common.{◌≡◌, ◌∙◌, ◌≤◌, ◌<◌, ◌^◌, Bool, true, false, ◌||◌, ◌⊎◌, not, nat_lt, ◌++◌, Result, Ok, Err, refl, sym, subst, ⊎_elim}
+use Rattle.std.proofs.Common.{◌≡◌, ◌∙◌, ◌≤◌, ◌<◌, ◌^◌, Bool, true, false, ◌||◌, not, nat_lt, ◌++◌, Result, Ok, Err, refl, sym, subst}
 use Rattle.std.proofs.lemmas.Bool.{false≢true, not-false, lt-ltb, le-ltb, ltb-false}
 use Rattle.pim_addr.specs.declared.family.AddressFamily.{AddressFamily}
 use Rattle.pim_addr.specs.Address.{IsAddress, is_source}
@@ -53,7 +53,7 @@ module _ {A : Type 0} (family : AddressFamily) (writing : Writing) (value : A) w
   pub budget_told : has_bad_address family writing ≡ false → 99 ≤ writing.holdtime → (70 ≤ writing.budget → writing.budget ≤ 65000 → ⊥) → Told Budget
   budget_told h long clash =
       let tests = outside (nat_lt writing.budget 70) (nat_lt 65000 writing.budget)
-        (λ least most. clash (ltb-false writing.budget 70 least) (ltb-false 65000 writing.budget most)) in
+      (λ least most. clash (ltb-false writing.budget 70 least) (ltb-false 65000 writing.budget most)) in
       sym
       (third_told (has_bad_address family writing) (nat_lt writing.holdtime 99) (nat_lt writing.budget 70 || nat_lt 65000 writing.budget) Address Holdtime Budget value h (le-ltb writing.holdtime 99 long) tests)
 

@@ -1,5 +1,5 @@
 -- The words of the laws in `src/laws.rt`.
-use Rattle.std.specs.Prelude.{◌≡◌, ◌≤◌, false, true, List, [], ℕ, Option, length}
+use Rattle.std.specs.Prelude.{◌≡◌, ◌↔◌, ◌≤◌, false, true, List, [], ℕ, Option, length}
 use Rattle.pim_addr.specs.declared.family.AddressFamily.{AddressFamily}
 use Rattle.pim_frame.specs.Frame.{join_prune, frame_faults, content, all_routers}
 use Rattle.pim_frame.specs.Seal.{IsSealed}
@@ -7,7 +7,7 @@ use Rattle.pim_frame.specs.declared.frame.Kind.TheVariants.{JoinPrune}
 use Rattle.pim_jp.specs.Message.{Message, message_of}
 use Rattle.pim_jp.specs.Faults.{faults}
 use Rattle.pim_jp.specs.Canonical.{IsMessage, canonical}
-use Rattle.pim_form.specs.NormalForm.{GroupForm, IsNormal, IsSource, is_listed, most_exceptions, WantTheSame}
+use Rattle.pim_form.specs.NormalForm.{Demand, Agree, IsFormOf, GroupForm, IsNormal, IsSource, is_listed, most_exceptions, WantTheSame}
 use Rattle.pim_form.specs.Units.{WantUnit, units_of, run_size}
 use Rattle.pim_form.specs.Packing.{IsPacking, fits}
 use Rattle.pim_form.specs.Messages.{Writing, IsWriting, HaveRps, AreCanonical, told_message}
@@ -59,6 +59,13 @@ MessagesTellTheForm = (family : AddressFamily) (writing : Writing) (rps : List �
 abbrev pub OneListOfMessages : Type 0
 OneListOfMessages = (family : AddressFamily) (writing : Writing) (rps : List ℕ → Option (List ℕ)) (form : List GroupForm) (one other : List (List ℕ)) →
     AreCanonical family writing rps form one → AreCanonical family writing rps form other → one ≡ other
+
+-- The messages of two demands, each in its normal form and told by one writer, are the same exactly if the demands agree.
+abbrev pub SameMessagesSameDemand : Type 0
+SameMessagesSameDemand = (family : AddressFamily) (writing : Writing) (rps : List ℕ → Option (List ℕ)) (this that : Demand)
+    (one other : List GroupForm) (first second : List (List ℕ)) →
+    IsWriting family writing → IsFormOf family this one → IsFormOf family that other → HaveRps family rps one → HaveRps family rps other →
+    AreCanonical family writing rps one first → AreCanonical family writing rps other second → (first ≡ second) ↔ Agree family this that
 
 -- The size of a run that fits is the length of the message that tells it.
 abbrev pub SizeIsLength : Type 0

@@ -7,3 +7,5 @@ pub mod Messages
 pub mod Writer
 pub mod Seen
 pub mod Rows
+pub mod Blocks
+pub mod TooBig

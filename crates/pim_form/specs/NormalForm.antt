@@ -79,7 +79,21 @@ group_wants form source Source = is_listed source form.sources
 abbrev pub form_wants : List GroupForm → List ℕ → List ℕ → Tree → Bool
 form_wants form source group tree = list_any (λ this. same_address group this.group && group_wants this source tree) form
 
--- Two forms want the same of every valid source, every group and both trees.
+-- ---- demands: which source of which group is wanted on which tree
+
+abbrev pub Demand : Type 0
+Demand = List ℕ → List ℕ → Tree → Bool
+
+-- Two demands agree on every valid source, every group and both trees.
+abbrev pub Agree : AddressFamily → Demand → Demand → Type 0
+Agree family one other = (source group : List ℕ) (tree : Tree) → IsSource family source → IsGroup family group →
+    one source group tree ≡ other source group tree
+
+-- two forms want the same
 abbrev pub WantTheSame : AddressFamily → List GroupForm → List GroupForm → Type 0
-WantTheSame family one other = (source group : List ℕ) (tree : Tree) → IsSource family source → IsGroup family group →
-    form_wants one source group tree ≡ form_wants other source group tree
+WantTheSame family one other = Agree family (form_wants one) (form_wants other)
+
+-- a normal form that wants what is demanded
+pub record IsFormOf (family : AddressFamily) (demand : Demand) (form : List GroupForm) : Type 0 where
+  pub normal : IsNormal family form
+  pub wants : Agree family demand (form_wants form)

@@ -1,9 +1,9 @@
 -- How a form is kept: the addresses of all groups stand in one row, and of each group it is known where its own stand.
-use Rattle.std.specs.Prelude.{◌≡◌, ℕ, ◌≤◌, Bool, List, [], Option, None, Some, length, take, drop, map, if◌then◌else◌}
+use Rattle.std.specs.Prelude.{◌≡◌, ℕ, ◌≤◌, ◌<◌, slice_index_or, Bool, false, List, [], Option, None, Some, length, take, drop, map, if◌then◌else◌}
 use Rattle.std.specs.List.{AllByRecursion}
 use Rattle.pim_form.specs.declared.place.Place.{Place}
 use Rattle.pim_addr.specs.declared.family.AddressFamily.{AddressFamily}
-use Rattle.pim_form.specs.NormalForm.{GroupForm, IsNormalGroup, IsNormal}
+use Rattle.pim_form.specs.NormalForm.{GroupForm, IsNormalGroup, IsNormal, is_listed}
 
 -- the part of a row from one place to another
 abbrev pub between : {A : Type 0} → ℕ → ℕ → List A → List A
@@ -43,3 +43,11 @@ module _ {A : Type 0} (bytes_of : A → List ℕ) where
   pub record IsKept (family : AddressFamily) (row : List A) (places : List (Place A)) : Type 0 where
     pub within : AllByRecursion (IsWithin (length row)) places
     pub normal : IsNormal family (form_seen row places)
+
+  abbrev pub place_group : Place A → List ℕ
+  place_group place = bytes_of place.group
+
+  -- where a group stands among places: at this index, or nowhere
+  abbrev pub Finds : List ℕ → List (Place A) → Option ℕ → Type 0
+  Finds group places None = is_listed group (map place_group places) ≡ false
+  Finds group places (Some index) = (index < length places) × ((d : Place A) → place_group (slice_index_or places index d) ≡ group)

@@ -66,6 +66,13 @@ impl<'a, F: Family> GroupView<'a, F> {
         self.sources
     }
 
+    /// A law: what is true of each group. It does nothing.
+    pub fn is_normal(&self)
+        ensures { IsNormalGroup F.family self.now }
+    {
+        let _starred = self.starred;
+    }
+
     /// Whether the traffic of this source is wanted on this tree.
     pub fn wants(&self, source: F::Addr, tree: Tree) -> bool
         ensures { result ≡ group_wants self.now (F.bytes_of source) tree }
@@ -78,7 +85,10 @@ impl<'a, F: Family> GroupView<'a, F> {
 }
 
 /// The group that stands at this place of the row.
-pub(crate) fn group_at<'a, F: Family>(row: &'a [F::Addr], place: &Place<F::Addr>) -> GroupView<'a, F>
+pub(crate) fn group_at<'a, F: Family>(
+    row: &'a [F::Addr],
+    place: &Place<F::Addr>,
+) -> GroupView<'a, F>
     requires within { IsWithin (length row.now) place.now }
     requires normal { IsNormalGroup F.family (place_seen F.bytes_of row.now place.now) }
     ensures { result ≡ place_seen F.bytes_of row.now place.now }

@@ -1,7 +1,7 @@
 //! What the definitions say together. Nothing here is to be called.
 
 ghost use Rattle.pim_form.specs.Laws.{SealedMessageIsRead, SomeSourceIsOutside, OneNormalForm, OnePacking};
-ghost use Rattle.pim_form.specs.Laws.{MessagesTellTheForm, OneListOfMessages, SizeIsLength};
+ghost use Rattle.pim_form.specs.Laws.{MessagesTellTheForm, OneListOfMessages, SameMessagesSameDemand, SizeIsLength};
 
 /// A canonical message that is sealed for ALL-PIM-ROUTERS opens between the same addresses as a Join/Prune without a
 /// fault, and its body is read without a fault as that message (RFC 7761, 4.9 and 4.9.5).
@@ -47,4 +47,14 @@ pub fn one_list_of_messages()
     ensures { OneListOfMessages }
 {
     pim_frame::one_checksum();
+}
+
+/// The canonical messages of two demands by one writer are byte-equal exactly if the demands agree on every valid source,
+/// every group and both trees.
+pub fn same_messages_same_demand()
+    ensures { SameMessagesSameDemand }
+{
+    pim_frame::one_checksum();
+    pim_frame::sealed_opens();
+    pim_jp::canonical_is_read();
 }

@@ -4,9 +4,12 @@
 //! a fault as that message; `wants` is the macros of RFC 7761, 4.1.
 #![tactic(auto)]
 
+mod form;
 mod groups;
 mod laws;
+mod messages;
 mod place;
+mod sizes;
 mod sorted;
 #[cfg(test)]
 mod tests;
@@ -14,11 +17,13 @@ mod tree;
 mod wanting;
 mod writer;
 
+pub use form::{NormalForm, normal_again};
 pub use groups::{GroupView, Groups};
 pub use laws::{
     messages_tell_the_form, one_list_of_messages, one_normal_form, one_packing,
     sealed_message_is_read, size_is_length, some_source_is_outside,
 };
+pub use messages::Messages;
 pub use tree::Tree;
 pub use wanting::wants;
 pub use writer::{Writer, WriterFault};

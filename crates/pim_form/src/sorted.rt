@@ -1,8 +1,10 @@
-//! Looking for an address among those in order.
+//! Looking for an address among those in order, and for a group among places.
 
 ghost use Rattle.std.specs.Prelude.{◌≡◌, map};
 ghost use Rattle.pim_form.specs.NormalForm.{AreAscending, is_listed};
+ghost use Rattle.pim_form.specs.Rows.{place_group, Finds};
 
+use crate::place::Place;
 use pim_addr::Family;
 
 /// Whether the address is one of these, which are in strictly ascending order.
@@ -13,5 +15,16 @@ pub(crate) fn is_listed<F: Family>(sorted: &[F::Addr], address: F::Addr) -> bool
     match sorted.binary_search(&address) {
         Ok(_) => true,
         Err(_) => false,
+    }
+}
+
+/// Where the group stands among these, whose groups are in strictly ascending order.
+pub(crate) fn find_group<F: Family>(places: &[Place<F::Addr>], group: F::Addr) -> Option<usize>
+    requires { AreAscending (map (place_group F.bytes_of) places.now) }
+    ensures { Finds F.bytes_of (F.bytes_of group) places.now result }
+{
+    match places.binary_search_by_key(&group, |place| place.group) {
+        Ok(index) => Some(index),
+        Err(_) => None,
     }
 }

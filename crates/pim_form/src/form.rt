@@ -1,0 +1,92 @@
+//! The normal form of a demand.
+
+ghost use Rattle.std.specs.Prelude.{◌≡◌, List, [], IfOk};
+ghost use Rattle.pim_form.specs.NormalForm.{IsNormal, form_wants};
+
+use crate::groups::{Groups, group_at};
+use crate::place::Place;
+use crate::sorted::find_group;
+use crate::tree::Tree;
+use pim_addr::Family;
+use std::alloc::{AllocError, Global};
+use std::marker::Model;
+
+/// A demand in its normal form. Contracts see the list of its groups, each with the exceptions of its star, if it has
+/// one, and its sources.
+#[derive(Drop)]
+pub struct NormalForm<F: Family> {
+    /// The addresses of all groups.
+    row: Vec<F::Addr>,
+    /// In the order of groups.
+    places: Vec<Place<F::Addr>>,
+}
+
+impl<F: Family> Model for NormalForm<F> {
+    ghost use Rattle.std.specs.Prelude.{List};
+    ghost use Rattle.pim_form.specs.NormalForm.{GroupForm};
+    ghost use Rattle.pim_form.specs.Rows.{form_seen, IsKept};
+
+    ghost Value = { List GroupForm };
+
+    ghost view = { λ form. form_seen F.bytes_of form.row.items form.places.items };
+
+    ghost invariant = { λ form. IsKept F.bytes_of F.family form.row.items form.places.items };
+}
+
+impl<F: Family> NormalForm<F> {
+    /// The form that wants nothing.
+    pub(crate) fn empty(alloc: Global) -> Self
+        ensures { result ≡ [] }
+    {
+        NormalForm {
+            row: Vec::new(alloc),
+            places: Vec::new(alloc),
+        }
+    }
+
+    /// The groups, in order.
+    pub fn groups(&self) -> Groups<'_, F>
+        ensures { result ≡ self.now }
+    {
+        Groups::new(&self.row, &self.places)
+    }
+
+    /// Whether the traffic of this source to this group is wanted on this tree. It looks for the group and then for the
+    /// source, each in as many steps as their number has binary digits.
+    pub fn wants(&self, source: F::Addr, group: F::Addr, tree: Tree) -> bool
+        ensures { result ≡ form_wants self.now (F.bytes_of source) (F.bytes_of group) tree }
+    {
+        match find_group::<F>(&self.places, group) {
+            Some(index) => group_at::<F>(&self.row, &self.places[index]).wants(source, tree),
+            None => false,
+        }
+    }
+
+    /// A law: what is true of each form. It does nothing.
+    pub fn is_normal(&self)
+        ensures { IsNormal F.family self.now }
+    {
+        let _row = &self.row;
+    }
+}
+
+/// A copy of these values.
+fn copied<T: Copy>(alloc: Global, values: &[T]) -> Result<Vec<T>, AllocError>
+    ensures { IfOk result (λ copy. copy.items ≡ values.now) }
+{
+    let mut copy = Vec::new(alloc);
+    copy.extend_from_slice(values)?;
+    Ok(copy)
+}
+
+/// The normal form of what a normal form wants, which is that form again. The only refusal is want of memory.
+pub fn normal_again<F: Family>(
+    alloc: Global,
+    normal: &NormalForm<F>,
+) -> Result<NormalForm<F>, AllocError>
+    ensures { IfOk result (λ form. form ≡ normal.now) }
+{
+    let row = copied(alloc, &normal.row)?;
+    let places = copied(alloc, &normal.places)?;
+    Ok(NormalForm { row, places })
+}

@@ -1,0 +1,95 @@
+//! Messages in one block of bytes.
+
+ghost use Rattle.std.specs.Prelude.{IsTrue, ◌↔◌, ◌≡◌, ◌<◌, [], length, slice_get, slice_index_or};
+ghost use Rattle.pim_form.specs.Blocks.{told_bytes};
+
+use std::alloc::Global;
+use std::marker::Model;
+
+/// Where a message stands in the block.
+#[derive(Clone, Copy)]
+pub(crate) struct Span {
+    /// Where it begins.
+    pub(crate) start: usize,
+    /// Where it ends.
+    pub(crate) end: usize,
+}
+
+/// Messages, one after another. Contracts see the list of their bytes.
+#[derive(Drop)]
+pub struct Messages {
+    bytes: Vec<u8>,
+    spans: Vec<Span>,
+}
+
+impl Model for Messages {
+    ghost use Rattle.std.specs.Prelude.{ℕ, List, length};
+    ghost use Rattle.std.specs.List.{AllByRecursion};
+    ghost use Rattle.pim_form.specs.Blocks.{IsSpan, messages_seen};
+
+    ghost Value = { List (List ℕ) };
+
+    ghost view = { λ messages. messages_seen messages.bytes.items messages.spans.items };
+
+    ghost invariant = { λ messages. AllByRecursion (IsSpan (length messages.bytes.items)) messages.spans.items };
+}
+
+impl Messages {
+    /// No messages.
+    pub(crate) fn none(alloc: Global) -> Self
+        ensures { result ≡ [] }
+    {
+        Messages {
+            bytes: Vec::new(alloc),
+            spans: Vec::new(alloc),
+        }
+    }
+
+    /// How many messages there are.
+    #[tactic(auto, using(crate::proofs::Spans::spans_count))]
+    pub fn count(&self) -> usize
+        ensures { result ≡ length self.now }
+    {
+        self.spans.len()
+    }
+
+    /// The bytes of one message, from its header on, numbered from 0; none from `count()` on.
+    pub fn get(&self, index: usize) -> Option<&[u8]>
+        ensures { told_bytes result ≡ slice_get self.now index }
+    {
+        if index >= self.spans.len() {
+            return None;
+        }
+        let span = self.spans[index];
+        let (front, _) = self.bytes.split_at(span.end);
+        let (_, message) = front.split_at(span.start);
+        Some(message)
+    }
+
+    /// Whether both are the same messages, byte for byte.
+    pub fn same_bytes(&self, other: &Messages) -> bool
+        ensures { IsTrue result ↔ (self.now ≡ other.now) }
+    {
+        let count = self.count();
+        if count != other.count() {
+            return false;
+        }
+        for index in 0..count {
+            if !same_at(self, other, index) {
+                return false;
+            }
+        }
+        true
+    }
+}
+
+/// Whether both have the same message with this number, or none.
+fn same_at(one: &Messages, other: &Messages, index: usize) -> bool
+    ensures { IsTrue result ↔ (slice_get one.now index ≡ slice_get other.now index) }
+{
+    match (one.get(index), other.get(index)) {
+        (Some(a), Some(b)) => a == b,
+        (None, None) => true,
+        _ => false,
+    }
+}

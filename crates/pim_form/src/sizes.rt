@@ -1,0 +1,40 @@
+//! How long what is written is.
+
+ghost use Rattle.std.specs.Prelude.{◌≡◌, ◌≤◌, ◌+◌, ◌*◌, option_map};
+ghost use Rattle.pim_form.specs.Units.{empty_message_size, empty_set_size, entry_size};
+ghost use Rattle.pim_form.specs.TooBig.{star_fits, too_big};
+
+use crate::form::NormalForm;
+use crate::groups::GroupView;
+use pim_addr::{Family, group_length, source_length, unicast_length};
+
+/// The bytes of a message with so many groups and entries. There are at most 255 of the one and 100,001 of the other.
+fn message_size<F: Family>(groups: usize, entries: usize) -> usize
+    requires groups { groups ≤ 255 }
+    requires entries { entries ≤ 100001 }
+    ensures { result ≡ empty_message_size F.family + groups * empty_set_size F.family + entries * entry_size F.family }
+{
+    let head = unicast_length::<F>() + 8;
+    let set = group_length::<F>() + 4;
+    head + groups * set + entries * source_length::<F>()
+}
+
+/// Whether a group's star with all its exceptions fits a message alone.
+fn star_fits<F: Family>(group: &GroupView<'_, F>, budget: usize) -> bool
+    ensures { result ≡ star_fits F.family budget group.now.group group.now.star }
+{
+    group.is_normal();
+    !group.star() || message_size::<F>(1, 1 + group.exceptions().len()) <= budget
+}
+
+/// The least group whose star doesn't fit a message of this budget alone, if there is one.
+pub(crate) fn too_big<F: Family>(normal: &NormalForm<F>, budget: usize) -> Option<F::Addr>
+    ensures { option_map F.bytes_of result ≡ too_big F.family budget normal.now }
+{
+    for group in normal.groups() {
+        if !star_fits(&group, budget) {
+            return Some(group.group());
+        }
+    }
+    None
+}
