@@ -5,7 +5,7 @@ mod wanting;
 mod writers;
 
 use crate::{Tree, wants};
-use pim_addr::V4;
+use pim_addr::{Routes, V4};
 use pim_down::{Ports, Timing};
 use pim_jp::{Entry, JpView};
 use std::alloc::{AllocError, Global};
@@ -111,7 +111,11 @@ fn hear(alloc: Global, ports: &mut Ports<V4>, message: &Heard<'_>) -> Result<boo
     if message.port >= ports.port_count() || timing.override_ms > 98_302 {
         return Ok(false);
     }
-    Ok(ports.hear(message.port, &view, Some(RP), timing).is_ok())
+    let mut routes = Routes::new(alloc);
+    if routes.add_rp([224, 0, 0, 0], 4, RP).is_err() {
+        return Ok(false);
+    }
+    Ok(ports.hear(message.port, &view, &routes, timing).is_ok())
 }
 
 /// Whether the sources 192.0.2.1 and 192.0.2.2 are wanted on the shared tree, and on their own.
