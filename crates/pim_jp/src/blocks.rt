@@ -98,7 +98,7 @@ fn first_listed<F: Family>(sorted: &[F::Number], rpt: bool, count: u16, bytes: &
 }
 
 /// Takes as many entries as the block has room for, and puts the numbers of the sources of those that are of the kind
-/// at its front: so many. No branch goes by the kind of an entry.
+/// at its front: so many.
 fn fill<F: Family>(entries: &mut Entries<'_, F>, rpt: bool, block: &mut [F::Number]) -> usize
     requires { 0 < length block.old }
     ensures bound { result ≤ length block.new }
@@ -112,8 +112,10 @@ fn fill<F: Family>(entries: &mut Entries<'_, F>, rpt: bool, block: &mut [F::Numb
         let Some(entry) = entries.next() else {
             return used;
         };
-        block[used] = number_of_entry::<F>(entry);
-        used += usize::from(is_of_kind::<F>(entry, rpt));
+        if is_of_kind::<F>(entry, rpt) {
+            block[used] = number_of_entry::<F>(entry);
+            used += 1;
+        }
     }
     used
 }
