@@ -1,7 +1,9 @@
 //! The demand of the downstream machines: what they want, its one normal form, and the Join/Prune messages that tell it.
 //!
-//! Proved: a canonical message that is sealed for ALL-PIM-ROUTERS opens without a fault, and its body is read without
-//! a fault as that message; `wants` is the macros of RFC 7761, 4.1.
+//! Proved: `wants` is the macros of RFC 7761, 4.1. Normal forms that want the same are one; a list of units has one
+//! packing at most; a form has at most one list of canonical messages by a writer, and messages tell their form, so that
+//! messages are byte-equal exactly if the demands agree. A canonical message that is sealed for ALL-PIM-ROUTERS opens
+//! without a fault and is read as that message.
 #![tactic(auto)]
 
 mod form;
