@@ -1,0 +1,4 @@
+pub mod Room
+pub mod Shape
+pub mod Sound
+pub mod Places
