@@ -3,9 +3,8 @@ use Rattle.std.proofs.Common.{◌≡◌, ℕ, ◌+◌, ◌-◌, ◌*◌, ◌^◌
 use Rattle.std.specs.List.{insert, remove}
 use Rattle.std.proofs.lemmas.List.{get_or_read, length-set, length-take-le}
 use Rattle.std.proofs.lemmas.List.Edits.{length-insert, length-remove}
-use Rattle.sorted_blocks.specs.Shape.{joined, beyond}
-use Rattle.sorted_blocks.specs.Sound.{AllFilled, IsSound}
-use Rattle.sorted_blocks.proofs.Edits.{beyond-set, beyond-insert, beyond-remove, count-set, count-insert, count-remove, filled-get, filled-set, filled-insert, filled-remove, beyond-few, count-few}
+use Rattle.sorted_blocks.specs.Sound.{IsSound}
+use Rattle.sorted_blocks.proofs.Counted.{beyond-set, beyond-insert, beyond-remove, count-set, count-insert, count-remove, filled-get, filled-set, filled-insert, filled-remove, beyond-few, count-few}
 
 module _ {A : Type 0} where
   -- another block in a block's place

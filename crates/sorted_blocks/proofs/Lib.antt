@@ -1,2 +1,7 @@
-pub mod Edits
+pub mod Counted
+pub mod Joined
 pub mod Kept
+pub mod Moves
+pub mod Rooms
+pub mod Seeking
+pub mod Starts

@@ -1,5 +1,5 @@
 -- Places in a list of blocks.
-use Rattle.std.specs.Prelude.{ℕ, ◌+◌, ◌-◌, ◌<◌, ◌≤◌, List, [], length, take, slice_index_or}
+use Rattle.std.specs.Prelude.{ℕ, ◌+◌, ◌-◌, ◌<◌, ◌≤◌, [], length, take, slice_index_or}
 use Rattle.sorted_blocks.specs.declared.place.Place.{Place}
 use Rattle.sorted_blocks.specs.Shape.{Shape, joined}
 

@@ -2,7 +2,7 @@
 
 ghost use Rattle.std.specs.Prelude.{◌≡◌, ℕ, ◌+◌, ◌-◌, ◌<◌, ◌≤◌, [], ◌∷◌, ◌++◌, length, take, drop, slice_index_or, slice_set, OnOk, OnErr};
 ghost use Rattle.std.specs.List.{insert, remove};
-ghost use Rattle.sorted_blocks.specs.Shape.{Shape, joined, beyond};
+ghost use Rattle.sorted_blocks.specs.Shape.{Shape, joined, room};
 
 use crate::block::Block;
 use std::alloc::{AllocError, Global};
@@ -69,7 +69,8 @@ impl<T: Copy, const HALF: usize> Blocks<T, HALF> {
 
     /// How many blocks are in use.
     pub(crate) fn block_count(&self) -> usize
-        ensures { result ≡ length self.now.blocks }
+        ensures count { result ≡ length self.now.blocks }
+        ensures few { result ≤ 4294967296 }
     {
         self.used.len()
     }
@@ -78,7 +79,11 @@ impl<T: Copy, const HALF: usize> Blocks<T, HALF> {
     pub(crate) fn block_len(&self, block: usize) -> usize
         requires { block < length self.now.blocks }
         ensures len { result ≡ length (slice_index_or self.now.blocks block []) }
+        ensures some { 1 ≤ result }
         ensures most { result ≤ HALF + HALF }
+        ensures half { 1 ≤ HALF }
+        ensures small { HALF ≤ 65536 }
+        ensures few { block < 4294967296 }
     {
         self.used[block].len()
     }
@@ -113,6 +118,7 @@ impl<T: Copy, const HALF: usize> Blocks<T, HALF> {
         requires spare { 0 < self.old.spare }
         ensures blocks { self.new.blocks ≡ (item ∷ []) ∷ [] }
         ensures spare { self.new.spare + 1 ≡ self.old.spare }
+        ensures half { 1 ≤ HALF }
     {
         let mut fresh = self.spare.take_last();
         fresh.clear();
@@ -181,11 +187,25 @@ impl<T: Copy, const HALF: usize> Blocks<T, HALF> {
         self.spare.push_reserved(behind);
     }
 
+    /// How many inserts succeed without memory.
+    pub fn room(&self) -> usize
+        ensures room { result ≡ room HALF self.now }
+        ensures half { 1 ≤ HALF }
+    {
+        let worth = self.spare.len() * HALF;
+        let count = self.used.len();
+        if count == 0 {
+            return worth.saturating_sub(HALF);
+        }
+        worth.saturating_sub(self.over)
+    }
+
     /// Takes memory for one more block; for want of it nothing changes.
     pub(crate) fn add_spare(&mut self) -> Result<(), AllocError>
         ensures blocks { self.new.blocks ≡ self.old.blocks }
         ensures spare { OnOk result (self.new.spare ≡ self.old.spare + 1) }
         ensures unchanged { OnErr result (self.new.spare ≡ self.old.spare) }
+        ensures never_less { self.old.spare ≤ self.new.spare }
     {
         let all = self.used.len() + self.spare.len();
         if all >= MOST_BLOCKS {

@@ -7,8 +7,14 @@
 
 mod block;
 mod blocks;
+mod edits;
+mod find;
 mod place;
+mod probe;
+mod room;
+mod walk;
 
 pub use blocks::Blocks;
 pub use place::Place;
+pub use probe::Probe;
 

@@ -1,11 +1,9 @@
-use Rattle.std.proofs.Common.{◌≡◌, ℕ, ◌+◌, ◌-◌, ◌*◌, ◌^◌, ◌<◌, ◌≤◌, [], ◌∷◌, ◌++◌, length, take, drop, get_or, set, refl, sym, ap, ◌∙◌, arith, rules, length-append, length-take, length-drop, lit≤}
-use Rattle.std.specs.List.{insert, remove}
-use Rattle.std.proofs.lemmas.List.{get_or_read, get_or-set_other}
-use Rattle.std.proofs.lemmas.List.Edits.{length-insert, length-remove, get_or-remove_below}
-use Rattle.sorted_blocks.specs.Shape.{Shape, joined, beyond}
-use Rattle.sorted_blocks.specs.Sound.{AllFilled, IsSound}
-use Rattle.sorted_blocks.proofs.Edits.{filled-get}
-use Rattle.sorted_blocks.proofs.Kept.{kept_set, kept_insert, kept_remove, over_small, count_small, over_covers, count_covers}
+use Rattle.std.proofs.Common.{◌+◌, ◌<◌, [], length, ap, ◌∙◌, arith}
+use Rattle.std.proofs.lemmas.List.{get_or_read}
+use Rattle.std.proofs.lemmas.List.Edits.{length-remove}
+use Rattle.sorted_blocks.specs.Shape.{Shape}
+use Rattle.sorted_blocks.proofs.Counted.{filled-get}
+use Rattle.sorted_blocks.proofs.Kept.{kept_set, over_covers, count_covers}
 use Rattle.sorted_blocks.proofs.blocks.Blocks.take_out.Goals as goal
 
 pub overflow_sub-self : goal.overflow_sub-self
