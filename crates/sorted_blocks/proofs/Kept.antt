@@ -20,7 +20,7 @@ module _ {A : Type 0} where
         spare_room = omega (arith, l, s.spare_room);
         few = omega (arith, l, s.few);
         over_is = omega (arith, e, o, s.over_is, beyond-set half bs i c h);
-        count_is = omega (arith, e, n, s.count_is, count-set bs i c h)
+        count_is = omega (arith, e, n, s.count_is, count-set bs i c h);
       }
 
   -- a spare block comes in
@@ -35,7 +35,7 @@ module _ {A : Type 0} where
         spare_room = omega (arith, l, p, v, s.spare_room);
         few = omega (arith, l, p, s.few);
         over_is = omega (arith, o, s.over_is, beyond-insert half bs i c h);
-        count_is = omega (arith, n, s.count_is, count-insert bs i c h)
+        count_is = omega (arith, n, s.count_is, count-insert bs i c h);
       }
 
   -- a block goes to the spare ones
@@ -51,7 +51,7 @@ module _ {A : Type 0} where
         spare_room = omega (arith, l, p, v, s.spare_room);
         few = omega (arith, l, p, s.few);
         over_is = omega (arith, e, o, s.over_is, beyond-remove half bs i h);
-        count_is = omega (arith, e, n, s.count_is, count-remove bs i h)
+        count_is = omega (arith, e, n, s.count_is, count-remove bs i h);
       }
 
   -- the counts are far below 2 ^ 64

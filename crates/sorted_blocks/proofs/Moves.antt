@@ -137,7 +137,7 @@ module _ {A : Type 0} where
         roomy = room_split half s t p.block h full e k;
         block = omega (arith, c, h, length-set s.blocks p.block f);
         at = omega (arith, r, n, l);
-        stands = omega (arith, b, before_is t p, before_is s p)
+        stands = omega (arith, b, before_is t p, before_is s p);
       }
 
   pub split_moves : (half : ℕ) (s t : Shape A) (p : Place) → p.block < length s.blocks → p.at ≤ length (get_or s.blocks p.block []) → length (get_or s.blocks p.block []) ≡ half + half → t.blocks ≡ insert (set s.blocks p.block (take half (get_or s.blocks p.block []))) (p.block + 1) (drop half (get_or s.blocks p.block [])) → t.spare + 1 ≡ s.spare → half ≤ p.at → Moved half s t p (record { block = p.block + 1; at = p.at - half })
@@ -156,7 +156,7 @@ module _ {A : Type 0} where
         roomy = room_split half s t p.block h full e k;
         block = omega (arith, c, h, length-set s.blocks p.block f);
         at = omega (arith, r, length-drop half row, full, fits);
-        stands = omega (arith, b, n, l, before_is t (record { block = p.block + 1; at = p.at - half }), before_is s p)
+        stands = omega (arith, b, n, l, before_is t (record { block = p.block + 1; at = p.at - half }), before_is s p);
       }
 
   -- two short neighbours become one
@@ -175,7 +175,7 @@ module _ {A : Type 0} where
         roomy = room_merge half s t i h short e k;
         block = omega (arith, c, h, length-remove s.blocks (suc i) h2);
         at = omega (arith, r, l, length-append front (get_or s.blocks (suc i) []));
-        stands = omega (arith, b, before_is t p, before_is s p)
+        stands = omega (arith, b, before_is t p, before_is s p);
       }
 
   pub merge_moves : (half : ℕ) (s t : Shape A) (p : Place) (i : ℕ) → i + 1 ≡ p.block → p.block < length s.blocks → p.at ≤ length (get_or s.blocks p.block []) → length (get_or s.blocks i []) + length (get_or s.blocks (i + 1) []) ≤ half → t.blocks ≡ set (remove s.blocks (i + 1)) i (get_or s.blocks i [] ++ get_or s.blocks (i + 1) []) → t.spare ≡ s.spare + 1 → (len : ℕ) → len ≡ length (get_or s.blocks i []) → Moved half s t p (record { block = i; at = len + p.at })
@@ -195,7 +195,7 @@ module _ {A : Type 0} where
         roomy = room_merge half s t i (omega (arith, h2)) short e k;
         block = omega (arith, c, h2, length-remove s.blocks (suc i) h2);
         at = omega (arith, r, l, l2, long, length-append front (get_or s.blocks (suc i) []));
-        stands = omega (arith, b, u, long, start-suc s.blocks i (omega (arith, h2)), before_is t (record { block = i; at = len + p.at }), before_is s p)
+        stands = omega (arith, b, u, long, start-suc s.blocks i (omega (arith, h2)), before_is t (record { block = i; at = len + p.at }), before_is s p);
       }
 
   pub place_block : (s : Shape A) (p : Place) → IsPlace s p → p.block ≤ length s.blocks - 1
@@ -209,16 +209,16 @@ module _ {A : Type 0} where
       let b = place_block s p h in
       let d = before_is s p in
       elim (cases s.blocks p.block b) [
-        inl none ↦ absurd (omega (arith, l, ap (λ bs. length (joined bs)) none))
+        | inl none ↦ absurd (omega (arith, l, ap (λ bs. length (joined bs)) none))
         | inr within ↦
-          let n = start-suc s.blocks p.block within in
-          let m = start-all s.blocks (suc p.block) (omega (arith, last)) in
-          is_item s p within (omega (arith, d, n, m, l))
+            let n = start-suc s.blocks p.block within in
+            let m = start-all s.blocks (suc p.block) (omega (arith, last)) in
+            is_item s p within (omega (arith, d, n, m, l))
       ]
     where
-    cases : (bs : List (List A)) (i : ℕ) → i ≤ length bs - 1 → (bs ≡ []) ⊎ (i < length bs)
-    cases [] i h = inl refl
-    cases (b ∷ bs) i h = inr (omega arith)
+      cases : (bs : List (List A)) (i : ℕ) → i ≤ length bs - 1 → (bs ≡ []) ⊎ (i < length bs)
+      cases [] i h = inl refl
+      cases (b ∷ bs) i h = inr (omega arith)
 
   -- a block's end is the next one's start
   pub next_start : (s : Shape A) (p : Place) → p.block + 1 < length s.blocks → p.at ≡ length (get_or s.blocks p.block []) → before s (record { block = p.block + 1; at = 0 }) ≡ before s p

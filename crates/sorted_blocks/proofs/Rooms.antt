@@ -22,9 +22,9 @@ module _ {A : Type 0} where
   unfolding room
   room_some half s h = ap (λ n. s.spare * half - n) (some half s.blocks h)
     where
-    some : (half : ℕ) (bs : List (List A)) → 0 < length bs → used_up half bs ≡ beyond half bs
-    some half [] h = absurd (omega arith)
-    some half (b ∷ bs) h = refl
+      some : (half : ℕ) (bs : List (List A)) → 0 < length bs → used_up half bs ≡ beyond half bs
+      some half [] h = absurd (omega arith)
+      some half (b ∷ bs) h = refl
 
   pub room_none : (half : ℕ) (s : Shape A) → s.blocks ≡ [] → room half s ≡ s.spare * half - half
   unfolding room

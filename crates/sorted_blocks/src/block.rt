@@ -105,7 +105,11 @@ impl<T: Copy, const HALF: usize> Block<T, HALF> {
         requires { length self.old + length other.now ≤ HALF + HALF }
         ensures { self.new ≡ self.old ++ other.now }
     {
-        if self.items.extend_from_slice(other.items.as_slice()).is_err() {
+        if self
+            .items
+            .extend_from_slice(other.items.as_slice())
+            .is_err()
+        {
             unreachable!()
         }
     }

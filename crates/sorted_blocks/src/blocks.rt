@@ -97,6 +97,14 @@ impl<T: Copy, const HALF: usize> Blocks<T, HALF> {
         self.used[block].get(at)
     }
 
+    /// The items of the block of this number.
+    pub(crate) fn row(&self, block: usize) -> &[T]
+        requires { block < length self.now.blocks }
+        ensures { result.now ≡ slice_index_or self.now.blocks block [] }
+    {
+        self.used[block].as_slice()
+    }
+
     /// Puts an item into a block that isn't full.
     pub(crate) fn put(&mut self, block: usize, at: usize, item: T)
         requires block { block < length self.old.blocks }

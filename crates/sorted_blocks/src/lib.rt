@@ -17,4 +17,3 @@ mod walk;
 pub use blocks::Blocks;
 pub use place::Place;
 pub use probe::Probe;
-

@@ -13,5 +13,5 @@ invariant_of-result g c = rw c.new.ensures.items (record {
   spare_room = omega (arith, c.new-2.ensures.len);
   few = omega (arith, c.new-2.ensures.len);
   over_is = refl;
-  count_is = refl
+  count_is = refl;
 })

@@ -7,7 +7,7 @@ use Rattle.sorted_blocks.proofs.blocks.Blocks.start_of.Goals.{then-block-block_c
 pub returns-then-block-block_count-clause-place : goal.returns-then-block-block_count-clause-place
 returns-then-block-block_count-clause-place g c =
     elim c.then-block-block_count.branch [
-      then-block-block_count-via-then-block-block_count w ↦ is_place c.args.self.now (record { block = c.args.block; at = 0 }) (omega (arith, w.if-block-block_count.true, c.block_count.ensures.count)) (omega arith)
+      | then-block-block_count-via-then-block-block_count w ↦ is_place c.args.self.now (record { block = c.args.block; at = 0 }) (omega (arith, w.if-block-block_count.true, c.block_count.ensures.count)) (omega arith)
       | then-block-block_count-via-else-block-block_count+then-block-eq0 w ↦ rw w.if-block-eq0.true (is_start c.args.self.now)
     ]
 
