@@ -1,0 +1,23 @@
+-- What a look-up answers.
+use Rattle.std.specs.Prelude.{◌≡◌, ℕ, ◌-◌, ◌<◌, List, length, slice_index_or, Result, Ok, Err}
+use Rattle.std.specs.declared.cmp.Ordering.{Ordering}
+use Rattle.std.specs.declared.cmp.Ordering.TheVariants.{Less, Equal, Greater}
+use Rattle.sorted_blocks.specs.declared.place.Place.{Place}
+use Rattle.sorted_blocks.specs.Shape.{Shape, items}
+use Rattle.sorted_blocks.specs.Places.{before, IsPlace, IsItem}
+
+module _ {A : Type 0} where
+  -- what stands before the index is less than what is sought, and what stands there is greater
+  pub record IsGap (order : A → Ordering) (xs : List A) (index : ℕ) : Type 0 where
+    pub less : (d : A) → 0 < index → order (slice_index_or xs (index - 1) d) ≡ Less
+    pub greater : (d : A) → index < length xs → order (slice_index_or xs index d) ≡ Greater
+
+  -- an item that compares equal
+  pub record IsEqualAt (order : A → Ordering) (xs : List A) (index : ℕ) : Type 0 where
+    pub within : index < length xs
+    pub equal : (d : A) → order (slice_index_or xs index d) ≡ Equal
+
+  -- an item's place, or else a gap
+  abbrev pub IsFound : (A → Ordering) → Shape A → Result Place Place → Type 0
+  IsFound order shape (Ok place) = IsItem shape place × IsEqualAt order (items shape) (before shape place)
+  IsFound order shape (Err place) = IsPlace shape place × IsGap order (items shape) (before shape place)

@@ -1,0 +1,6 @@
+pub mod Room
+pub mod Shape
+pub mod Sound
+pub mod Found
+pub mod Sought
+pub mod Places

@@ -1,0 +1,8 @@
+-- The room of one block.
+use Rattle.std.specs.Prelude.{ℕ, ◌+◌, ◌≤◌}
+
+-- a block has at most twice `half` items, and memory for as many
+pub record IsRoomy (half len capacity : ℕ) : Type 0 where
+  pub small : half ≤ 65536
+  pub fits : len ≤ half + half
+  pub room : half + half ≤ capacity

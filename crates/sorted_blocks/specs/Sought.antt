@@ -1,0 +1,39 @@
+-- What a search in one row, or over the first items of rows, answers.
+use Rattle.std.specs.Prelude.{◌≡◌, ℕ, suc, ◌-◌, ◌<◌, ◌≤◌, List, [], length, slice_index_or, Result, Ok, Err}
+use Rattle.std.specs.declared.cmp.Ordering.{Ordering}
+use Rattle.std.specs.declared.cmp.Ordering.TheVariants.{Less, Equal, Greater}
+use Rattle.sorted_blocks.specs.Found.{IsGap, IsEqualAt}
+
+module _ {A : Type 0} where
+  -- an item of the row that compares equal, or else a gap from `low` on
+  abbrev pub IsSought : (A → Ordering) → List A → ℕ → Result ℕ ℕ → Type 0
+  IsSought order row low (Ok at) = IsEqualAt order row at
+  IsSought order row low (Err at) = (low ≤ at) × (at ≤ length row) × IsGap order row at
+
+  -- the first item of the block before `low` is less than what is sought, and that of the block `high` is greater
+  pub record IsBlockGap (order : A → Ordering) (blocks : List (List A)) (low high : ℕ) : Type 0 where
+    pub low_high : low ≤ high
+    pub high_end : high ≤ length blocks
+    pub less : (d : A) → 0 < low → order (slice_index_or (slice_index_or blocks (low - 1) []) 0 d) ≡ Less
+    pub some_before : 0 < low → 0 < length (slice_index_or blocks (low - 1) [])
+    pub greater : (d : A) → high < length blocks → order (slice_index_or (slice_index_or blocks high []) 0 d) ≡ Greater
+    pub some_behind : high < length blocks → 0 < length (slice_index_or blocks high [])
+
+  -- a block whose first item compares equal
+  pub record IsBlockAt (order : A → Ordering) (blocks : List (List A)) (block : ℕ) : Type 0 where
+    pub within : block < length blocks
+    pub some : 0 < length (slice_index_or blocks block [])
+    pub equal : (d : A) → order (slice_index_or (slice_index_or blocks block []) 0 d) ≡ Equal
+
+  abbrev pub IsBlockSought : (A → Ordering) → List (List A) → Result ℕ ℕ → Type 0
+  IsBlockSought order blocks (Ok block) = IsBlockAt order blocks block
+  IsBlockSought order blocks (Err count) = IsBlockGap order blocks count count
+
+  -- what stands before `low` in a block is less, and the next block begins with a greater item
+  pub record IsRowLeft (order : A → Ordering) (blocks : List (List A)) (block low : ℕ) : Type 0 where
+    pub within : block < length blocks
+    pub from_low : low ≤ length (slice_index_or blocks block [])
+    pub some : 0 < low
+    pub less : (d : A) → order (slice_index_or (slice_index_or blocks block []) (low - 1) d) ≡ Less
+    pub greater : (d : A) → suc block < length blocks → order (slice_index_or (slice_index_or blocks (suc block) []) 0 d) ≡ Greater
+    pub some_behind : suc block < length blocks → 0 < length (slice_index_or blocks (suc block) [])

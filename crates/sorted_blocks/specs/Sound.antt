@@ -1,0 +1,19 @@
+-- What holds of every list in blocks.
+use Rattle.std.specs.Prelude.{◌≡◌, ℕ, ◌+◌, ◌^◌, ◌≤◌, List, [], ◌∷◌, length}
+use Rattle.sorted_blocks.specs.Shape.{joined, beyond}
+
+-- each block in use has an item, and at most twice `half`
+unfoldable pub AllFilled : {A : Type 0} → ℕ → List (List A) → Type 0
+AllFilled half [] = Unit {0}
+AllFilled half (block ∷ blocks) = (1 ≤ length block) × (length block ≤ half + half) × AllFilled half blocks
+
+-- both vectors have memory for all blocks, and both counts are right
+pub record IsSound {A : Type 0} (half : ℕ) (blocks : List (List A)) (spare used_memory spare_memory over count : ℕ) : Type 0 where
+  pub half_some : 1 ≤ half
+  pub half_small : half ≤ 65536
+  pub filled : AllFilled half blocks
+  pub used_room : length blocks + spare ≤ used_memory
+  pub spare_room : length blocks + spare ≤ spare_memory
+  pub few : length blocks + spare ≤ 2 ^ 32
+  pub over_is : over ≡ beyond half blocks
+  pub count_is : count ≡ length (joined blocks)

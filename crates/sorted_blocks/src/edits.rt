@@ -1,0 +1,134 @@
+//! Inserts and removals, at places of the list.
+
+ghost use Rattle.std.specs.Prelude.{◌≡◌, ℕ, ◌+◌, ◌-◌, ◌<◌, ◌≤◌, [], ◌∷◌, ◌++◌, length, slice_index_or, IsTrue, ◌↔◌};
+ghost use Rattle.std.specs.List.{insert, remove};
+ghost use Rattle.sorted_blocks.specs.Shape.{Shape, items, room};
+ghost use Rattle.sorted_blocks.specs.Places.{before, IsPlace, IsItem};
+
+use crate::blocks::Blocks;
+use crate::place::Place;
+
+impl<T: Copy, const HALF: usize> Blocks<T, HALF> {
+    /// Puts an item at this place, within what was reserved; it moves the items of one block. The answer is where the
+    /// item stands then.
+    pub fn insert_reserved(&mut self, place: Place, item: T) -> Place
+        requires place { IsPlace self.old place }
+        requires room { 0 < room HALF self.old }
+        ensures items { items self.new ≡ insert (items self.old) (before self.old place) item }
+        ensures room { room HALF self.old ≤ room HALF self.new + 1 }
+        ensures place { IsItem self.new result }
+        ensures before { before self.new result ≡ before self.old place }
+    {
+        if self.block_count() == 0 {
+            self.begin(item);
+            return Place::START;
+        }
+        let place = self.make_way(place);
+        self.put(place.block, place.at, item);
+        place
+    }
+
+    /// The same place in a block that isn't full: a full one is split.
+    fn make_way(&mut self, place: Place) -> Place
+        requires some { 0 < length self.old.blocks }
+        requires place { IsPlace self.old place }
+        requires room { 0 < room HALF self.old }
+        ensures items { items self.new ≡ items self.old }
+        ensures room { room HALF self.old ≤ room HALF self.new }
+        ensures block { result.block < length self.new.blocks }
+        ensures at { result.at ≤ length (slice_index_or self.new.blocks result.block []) }
+        ensures not_full { length (slice_index_or self.new.blocks result.block []) < HALF + HALF }
+        ensures before { before self.new result ≡ before self.old place }
+    {
+        if self.block_len(place.block) < HALF + HALF {
+            return place;
+        }
+        self.split(place.block);
+        if place.at <= HALF {
+            return place;
+        }
+        Place {
+            block: place.block + 1,
+            at: place.at - HALF,
+        }
+    }
+
+    /// Takes out the item at this place; it moves the items of one block. Beside it stands the place of the item that
+    /// came next.
+    pub fn remove(&mut self, place: Place) -> (T, Place)
+        requires { IsItem self.old place }
+        ensures item { result.0 ≡ slice_index_or (items self.old) (before self.old place) result.0 }
+        ensures items { items self.new ≡ remove (items self.old) (before self.old place) }
+        ensures room { room HALF self.old ≤ room HALF self.new }
+        ensures place { IsPlace self.new result.1 }
+        ensures before { before self.new result.1 ≡ before self.old place }
+    {
+        if self.block_len(place.block) == 1 {
+            let item = self.take_whole(place.block);
+            return (item, self.start_of(place.block));
+        }
+        let item = self.take_out(place.block, place.at);
+        let place = self.join_behind(place);
+        (item, self.join_before(place))
+    }
+
+    /// The place before the items of the block of this number; behind all items where there is no such block.
+    fn start_of(&self, block: usize) -> Place
+        requires { block ≤ length self.now.blocks }
+        ensures place { IsPlace self.now result }
+        ensures before { before self.now result ≡ before self.now (record { block = block; at = 0 }) }
+    {
+        if block < self.block_count() || block == 0 {
+            return Place { block, at: 0 };
+        }
+        Place {
+            block: block - 1,
+            at: self.block_len(block - 1),
+        }
+    }
+
+    /// Whether two neighbours are half a block together.
+    fn are_short(&self, block: usize) -> bool
+        requires { block + 1 < length self.now.blocks }
+        ensures { IsTrue result ↔ length (slice_index_or self.now.blocks block []) + length (slice_index_or self.now.blocks (block + 1) []) ≤ HALF }
+    {
+        self.block_len(block) + self.block_len(block + 1) <= HALF
+    }
+
+    /// Makes one of the place's block and the one behind it where both are short.
+    fn join_behind(&mut self, place: Place) -> Place
+        requires block { place.block < length self.old.blocks }
+        requires at { place.at ≤ length (slice_index_or self.old.blocks place.block []) }
+        ensures items { items self.new ≡ items self.old }
+        ensures room { room HALF self.old ≤ room HALF self.new }
+        ensures block { result.block < length self.new.blocks }
+        ensures at { result.at ≤ length (slice_index_or self.new.blocks result.block []) }
+        ensures before { before self.new result ≡ before self.old place }
+    {
+        let count = self.block_count();
+        if place.block + 1 < count && self.are_short(place.block) {
+            self.merge(place.block);
+        }
+        place
+    }
+
+    /// Makes one of the place's block and the one before it where both are short.
+    fn join_before(&mut self, place: Place) -> Place
+        requires block { place.block < length self.old.blocks }
+        requires at { place.at ≤ length (slice_index_or self.old.blocks place.block []) }
+        ensures items { items self.new ≡ items self.old }
+        ensures room { room HALF self.old ≤ room HALF self.new }
+        ensures place { IsPlace self.new result }
+        ensures before { before self.new result ≡ before self.old place }
+    {
+        if place.block == 0 || !self.are_short(place.block - 1) {
+            return place;
+        }
+        let len = self.block_len(place.block - 1);
+        self.merge(place.block - 1);
+        Place {
+            block: place.block - 1,
+            at: len + place.at,
+        }
+    }
+}

@@ -1,0 +1,153 @@
+//! Looking up an item by the caller's comparison.
+
+ghost use Rattle.std.specs.Prelude.{◌≡◌, ℕ, ◌+◌, ◌-◌, ◌<◌, ◌≤◌, List, [], length, slice_index_or};
+ghost use Rattle.std.specs.List.{All};
+ghost use Rattle.sorted_blocks.specs.Shape.{items};
+ghost use Rattle.sorted_blocks.specs.Places.{IsItem};
+ghost use Rattle.sorted_blocks.specs.Found.{IsFound};
+ghost use Rattle.sorted_blocks.specs.Sought.{IsSought, IsBlockSought, IsBlockGap, IsRowLeft};
+
+use crate::blocks::Blocks;
+use crate::place::Place;
+use crate::probe::Probe;
+use std::cmp::Ordering;
+
+/// Where in a row of items what is sought stands, or would stand; the items before `low` are less.
+fn seek<T: Copy, P: Probe<T>>(probe: &P, row: &[T], low: usize) -> Result<usize, usize>
+    requires can { All (P.can_compare probe.now) row.now }
+    requires low { low ≤ length row.now }
+    requires less { (d : T) → 0 < low → P.order probe.now (slice_index_or row.now (low - 1) d) ≡ Ordering.Less }
+    ensures { IsSought (P.order probe.now) row.now low result }
+{
+    let mut low = low;
+    let mut high = row.len();
+    while low < high {
+        let middle = low + (high - low) / 2;
+        match probe.compare(&row[middle]) {
+            Ordering::Less => low = middle + 1,
+            Ordering::Equal => return Ok(middle),
+            Ordering::Greater => high = middle,
+        }
+    }
+    Err(low)
+}
+
+impl<T: Copy, const HALF: usize> Blocks<T, HALF> {
+    /// Where an item stands that compares equal, or else a gap: the item before it is less than what is sought, and
+    /// the one behind it is greater. Where the list has the probe's order, that is where the item belongs. It costs as
+    /// many comparisons as the number of items has bits, and a few.
+    pub fn find<P: Probe<T>>(&self, probe: &P) -> Result<Place, Place>
+        requires { All (P.can_compare probe.now) (items self.now) }
+        ensures { IsFound (P.order probe.now) self.now result }
+    {
+        match self.seek_block(probe) {
+            Ok(block) => Ok(Place { block, at: 0 }),
+            Err(count) => self.find_after(probe, count),
+        }
+    }
+
+    /// The same, beginning at a place near which it may stand; whatever place that is, the answer is right. Where it
+    /// stands at that place, or right behind, it costs a comparison or two.
+    pub fn find_near<P: Probe<T>>(&self, near: Place, probe: &P) -> Result<Place, Place>
+        requires { All (P.can_compare probe.now) (items self.now) }
+        ensures { IsFound (P.order probe.now) self.now result }
+    {
+        if !self.is_item(near) {
+            return self.find(probe);
+        }
+        match probe.compare(self.item_of(near.block, near.at)) {
+            Ordering::Less => self.find_behind(near, probe),
+            Ordering::Equal => Ok(near),
+            Ordering::Greater => self.find(probe),
+        }
+    }
+
+    /// The block whose first item compares equal, or else how many blocks begin with a lesser one.
+    fn seek_block<P: Probe<T>>(&self, probe: &P) -> Result<usize, usize>
+        requires { All (P.can_compare probe.now) (items self.now) }
+        ensures { IsBlockSought (P.order probe.now) self.now.blocks result }
+    {
+        let mut low = 0;
+        let mut high = self.block_count();
+        while low < high {
+            let middle = low + (high - low) / 2;
+            let _len = self.block_len(middle);
+            match probe.compare(self.item_of(middle, 0)) {
+                Ordering::Less => low = middle + 1,
+                Ordering::Equal => return Ok(middle),
+                Ordering::Greater => high = middle,
+            }
+        }
+        Err(low)
+    }
+
+    /// The answer where so many blocks begin with a lesser item.
+    fn find_after<P: Probe<T>>(&self, probe: &P, count: usize) -> Result<Place, Place>
+        requires can { All (P.can_compare probe.now) (items self.now) }
+        requires gap { IsBlockGap (P.order probe.now) self.now.blocks count count }
+        ensures { IsFound (P.order probe.now) self.now result }
+    {
+        if count == 0 {
+            return Err(Place::START);
+        }
+        self.find_in(probe, count - 1, 1)
+    }
+
+    /// The answer where it is in this block, or behind its items.
+    fn find_in<P: Probe<T>>(&self, probe: &P, block: usize, low: usize) -> Result<Place, Place>
+        requires can { All (P.can_compare probe.now) (items self.now) }
+        requires row { IsRowLeft (P.order probe.now) self.now.blocks block low }
+        ensures { IsFound (P.order probe.now) self.now result }
+    {
+        match seek(probe, self.row(block), low) {
+            Ok(at) => Ok(Place { block, at }),
+            Err(at) => Err(Place { block, at }),
+        }
+    }
+
+    /// The answer behind an item that is less than what is sought.
+    fn find_behind<P: Probe<T>>(&self, near: Place, probe: &P) -> Result<Place, Place>
+        requires can { All (P.can_compare probe.now) (items self.now) }
+        requires item { IsItem self.now near }
+        requires less { (d : T) → P.order probe.now (slice_index_or (slice_index_or self.now.blocks near.block []) near.at d) ≡ Ordering.Less }
+        ensures { IsFound (P.order probe.now) self.now result }
+    {
+        let len = self.block_len(near.block);
+        let low = near.at + 1;
+        if low < len {
+            let place = Place {
+                block: near.block,
+                at: low,
+            };
+            match probe.compare(self.item_of(near.block, low)) {
+                Ordering::Less => {}
+                Ordering::Equal => return Ok(place),
+                Ordering::Greater => return Err(place),
+            }
+        }
+        self.find_rest(near, probe)
+    }
+
+    /// The answer behind an item that is less: in its block, where the next one begins with a greater item.
+    fn find_rest<P: Probe<T>>(&self, near: Place, probe: &P) -> Result<Place, Place>
+        requires can { All (P.can_compare probe.now) (items self.now) }
+        requires item { IsItem self.now near }
+        requires less { (d : T) → P.order probe.now (slice_index_or (slice_index_or self.now.blocks near.block []) near.at d) ≡ Ordering.Less }
+        ensures { IsFound (P.order probe.now) self.now result }
+    {
+        let _len = self.block_len(near.block);
+        let behind = near.block + 1;
+        if behind >= self.block_count() {
+            return self.find_in(probe, near.block, near.at + 1);
+        }
+        let _len = self.block_len(behind);
+        match probe.compare(self.item_of(behind, 0)) {
+            Ordering::Less => self.find(probe),
+            Ordering::Equal => Ok(Place {
+                block: behind,
+                at: 0,
+            }),
+            Ordering::Greater => self.find_in(probe, near.block, near.at + 1),
+        }
+    }
+}

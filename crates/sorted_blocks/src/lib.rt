@@ -1,0 +1,19 @@
+//! A list in order, kept in blocks: an insert or a removal moves the items of one block, not half of the list.
+//!
+//! Proved: contracts see the list of the items. An insert is std's `insert` on it, a removal its `remove`; after
+//! `reserve(n)` n inserts succeed without memory, whatever blocks they split; a look-up by the caller's comparison
+//! answers an item that compares equal, or a gap between a lesser and a greater one.
+#![tactic(auto)]
+
+mod block;
+mod blocks;
+mod edits;
+mod find;
+mod place;
+mod probe;
+mod room;
+mod walk;
+
+pub use blocks::Blocks;
+pub use place::Place;
+pub use probe::Probe;

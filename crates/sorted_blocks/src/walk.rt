@@ -1,0 +1,75 @@
+//! Looking at items: at a place, and from one place to the next.
+
+ghost use Rattle.std.specs.Prelude.{◌≡◌, ◌+◌, ◌<◌, ◌≤◌, [], length, slice_index_or, IsTrue, ◌↔◌};
+ghost use Rattle.sorted_blocks.specs.Shape.{items};
+ghost use Rattle.sorted_blocks.specs.Places.{before, IsPlace, IsItem};
+
+use crate::blocks::Blocks;
+use crate::place::Place;
+
+impl<T: Copy, const HALF: usize> Blocks<T, HALF> {
+    /// Whether an item stands at this place.
+    #[tactic(auto, unfolding(crate::specs::Places::IsItem))]
+    pub fn is_item(&self, place: Place) -> bool
+        ensures { IsTrue result ↔ IsItem self.now place }
+    {
+        if place.block >= self.block_count() {
+            return false;
+        }
+        place.at < self.block_len(place.block)
+    }
+
+    /// The item at this place.
+    #[tactic(auto, unfolding(crate::specs::Places::IsItem))]
+    pub fn get(&self, place: Place) -> &T
+        requires { IsItem self.now place }
+        ensures { result.now ≡ slice_index_or (items self.now) (before self.now place) result.now }
+    {
+        self.item_of(place.block, place.at)
+    }
+
+    /// The place before all items: the first one's, where there is any.
+    pub fn first(&self) -> Place
+        ensures place { IsPlace self.now result }
+        ensures before { before self.now result ≡ 0 }
+        ensures item { 0 < length (items self.now) → IsItem self.now result }
+    {
+        self.settled(Place::START)
+    }
+
+    /// The place behind this item: the next one's, where there is any.
+    #[tactic(auto, unfolding(crate::specs::Places::IsItem))]
+    pub fn next(&self, place: Place) -> Place
+        requires { IsItem self.now place }
+        ensures place { IsPlace self.now result }
+        ensures before { before self.now result ≡ before self.now place + 1 }
+        ensures item { before self.now place + 1 < length (items self.now) → IsItem self.now result }
+    {
+        let _len = self.block_len(place.block);
+        self.settled(Place {
+            block: place.block,
+            at: place.at + 1,
+        })
+    }
+
+    /// The same place, before the item behind it where that begins the next block.
+    pub fn settled(&self, place: Place) -> Place
+        requires { IsPlace self.now place }
+        ensures place { IsPlace self.now result }
+        ensures before { before self.now result ≡ before self.now place }
+        ensures item { before self.now place < length (items self.now) → IsItem self.now result }
+    {
+        let count = self.block_count();
+        if place.block + 1 >= count {
+            return place;
+        }
+        if place.at < self.block_len(place.block) {
+            return place;
+        }
+        let _behind = self.block_len(place.block + 1);
+        Place {
+            block: place.block + 1,
+            at: 0,
+        }
+    }
+}
