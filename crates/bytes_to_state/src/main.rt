@@ -1,4 +1,5 @@
-//! From the bytes of a message to the state of a port: what a routing daemon does with each Join/Prune that it receives.
+//! From the bytes of a message to the state of a port: what a routing daemon does with each Join/Prune that it
+//! receives.
 #![tactic(auto)]
 
 ghost use Rattle.std.specs.Prelude.{◌≡◌, ◌↔◌, IsTrue};

@@ -1,5 +1,6 @@
 -- How rows are kept, and what contracts see of them.
-use Rattle.std.specs.Prelude.{◌≡◌, ◌<◌, ◌≤◌, ℕ, true, false, List, [], ◌∷◌, ◌++◌, map, length, replicate, slice_index_or, nat_lt, is_some, insert, Result, Ok, Err, if◌then◌else◌}
+use Rattle.std.specs.Prelude.{◌≡◌, ◌<◌, ◌≤◌, ℕ, true, false, List, [], ◌∷◌, ◌++◌, map, length, replicate}
+use Rattle.std.specs.Prelude.{slice_index_or, nat_lt, is_some, insert, Result, Ok, Err, if◌then◌else◌}
 use Rattle.std.specs.List.{AllByRecursion}
 use Rattle.pim_addr.specs.Address.{first_bits}
 use Rattle.pim_addr.specs.Routes.{Prefix, Row, row_at, with_row, IsRouteMap}

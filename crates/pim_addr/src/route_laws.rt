@@ -1,6 +1,7 @@
 //! Laws of route tables. Nothing here is to be called.
 
-ghost use Rattle.pim_addr.specs.RouteLaws.{RowIsAddedAtItsPrefix, RouteMapHasOneList, OrderOfAddingIsFree, OneRpForAllGroups, OneNeighbourForAll};
+ghost use Rattle.pim_addr.specs.RouteLaws.{RowIsAddedAtItsPrefix, RouteMapHasOneList, OrderOfAddingIsFree};
+ghost use Rattle.pim_addr.specs.RouteLaws.{OneRpForAllGroups, OneNeighbourForAll};
 
 /// A row is added at its prefix and nowhere else, and the rows stay in order.
 pub fn row_is_added_at_its_prefix()

@@ -2,7 +2,8 @@
 
 ghost use Rattle.std.specs.Prelude.{◌≡◌, ◌↔◌, ◌&&◌, nat_le, option_map, IsTrue, OnOk, OnErr};
 ghost use Rattle.pim_addr.specs.Address.{is_group};
-ghost use Rattle.pim_addr.specs.Routes.{no_routes, rp_of, via, group_bits, is_group_prefix, rp_faults, via_faults, with_rp, with_via};
+ghost use Rattle.pim_addr.specs.Routes.{no_routes, rp_of, via, group_bits, is_group_prefix, rp_faults, via_faults};
+ghost use Rattle.pim_addr.specs.Routes.{with_rp, with_via};
 ghost use Rattle.pim_addr.specs.Routes.{IsRefusedBy, IsRouteTable};
 
 #[cfg(test)]

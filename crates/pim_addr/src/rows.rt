@@ -3,7 +3,8 @@
 ghost use Rattle.std.specs.Prelude.{◌≡◌, ◌↔◌, ◌<◌, ◌≤◌, IsTrue, length, map, OnOk, OnErr, vec_len, vec_capacity, Err};
 ghost use Rattle.std.specs.List.{AllByRecursion};
 ghost use Rattle.pim_addr.specs.Routes.{AreInOrder, IsRealRow, with_row};
-ghost use Rattle.pim_addr.specs.RouteRows.{row_seen, rows_seen, lengths, with_length, Stand, IsGap, IsRowPlace, IsRunPlace};
+ghost use Rattle.pim_addr.specs.RouteRows.{row_seen, rows_seen, lengths, with_length, Stand, IsGap, IsRowPlace};
+ghost use Rattle.pim_addr.specs.RouteRows.{IsRunPlace};
 ghost use Rattle.pim_addr.specs.declared.route_fault.RouteFault.TheVariants.{Memory};
 
 use crate::family::Family;
@@ -86,9 +87,12 @@ pub(crate) fn insert_row<F: Family>(
     requires few { length rows.old.items < 4096 }
     requires real { IsRealRow F.family (row_seen F.bytes_of row) }
     requires gap { IsGap (row_seen F.bytes_of row).0 (rows_seen F.bytes_of rows.old.items) place }
-    requires stand { Stand F.family (rows_seen F.bytes_of rows.old.items) (map F.value_of numbers.old.items) runs.old.items }
-    ensures rows { rows_seen F.bytes_of rows.new.items ≡ with_row (row_seen F.bytes_of row).0 (row_seen F.bytes_of row).1 (rows_seen F.bytes_of rows.old.items) }
-    ensures stand { Stand F.family (rows_seen F.bytes_of rows.new.items) (map F.value_of numbers.new.items) runs.new.items }
+    requires stand { Stand F.family (rows_seen F.bytes_of rows.old.items)
+        (map F.value_of numbers.old.items) runs.old.items }
+    ensures rows { rows_seen F.bytes_of rows.new.items ≡
+        with_row (row_seen F.bytes_of row).0 (row_seen F.bytes_of row).1 (rows_seen F.bytes_of rows.old.items) }
+    ensures stand { Stand F.family (rows_seen F.bytes_of rows.new.items)
+        (map F.value_of numbers.new.items) runs.new.items }
 {
     let number = F::first_bits(row.prefix, row.length);
     if numbers.insert(place, number).is_err() {
