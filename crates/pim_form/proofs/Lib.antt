@@ -9,6 +9,7 @@ pub mod Normal
 pub mod Spelled
 pub mod Told
 pub mod Headline
+pub mod OneNeighbour
 pub mod Writers
 pub mod Searches
 pub mod Kept

@@ -1,5 +1,5 @@
 -- The words of the laws in `src/laws.rt`.
-use Rattle.std.specs.Prelude.{◌≡◌, ◌↔◌, ◌≤◌, false, true, List, [], ℕ, Option, length}
+use Rattle.std.specs.Prelude.{◌≡◌, ◌↔◌, ◌≤◌, false, true, List, [], ℕ, Option, Some, length}
 use Rattle.pim_addr.specs.declared.family.AddressFamily.{AddressFamily}
 use Rattle.pim_frame.specs.Frame.{join_prune, frame_faults, content, all_routers}
 use Rattle.pim_frame.specs.Seal.{IsSealed}
@@ -7,10 +7,13 @@ use Rattle.pim_frame.specs.declared.frame.Kind.TheVariants.{JoinPrune}
 use Rattle.pim_jp.specs.Message.{Message, message_of}
 use Rattle.pim_jp.specs.Faults.{faults}
 use Rattle.pim_jp.specs.Canonical.{IsMessage, canonical}
-use Rattle.pim_form.specs.NormalForm.{Demand, Agree, IsFormOf, GroupForm, IsNormal, IsSource, is_listed, most_exceptions, WantTheSame}
+use Rattle.pim_form.specs.NormalForm.{Demand, Agree, IsFormOf, GroupForm, IsNormal, IsSource, is_listed}
+use Rattle.pim_form.specs.NormalForm.{most_exceptions, WantTheSame}
+use Rattle.pim_form.specs.declared.tree.Tree.{Tree}
+use Rattle.pim_form.specs.Toward.{toward, SharedHaveRps}
 use Rattle.pim_form.specs.Units.{WantUnit, units_of, run_size}
 use Rattle.pim_form.specs.Packing.{IsPacking, fits}
-use Rattle.pim_form.specs.Messages.{Writing, IsWriting, HaveRps, AreCanonical, told_message}
+use Rattle.pim_form.specs.Messages.{Rps, Writing, IsWriting, HaveRps, AreCanonical, told_message}
 
 -- The bytes, sent from `source` to ALL-PIM-ROUTERS, are opened as a Join/Prune whose body is read as this message, and
 -- no fault is found on the way (RFC 7761, 4.9 and 4.9.5).
@@ -37,7 +40,8 @@ pub record Outside (family : AddressFamily) (exceptions : List (List ℕ)) : Typ
 
 -- there is one outside the exceptions of any star
 abbrev pub SomeSourceIsOutside : Type 0
-SomeSourceIsOutside = (family : AddressFamily) (exceptions : List (List ℕ)) → length exceptions ≤ most_exceptions → Outside family exceptions
+SomeSourceIsOutside = (family : AddressFamily) (exceptions : List (List ℕ)) → length exceptions ≤ most_exceptions →
+    Outside family exceptions
 
 -- normal forms that want the same are one
 abbrev pub OneNormalForm : Type 0
@@ -51,25 +55,39 @@ OnePacking = (family : AddressFamily) (budget : ℕ) (units : List WantUnit) (on
 
 -- normal forms that one writer tells by the same canonical messages are one
 abbrev pub MessagesTellTheForm : Type 0
-MessagesTellTheForm = (family : AddressFamily) (writing : Writing) (rps : List ℕ → Option (List ℕ)) (one other : List GroupForm) (messages : List (List ℕ)) →
-    IsWriting family writing → IsNormal family one → IsNormal family other → HaveRps family rps one → HaveRps family rps other →
+MessagesTellTheForm = (family : AddressFamily) (writing : Writing) (rps : Rps) (one other : List GroupForm)
+    (messages : List (List ℕ)) → IsWriting family writing → IsNormal family one → IsNormal family other →
+    HaveRps family rps one → HaveRps family rps other →
     AreCanonical family writing rps one messages → AreCanonical family writing rps other messages → one ≡ other
 
 -- a form has one list of canonical messages at most
 abbrev pub OneListOfMessages : Type 0
-OneListOfMessages = (family : AddressFamily) (writing : Writing) (rps : List ℕ → Option (List ℕ)) (form : List GroupForm) (one other : List (List ℕ)) →
+OneListOfMessages = (family : AddressFamily) (writing : Writing) (rps : Rps) (form : List GroupForm)
+    (one other : List (List ℕ)) →
     AreCanonical family writing rps form one → AreCanonical family writing rps form other → one ≡ other
 
--- The messages of two demands, each in its normal form and told by one writer, are the same exactly if the demands agree.
+-- The messages of two demands, each in its normal form and told by one writer, are the same exactly if the demands
+-- agree.
 abbrev pub SameMessagesSameDemand : Type 0
-SameMessagesSameDemand = (family : AddressFamily) (writing : Writing) (rps : List ℕ → Option (List ℕ)) (this that : Demand)
+SameMessagesSameDemand = (family : AddressFamily) (writing : Writing) (rps : Rps) (this that : Demand)
     (one other : List GroupForm) (first second : List (List ℕ)) →
-    IsWriting family writing → IsFormOf family this one → IsFormOf family that other → HaveRps family rps one → HaveRps family rps other →
-    AreCanonical family writing rps one first → AreCanonical family writing rps other second → (first ≡ second) ↔ Agree family this that
+    IsWriting family writing → IsFormOf family this one → IsFormOf family that other →
+    HaveRps family rps one → HaveRps family rps other →
+    AreCanonical family writing rps one first → AreCanonical family writing rps other second →
+    (first ≡ second) ↔ Agree family this that
 
 -- The size of a run that fits is the length of the message that tells it.
 abbrev pub SizeIsLength : Type 0
-SizeIsLength = (family : AddressFamily) (writing : Writing) (rps : List ℕ → Option (List ℕ)) (part : List GroupForm) (bytes : List ℕ) →
-    IsWriting family writing → IsNormal family part → HaveRps family rps part → fits family writing.budget (units_of part) ≡ true →
-    IsSealed family writing.own (all_routers family) JoinPrune (canonical family (told_message writing rps part)) bytes →
+SizeIsLength = (family : AddressFamily) (writing : Writing) (rps : Rps) (part : List GroupForm) (bytes : List ℕ) →
+    IsWriting family writing → IsNormal family part → HaveRps family rps part →
+    fits family writing.budget (units_of part) ≡ true →
+    IsSealed family writing.own (all_routers family) JoinPrune
+    (canonical family (told_message writing rps part)) bytes →
     length bytes ≡ run_size family (units_of part)
+
+-- Where all addresses are reached by one neighbour, and each group that is wanted on the shared tree has an RP, the
+-- neighbour is asked for the whole demand.
+abbrev pub OneNeighbourIsAskedForAll : Type 0
+OneNeighbourIsAskedForAll = (rps via : List ℕ → Option (List ℕ)) (neighbour : List ℕ) (demand : Demand) →
+    ((address : List ℕ) → via address ≡ Some neighbour) → SharedHaveRps rps via demand →
+    (source group : List ℕ) (tree : Tree) → toward rps via neighbour demand source group tree ≡ demand source group tree

@@ -9,3 +9,4 @@ pub mod Seen
 pub mod Rows
 pub mod Blocks
 pub mod TooBig
+pub mod Toward

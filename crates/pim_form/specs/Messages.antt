@@ -32,6 +32,9 @@ pub record IsWriting (family : AddressFamily) (writing : Writing) : Type 0 where
 
 -- ---- the RPs of groups, as a function, `None` where a group has none
 
+abbrev pub Rps : Type 0
+Rps = List ℕ → Option (List ℕ)
+
 abbrev pub IsRp : AddressFamily → Option (List ℕ) → Type 0
 IsRp family None = ⊥
 IsRp family (Some rp) = IsSource family rp
@@ -41,7 +44,7 @@ IsRpOf family rp None = Unit {0}
 IsRpOf family rp (Some exceptions) = IsRp family rp
 
 -- each star has an RP, and it is a valid source
-abbrev pub HaveRps : AddressFamily → (List ℕ → Option (List ℕ)) → List GroupForm → Type 0
+abbrev pub HaveRps : AddressFamily → Rps → List GroupForm → Type 0
 HaveRps family rps form = AllByRecursion (λ this. IsRpOf family (rps this.group) this.star) form
 
 -- ---- what is written of a part of a form (RFC 7761, 4.9.5)
@@ -56,14 +59,14 @@ excepted_entries None = []
 excepted_entries (Some exceptions) = map (λ source. Rpt source) exceptions
 
 -- joined are the star and then the sources, pruned the exceptions as (S,G,rpt)
-abbrev pub told_set : (List ℕ → Option (List ℕ)) → GroupForm → GroupSet
+abbrev pub told_set : Rps → GroupForm → GroupSet
 told_set rps this = record {
   group = this.group;
   joined = star_entries (rps this.group) this.star ++ map (λ source. Source source) this.sources;
   pruned = excepted_entries this.star;
 }
 
-abbrev pub told_message : Writing → (List ℕ → Option (List ℕ)) → List GroupForm → Message
+abbrev pub told_message : Writing → Rps → List GroupForm → Message
 told_message writing rps part = record {
   upstream = writing.upstream;
   holdtime = writing.holdtime;
@@ -72,16 +75,17 @@ told_message writing rps part = record {
 
 -- These bytes tell the run: it is the units of a part of a form, one set a group, and the part is written canonically
 -- and sealed for ALL-PIM-ROUTERS.
-pub record TellsRun (family : AddressFamily) (writing : Writing) (rps : List ℕ → Option (List ℕ)) (run : List WantUnit)
-    (bytes : List ℕ) : Type 0 where
+pub record TellsRun (family : AddressFamily) (writing : Writing) (rps : Rps) (run : List WantUnit) (bytes : List ℕ)
+    : Type 0 where
   pub part : List GroupForm
   pub units : units_of part ≡ run
   pub ascending : AreAscending (groups_of part)
   pub some : AllByRecursion (λ this. is_empty this.star this.sources ≡ false) part
-  pub sealed : IsSealed family writing.own (all_routers family) JoinPrune (canonical family (told_message writing rps part)) bytes
+  pub sealed : IsSealed family writing.own (all_routers family) JoinPrune
+      (canonical family (told_message writing rps part)) bytes
 
 -- one message for each run, in order
-abbrev pub TellRuns : AddressFamily → Writing → (List ℕ → Option (List ℕ)) → List (List WantUnit) → List (List ℕ) → Type 0
+abbrev pub TellRuns : AddressFamily → Writing → Rps → List (List WantUnit) → List (List ℕ) → Type 0
 TellRuns family writing rps [] [] = Unit {0}
 TellRuns family writing rps [] (bytes ∷ messages) = ⊥
 TellRuns family writing rps (run ∷ runs) [] = ⊥
@@ -89,7 +93,8 @@ TellRuns family writing rps (run ∷ runs) (bytes ∷ messages) =
     TellsRun family writing rps run bytes × TellRuns family writing rps runs messages
 
 -- the canonical messages of a form: those of a packing of its units
-pub record AreCanonical (family : AddressFamily) (writing : Writing) (rps : List ℕ → Option (List ℕ)) (form : List GroupForm) (messages : List (List ℕ)) : Type 0 where
+pub record AreCanonical (family : AddressFamily) (writing : Writing) (rps : Rps) (form : List GroupForm)
+    (messages : List (List ℕ)) : Type 0 where
   pub runs : List (List WantUnit)
   pub packing : IsPacking family writing.budget (units_of form) runs
   pub told : TellRuns family writing rps runs messages

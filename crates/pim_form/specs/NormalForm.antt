@@ -77,7 +77,8 @@ group_wants form source Shared = not (is_excepted source form.star)
 group_wants form source Source = is_listed source form.sources
 
 abbrev pub form_wants : List GroupForm → List ℕ → List ℕ → Tree → Bool
-form_wants form source group tree = list_any (λ this. same_address group this.group && group_wants this source tree) form
+form_wants form source group tree =
+    list_any (λ this. same_address group this.group && group_wants this source tree) form
 
 -- ---- demands: which source of which group is wanted on which tree
 

@@ -31,6 +31,7 @@ AreRuns family budget (run ∷ runs) = IsNonempty run × (fits family budget run
     × StopsBefore family budget run (joined runs) × AreRuns family budget runs
 
 -- the runs joined together are the units
-pub record IsPacking (family : AddressFamily) (budget : ℕ) (units : List WantUnit) (runs : List (List WantUnit)) : Type 0 where
+pub record IsPacking (family : AddressFamily) (budget : ℕ) (units : List WantUnit)
+    (runs : List (List WantUnit)) : Type 0 where
   pub whole : joined runs ≡ units
   pub cut : AreRuns family budget runs

@@ -1,5 +1,6 @@
 -- How a form is kept: the addresses of all groups stand in one row, and of each group it is known where its own stand.
-use Rattle.std.specs.Prelude.{◌≡◌, ℕ, ◌≤◌, ◌<◌, slice_index_or, Bool, false, List, [], Option, None, Some, length, take, drop, map, if◌then◌else◌}
+use Rattle.std.specs.Prelude.{◌≡◌, ℕ, ◌≤◌, ◌<◌, slice_index_or, Bool, false, List, [], Option, None, Some, length, take}
+use Rattle.std.specs.Prelude.{drop, map, if◌then◌else◌}
 use Rattle.std.specs.List.{AllByRecursion}
 use Rattle.pim_form.specs.declared.place.Place.{Place}
 use Rattle.pim_addr.specs.declared.family.AddressFamily.{AddressFamily}
@@ -38,7 +39,8 @@ module _ {A : Type 0} (bytes_of : A → List ℕ) where
 
   -- all places are within the row, and their groups are those of a normal form
   abbrev pub AreKept : AddressFamily → List A → List (Place A) → Type 0
-  AreKept family row places = AllByRecursion (IsWithin (length row)) places × AllByRecursion (IsNormalGroup family) (form_seen row places)
+  AreKept family row places =
+      AllByRecursion (IsWithin (length row)) places × AllByRecursion (IsNormalGroup family) (form_seen row places)
 
   pub record IsKept (family : AddressFamily) (row : List A) (places : List (Place A)) : Type 0 where
     pub within : AllByRecursion (IsWithin (length row)) places
@@ -50,4 +52,5 @@ module _ {A : Type 0} (bytes_of : A → List ℕ) where
   -- where a group stands among places: at this index, or nowhere
   abbrev pub Finds : List ℕ → List (Place A) → Option ℕ → Type 0
   Finds group places None = is_listed group (map place_group places) ≡ false
-  Finds group places (Some index) = (index < length places) × ((d : Place A) → place_group (slice_index_or places index d) ≡ group)
+  Finds group places (Some index) =
+      (index < length places) × ((d : Place A) → place_group (slice_index_or places index d) ≡ group)

@@ -1,5 +1,6 @@
 -- The units of which a demand is told in messages, and the size of a run of them.
-use Rattle.std.specs.Prelude.{ℕ, ◌+◌, ◌*◌, Bool, false, List, [], ◌∷◌, ◌++◌, Option, None, Some, length, map, if◌then◌else◌}
+use Rattle.std.specs.Prelude.{ℕ, ◌+◌, ◌*◌, Bool, false, List, [], ◌∷◌, ◌++◌, Option, None, Some, length, map}
+use Rattle.std.specs.Prelude.{if◌then◌else◌}
 use Rattle.std.specs.List.{flat_map}
 use Rattle.pim_addr.specs.declared.family.AddressFamily.{AddressFamily}
 use Rattle.pim_addr.specs.declared.family.AddressFamily.TheVariants.{Ipv4, Ipv6}
@@ -54,7 +55,7 @@ abbrev pub is_of_group : Option (List ℕ) → List ℕ → Bool
 is_of_group None group = false
 is_of_group (Some before) group = same_address before group
 
--- how many groups begin in a run that stands behind a unit of this group, if of any; the units of a group stand together
+-- how many groups begin in a run that stands behind a unit of this group, if of any; a group's units stand together
 unfoldable pub groups_behind : Option (List ℕ) → List WantUnit → ℕ
 groups_behind before [] = 0
 groups_behind before (this ∷ run) =

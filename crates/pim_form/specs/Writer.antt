@@ -11,7 +11,8 @@ use Rattle.pim_form.specs.Messages.{Writing}
 -- one of the two isn't a valid source, or they are the same
 abbrev pub has_bad_address : AddressFamily → Writing → Bool
 has_bad_address family writing =
-    not (is_source family writing.upstream) || not (is_source family writing.own) || same_address writing.own writing.upstream
+    not (is_source family writing.upstream) || not (is_source family writing.own)
+    || same_address writing.own writing.upstream
 
 -- The faults in the order in which they are told: the holdtime must be longer than the longest override interval,
 -- 98,302 ms, and the budget lies between the least useful message and what an IP packet can hold.

@@ -2,6 +2,7 @@
 
 ghost use Rattle.pim_form.specs.Laws.{SealedMessageIsRead, SomeSourceIsOutside, OneNormalForm, OnePacking};
 ghost use Rattle.pim_form.specs.Laws.{MessagesTellTheForm, OneListOfMessages, SameMessagesSameDemand, SizeIsLength};
+ghost use Rattle.pim_form.specs.Laws.{OneNeighbourIsAskedForAll};
 
 /// A canonical message that is sealed for ALL-PIM-ROUTERS opens between the same addresses as a Join/Prune without a
 /// fault, and its body is read without a fault as that message (RFC 7761, 4.9 and 4.9.5).
@@ -49,8 +50,8 @@ pub fn one_list_of_messages()
     pim_frame::one_checksum();
 }
 
-/// The canonical messages of two demands by one writer are byte-equal exactly if the demands agree on every valid source,
-/// every group and both trees.
+/// The canonical messages of two demands by one writer are byte-equal exactly if the demands agree on every valid
+/// source, every group and both trees.
 pub fn same_messages_same_demand()
     ensures { SameMessagesSameDemand }
 {
@@ -58,3 +59,9 @@ pub fn same_messages_same_demand()
     pim_frame::sealed_opens();
     pim_jp::canonical_is_read();
 }
+
+/// Where all addresses are reached by one neighbour and each group that is wanted on the shared tree has an RP, that
+/// neighbour is asked for the whole demand.
+pub fn one_neighbour_is_asked_for_all()
+    ensures { OneNeighbourIsAskedForAll }
+{}

@@ -1,9 +1,10 @@
-//! The demand of the downstream machines: what they want, its one normal form, and the Join/Prune messages that tell it.
+//! The demand of the downstream machines: what they want, its one normal form, and the Join/Prune messages that tell
+//! it.
 //!
 //! Proved: `wants` is the macros of RFC 7761, 4.1. Normal forms that want the same are one; a list of units has one
-//! packing at most; a form has at most one list of canonical messages by a writer, and messages tell their form, so that
-//! messages are byte-equal exactly if the demands agree. A canonical message that is sealed for ALL-PIM-ROUTERS opens
-//! without a fault and is read as that message.
+//! packing at most; a form has at most one list of canonical messages by a writer, and messages tell their form, so
+//! that messages are byte-equal exactly if the demands agree. A canonical message that is sealed for ALL-PIM-ROUTERS
+//! opens without a fault and is read as that message.
 #![tactic(auto)]
 
 mod form;
@@ -22,8 +23,8 @@ mod writer;
 pub use form::{NormalForm, normal_again};
 pub use groups::{GroupView, Groups};
 pub use laws::{
-    messages_tell_the_form, one_list_of_messages, one_normal_form, one_packing,
-    sealed_message_is_read, size_is_length, some_source_is_outside,
+    messages_tell_the_form, one_list_of_messages, one_neighbour_is_asked_for_all, one_normal_form,
+    one_packing, sealed_message_is_read, size_is_length, some_source_is_outside,
 };
 pub use messages::Messages;
 pub use tree::Tree;

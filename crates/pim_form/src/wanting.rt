@@ -41,7 +41,7 @@ fn wants_on<F: Family>(
     }
 }
 
-#[tactic(auto, using(crate::proofs::SomeBelow::none_more, crate::proofs::SomeBelow::found_below), unfolding(crate::specs::Wants::some_below))]
+#[tactic(auto, using(crate::proofs::SomeBelow::none_more), unfolding(crate::specs::Wants::some_below))]
 /// Whether some port wants the traffic of this source to this group on this tree (RFC 7761, 4.1): on the shared tree
 /// where (*,G) is in Join or Prune-Pending and (S,G,rpt) isn't in Prune, on the source's tree where (S,G) is in
 /// Join or Prune-Pending. Two look-ups a port at most.
