@@ -226,3 +226,12 @@ module _ {A : Type 0} where
       let n = start-suc s.blocks p.block (omega (arith, h)) in
       let u = ap (λ i. start s.blocks i) (add-one p.block) in
       omega (arith, n, u, e, before_is s (record { block = p.block + 1; at = 0 }), before_is s p)
+
+  -- a list of the same blocks has the same places
+  pub same_place : (s t : Shape A) → t.blocks ≡ s.blocks → (p : Place) → IsPlace s p → IsPlace t p
+  unfolding IsPlace
+  same_place s t e p h = (rw e h.0, rw e h.1)
+
+  pub same_before : (s t : Shape A) → t.blocks ≡ s.blocks → (p : Place) → before t p ≡ before s p
+  unfolding before
+  same_before s t e p = ap (λ bs. start bs p.block + p.at) e

@@ -12,6 +12,8 @@ mod find;
 mod place;
 mod probe;
 mod room;
+#[cfg(test)]
+mod tests;
 mod walk;
 
 pub use blocks::Blocks;

@@ -1,7 +1,9 @@
 //! Memory for inserts to come.
 
 ghost use Rattle.std.specs.Prelude.{◌≡◌, ◌≤◌, OnOk};
-ghost use Rattle.sorted_blocks.specs.Shape.{room};
+ghost use Rattle.sorted_blocks.specs.Shape.{items, room};
+ghost use Rattle.sorted_blocks.specs.Places.{before, IsPlace};
+ghost use Rattle.sorted_blocks.specs.declared.place.Place.{Place};
 
 use crate::blocks::Blocks;
 use std::alloc::AllocError;
@@ -11,7 +13,9 @@ impl<T: Copy, const HALF: usize> Blocks<T, HALF> {
     /// every place, stay, at an `Err` too, and the room is never less than it was.
     pub fn reserve(&mut self, inserts: usize) -> Result<(), AllocError>
         ensures ok { OnOk result (inserts ≤ room HALF self.new) }
-        ensures stays { self.new.blocks ≡ self.old.blocks }
+        ensures items { items self.new ≡ items self.old }
+        ensures places { (place : Place) → IsPlace self.old place → IsPlace self.new place }
+        ensures before { (place : Place) → before self.new place ≡ before self.old place }
         ensures room { room HALF self.old ≤ room HALF self.new }
     {
         while self.room() < inserts {
