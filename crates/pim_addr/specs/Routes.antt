@@ -96,14 +96,17 @@ is_group_prefix family prefix = is_group family prefix.address && nat_le (group_
 -- What is wrong with a row, in the order of the faults' numbers: with its prefix, and with the map that it comes to.
 abbrev pub prefix_faults : AddressFamily → Prefix → List RouteFault
 prefix_faults family prefix =
-    fault_if (nat_lt (mask_length family) prefix.bits) Length ++ fault_if (not (ends_within family prefix.bits prefix.address)) Bits
+    fault_if (nat_lt (mask_length family) prefix.bits) Length
+    ++ fault_if (not (ends_within family prefix.bits prefix.address)) Bits
 
 abbrev pub room_faults : Prefix → List Row → List RouteFault
-room_faults prefix rows = fault_if (is_some (row_at prefix rows)) Twice ++ fault_if (nat_le row_limit (length rows)) Full
+room_faults prefix rows =
+    fault_if (is_some (row_at prefix rows)) Twice ++ fault_if (nat_le row_limit (length rows)) Full
 
 abbrev pub rp_faults : AddressFamily → Prefix → List ℕ → List Row → List RouteFault
 rp_faults family prefix rp rows =
-    prefix_faults family prefix ++ (fault_if (not (is_source family rp && is_group_prefix family prefix)) Kind ++ room_faults prefix rows)
+    prefix_faults family prefix
+    ++ (fault_if (not (is_source family rp && is_group_prefix family prefix)) Kind ++ room_faults prefix rows)
 
 abbrev pub via_faults : AddressFamily → Prefix → List ℕ → List Row → List RouteFault
 via_faults family prefix neighbour rows =

@@ -34,7 +34,8 @@ impl<F: Family> Model for RouteMap<F> {
 
     ghost view = { λ m. rows_seen F.bytes_of m.rows.items };
 
-    ghost invariant = { λ m. Stand F.family (rows_seen F.bytes_of m.rows.items) (map F.value_of m.numbers.items) m.runs.items };
+    ghost invariant = { λ m.
+        Stand F.family (rows_seen F.bytes_of m.rows.items) (map F.value_of m.numbers.items) m.runs.items };
 }
 
 impl<F: Family> RouteMap<F> {
@@ -66,7 +67,8 @@ impl<F: Family> RouteMap<F> {
     /// Adds a row: `Twice` where one of its prefix and length is there, `Full` where there are 4,096, else `Memory`.
     pub(crate) fn add(&mut self, row: Route<F::Addr>) -> Result<(), RouteFault>
         requires { IsRealRow F.family (row_seen F.bytes_of row) }
-        ensures ok { OnOk result (self.new ≡ with_row (row_seen F.bytes_of row).0 (row_seen F.bytes_of row).1 self.old) }
+        ensures ok { OnOk result
+            (self.new ≡ with_row (row_seen F.bytes_of row).0 (row_seen F.bytes_of row).1 self.old) }
         ensures err { OnErr result (self.new ≡ self.old) }
         ensures told { IsRefusedBy (room_faults (row_seen F.bytes_of row).0 self.old) result }
     {

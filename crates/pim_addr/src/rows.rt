@@ -86,9 +86,12 @@ pub(crate) fn insert_row<F: Family>(
     requires few { length rows.old.items < 4096 }
     requires real { IsRealRow F.family (row_seen F.bytes_of row) }
     requires gap { IsGap (row_seen F.bytes_of row).0 (rows_seen F.bytes_of rows.old.items) place }
-    requires stand { Stand F.family (rows_seen F.bytes_of rows.old.items) (map F.value_of numbers.old.items) runs.old.items }
-    ensures rows { rows_seen F.bytes_of rows.new.items ≡ with_row (row_seen F.bytes_of row).0 (row_seen F.bytes_of row).1 (rows_seen F.bytes_of rows.old.items) }
-    ensures stand { Stand F.family (rows_seen F.bytes_of rows.new.items) (map F.value_of numbers.new.items) runs.new.items }
+    requires stand { Stand F.family (rows_seen F.bytes_of rows.old.items) (map F.value_of numbers.old.items)
+        runs.old.items }
+    ensures rows { rows_seen F.bytes_of rows.new.items
+        ≡ with_row (row_seen F.bytes_of row).0 (row_seen F.bytes_of row).1 (rows_seen F.bytes_of rows.old.items) }
+    ensures stand { Stand F.family (rows_seen F.bytes_of rows.new.items) (map F.value_of numbers.new.items)
+        runs.new.items }
 {
     let number = F::first_bits(row.prefix, row.length);
     if numbers.insert(place, number).is_err() {
