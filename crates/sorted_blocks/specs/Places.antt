@@ -10,7 +10,8 @@ module _ {A : Type 0} where
 
   -- it is a place in a block, or the only one of no blocks
   unfoldable pub IsPlace : Shape A → Place → Type 0
-  IsPlace shape place = (place.block ≤ length shape.blocks - 1) × (place.at ≤ length (block_at shape.blocks place.block))
+  IsPlace shape place =
+      (place.block ≤ length shape.blocks - 1) × (place.at ≤ length (block_at shape.blocks place.block))
 
   -- an item stands there
   unfoldable pub IsItem : Shape A → Place → Type 0

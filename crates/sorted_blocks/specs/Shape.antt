@@ -30,7 +30,7 @@ module _ {A : Type 0} where
 
   abbrev pub merged : List (List A) → ℕ → List (List A)
   merged blocks block =
-      let both = block_at blocks block ++ block_at blocks (block + 1) in slice_set (remove blocks (block + 1)) block both
+      let row = block_at blocks block ++ block_at blocks (block + 1) in slice_set (remove blocks (block + 1)) block row
 
   -- the blocks, one after another
   abbrev pub joined : List (List A) → List A
