@@ -3,6 +3,7 @@ pub mod Finding
 pub mod Joined
 pub mod Kept
 pub mod Moves
+pub mod Orders
 pub mod Rooms
 pub mod Seeking
 pub mod Starts

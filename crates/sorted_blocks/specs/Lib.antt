@@ -4,3 +4,4 @@ pub mod Sound
 pub mod Found
 pub mod Sought
 pub mod Places
+pub mod Laws

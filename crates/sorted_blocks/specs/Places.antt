@@ -1,7 +1,7 @@
 -- Places in a list of blocks.
-use Rattle.std.specs.Prelude.{ℕ, ◌+◌, ◌-◌, ◌<◌, ◌≤◌, [], length, take, slice_index_or}
+use Rattle.std.specs.Prelude.{ℕ, ◌+◌, ◌-◌, ◌<◌, ◌≤◌, length, take}
 use Rattle.sorted_blocks.specs.declared.place.Place.{Place}
-use Rattle.sorted_blocks.specs.Shape.{Shape, joined}
+use Rattle.sorted_blocks.specs.Shape.{Shape, joined, block_at}
 
 module _ {A : Type 0} where
   -- how many items stand before the place
@@ -10,8 +10,9 @@ module _ {A : Type 0} where
 
   -- it is a place in a block, or the only one of no blocks
   unfoldable pub IsPlace : Shape A → Place → Type 0
-  IsPlace shape place = (place.block ≤ length shape.blocks - 1) × (place.at ≤ length (slice_index_or shape.blocks place.block []))
+  IsPlace shape place =
+      (place.block ≤ length shape.blocks - 1) × (place.at ≤ length (block_at shape.blocks place.block))
 
   -- an item stands there
   unfoldable pub IsItem : Shape A → Place → Type 0
-  IsItem shape place = (place.block < length shape.blocks) × (place.at < length (slice_index_or shape.blocks place.block []))
+  IsItem shape place = (place.block < length shape.blocks) × (place.at < length (block_at shape.blocks place.block))

@@ -1,6 +1,6 @@
 -- A list in blocks, as contracts see it.
-use Rattle.std.specs.Prelude.{ℕ, ◌+◌, ◌-◌, ◌*◌, List, [], ◌∷◌, length}
-use Rattle.std.specs.List.{flat_map}
+use Rattle.std.specs.Prelude.{ℕ, ◌+◌, ◌-◌, ◌*◌, List, [], ◌∷◌, ◌++◌, length, take, drop, slice_index_or, slice_set}
+use Rattle.std.specs.List.{flat_map, insert, remove}
 
 -- the blocks in use, in order, and how many others stand ready
 pub record Shape (A : Type 0) : Type 0 where
@@ -8,6 +8,30 @@ pub record Shape (A : Type 0) : Type 0 where
   pub spare : ℕ
 
 module _ {A : Type 0} where
+  -- the block of this number
+  abbrev pub block_at : List (List A) → ℕ → List A
+  block_at blocks block = slice_index_or blocks block []
+
+  -- how many items it has together with the next one
+  abbrev pub together : List (List A) → ℕ → ℕ
+  together blocks block = length (block_at blocks block) + length (block_at blocks (block + 1))
+
+  -- an item put into a block, and one taken out
+  abbrev pub put_into : List (List A) → ℕ → ℕ → A → List (List A)
+  put_into blocks block at item = slice_set blocks block (insert (block_at blocks block) at item)
+
+  abbrev pub taken_out : List (List A) → ℕ → ℕ → List (List A)
+  taken_out blocks block at = slice_set blocks block (remove (block_at blocks block) at)
+
+  -- a block in two, and two as one
+  abbrev pub split : ℕ → List (List A) → ℕ → List (List A)
+  split half blocks block =
+      let row = block_at blocks block in insert (slice_set blocks block (take half row)) (block + 1) (drop half row)
+
+  abbrev pub merged : List (List A) → ℕ → List (List A)
+  merged blocks block =
+      let row = block_at blocks block ++ block_at blocks (block + 1) in slice_set (remove blocks (block + 1)) block row
+
   -- the blocks, one after another
   abbrev pub joined : List (List A) → List A
   joined blocks = flat_map (λ block. block) blocks

@@ -1,10 +1,15 @@
 -- What a search in one row, or over the first items of rows, answers.
-use Rattle.std.specs.Prelude.{◌≡◌, ℕ, suc, ◌-◌, ◌<◌, ◌≤◌, List, [], length, slice_index_or, Result, Ok, Err}
+use Rattle.std.specs.Prelude.{◌≡◌, ℕ, suc, ◌-◌, ◌<◌, ◌≤◌, List, length, slice_index_or, Result, Ok, Err}
 use Rattle.std.specs.declared.cmp.Ordering.{Ordering}
 use Rattle.std.specs.declared.cmp.Ordering.TheVariants.{Less, Equal, Greater}
+use Rattle.sorted_blocks.specs.Shape.{block_at}
 use Rattle.sorted_blocks.specs.Found.{IsGap, IsEqualAt}
 
 module _ {A : Type 0} where
+  -- the item of a row at this index is less than what is sought
+  abbrev pub IsLessAt : (A → Ordering) → List A → ℕ → Type 0
+  IsLessAt order row at = (d : A) → order (slice_index_or row at d) ≡ Less
+
   -- an item of the row that compares equal, or else a gap from `low` on
   abbrev pub IsSought : (A → Ordering) → List A → ℕ → Result ℕ ℕ → Type 0
   IsSought order row low (Ok at) = IsEqualAt order row at
@@ -14,16 +19,16 @@ module _ {A : Type 0} where
   pub record IsBlockGap (order : A → Ordering) (blocks : List (List A)) (low high : ℕ) : Type 0 where
     pub low_high : low ≤ high
     pub high_end : high ≤ length blocks
-    pub less : (d : A) → 0 < low → order (slice_index_or (slice_index_or blocks (low - 1) []) 0 d) ≡ Less
-    pub some_before : 0 < low → 0 < length (slice_index_or blocks (low - 1) [])
-    pub greater : (d : A) → high < length blocks → order (slice_index_or (slice_index_or blocks high []) 0 d) ≡ Greater
-    pub some_behind : high < length blocks → 0 < length (slice_index_or blocks high [])
+    pub less : (d : A) → 0 < low → order (slice_index_or (block_at blocks (low - 1)) 0 d) ≡ Less
+    pub some_before : 0 < low → 0 < length (block_at blocks (low - 1))
+    pub greater : (d : A) → high < length blocks → order (slice_index_or (block_at blocks high) 0 d) ≡ Greater
+    pub some_behind : high < length blocks → 0 < length (block_at blocks high)
 
   -- a block whose first item compares equal
   pub record IsBlockAt (order : A → Ordering) (blocks : List (List A)) (block : ℕ) : Type 0 where
     pub within : block < length blocks
-    pub some : 0 < length (slice_index_or blocks block [])
-    pub equal : (d : A) → order (slice_index_or (slice_index_or blocks block []) 0 d) ≡ Equal
+    pub some : 0 < length (block_at blocks block)
+    pub equal : (d : A) → order (slice_index_or (block_at blocks block) 0 d) ≡ Equal
 
   abbrev pub IsBlockSought : (A → Ordering) → List (List A) → Result ℕ ℕ → Type 0
   IsBlockSought order blocks (Ok block) = IsBlockAt order blocks block
@@ -32,8 +37,8 @@ module _ {A : Type 0} where
   -- what stands before `low` in a block is less, and the next block begins with a greater item
   pub record IsRowLeft (order : A → Ordering) (blocks : List (List A)) (block low : ℕ) : Type 0 where
     pub within : block < length blocks
-    pub from_low : low ≤ length (slice_index_or blocks block [])
+    pub from_low : low ≤ length (block_at blocks block)
     pub some : 0 < low
-    pub less : (d : A) → order (slice_index_or (slice_index_or blocks block []) (low - 1) d) ≡ Less
-    pub greater : (d : A) → suc block < length blocks → order (slice_index_or (slice_index_or blocks (suc block) []) 0 d) ≡ Greater
-    pub some_behind : suc block < length blocks → 0 < length (slice_index_or blocks (suc block) [])
+    pub less : (d : A) → order (slice_index_or (block_at blocks block) (low - 1) d) ≡ Less
+    pub greater : (d : A) → suc block < length blocks → order (slice_index_or (block_at blocks (suc block)) 0 d) ≡ Greater
+    pub some_behind : suc block < length blocks → 0 < length (block_at blocks (suc block))

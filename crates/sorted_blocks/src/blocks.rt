@@ -1,8 +1,8 @@
 //! The list: blocks in use and spare ones, and the edits of them that the calls are made of.
 
-ghost use Rattle.std.specs.Prelude.{◌≡◌, ℕ, ◌+◌, ◌-◌, ◌<◌, ◌≤◌, [], ◌∷◌, ◌++◌, length, take, drop, slice_index_or, slice_set, OnOk, OnErr};
-ghost use Rattle.std.specs.List.{insert, remove};
-ghost use Rattle.sorted_blocks.specs.Shape.{Shape, joined, room};
+ghost use Rattle.std.specs.Prelude.{◌≡◌, ◌+◌, ◌-◌, ◌<◌, ◌≤◌, [], ◌∷◌, length, slice_index_or, OnOk, OnErr};
+ghost use Rattle.std.specs.List.{remove};
+ghost use Rattle.sorted_blocks.specs.Shape.{Shape, joined, room, block_at, together, put_into, taken_out, split, merged};
 
 use crate::block::Block;
 use std::alloc::{AllocError, Global};
@@ -30,11 +30,11 @@ impl<T: Copy, const HALF: usize> Model for Blocks<T, HALF> {
     ghost Value = { Shape T };
 
     ghost use Rattle.sorted_blocks.specs.Sound.{IsSound};
-    ghost use Rattle.std.specs.Prelude.{vec_len, vec_capacity};
+    ghost use Rattle.std.specs.Prelude.{vec_len};
 
     ghost view = { λ b. record { blocks = b.used.items; spare = vec_len b.spare } };
 
-    ghost invariant = { λ b. IsSound HALF b.used.items (vec_len b.spare) (vec_capacity b.used) (vec_capacity b.spare) b.over b.count };
+    ghost invariant = { λ b. IsSound HALF b.used.items b.spare.len b.used.cap b.spare.cap b.over b.count };
 }
 
 /// By how much more a block of so many items stands beyond its half with one item more.
@@ -78,7 +78,7 @@ impl<T: Copy, const HALF: usize> Blocks<T, HALF> {
     /// How many items the block of this number has.
     pub(crate) fn block_len(&self, block: usize) -> usize
         requires { block < length self.now.blocks }
-        ensures len { result ≡ length (slice_index_or self.now.blocks block []) }
+        ensures len { result ≡ length (block_at self.now.blocks block) }
         ensures some { 1 ≤ result }
         ensures most { result ≤ HALF + HALF }
         ensures half { 1 ≤ HALF }
@@ -91,8 +91,8 @@ impl<T: Copy, const HALF: usize> Blocks<T, HALF> {
     /// The item at this place of the block of this number.
     pub(crate) fn item_of(&self, block: usize, at: usize) -> &T
         requires block { block < length self.now.blocks }
-        requires at { at < length (slice_index_or self.now.blocks block []) }
-        ensures { result.now ≡ slice_index_or (slice_index_or self.now.blocks block []) at result.now }
+        requires at { at < length (block_at self.now.blocks block) }
+        ensures { result.now ≡ slice_index_or (block_at self.now.blocks block) at result.now }
     {
         self.used[block].get(at)
     }
@@ -100,7 +100,7 @@ impl<T: Copy, const HALF: usize> Blocks<T, HALF> {
     /// The items of the block of this number.
     pub(crate) fn row(&self, block: usize) -> &[T]
         requires { block < length self.now.blocks }
-        ensures { result.now ≡ slice_index_or self.now.blocks block [] }
+        ensures { result.now ≡ block_at self.now.blocks block }
     {
         self.used[block].as_slice()
     }
@@ -108,9 +108,9 @@ impl<T: Copy, const HALF: usize> Blocks<T, HALF> {
     /// Puts an item into a block that isn't full.
     pub(crate) fn put(&mut self, block: usize, at: usize, item: T)
         requires block { block < length self.old.blocks }
-        requires at { at ≤ length (slice_index_or self.old.blocks block []) }
-        requires not_full { length (slice_index_or self.old.blocks block []) < HALF + HALF }
-        ensures blocks { self.new.blocks ≡ slice_set self.old.blocks block (insert (slice_index_or self.old.blocks block []) at item) }
+        requires at { at ≤ length (block_at self.old.blocks block) }
+        requires not_full { length (block_at self.old.blocks block) < HALF + HALF }
+        ensures blocks { self.new.blocks ≡ put_into self.old.blocks block at item }
         ensures spare { self.new.spare ≡ self.old.spare }
     {
         let row = &mut self.used[block];
@@ -138,9 +138,9 @@ impl<T: Copy, const HALF: usize> Blocks<T, HALF> {
     /// Makes two of a full block.
     pub(crate) fn split(&mut self, block: usize)
         requires block { block < length self.old.blocks }
-        requires full { length (slice_index_or self.old.blocks block []) ≡ HALF + HALF }
+        requires full { length (block_at self.old.blocks block) ≡ HALF + HALF }
         requires spare { 0 < self.old.spare }
-        ensures blocks { self.new.blocks ≡ insert (slice_set self.old.blocks block (take HALF (slice_index_or self.old.blocks block []))) (block + 1) (drop HALF (slice_index_or self.old.blocks block [])) }
+        ensures blocks { self.new.blocks ≡ split HALF self.old.blocks block }
         ensures spare { self.new.spare + 1 ≡ self.old.spare }
     {
         let mut fresh = self.spare.take_last();
@@ -154,10 +154,10 @@ impl<T: Copy, const HALF: usize> Blocks<T, HALF> {
     /// Takes an item out of a block that has others.
     pub(crate) fn take_out(&mut self, block: usize, at: usize) -> T
         requires block { block < length self.old.blocks }
-        requires at { at < length (slice_index_or self.old.blocks block []) }
-        requires others { 1 < length (slice_index_or self.old.blocks block []) }
-        ensures value { result ≡ slice_index_or (slice_index_or self.old.blocks block []) at result }
-        ensures blocks { self.new.blocks ≡ slice_set self.old.blocks block (remove (slice_index_or self.old.blocks block []) at) }
+        requires at { at < length (block_at self.old.blocks block) }
+        requires others { 1 < length (block_at self.old.blocks block) }
+        ensures value { result ≡ slice_index_or (block_at self.old.blocks block) at result }
+        ensures blocks { self.new.blocks ≡ taken_out self.old.blocks block at }
         ensures spare { self.new.spare ≡ self.old.spare }
     {
         let row = &mut self.used[block];
@@ -171,8 +171,8 @@ impl<T: Copy, const HALF: usize> Blocks<T, HALF> {
     /// Takes out the only item of a block, which is spare from then on.
     pub(crate) fn take_whole(&mut self, block: usize) -> T
         requires block { block < length self.old.blocks }
-        requires alone { length (slice_index_or self.old.blocks block []) ≡ 1 }
-        ensures value { result ≡ slice_index_or (slice_index_or self.old.blocks block []) 0 result }
+        requires alone { length (block_at self.old.blocks block) ≡ 1 }
+        ensures value { result ≡ slice_index_or (block_at self.old.blocks block) 0 result }
         ensures blocks { self.new.blocks ≡ remove self.old.blocks block }
         ensures spare { self.new.spare ≡ self.old.spare + 1 }
     {
@@ -186,8 +186,8 @@ impl<T: Copy, const HALF: usize> Blocks<T, HALF> {
     /// Makes one of two neighbours that are half a block together.
     pub(crate) fn merge(&mut self, block: usize)
         requires block { block + 1 < length self.old.blocks }
-        requires few { length (slice_index_or self.old.blocks block []) + length (slice_index_or self.old.blocks (block + 1) []) ≤ HALF }
-        ensures blocks { self.new.blocks ≡ slice_set (remove self.old.blocks (block + 1)) block (slice_index_or self.old.blocks block [] ++ slice_index_or self.old.blocks (block + 1) []) }
+        requires few { together self.old.blocks block ≤ HALF }
+        ensures blocks { self.new.blocks ≡ merged self.old.blocks block }
         ensures spare { self.new.spare ≡ self.old.spare + 1 }
     {
         let behind = self.used.remove(block + 1);

@@ -2,7 +2,7 @@
 
 ghost use Rattle.std.specs.Prelude.{◌≡◌, ℕ, ◌+◌, ◌-◌, ◌<◌, ◌≤◌, [], ◌∷◌, ◌++◌, length, slice_index_or, IsTrue, ◌↔◌};
 ghost use Rattle.std.specs.List.{insert, remove};
-ghost use Rattle.sorted_blocks.specs.Shape.{Shape, items, room};
+ghost use Rattle.sorted_blocks.specs.Shape.{items, room, block_at, together};
 ghost use Rattle.sorted_blocks.specs.Places.{before, IsPlace, IsItem};
 
 use crate::blocks::Blocks;
@@ -36,8 +36,8 @@ impl<T: Copy, const HALF: usize> Blocks<T, HALF> {
         ensures items { items self.new ≡ items self.old }
         ensures room { room HALF self.old ≤ room HALF self.new }
         ensures block { result.block < length self.new.blocks }
-        ensures at { result.at ≤ length (slice_index_or self.new.blocks result.block []) }
-        ensures not_full { length (slice_index_or self.new.blocks result.block []) < HALF + HALF }
+        ensures at { result.at ≤ length (block_at self.new.blocks result.block) }
+        ensures not_full { length (block_at self.new.blocks result.block) < HALF + HALF }
         ensures before { before self.new result ≡ before self.old place }
     {
         if self.block_len(place.block) < HALF + HALF {
@@ -90,7 +90,7 @@ impl<T: Copy, const HALF: usize> Blocks<T, HALF> {
     /// Whether two neighbours are half a block together.
     fn are_short(&self, block: usize) -> bool
         requires { block + 1 < length self.now.blocks }
-        ensures { IsTrue result ↔ length (slice_index_or self.now.blocks block []) + length (slice_index_or self.now.blocks (block + 1) []) ≤ HALF }
+        ensures { IsTrue result ↔ together self.now.blocks block ≤ HALF }
     {
         self.block_len(block) + self.block_len(block + 1) <= HALF
     }
@@ -98,11 +98,11 @@ impl<T: Copy, const HALF: usize> Blocks<T, HALF> {
     /// Makes one of the place's block and the one behind it where both are short.
     fn join_behind(&mut self, place: Place) -> Place
         requires block { place.block < length self.old.blocks }
-        requires at { place.at ≤ length (slice_index_or self.old.blocks place.block []) }
+        requires at { place.at ≤ length (block_at self.old.blocks place.block) }
         ensures items { items self.new ≡ items self.old }
         ensures room { room HALF self.old ≤ room HALF self.new }
         ensures block { result.block < length self.new.blocks }
-        ensures at { result.at ≤ length (slice_index_or self.new.blocks result.block []) }
+        ensures at { result.at ≤ length (block_at self.new.blocks result.block) }
         ensures before { before self.new result ≡ before self.old place }
     {
         let count = self.block_count();
@@ -115,7 +115,7 @@ impl<T: Copy, const HALF: usize> Blocks<T, HALF> {
     /// Makes one of the place's block and the one before it where both are short.
     fn join_before(&mut self, place: Place) -> Place
         requires block { place.block < length self.old.blocks }
-        requires at { place.at ≤ length (slice_index_or self.old.blocks place.block []) }
+        requires at { place.at ≤ length (block_at self.old.blocks place.block) }
         ensures items { items self.new ≡ items self.old }
         ensures room { room HALF self.old ≤ room HALF self.new }
         ensures place { IsPlace self.new result }

@@ -2,10 +2,10 @@
 
 ghost use Rattle.std.specs.Prelude.{◌≡◌, ℕ, ◌+◌, ◌-◌, ◌<◌, ◌≤◌, List, [], length, slice_index_or};
 ghost use Rattle.std.specs.List.{All};
-ghost use Rattle.sorted_blocks.specs.Shape.{items};
+ghost use Rattle.sorted_blocks.specs.Shape.{items, block_at};
 ghost use Rattle.sorted_blocks.specs.Places.{IsItem};
 ghost use Rattle.sorted_blocks.specs.Found.{IsFound};
-ghost use Rattle.sorted_blocks.specs.Sought.{IsSought, IsBlockSought, IsBlockGap, IsRowLeft};
+ghost use Rattle.sorted_blocks.specs.Sought.{IsSought, IsBlockSought, IsBlockGap, IsRowLeft, IsLessAt};
 
 use crate::blocks::Blocks;
 use crate::place::Place;
@@ -109,7 +109,7 @@ impl<T: Copy, const HALF: usize> Blocks<T, HALF> {
     fn find_behind<P: Probe<T>>(&self, near: Place, probe: &P) -> Result<Place, Place>
         requires can { All (P.can_compare probe.now) (items self.now) }
         requires item { IsItem self.now near }
-        requires less { (d : T) → P.order probe.now (slice_index_or (slice_index_or self.now.blocks near.block []) near.at d) ≡ Ordering.Less }
+        requires less { IsLessAt (P.order probe.now) (block_at self.now.blocks near.block) near.at }
         ensures { IsFound (P.order probe.now) self.now result }
     {
         let len = self.block_len(near.block);
@@ -132,7 +132,7 @@ impl<T: Copy, const HALF: usize> Blocks<T, HALF> {
     fn find_rest<P: Probe<T>>(&self, near: Place, probe: &P) -> Result<Place, Place>
         requires can { All (P.can_compare probe.now) (items self.now) }
         requires item { IsItem self.now near }
-        requires less { (d : T) → P.order probe.now (slice_index_or (slice_index_or self.now.blocks near.block []) near.at d) ≡ Ordering.Less }
+        requires less { IsLessAt (P.order probe.now) (block_at self.now.blocks near.block) near.at }
         ensures { IsFound (P.order probe.now) self.now result }
     {
         let _len = self.block_len(near.block);

@@ -9,6 +9,7 @@ mod block;
 mod blocks;
 mod edits;
 mod find;
+mod laws;
 mod place;
 mod probe;
 mod room;
@@ -17,5 +18,6 @@ mod tests;
 mod walk;
 
 pub use blocks::Blocks;
+pub use laws::{gap_keeps_the_order, removal_keeps_the_order};
 pub use place::Place;
 pub use probe::Probe;

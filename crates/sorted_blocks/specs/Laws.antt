@@ -1,0 +1,24 @@
+-- What edits do to the order of a list, for the callers.
+use Rattle.std.specs.Prelude.{◌≡◌, ℕ, ◌<◌, ◌≤◌, List, [], ◌∷◌, length}
+use Rattle.std.specs.List.{insert, remove}
+use Rattle.std.specs.declared.cmp.Ordering.{Ordering}
+use Rattle.std.specs.declared.cmp.Ordering.TheVariants.{Less, Greater}
+use Rattle.sorted_blocks.specs.Found.{IsGap}
+
+-- it is less than the first of these, if there is any
+abbrev pub IsBelowFirst : {A : Type 0} → (A → A → Ordering) → A → List A → Type 0
+IsBelowFirst cmp x [] = Unit {0}
+IsBelowFirst cmp x (y ∷ ys) = cmp x y ≡ Less
+
+-- each item is less than the next one
+abbrev pub IsAscending : {A : Type 0} → (A → A → Ordering) → List A → Type 0
+IsAscending cmp [] = Unit {0}
+IsAscending cmp (x ∷ xs) = IsBelowFirst cmp x xs × IsAscending cmp xs
+
+-- an item that is put into its gap keeps the order
+abbrev pub GapKeepsTheOrder : Type 0 → Type 0
+GapKeepsTheOrder A = (cmp : A → A → Ordering) → ((x y : A) → cmp x y ≡ Greater → cmp y x ≡ Less) → (item : A) (xs : List A) (index : ℕ) → index ≤ length xs → IsAscending cmp xs → IsGap (λ x. cmp x item) xs index → IsAscending cmp (insert xs index item)
+
+-- a removal keeps the order
+abbrev pub RemovalKeepsTheOrder : Type 0 → Type 0
+RemovalKeepsTheOrder A = (cmp : A → A → Ordering) → ((x y z : A) → cmp x y ≡ Less → cmp y z ≡ Less → cmp x z ≡ Less) → (xs : List A) (index : ℕ) → index < length xs → IsAscending cmp xs → IsAscending cmp (remove xs index)
