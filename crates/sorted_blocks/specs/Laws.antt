@@ -17,8 +17,12 @@ IsAscending cmp (x ∷ xs) = IsBelowFirst cmp x xs × IsAscending cmp xs
 
 -- an item that is put into its gap keeps the order
 abbrev pub GapKeepsTheOrder : Type 0 → Type 0
-GapKeepsTheOrder A = (cmp : A → A → Ordering) → ((x y : A) → cmp x y ≡ Greater → cmp y x ≡ Less) → (item : A) (xs : List A) (index : ℕ) → index ≤ length xs → IsAscending cmp xs → IsGap (λ x. cmp x item) xs index → IsAscending cmp (insert xs index item)
+GapKeepsTheOrder A = (cmp : A → A → Ordering) → ((x y : A) → cmp x y ≡ Greater → cmp y x ≡ Less) →
+    (item : A) (xs : List A) (index : ℕ) → index ≤ length xs → IsAscending cmp xs →
+    IsGap (λ x. cmp x item) xs index → IsAscending cmp (insert xs index item)
 
 -- a removal keeps the order
 abbrev pub RemovalKeepsTheOrder : Type 0 → Type 0
-RemovalKeepsTheOrder A = (cmp : A → A → Ordering) → ((x y z : A) → cmp x y ≡ Less → cmp y z ≡ Less → cmp x z ≡ Less) → (xs : List A) (index : ℕ) → index < length xs → IsAscending cmp xs → IsAscending cmp (remove xs index)
+RemovalKeepsTheOrder A = (cmp : A → A → Ordering) →
+    ((x y z : A) → cmp x y ≡ Less → cmp y z ≡ Less → cmp x z ≡ Less) →
+    (xs : List A) (index : ℕ) → index < length xs → IsAscending cmp xs → IsAscending cmp (remove xs index)

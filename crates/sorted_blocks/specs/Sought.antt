@@ -40,5 +40,6 @@ module _ {A : Type 0} where
     pub from_low : low ≤ length (block_at blocks block)
     pub some : 0 < low
     pub less : (d : A) → order (slice_index_or (block_at blocks block) (low - 1) d) ≡ Less
-    pub greater : (d : A) → suc block < length blocks → order (slice_index_or (block_at blocks (suc block)) 0 d) ≡ Greater
+    pub greater :
+        (d : A) → suc block < length blocks → order (slice_index_or (block_at blocks (suc block)) 0 d) ≡ Greater
     pub some_behind : suc block < length blocks → 0 < length (block_at blocks (suc block))

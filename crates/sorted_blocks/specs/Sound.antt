@@ -8,11 +8,11 @@ AllFilled half [] = Unit {0}
 AllFilled half (block ∷ blocks) = (1 ≤ length block) × (length block ≤ half + half) × AllFilled half blocks
 
 -- both vectors have memory for all blocks, and both counts are right
-pub record IsSound {A : Type 0} (half : ℕ) (blocks : List (List A)) (spare used_cap spare_cap over count : ℕ) : Type 0 where
+pub record IsSound {A : Type 0} (half : ℕ) (blocks : List (List A)) (spare cap spare_cap over count : ℕ) : Type 0 where
   pub half_some : 1 ≤ half
   pub half_small : half ≤ 65536
   pub filled : AllFilled half blocks
-  pub used_room : length blocks + spare ≤ used_cap
+  pub used_room : length blocks + spare ≤ cap
   pub spare_room : length blocks + spare ≤ spare_cap
   pub few : length blocks + spare ≤ 2 ^ 32
   pub over_is : over ≡ beyond half blocks

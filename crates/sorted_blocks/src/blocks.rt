@@ -2,7 +2,8 @@
 
 ghost use Rattle.std.specs.Prelude.{◌≡◌, ◌+◌, ◌-◌, ◌<◌, ◌≤◌, [], ◌∷◌, length, slice_index_or, OnOk, OnErr};
 ghost use Rattle.std.specs.List.{remove};
-ghost use Rattle.sorted_blocks.specs.Shape.{Shape, joined, room, block_at, together, put_into, taken_out, split, merged};
+ghost use Rattle.sorted_blocks.specs.Shape.{Shape, joined, room, block_at, together, put_into, taken_out, split};
+ghost use Rattle.sorted_blocks.specs.Shape.{merged};
 
 use crate::block::Block;
 use std::alloc::{AllocError, Global};
