@@ -11,8 +11,6 @@ mod laws;
 mod reading;
 mod sets;
 #[cfg(test)]
-mod slow;
-#[cfg(test)]
 mod tests;
 mod view;
 mod walking;

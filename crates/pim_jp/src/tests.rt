@@ -3,14 +3,14 @@
 use crate::fault::JpKind::{
     BothLists, Encoding, Family, Flags, Mask, NotGroup, NotSource, SecondStar, Short, Trailing,
 };
-use crate::slow::first_fault;
 use crate::{
     Entry, JpKind, JpView, head_length, put_entry, put_group_and_counts, put_head, put_set,
     set_length,
 };
 use pim_addr::{V4, V6};
-use std::alloc::{AllocError, Global};
 use std::test::Fail;
+
+mod changed_bytes;
 
 /// Upstream 10.0.0.2, holdtime 210, and 239.1.1.1 with the RP 10.9.9.9 joined.
 const STAR: [u8; 30] = [
@@ -253,51 +253,6 @@ fn tells_of_sets_as_a_whole(rt: HostRuntime) {
     let twice =
         b"\x01\0\x0a\0\0\x02\0\x02\0\xd2\x01\0\0\x20\xef\x01\x01\x01\0\0\0\0\x01\0\0\x20\xef\x01\x01\x01\0\0\0\0";
     assert_eq!(rt; fault_v4(twice), None);
-}
-
-/// A set that joins the RP 10.9.9.9, the source 192.0.2.1 and, on the RP's tree, 192.0.2.2, and prunes 192.0.2.2 and,
-/// on the RP's tree, 192.0.2.1.
-const LISTS: [u8; 62] = [
-    1, 0, 10, 0, 0, 2, 0, 1, 0, 210, 1, 0, 0, 32, 239, 1, 1, 1, 0, 3, 0, 2, 1, 0, 7, 32, 10, 9, 9,
-    9, 1, 0, 4, 32, 192, 0, 2, 1, 1, 0, 5, 32, 192, 0, 2, 2, 1, 0, 4, 32, 192, 0, 2, 2, 1, 0, 5,
-    32, 192, 0, 2, 1,
-];
-
-/// Whether the plain reader tells the same of the body with any one byte changed to any other: else where not.
-fn difference(alloc: Global, body: &mut [u8]) -> Result<Option<(usize, u8)>, AllocError> {
-    for at in 0..body.len() {
-        let old = body[at];
-        for byte in 0..=255 {
-            body[at] = byte;
-            if JpView::<V4>::read(body).err() != first_fault(alloc, body)? {
-                return Ok(Some((at, byte)));
-            }
-        }
-        body[at] = old;
-    }
-    Ok(None)
-}
-
-#[test]
-fn tells_what_the_plain_reader_tells(rt: HostRuntime) -> Result<(), Fail> {
-    let mut star = STAR;
-    assert_eq!(rt; difference(rt.alloc(), &mut star)?, None);
-    let mut lists = LISTS;
-    assert_eq!(rt; difference(rt.alloc(), &mut lists)?, None);
-    Ok(())
-}
-
-/// The same where an entry that is joined stands among the pruned ones too.
-#[test]
-fn tells_of_both_lists_what_the_plain_reader_tells(rt: HostRuntime) -> Result<(), Fail> {
-    for joined in [22, 30, 38] {
-        for pruned in [46, 54] {
-            let mut body = LISTS;
-            body.copy_within(joined..joined + 8, pruned);
-            assert_eq!(rt; difference(rt.alloc(), &mut body)?, None);
-        }
-    }
-    Ok(())
 }
 
 #[test]
