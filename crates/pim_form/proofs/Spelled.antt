@@ -10,7 +10,7 @@ use Rattle.pim_jp.specs.declared.entry.Entry.TheVariants.{Source, Rpt}
 use Rattle.pim_jp.specs.Spelling.{same_source, star_count, IsLegalSet}
 use Rattle.pim_jp.specs.Canonical.{IsMessageEntry, IsMessageSet, IsMessage, canonical, canonical_head_length, canonical_sets_length}
 use Rattle.pim_frame.specs.Seal.{framed}
-use Rattle.pim_frame.specs.declared.frame.Kind.TheVariants.{JoinPrune}
+use Rattle.pim_frame.specs.declared.frame.MessageType.TheVariants.{JoinPrune}
 use Rattle.pim_form.specs.NormalForm.{GroupForm, IsGroup, IsSource, AreAscending, AreExceptions, is_empty, IsNormalGroup, groups_of}
 use Rattle.pim_form.specs.Units.{WantUnit, star_unit, source_unit, star_units, group_units, units_of, run_entries, run_size, empty_message_size, empty_set_size, entry_size}
 use Rattle.pim_form.specs.Packing.{fits}

@@ -3,7 +3,7 @@ use Rattle.std.specs.Prelude.{◌≡◌, ◌↔◌, ◌≤◌, false, true, List
 use Rattle.pim_addr.specs.declared.family.AddressFamily.{AddressFamily}
 use Rattle.pim_frame.specs.Frame.{join_prune, frame_faults, content, all_routers}
 use Rattle.pim_frame.specs.Seal.{IsSealed}
-use Rattle.pim_frame.specs.declared.frame.Kind.TheVariants.{JoinPrune}
+use Rattle.pim_frame.specs.declared.frame.MessageType.TheVariants.{JoinPrune}
 use Rattle.pim_jp.specs.Message.{Message, message_of}
 use Rattle.pim_jp.specs.Faults.{faults}
 use Rattle.pim_jp.specs.Canonical.{IsMessage, canonical}

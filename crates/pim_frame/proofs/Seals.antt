@@ -5,8 +5,8 @@ use Rattle.pim_addr.specs.declared.family.AddressFamily.{AddressFamily}
 use Rattle.pim_frame.specs.Folded.{folded}
 use Rattle.pim_frame.specs.Seal.{first_byte, checksum, framed, IsSealed}
 use Rattle.pim_frame.specs.Sum.{words_sum, pseudo_header}
-use Rattle.pim_frame.specs.declared.frame.Kind.{Kind}
-use Rattle.pim_frame.specs.declared.frame.Kind.TheVariants.{Hello, JoinPrune}
+use Rattle.pim_frame.specs.declared.frame.MessageType.{MessageType}
+use Rattle.pim_frame.specs.declared.frame.MessageType.TheVariants.{Hello, JoinPrune}
 use Rattle.pim_frame.proofs.Sums.{words_sum-more, words_sum-append}
 
 -- ---- the checksum that makes a message sum rightly
@@ -38,28 +38,28 @@ complement_seals header first sum body even above e =
     ∙ omega arith in
     (below, subst is_right (sym sealed) seals.1)
 
-checksum_framed : (kind : Kind) (sum : ℕ) (body : List ℕ) → sum < 65535 → checksum (framed kind sum body) ≡ sum
-checksum_framed kind sum body h = omega arith
+checksum_framed : (message_type : MessageType) (sum : ℕ) (body : List ℕ) → sum < 65535 → checksum (framed message_type sum body) ≡ sum
+checksum_framed message_type sum body h = omega arith
 
-first_byte_above : (kind : Kind) → 0 < first_byte kind
+first_byte_above : (message_type : MessageType) → 0 < first_byte message_type
 first_byte_above Hello = omega arith
 first_byte_above JoinPrune = omega arith
 
 -- a header with checksum 0 was written first, and then one with the complement
-pub complement_IsSealed : (family : AddressFamily) (source destination : List ℕ) (kind : Kind) (sum : ℕ) (body unsealed message : List ℕ)
-    → unsealed ≡ framed kind 0 body → message ≡ framed kind sum (drop 4 unsealed)
+pub complement_IsSealed : (family : AddressFamily) (source destination : List ℕ) (message_type : MessageType) (sum : ℕ) (body unsealed message : List ℕ)
+    → unsealed ≡ framed message_type 0 body → message ≡ framed message_type sum (drop 4 unsealed)
     → length (pseudo_header family source destination (length unsealed)) % 2 ≡ 0
     → folded (words_sum (pseudo_header family source destination (length unsealed) ++ unsealed)) + sum ≡ 65535
-    → IsSealed family source destination kind body message
-complement_IsSealed family source destination kind sum body unsealed message spelled written whole lacks =
+    → IsSealed family source destination message_type body message
+complement_IsSealed family source destination message_type sum body unsealed message spelled written whole lacks =
     let header : List ℕ → List ℕ = λ bytes. pseudo_header family source destination (length bytes) in
     let total : List ℕ → ℕ = λ bytes. words_sum (header bytes ++ bytes) in
-    let even : length (header (framed kind 0 body)) % 2 ≡ 0 = subst (λ (bytes : List ℕ). length (header bytes) % 2 ≡ 0) spelled whole in
-    let gap : folded (total (framed kind 0 body)) + sum ≡ 65535 = subst (λ (bytes : List ℕ). folded (total bytes) + sum ≡ 65535) spelled lacks in
-    let seals = complement_seals (header (framed kind 0 body)) (first_byte kind) sum body even (first_byte_above kind) gap in
-    let whole_message : message ≡ framed kind sum body = written ∙ ap (λ (bytes : List ℕ). framed kind sum (drop 4 bytes)) spelled in
-    let field : checksum message ≡ sum = ap checksum whole_message ∙ checksum_framed kind sum body seals.0 in (
-      whole_message ∙ ap (λ (n : ℕ). framed kind n body) (sym field),
+    let even : length (header (framed message_type 0 body)) % 2 ≡ 0 = subst (λ (bytes : List ℕ). length (header bytes) % 2 ≡ 0) spelled whole in
+    let gap : folded (total (framed message_type 0 body)) + sum ≡ 65535 = subst (λ (bytes : List ℕ). folded (total bytes) + sum ≡ 65535) spelled lacks in
+    let seals = complement_seals (header (framed message_type 0 body)) (first_byte message_type) sum body even (first_byte_above message_type) gap in
+    let whole_message : message ≡ framed message_type sum body = written ∙ ap (λ (bytes : List ℕ). framed message_type sum (drop 4 bytes)) spelled in
+    let field : checksum message ≡ sum = ap checksum whole_message ∙ checksum_framed message_type sum body seals.0 in (
+      whole_message ∙ ap (λ (n : ℕ). framed message_type n body) (sym field),
       rw field seals.0,
       subst (λ (bytes : List ℕ). is_right (total bytes)) (sym whole_message) seals.1,
     )
@@ -88,17 +88,17 @@ one_sum header first body b c below_b below_c right_b right_c =
 divides : (total : ℕ) → is_right total → total % 65535 ≡ 0
 divides total h = grind (arith, nat_tests)
 
-sealed_total : (family : AddressFamily) (source destination : List ℕ) (kind : Kind) (body message : List ℕ) → IsSealed family source destination kind body message
-    → words_sum (pseudo_header family source destination (length (framed kind 0 body)) ++ framed kind (checksum message) body) % 65535 ≡ 0
-sealed_total family source destination kind body message (spelled, below, right) =
+sealed_total : (family : AddressFamily) (source destination : List ℕ) (message_type : MessageType) (body message : List ℕ) → IsSealed family source destination message_type body message
+    → words_sum (pseudo_header family source destination (length (framed message_type 0 body)) ++ framed message_type (checksum message) body) % 65535 ≡ 0
+sealed_total family source destination message_type body message (spelled, below, right) =
     let total : List ℕ → ℕ = λ bytes. words_sum (pseudo_header family source destination (length bytes) ++ bytes) in
     subst (λ (bytes : List ℕ). total bytes % 65535 ≡ 0) spelled (divides (total message) right)
 
-pub one_seal : (family : AddressFamily) (source destination : List ℕ) (kind : Kind) (body first second : List ℕ)
-    → IsSealed family source destination kind body first → IsSealed family source destination kind body second → first ≡ second
-one_seal family source destination kind body first second one two =
-    let header = pseudo_header family source destination (length (framed kind 0 body)) in
+pub one_seal : (family : AddressFamily) (source destination : List ℕ) (message_type : MessageType) (body first second : List ℕ)
+    → IsSealed family source destination message_type body first → IsSealed family source destination message_type body second → first ≡ second
+one_seal family source destination message_type body first second one two =
+    let header = pseudo_header family source destination (length (framed message_type 0 body)) in
     let same : checksum first ≡ checksum second =
-    one_sum header (first_byte kind) body (checksum first) (checksum second) one.1 two.1
-    (sealed_total family source destination kind body first one) (sealed_total family source destination kind body second two) in
-    one.0 ∙ ap (λ n. framed kind n body) same ∙ sym two.0
+    one_sum header (first_byte message_type) body (checksum first) (checksum second) one.1 two.1
+    (sealed_total family source destination message_type body first one) (sealed_total family source destination message_type body second two) in
+    one.0 ∙ ap (λ n. framed message_type n body) same ∙ sym two.0

@@ -48,23 +48,23 @@ pub enum Body<'a> {
     Other(u8),
 }
 
-/// The kinds of message that are sealed.
+/// The types of the messages that are sealed.
 #[derive(Clone, Copy, Debug, PartialEq, Eq)]
-pub enum Kind {
+pub enum MessageType {
     /// A Hello (RFC 7761, 4.9.2).
     Hello,
     /// A Join/Prune (RFC 7761, 4.9.5).
     JoinPrune,
 }
 
-impl Kind {
+impl MessageType {
     /// The first byte of its messages: version 2 and the type.
     fn first_byte(self) -> u8
         ensures { result ≡ first_byte self }
     {
         let message_type = match self {
-            Kind::Hello => HELLO,
-            Kind::JoinPrune => JOIN_PRUNE,
+            MessageType::Hello => HELLO,
+            MessageType::JoinPrune => JOIN_PRUNE,
         };
         VERSION * 16 + message_type
     }
@@ -124,36 +124,36 @@ pub fn open<'a, F: Family>(
     }
 }
 
-/// Writes a header of this kind, with this checksum, before the body.
-fn put_header(kind: Kind, checksum: u16, bytes: &mut [u8])
+/// Writes a header of this type, with this checksum, before the body.
+fn put_header(message_type: MessageType, checksum: u16, bytes: &mut [u8])
     requires { 4 ≤ length bytes.old }
-    ensures { bytes.new ≡ framed kind checksum (drop 4 bytes.old) }
+    ensures { bytes.new ≡ framed message_type checksum (drop 4 bytes.old) }
 {
     let [high, low] = checksum.to_be_bytes();
     let (header, _) = bytes.split_at_mut(4);
-    header.copy_from_slice(&[kind.first_byte(), 0, high, low]);
+    header.copy_from_slice(&[message_type.first_byte(), 0, high, low]);
 }
 
 /// Seals a message from `src` to `dst` whose body stands from byte 4: writes its header, with the one checksum
 /// below 65,535 with which it sums rightly.
-pub fn seal<F: Family>(src: F::Addr, dst: F::Addr, kind: Kind, bytes: &mut [u8])
+pub fn seal<F: Family>(src: F::Addr, dst: F::Addr, message_type: MessageType, bytes: &mut [u8])
     requires header { 4 ≤ length bytes.old }
     requires counted { length bytes.old < 2 ^ 32 }
-    ensures sealed { IsSealed F.family (F.bytes_of src) (F.bytes_of dst) kind (drop 4 bytes.old) bytes.new }
+    ensures sealed { IsSealed F.family (F.bytes_of src) (F.bytes_of dst) message_type (drop 4 bytes.old) bytes.new }
     ensures body { drop 4 bytes.new ≡ drop 4 bytes.old }
     ensures length { length bytes.new ≡ length bytes.old }
 {
-    put_header(kind, 0, bytes);
+    put_header(message_type, 0, bytes);
     let checksum = complement::<F>(src, dst, bytes);
-    put_header(kind, checksum, bytes);
+    put_header(message_type, checksum, bytes);
 }
 
-/// A law: of the messages of one kind and body at most one has a checksum below 65,535 and sums rightly.
+/// A law: of the messages of one type and body at most one has a checksum below 65,535 and sums rightly.
 pub fn one_checksum()
     ensures { OneChecksum }
 {}
 
-/// A law: a message sealed for ALL-PIM-ROUTERS opens with no fault, as its kind with its body.
+/// A law: a message sealed for ALL-PIM-ROUTERS opens with no fault, as its type with its body.
 pub fn sealed_opens()
     ensures { SealedOpens }
 {}

@@ -11,4 +11,6 @@ mod frame;
 #[cfg(test)]
 mod tests;
 
-pub use frame::{Body, FrameFault, Kind, all_routers, one_checksum, open, seal, sealed_opens};
+pub use frame::{
+    Body, FrameFault, MessageType, all_routers, one_checksum, open, seal, sealed_opens,
+};

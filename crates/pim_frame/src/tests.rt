@@ -114,15 +114,20 @@ fn looks_at_the_destination(rt: HostRuntime) {
 #[test]
 fn seals_over_ipv4(rt: HostRuntime) {
     let mut hello = [0xaa, 0xaa, 0xaa, 0xaa, 0, 1, 0, 2, 0xdf, 0xfc];
-    seal::<V4>(ANY_V4, ALL_ROUTERS_V4, Kind::Hello, &mut hello);
+    seal::<V4>(ANY_V4, ALL_ROUTERS_V4, MessageType::Hello, &mut hello);
     assert_eq!(rt; hello, HELLO_ZERO);
     let mut join_prune = JOIN_PRUNE_WRONG;
     join_prune[0] = 0;
-    seal::<V4>(ANY_V4, ALL_ROUTERS_V4, Kind::JoinPrune, &mut join_prune);
+    seal::<V4>(
+        ANY_V4,
+        ALL_ROUTERS_V4,
+        MessageType::JoinPrune,
+        &mut join_prune,
+    );
     assert_eq!(rt; join_prune, JOIN_PRUNE_V4);
     let mut odd = JOIN_PRUNE_ODD;
     odd[2] = 0xff;
-    seal::<V4>(ANY_V4, ALL_ROUTERS_V4, Kind::JoinPrune, &mut odd);
+    seal::<V4>(ANY_V4, ALL_ROUTERS_V4, MessageType::JoinPrune, &mut odd);
     assert_eq!(rt; odd, JOIN_PRUNE_ODD);
 }
 
@@ -131,10 +136,15 @@ fn seals_over_ipv6(rt: HostRuntime) {
     let mut join_prune = JOIN_PRUNE_V6;
     join_prune[2] = 0x12;
     join_prune[3] = 0x34;
-    seal::<V6>(SENDER_V6, ALL_ROUTERS_V6, Kind::JoinPrune, &mut join_prune);
+    seal::<V6>(
+        SENDER_V6,
+        ALL_ROUTERS_V6,
+        MessageType::JoinPrune,
+        &mut join_prune,
+    );
     assert_eq!(rt; join_prune, JOIN_PRUNE_V6);
     let mut hello = HELLO_V6;
     hello[3] = 0;
-    seal::<V6>(SENDER_V6, ALL_ROUTERS_V6, Kind::Hello, &mut hello);
+    seal::<V6>(SENDER_V6, ALL_ROUTERS_V6, MessageType::Hello, &mut hello);
     assert_eq!(rt; hello, HELLO_V6);
 }

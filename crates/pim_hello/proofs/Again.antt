@@ -74,10 +74,10 @@ addresses_in_row family addresses all = ap (flat_map (if_of family)) (row_again 
 -- ---- a row of options
 
 -- an option that is spelled, and has no fault
-record Legal (kind : ℕ) (value : List ℕ) : Type 0 where
-  kind_fits : kind < 2 ^ 16
+record Legal (type_code : ℕ) (value : List ℕ) : Type 0 where
+  type_fits : type_code < 2 ^ 16
   value_fits : length value < 2 ^ 16
-  no_fault : kinds_at (whole kind value) ≡ []
+  no_fault : kinds_at (whole type_code value) ≡ []
 
 AreLegal : List (ℕ × List ℕ) → Type 0
 AreLegal [] = Unit {0}
@@ -90,29 +90,29 @@ parts_of : ℕ → List (ℕ × List ℕ) → List Part
 parts_of at [] = []
 parts_of at (o ∷ others) = record { at = at; content = whole o.0 o.1 } ∷ parts_of (at + (4 + length o.1)) others
 
-type_again : (kind : ℕ) (value rest : List ℕ) → kind < 2 ^ 16 → option_type (option_spelled kind value ++ rest) ≡ kind
-type_again kind value rest fits = big_number-reads_back 2 kind (big_bytes 2 (length value) ++ (value ++ rest)) fits
+type_again : (type_code : ℕ) (value rest : List ℕ) → type_code < 2 ^ 16 → option_type (option_spelled type_code value ++ rest) ≡ type_code
+type_again type_code value rest fits = big_number-reads_back 2 type_code (big_bytes 2 (length value) ++ (value ++ rest)) fits
 
-length_again : (kind : ℕ) (value rest : List ℕ) → length value < 2 ^ 16 → value_length (option_spelled kind value ++ rest) ≡ length value
-length_again kind value rest fits = big_number-reads_back 2 (length value) (value ++ rest) fits
+length_again : (type_code : ℕ) (value rest : List ℕ) → length value < 2 ^ 16 → value_length (option_spelled type_code value ++ rest) ≡ length value
+length_again type_code value rest fits = big_number-reads_back 2 (length value) (value ++ rest) fits
 
-whole_again : (kind : ℕ) (value rest : List ℕ) → length value < 2 ^ 16 → is_whole (option_spelled kind value ++ rest) ≡ true
-whole_again kind value rest fits =
-    let n = length_again kind value rest fits in
-    let bytes = option_spelled kind value ++ rest in
+whole_again : (type_code : ℕ) (value rest : List ℕ) → length value < 2 ^ 16 → is_whole (option_spelled type_code value ++ rest) ≡ true
+whole_again type_code value rest fits =
+    let n = length_again type_code value rest fits in
+    let bytes = option_spelled type_code value ++ rest in
     and_from _ _ (le-leb 4 (length bytes) (omega arith)) (le-leb (value_length bytes) (length (drop 4 bytes)) (omega (arith, n, length-append value rest)))
 
-value_again : (kind : ℕ) (value rest : List ℕ) → length value < 2 ^ 16 → option_value (option_spelled kind value ++ rest) ≡ value
-value_again kind value rest fits = take_at value rest _ (sym (length_again kind value rest fits))
+value_again : (type_code : ℕ) (value rest : List ℕ) → length value < 2 ^ 16 → option_value (option_spelled type_code value ++ rest) ≡ value
+value_again type_code value rest fits = take_at value rest _ (sym (length_again type_code value rest fits))
 
-behind_again : (kind : ℕ) (value rest : List ℕ) → length value < 2 ^ 16 → behind_option (option_spelled kind value ++ rest) ≡ rest
-behind_again kind value rest fits = drop_at value rest _ (sym (length_again kind value rest fits))
+behind_again : (type_code : ℕ) (value rest : List ℕ) → length value < 2 ^ 16 → behind_option (option_spelled type_code value ++ rest) ≡ rest
+behind_again type_code value rest fits = drop_at value rest _ (sym (length_again type_code value rest fits))
 
-content_again : (kind : ℕ) (value rest : List ℕ) → Legal kind value → content_at (option_spelled kind value ++ rest) ≡ whole kind value
-content_again kind value rest legal =
-    cond-true _ _ _ (whole_again kind value rest legal.value_fits)
-    ∙ ap (λ (k : ℕ). whole k (option_value (option_spelled kind value ++ rest))) (type_again kind value rest legal.kind_fits)
-    ∙ ap (λ (v : List ℕ). whole kind v) (value_again kind value rest legal.value_fits)
+content_again : (type_code : ℕ) (value rest : List ℕ) → Legal type_code value → content_at (option_spelled type_code value ++ rest) ≡ whole type_code value
+content_again type_code value rest legal =
+    cond-true _ _ _ (whole_again type_code value rest legal.value_fits)
+    ∙ ap (λ (k : ℕ). whole k (option_value (option_spelled type_code value ++ rest))) (type_again type_code value rest legal.type_fits)
+    ∙ ap (λ (v : List ℕ). whole type_code v) (value_again type_code value rest legal.value_fits)
 
 parts_again : (at : ℕ) (os : List (ℕ × List ℕ)) → AreLegal os → parts_within (length (flat_map spelled os)) at (flat_map spelled os) ≡ parts_of at os
 unfolding AreLegal parts_of
@@ -134,48 +134,48 @@ no_faults at (o ∷ others) legal = rw (legal.0.no_fault) (no_faults (at + (4 + 
 -- ---- the last option of a type
 
 pick : ℕ → List (ℕ × List ℕ) → Option (List ℕ)
-pick kind [] = None
-pick kind (o ∷ others) = option_or (pick kind others) (cond (eqb o.0 kind) (Some o.1) None)
+pick type_code [] = None
+pick type_code (o ∷ others) = option_or (pick type_code others) (cond (eqb o.0 type_code) (Some o.1) None)
 
-last_again : (kind at : ℕ) (os : List (ℕ × List ℕ)) → last_of kind (parts_of at os) ≡ pick kind os
+last_again : (type_code at : ℕ) (os : List (ℕ × List ℕ)) → last_of type_code (parts_of at os) ≡ pick type_code os
 unfolding last_of parts_of pick
-last_again kind at [] = refl
-last_again kind at (o ∷ others) = ap (λ (found : Option (List ℕ)). option_or found (cond (eqb o.0 kind) (Some o.1) None)) (last_again kind (at + (4 + length o.1)) others)
+last_again type_code at [] = refl
+last_again type_code at (o ∷ others) = ap (λ (found : Option (List ℕ)). option_or found (cond (eqb o.0 type_code) (Some o.1) None)) (last_again type_code (at + (4 + length o.1)) others)
 
 or_assoc : {A : Type 0} (a b c : Option A) → option_or (option_or a b) c ≡ option_or a (option_or b c)
 or_assoc None b c = refl
 or_assoc (Some x) b c = refl
 
-pick-append : (kind : ℕ) (xs ys : List (ℕ × List ℕ)) → pick kind (xs ++ ys) ≡ option_or (pick kind ys) (pick kind xs)
+pick-append : (type_code : ℕ) (xs ys : List (ℕ × List ℕ)) → pick type_code (xs ++ ys) ≡ option_or (pick type_code ys) (pick type_code xs)
 unfolding pick
-pick-append kind [] ys = sym (or_none (pick kind ys))
-pick-append kind (o ∷ others) ys =
-    ap (λ (found : Option (List ℕ)). option_or found (cond (eqb o.0 kind) (Some o.1) None)) (pick-append kind others ys)
-    ∙ or_assoc (pick kind ys) (pick kind others) (cond (eqb o.0 kind) (Some o.1) None)
+pick-append type_code [] ys = sym (or_none (pick type_code ys))
+pick-append type_code (o ∷ others) ys =
+    ap (λ (found : Option (List ℕ)). option_or found (cond (eqb o.0 type_code) (Some o.1) None)) (pick-append type_code others ys)
+    ∙ or_assoc (pick type_code ys) (pick type_code others) (cond (eqb o.0 type_code) (Some o.1) None)
 
 -- an option that may be absent
 entry : ℕ → Option (List ℕ) → List (ℕ × List ℕ)
-entry kind None = []
-entry kind (Some value) = (kind, value) ∷ []
+entry type_code None = []
+entry type_code (Some value) = (type_code, value) ∷ []
 
 none_either : (b : Bool) → None ≡ cond b (let n : Option (List ℕ) = None in n) None
 none_either true = refl
 none_either false = refl
 
-pick-entry : (kind this : ℕ) (o : Option (List ℕ)) → pick kind (entry this o) ≡ cond (eqb this kind) o None
+pick-entry : (type_code this : ℕ) (o : Option (List ℕ)) → pick type_code (entry this o) ≡ cond (eqb this type_code) o None
 unfolding pick entry
-pick-entry kind this None = none_either (eqb this kind)
-pick-entry kind this (Some value) = refl
+pick-entry type_code this None = none_either (eqb this type_code)
+pick-entry type_code this (Some value) = refl
 
-entry_spelled : (kind : ℕ) (o : Option (List ℕ)) → flat_map spelled (entry kind o) ≡ if_there kind o
+entry_spelled : (type_code : ℕ) (o : Option (List ℕ)) → flat_map spelled (entry type_code o) ≡ if_there type_code o
 unfolding entry
-entry_spelled kind None = refl
-entry_spelled kind (Some value) = append-nil (option_spelled kind value)
+entry_spelled type_code None = refl
+entry_spelled type_code (Some value) = append-nil (option_spelled type_code value)
 
-entry_legal : (kind : ℕ) (o : Option (List ℕ)) → IfSome o (Legal kind) → AreLegal (entry kind o)
+entry_legal : (type_code : ℕ) (o : Option (List ℕ)) → IfSome o (Legal type_code) → AreLegal (entry type_code o)
 unfolding entry AreLegal
-entry_legal kind None legal = tt
-entry_legal kind (Some value) legal = (legal, tt)
+entry_legal type_code None legal = tt
+entry_legal type_code (Some value) legal = (legal, tt)
 
 both_legal : (xs ys : List (ℕ × List ℕ)) → AreLegal xs → AreLegal ys → AreLegal (xs ++ ys)
 unfolding AreLegal
@@ -259,24 +259,24 @@ delays_again (Some d) fits = ap {B = Option Delays} Some (one_delays_again d fit
 
 number_legal_1 : (n : Option ℕ) → IfSome (option_map (big_bytes 2) n) (Legal 1)
 number_legal_1 None = tt
-number_legal_1 (Some x) = record { kind_fits = omega arith; value_fits = omega arith; no_fault = refl }
+number_legal_1 (Some x) = record { type_fits = omega arith; value_fits = omega arith; no_fault = refl }
 
 delays_legal : (d : Option Delays) → IfSome (option_map delays_spelled d) (Legal 2)
 delays_legal None = tt
-delays_legal (Some x) = record { kind_fits = omega arith; value_fits = omega arith; no_fault = refl }
+delays_legal (Some x) = record { type_fits = omega arith; value_fits = omega arith; no_fault = refl }
 
 number_legal_19 : (n : Option ℕ) → IfSome (option_map (big_bytes 4) n) (Legal 19)
 number_legal_19 None = tt
-number_legal_19 (Some x) = record { kind_fits = omega arith; value_fits = omega arith; no_fault = refl }
+number_legal_19 (Some x) = record { type_fits = omega arith; value_fits = omega arith; no_fault = refl }
 
 number_legal_20 : (n : Option ℕ) → IfSome (option_map (big_bytes 4) n) (Legal 20)
 number_legal_20 None = tt
-number_legal_20 (Some x) = record { kind_fits = omega arith; value_fits = omega arith; no_fault = refl }
+number_legal_20 (Some x) = record { type_fits = omega arith; value_fits = omega arith; no_fault = refl }
 
 list_legal : (family : AddressFamily) (addresses : List (List ℕ)) → AreAddresses family addresses → length (row_spelled family addresses) < 2 ^ 16 → IfSome (row_there family addresses) (Legal 24)
 list_legal family [] long small = tt
 list_legal family (a ∷ others) long small = record {
-  kind_fits = omega arith;
+  type_fits = omega arith;
   value_fits = small;
   no_fault = ap (λ (b : Bool). cond (not b) (Address ∷ []) []) (is_row_again family (a ∷ others) long);
 }
@@ -295,7 +295,7 @@ reads_back family hello fits =
     let legal = all_legal a b c d e (number_legal_1 p.holdtime) (delays_legal p.lan) (number_legal_19 p.priority) (number_legal_20 p.generation) (list_legal family hello.addresses fits.addresses fits.row) in
     let bytes : flat_map spelled os ≡ spelling_of family hello = all_spelled a b c d e in
     let cut : parts (spelling_of family hello) ≡ parts_of 0 os = sym (ap parts bytes) ∙ parts_again 0 os legal in
-    let last = λ (kind : ℕ). ap (last_of kind) cut ∙ last_again kind 0 os in (
+    let last = λ (type_code : ℕ). ap (last_of type_code) cut ∙ last_again type_code 0 os in (
       ap faults_of cut ∙ no_faults 0 os legal,
       same_hello (hello_of family (spelling_of family hello)) hello
           (ap (option_map (big_number 2)) (last 1 ∙ pick_1 a b c d e) ∙ number16_again p.holdtime fits.parameters.holdtime)

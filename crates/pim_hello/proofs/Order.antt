@@ -24,7 +24,7 @@ kinds_rise false true = (omega arith, tt)
 kinds_rise false false = tt
 
 then_rise : (least at : ℕ) (content : Content) (others : List Part) → least ≤ at → OffsetsRise (suc at) (map numbered others) → OffsetsRise least (map numbered (part_then at content others))
-then_rise least at (whole kind value) others le h = (le, kinds_rise (has_other_length kind value) (kind == 24 && not (is_row value)), h)
+then_rise least at (whole type_code value) others le h = (le, kinds_rise (has_other_length type_code value) (type_code == 24 && not (is_row value)), h)
 then_rise least at partial others le h = (le, (omega arith, tt), tt)
 
 else_rise : (least : ℕ) (test : Bool) (parts : List Part) → OffsetsRise least (map numbered parts) → OffsetsRise least (map numbered (cond test [] parts))

@@ -83,7 +83,7 @@ legal_whole at bytes value x e =
 told_ok : {A : Type 0} (at : ℕ) (content : Content) (others : List Part) (value x : A) → judged (part_faults (record { at = at; content = content })) value ≡ Ok x
     → faults_of (part_then at content others) ≡ faults_of others
 told_ok at partial others value x e = absurd (partial_faulty at value x e)
-told_ok at (whole kind bytes) others value x e = ap (λ fs. fs ++ faults_of others) (no_fault (part_faults (record { at = at; content = whole kind bytes })) value x e).0
+told_ok at (whole type_code bytes) others value x e = ap (λ fs. fs ++ faults_of others) (no_fault (part_faults (record { at = at; content = whole type_code bytes })) value x e).0
 
 told_err : {A B : Type 0} (at : ℕ) (content : Content) (others : List Part) (value : A) (x : B) (fault : HelloFault) → judged (part_faults (record { at = at; content = content })) value ≡ Err fault
     → judged (faults_of (part_then at content others)) x ≡ Err fault
@@ -117,15 +117,15 @@ same_hello a b holdtime lan priority generation addresses =
     ∙ ap (λ x. said_by b.parameters.holdtime b.parameters.lan b.parameters.priority x a.addresses) generation
     ∙ ap (λ x. said_by b.parameters.holdtime b.parameters.lan b.parameters.priority b.parameters.generation x) addresses
 
-over_more : (family : AddressFamily) (hello : Hello) (at kind : ℕ) (value : List ℕ) (others : List Part)
-    → over family hello (part_then at (whole kind value) others) ≡ over family (with_option family (whole kind value) hello) others
+over_more : (family : AddressFamily) (hello : Hello) (at type_code : ℕ) (value : List ℕ) (others : List Part)
+    → over family hello (part_then at (whole type_code value) others) ≡ over family (with_option family (whole type_code value) hello) others
 unfolding over with_option last_of
-over_more family hello at kind value others = same_hello _ _
-    (field_more (big_number 2) (last_of 1 others) (eqb kind 1) value hello.parameters.holdtime)
-    (field_more delays_of (last_of 2 others) (eqb kind 2) value hello.parameters.lan)
-    (field_more (big_number 4) (last_of 19 others) (eqb kind 19) value hello.parameters.priority)
-    (field_more (big_number 4) (last_of 20 others) (eqb kind 20) value hello.parameters.generation)
-    (list_more (addresses_of family) (last_of 24 others) (eqb kind 24) value hello.addresses)
+over_more family hello at type_code value others = same_hello _ _
+    (field_more (big_number 2) (last_of 1 others) (eqb type_code 1) value hello.parameters.holdtime)
+    (field_more delays_of (last_of 2 others) (eqb type_code 2) value hello.parameters.lan)
+    (field_more (big_number 4) (last_of 19 others) (eqb type_code 19) value hello.parameters.priority)
+    (field_more (big_number 4) (last_of 20 others) (eqb type_code 20) value hello.parameters.generation)
+    (list_more (addresses_of family) (last_of 24 others) (eqb type_code 24) value hello.addresses)
 
 over_end : (family : AddressFamily) (hello : Hello) → over family hello [] ≡ hello
 unfolding over last_of
@@ -168,7 +168,7 @@ keep_told body rest value x some inside e =
 over_content : {A : Type 0} (family : AddressFamily) (hello : Hello) (at : ℕ) (content : Content) (others : List Part) (value x : A)
     → judged (part_faults (record { at = at; content = content })) value ≡ Ok x
     → over family hello (part_then at content others) ≡ over family (with_option family content hello) others
-over_content family hello at (whole kind bytes) others value x e = over_more family hello at kind bytes others
+over_content family hello at (whole type_code bytes) others value x e = over_more family hello at type_code bytes others
 over_content family hello at partial others value x e = absurd (partial_faulty at value x e)
 
 pub keep_said : (family : AddressFamily) (hello next : Hello) (body rest : List ℕ) → 0 < length rest → length rest ≤ length body

@@ -17,13 +17,13 @@ number_of Address = 3
 
 -- an option of a known type that has one length, and this isn't it
 abbrev pub has_other_length : ℕ → List ℕ → Bool
-has_other_length kind value =
-    (kind == 1 && not (length value == 2)) || ((kind == 2 || kind == 19 || kind == 20) && not (length value == 4))
+has_other_length type_code value =
+    (type_code == 1 && not (length value == 2)) || ((type_code == 2 || type_code == 19 || type_code == 20) && not (length value == 4))
 
 -- the kinds at one part, in the order of their numbers
 abbrev pub kinds_at : Content → List HelloKind
-kinds_at (whole kind value) =
-    fault_if (has_other_length kind value) OptionLength ++ fault_if (kind == 24 && not (is_row value)) Address
+kinds_at (whole type_code value) =
+    fault_if (has_other_length type_code value) OptionLength ++ fault_if (type_code == 24 && not (is_row value)) Address
 kinds_at partial = Short ∷ []
 
 abbrev pub part_faults : Part → List HelloFault

@@ -39,7 +39,7 @@ pub record Part : Type 0 where
 
 -- behind a whole option come the others
 abbrev pub part_then : ℕ → Content → List Part → List Part
-part_then at (whole kind value) others = record { at = at; content = whole kind value } ∷ others
+part_then at (whole type_code value) others = record { at = at; content = whole type_code value } ∷ others
 part_then at partial others = record { at = at; content = partial } ∷ []
 
 -- at most so many parts, of these bytes at this offset
@@ -56,9 +56,9 @@ parts body = parts_within (length body) 0 body
 -- ---- of a repeated option the last counts
 
 abbrev pub value_if : ℕ → Content → Option (List ℕ)
-value_if kind (whole this value) = if this == kind then Some value else None
-value_if kind partial = None
+value_if type_code (whole this value) = if this == type_code then Some value else None
+value_if type_code partial = None
 
 unfoldable pub last_of : ℕ → List Part → Option (List ℕ)
-last_of kind [] = None
-last_of kind (part ∷ others) = option_or (last_of kind others) (value_if kind part.content)
+last_of type_code [] = None
+last_of type_code (part ∷ others) = option_or (last_of type_code others) (value_if type_code part.content)

@@ -11,12 +11,12 @@ use Rattle.pim_hello.specs.Value.{hello_of}
 
 -- two bytes of type, two of length, the value
 abbrev pub option_spelled : ℕ → List ℕ → List ℕ
-option_spelled kind value = (big_bytes 2 kind ++ big_bytes 2 (length value)) ++ value
+option_spelled type_code value = (big_bytes 2 type_code ++ big_bytes 2 (length value)) ++ value
 
 -- nothing where the option is absent
 abbrev pub if_there : ℕ → Option (List ℕ) → List ℕ
-if_there kind None = []
-if_there kind (Some value) = option_spelled kind value
+if_there type_code None = []
+if_there type_code (Some value) = option_spelled type_code value
 
 -- the T bit on top of 15 bits of propagation delay, then the override interval
 abbrev pub delays_spelled : Delays → List ℕ

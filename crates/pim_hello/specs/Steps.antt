@@ -10,14 +10,14 @@ use Rattle.pim_hello.specs.Value.{delays_of}
 
 -- the message with this option in place of an earlier one of its type
 unfoldable pub with_option : AddressFamily → Content → Hello → Hello
-with_option family (whole kind value) hello = record {
+with_option family (whole type_code value) hello = record {
   parameters = record {
-    holdtime = if kind == 1 then Some (big_number 2 value) else hello.parameters.holdtime;
-    lan = if kind == 2 then Some (delays_of value) else hello.parameters.lan;
-    priority = if kind == 19 then Some (big_number 4 value) else hello.parameters.priority;
-    generation = if kind == 20 then Some (big_number 4 value) else hello.parameters.generation;
+    holdtime = if type_code == 1 then Some (big_number 2 value) else hello.parameters.holdtime;
+    lan = if type_code == 2 then Some (delays_of value) else hello.parameters.lan;
+    priority = if type_code == 19 then Some (big_number 4 value) else hello.parameters.priority;
+    generation = if type_code == 20 then Some (big_number 4 value) else hello.parameters.generation;
   };
-  addresses = if kind == 24 then addresses_of family value else hello.addresses;
+  addresses = if type_code == 24 then addresses_of family value else hello.addresses;
 }
 with_option family partial hello = hello
 

@@ -83,13 +83,13 @@ impl<'a, F: Family> Hello<'a, F> {
 
     /// The message with this option in place of an earlier one of its type. One of an unknown type is skipped.
     #[tactic(auto, unfolding(crate::specs::Steps::with_option))]
-    fn with_option(mut self, kind: u16, value: &'a [u8]) -> Result<Hello<'a, F>, HelloKind>
+    fn with_option(mut self, type_code: u16, value: &'a [u8]) -> Result<Hello<'a, F>, HelloKind>
         requires { length value.now < 2 ^ 16 }
         ensures { Answers (hello_seen F.family) result
-            (judged (kinds_at (whole kind value.now))
-            (with_option F.family (whole kind value.now) (hello_seen F.family self.entry))) }
+            (judged (kinds_at (whole type_code value.now))
+            (with_option F.family (whole type_code value.now) (hello_seen F.family self.entry))) }
     {
-        match kind {
+        match type_code {
             HOLDTIME => self.holdtime = Some(read_number16(value)?),
             LAN_PRUNE_DELAY => self.lan = Some(read_delays(value)?),
             DR_PRIORITY => self.priority = Some(read_number32(value)?),
@@ -113,7 +113,7 @@ impl<'a, F: Family> Hello<'a, F> {
         };
         let option = first_option(bytes).ok_or(short)?;
         *self = self
-            .with_option(option.kind, option.value)
+            .with_option(option.type_code, option.value)
             .map_err(|kind| HelloFault { at, kind })?;
         Ok(option.behind)
     }

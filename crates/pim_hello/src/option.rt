@@ -31,7 +31,7 @@ pub(crate) const ADDRESS_LIST: u16 = 24;
 /// An option with what stands behind it.
 #[derive(Clone, Copy)]
 pub(crate) struct FirstOption<'a> {
-    pub(crate) kind: u16,
+    pub(crate) type_code: u16,
     pub(crate) value: &'a [u8],
     pub(crate) behind: &'a [u8],
 }
@@ -39,7 +39,7 @@ pub(crate) struct FirstOption<'a> {
 /// The option at the front, or `None` if it isn't whole.
 pub(crate) fn first_option(bytes: &[u8]) -> Option<FirstOption<'_>>
     ensures whole { MatchOption result (is_whole bytes.now ≡ false) (λ _. is_whole bytes.now ≡ true) }
-    ensures kind { IfSome result (λ o. o.kind ≡ option_type bytes.now) }
+    ensures type_code { IfSome result (λ o. o.type_code ≡ option_type bytes.now) }
     ensures value { IfSome result (λ o. o.value.now ≡ option_value bytes.now) }
     ensures behind { IfSome result (λ o. o.behind.now ≡ behind_option bytes.now) }
     ensures size { IfSome result (λ o. length o.value.now < 2 ^ 16) }
@@ -47,7 +47,7 @@ pub(crate) fn first_option(bytes: &[u8]) -> Option<FirstOption<'_>>
     if bytes.len() < HEADER_LENGTH {
         return None;
     }
-    let kind = BigEndian::read_u16(bytes);
+    let type_code = BigEndian::read_u16(bytes);
     let (_, length) = bytes.split_at(2);
     let size = usize::from(BigEndian::read_u16(length));
     let (_, rest) = bytes.split_at(HEADER_LENGTH);
@@ -56,7 +56,7 @@ pub(crate) fn first_option(bytes: &[u8]) -> Option<FirstOption<'_>>
     }
     let (value, behind) = rest.split_at(size);
     Some(FirstOption {
-        kind,
+        type_code,
         value,
         behind,
     })

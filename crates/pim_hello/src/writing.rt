@@ -16,18 +16,18 @@ use byteorder::{BigEndian, ByteOrder};
 use pim_addr::{Family, put_unicast, unicast_length};
 
 /// Writes an option's type and length.
-fn put_header(kind: u16, size: u16, out: &mut [u8])
+fn put_header(type_code: u16, size: u16, out: &mut [u8])
     requires { length out.old ≡ 4 }
-    ensures { out.new ≡ big_bytes 2 kind ++ big_bytes 2 size }
+    ensures { out.new ≡ big_bytes 2 type_code ++ big_bytes 2 size }
 {
     let (first, second) = out.split_at_mut(2);
-    BigEndian::write_u16(first, kind);
+    BigEndian::write_u16(first, type_code);
     BigEndian::write_u16(second, size);
 }
 
 /// How many bytes an option of 16 bits takes.
 pub(crate) fn size_number16(number: Option<u16>) -> usize
-    ensures size { (kind : ℕ) → result ≡ length (if_there kind (option_map (big_bytes 2) number)) }
+    ensures size { (type_code : ℕ) → result ≡ length (if_there type_code (option_map (big_bytes 2) number)) }
     ensures small { result ≤ 8 }
 {
     if number.is_some() {
@@ -38,21 +38,21 @@ pub(crate) fn size_number16(number: Option<u16>) -> usize
 }
 
 /// Writes an option of 16 bits.
-pub(crate) fn put_number16(kind: u16, number: Option<u16>, out: &mut [u8])
-    requires { length out.old ≡ length (if_there kind (option_map (big_bytes 2) number)) }
-    ensures spelled { out.new ≡ if_there kind (option_map (big_bytes 2) number) }
+pub(crate) fn put_number16(type_code: u16, number: Option<u16>, out: &mut [u8])
+    requires { length out.old ≡ length (if_there type_code (option_map (big_bytes 2) number)) }
+    ensures spelled { out.new ≡ if_there type_code (option_map (big_bytes 2) number) }
     ensures fits { IfSome number (λ n. n < 2 ^ 16) }
 {
     if let Some(number) = number {
         let (header, value) = out.split_at_mut(HEADER_LENGTH);
-        put_header(kind, 2, header);
+        put_header(type_code, 2, header);
         BigEndian::write_u16(value, number);
     }
 }
 
 /// How many bytes an option of 32 bits takes.
 pub(crate) fn size_number32(number: Option<u32>) -> usize
-    ensures size { (kind : ℕ) → result ≡ length (if_there kind (option_map (big_bytes 4) number)) }
+    ensures size { (type_code : ℕ) → result ≡ length (if_there type_code (option_map (big_bytes 4) number)) }
     ensures small { result ≤ 8 }
 {
     if number.is_some() {
@@ -63,14 +63,14 @@ pub(crate) fn size_number32(number: Option<u32>) -> usize
 }
 
 /// Writes an option of 32 bits.
-pub(crate) fn put_number32(kind: u16, number: Option<u32>, out: &mut [u8])
-    requires { length out.old ≡ length (if_there kind (option_map (big_bytes 4) number)) }
-    ensures spelled { out.new ≡ if_there kind (option_map (big_bytes 4) number) }
+pub(crate) fn put_number32(type_code: u16, number: Option<u32>, out: &mut [u8])
+    requires { length out.old ≡ length (if_there type_code (option_map (big_bytes 4) number)) }
+    ensures spelled { out.new ≡ if_there type_code (option_map (big_bytes 4) number) }
     ensures fits { IfSome number (λ n. n < 2 ^ 32) }
 {
     if let Some(number) = number {
         let (header, value) = out.split_at_mut(HEADER_LENGTH);
-        put_header(kind, 4, header);
+        put_header(type_code, 4, header);
         BigEndian::write_u32(value, number);
     }
 }

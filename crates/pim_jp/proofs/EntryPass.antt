@@ -15,7 +15,7 @@ use Rattle.pim_jp.specs.declared.fault.JpKind.TheVariants.{Flags, NotSource, Sec
 use Rattle.pim_jp.specs.declared.fault.JpFault.{JpFault}
 use Rattle.pim_jp.specs.Message.{entry_of, entries_of}
 use Rattle.pim_jp.specs.Spelling.{is_star, same_source}
-use Rattle.pim_jp.specs.Parts.{Part, entry, entry_parts, is_kindless, named_entry}
+use Rattle.pim_jp.specs.Parts.{Part, entry, entry_parts, is_typeless, named_entry}
 use Rattle.pim_jp.specs.Faults.{address_kind, kinds_at, part_faults, faults_of}
 use Rattle.pim_jp.specs.Reading.{Tells, Stops, own_kinds, lone_kinds, kinds_at_place, entry_at, AreClean, StopsAt, is_in, AreApart, ClashesAt, is_source_entry, is_rpt_entry, EntriesPass}
 use Rattle.pim_jp.proofs.Front.{append_none, map_none, none_if}
@@ -40,20 +40,20 @@ entry_split : (family : AddressFamily) (earlier other : List (Entry (List ℕ)))
     → kinds_at family (entry earlier other) bytes ≡ lone_kinds family (list_any is_star earlier) bytes ++ both_kinds family other bytes
 entry_split family earlier other bytes =
     split_kinds (nat_lt (length bytes) (source_length family)) (map address_kind (source_faults family bytes))
-    (fault_if (is_kindless (source_value family bytes)) Flags)
+    (fault_if (is_typeless (source_value family bytes)) Flags)
     (fault_if (not (is_source family (source_value family bytes).address)) NotSource)
     (fault_if (list_any is_star (named_entry (source_value family bytes)) && list_any is_star earlier) SecondStar)
     (fault_if (list_any (λ this. list_any (same_source this) other) (named_entry (source_value family bytes))) BothLists)
 
 -- an entry without such a fault is whole and of a kind
 clean_entry : (family : AddressFamily) (has_star : Bool) (bytes : List ℕ) → lone_kinds family has_star bytes ≡ []
-    → (source_length family ≤ length bytes) × (is_kindless (source_value family bytes) ≡ false)
+    → (source_length family ≤ length bytes) × (is_typeless (source_value family bytes) ≡ false)
 clean_entry family has_star bytes none =
     let own = (append_none (own_kinds family bytes) _ none).0 in
     let form = append_none (map address_kind (source_faults family bytes)) _ own in
     let long = (source_legal family bytes (map_none address_kind _ form.0)).0 in
     let not_short : nat_lt (length bytes) (source_length family) ≡ false = le-ltb _ _ long in
-    let whole = append_none (fault_if (is_kindless (source_value family bytes)) Flags) _ (rw not_short at form.1) in
+    let whole = append_none (fault_if (is_typeless (source_value family bytes)) Flags) _ (rw not_short at form.1) in
     (long, none_if _ Flags whole.0)
 
 or_false : (b : Bool) → (b || false) ≡ b
@@ -91,7 +91,7 @@ told_at at (first ∷ kinds) kind told = cc
 
 entry_step : (family : AddressFamily) (count : ℕ) (earlier other : List (Entry (List ℕ))) (at : ℕ) (bytes : List ℕ) (next : List (Entry (List ℕ)) → ℕ → List ℕ → List Part)
     → kinds_at family (entry earlier other) bytes ≡ []
-    → is_kindless (source_value family bytes) ≡ false → source_length family ≤ length bytes
+    → is_typeless (source_value family bytes) ≡ false → source_length family ≤ length bytes
     → faults_of family (entry_parts family (suc count) earlier other at bytes next)
     ≡ faults_of family (entry_parts family count (earlier ++ entry_of (source_value family bytes) ∷ []) other (at + source_length family) (drop (source_length family) bytes) next)
 unfolding entry_parts
@@ -211,7 +211,7 @@ pub err_then : {A E : Type 0} {P Q : E → Type 0} (answer : Result A E) → ((e
 err_then (Ok x) f p = p
 err_then (Err e) f p = f e p
 
--- ---- kinds that don't meet
+-- ---- types of entries that don't meet
 
 in_none : (this : Entry (List ℕ)) → is_in [] this ≡ false
 in_none this = refl
@@ -230,16 +230,16 @@ any_at family is (suc count) place bytes below none =
     (cases_lt place count)
 
 -- a source is in no list that has no entry of its kind
-in_no_kind : (this : Entry (List ℕ)) (other : List (Entry (List ℕ))) → is_source_entry this && list_any is_source_entry other ≡ false → is_rpt_entry this && list_any is_rpt_entry other ≡ false
+in_no_type : (this : Entry (List ℕ)) (other : List (Entry (List ℕ))) → is_source_entry this && list_any is_source_entry other ≡ false → is_rpt_entry this && list_any is_rpt_entry other ≡ false
     → is_in other this ≡ false
-in_no_kind this [] source rpt = refl
-in_no_kind (Star rp) (that ∷ other) source rpt = in_no_kind (Star rp) other refl refl
-in_no_kind (Source s) (Star rp ∷ other) source rpt = in_no_kind (Source s) other source refl
-in_no_kind (Source s) (Source t ∷ other) source rpt = absurd cc
-in_no_kind (Source s) (Rpt t ∷ other) source rpt = in_no_kind (Source s) other source refl
-in_no_kind (Rpt s) (Star rp ∷ other) source rpt = in_no_kind (Rpt s) other refl rpt
-in_no_kind (Rpt s) (Source t ∷ other) source rpt = in_no_kind (Rpt s) other refl rpt
-in_no_kind (Rpt s) (Rpt t ∷ other) source rpt = absurd cc
+in_no_type this [] source rpt = refl
+in_no_type (Star rp) (that ∷ other) source rpt = in_no_type (Star rp) other refl refl
+in_no_type (Source s) (Star rp ∷ other) source rpt = in_no_type (Source s) other source refl
+in_no_type (Source s) (Source t ∷ other) source rpt = absurd cc
+in_no_type (Source s) (Rpt t ∷ other) source rpt = in_no_type (Source s) other source refl
+in_no_type (Rpt s) (Star rp ∷ other) source rpt = in_no_type (Rpt s) other refl rpt
+in_no_type (Rpt s) (Source t ∷ other) source rpt = in_no_type (Rpt s) other refl rpt
+in_no_type (Rpt s) (Rpt t ∷ other) source rpt = absurd cc
 
 and_false : (a b c : Bool) → (a ≡ false → c ≡ false) → a && b ≡ false → c && b ≡ false
 and_false true true c h e = absurd cc
@@ -247,13 +247,13 @@ and_false true false true h e = refl
 and_false true false false h e = refl
 and_false false b c h e = rw (h refl) refl
 
-pub kinds_apart : (family : AddressFamily) (count : ℕ) (joined : List (Entry (List ℕ))) (bytes : List ℕ) (source rpt joined_source joined_rpt : Bool)
+pub types_apart : (family : AddressFamily) (count : ℕ) (joined : List (Entry (List ℕ))) (bytes : List ℕ) (source rpt joined_source joined_rpt : Bool)
     → source ≡ list_any is_source_entry (entries_of family count bytes) → rpt ≡ list_any is_rpt_entry (entries_of family count bytes)
     → joined_source ≡ list_any is_source_entry joined → joined_rpt ≡ list_any is_rpt_entry joined
     → ((source && joined_source) || (rpt && joined_rpt)) ≡ false → AreApart family joined count bytes
-kinds_apart family count joined bytes source rpt joined_source joined_rpt source_is rpt_is joined_source_is joined_rpt_is never = λ place below.
+types_apart family count joined bytes source rpt joined_source joined_rpt source_is rpt_is joined_source_is joined_rpt_is never = λ place below.
     let parts = or_parts (source && joined_source) (rpt && joined_rpt) never in
-    in_no_kind (entry_at family place bytes) joined
+    in_no_type (entry_at family place bytes) joined
     (rw joined_source_is at (and_false source joined_source (is_source_entry (entry_at family place bytes)) (λ none. any_at family is_source_entry count place bytes below (sym source_is ∙ none)) parts.0))
     (rw joined_rpt_is at (and_false rpt joined_rpt (is_rpt_entry (entry_at family place bytes)) (λ none. any_at family is_rpt_entry count place bytes below (sym rpt_is ∙ none)) parts.1))
 

@@ -16,7 +16,7 @@ use Rattle.pim_jp.specs.declared.fault.JpKind.{JpKind}
 use Rattle.pim_jp.specs.declared.fault.JpKind.TheVariants.{Short, NotGroup, Flags, NotSource, SecondStar, BothLists, Trailing}
 use Rattle.pim_jp.specs.declared.fault.JpFault.{JpFault}
 use Rattle.pim_jp.specs.Spelling.{is_star, same_source}
-use Rattle.pim_jp.specs.Parts.{Shape, upstream, head, group, counts, entry, rest, Part, part_then, is_kindless, named_entry, entry_parts, set_parts, body_parts}
+use Rattle.pim_jp.specs.Parts.{Shape, upstream, head, group, counts, entry, rest, Part, part_then, is_typeless, named_entry, entry_parts, set_parts, body_parts}
 use Rattle.pim_jp.specs.Faults.{number_of, address_kind, entry_kinds, kinds_at, part_faults, faults_of, faults}
 use Rattle.pim_jp.specs.Laws.{place, ToldBefore}
 
@@ -72,7 +72,7 @@ masked_rises family bytes = rises_then address_number 1 4 5 (family_faults famil
 
 entry_rises : (family : AddressFamily) (earlier other : List (Entry (List ℕ))) (source : SourceValue) → RisesWithin number_of 6 10 (entry_kinds family earlier other source)
 entry_rises family earlier other source =
-    let flags = rises_if number_of 6 7 (is_kindless source) Flags (omega arith) (omega arith) in
+    let flags = rises_if number_of 6 7 (is_typeless source) Flags (omega arith) (omega arith) in
     let invalid = rises_if number_of 7 8 (not (is_source family source.address)) NotSource (omega arith) (omega arith) in
     let again = rises_if number_of 8 9 (list_any is_star (named_entry source) && list_any is_star earlier) SecondStar (omega arith) (omega arith) in
     let twice = rises_if number_of 9 10 (list_any (λ this. list_any (same_source this) other) (named_entry source)) BothLists (omega arith) (omega arith) in

@@ -20,7 +20,7 @@ use Rattle.pim_jp.specs.declared.entry.Entry.TheVariants.{Star, Source, Rpt}
 use Rattle.pim_jp.specs.Message.{entry_of}
 use Rattle.pim_jp.specs.Spelling.{source_of}
 use Rattle.pim_jp.specs.Reading.{is_in, entry_at}
-use Rattle.pim_jp.specs.Sources.{is_among, is_of_kind, is_listed}
+use Rattle.pim_jp.specs.Sources.{is_among, is_of_type, is_listed}
 use Rattle.pim_jp.proofs.Counts.{AreBytes-drop, AreBytes-first}
 
 -- ---- addresses and their numbers
@@ -158,12 +158,12 @@ and_or : (a b c : Bool) → a && (b || c) ≡ (a && b) || (a && c)
 and_or true b c = refl
 and_or false b c = refl
 
-pub kind_of_listed : {N : Type 0} (value_of : N → ℕ) (rpt : Bool) (xs : List N) (this : Entry (List ℕ)) → is_listed value_of rpt xs this ≡ true → is_of_kind rpt this ≡ true
-kind_of_listed value_of rpt xs (Star rp) h = absurd cc
-kind_of_listed value_of true xs (Source source) h = absurd cc
-kind_of_listed value_of false xs (Source source) h = refl
-kind_of_listed value_of true xs (Rpt source) h = refl
-kind_of_listed value_of false xs (Rpt source) h = absurd cc
+pub type_of_listed : {N : Type 0} (value_of : N → ℕ) (rpt : Bool) (xs : List N) (this : Entry (List ℕ)) → is_listed value_of rpt xs this ≡ true → is_of_type rpt this ≡ true
+type_of_listed value_of rpt xs (Star rp) h = absurd cc
+type_of_listed value_of true xs (Source source) h = absurd cc
+type_of_listed value_of false xs (Source source) h = refl
+type_of_listed value_of true xs (Rpt source) h = refl
+type_of_listed value_of false xs (Rpt source) h = absurd cc
 
 pub place_more : (P : ℕ → Type 0) (count : ℕ) → ((place : ℕ) → place < count → P place) → P count → (place : ℕ) → place < count + 1 → P place
 place_more P count before at place below =
@@ -196,7 +196,7 @@ star_in_none rp [] = refl
 star_in_none rp (that ∷ other) = star_in_none rp other
 
 -- an entry is of one kind or the other, or (*,G), which is in no list
-pub apart_in_both : (other : List (Entry (List ℕ))) (this : Entry (List ℕ)) → (is_of_kind false this ≡ true → is_in other this ≡ false) → (is_of_kind true this ≡ true → is_in other this ≡ false) → is_in other this ≡ false
+pub apart_in_both : (other : List (Entry (List ℕ))) (this : Entry (List ℕ)) → (is_of_type false this ≡ true → is_in other this ≡ false) → (is_of_type true this ≡ true → is_in other this ≡ false) → is_in other this ≡ false
 apart_in_both other (Star rp) source rpt = star_in_none rp other
 apart_in_both other (Source s) source rpt = source refl
 apart_in_both other (Rpt s) source rpt = rpt refl

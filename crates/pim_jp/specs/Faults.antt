@@ -14,7 +14,7 @@ use Rattle.pim_jp.specs.declared.fault.JpKind.TheVariants.{Short, Family, Encodi
 use Rattle.pim_jp.specs.declared.fault.JpKind.TheVariants.{SecondStar, BothLists, Trailing}
 use Rattle.pim_jp.specs.declared.fault.JpFault.{JpFault}
 use Rattle.pim_jp.specs.Spelling.{is_star, same_source}
-use Rattle.pim_jp.specs.Parts.{Shape, upstream, head, group, counts, entry, rest, Part, is_kindless, named_entry}
+use Rattle.pim_jp.specs.Parts.{Shape, upstream, head, group, counts, entry, rest, Part, is_typeless, named_entry}
 use Rattle.pim_jp.specs.Parts.{body_parts}
 
 -- the order in which faults of one part are told
@@ -40,10 +40,10 @@ address_kind address.Mask = Mask
 abbrev pub short_kinds : ℕ → List ℕ → List JpKind
 short_kinds size bytes = fault_if (nat_lt (length bytes) size) Short
 
--- what is wrong with a whole entry beside its form: its kind, its address, and the entries before it
+-- what is wrong with a whole entry beside its form: its type, its address, and the entries before it
 abbrev pub entry_kinds : AddressFamily → List (Entry (List ℕ)) → List (Entry (List ℕ)) → SourceValue → List JpKind
 entry_kinds family earlier other source =
-    fault_if (is_kindless source) Flags
+    fault_if (is_typeless source) Flags
     ++ fault_if (not (is_source family source.address)) NotSource
     ++ fault_if (list_any is_star (named_entry source) && list_any is_star earlier) SecondStar
     ++ fault_if (list_any (λ this. list_any (same_source this) other) (named_entry source)) BothLists

@@ -20,7 +20,7 @@ pub record Message : Type 0 where
 
 -- ---- the value that a legal body has, part by part from its front
 
--- the bits W and R name the kind; W alone names none, and no legal body has it
+-- the bits W and R name the type; W alone names none, and no legal body has it
 abbrev pub entry_of : SourceValue → Entry (List ℕ)
 entry_of source =
     if source.rpt then (if source.wildcard then Star source.address else Rpt source.address) else Source source.address

@@ -29,13 +29,13 @@ part_then shape size at bytes next =
     record { shape = shape; at = at; bytes = bytes }
     ∷ (if nat_lt (length bytes) size then [] else next (at + size) (drop size bytes))
 
--- W without R: of no kind
-abbrev pub is_kindless : SourceValue → Bool
-is_kindless source = source.wildcard && not source.rpt
+-- W without R: of no type
+abbrev pub is_typeless : SourceValue → Bool
+is_typeless source = source.wildcard && not source.rpt
 
--- the entry, if it is of a kind
+-- the entry, if it is of a type
 abbrev pub named_entry : SourceValue → List (Entry (List ℕ))
-named_entry source = if is_kindless source then [] else entry_of source ∷ []
+named_entry source = if is_typeless source then [] else entry_of source ∷ []
 
 -- so many entries of one list; `next` is given the set's entries up to there
 unfoldable pub entry_parts : AddressFamily → ℕ → List (Entry (List ℕ)) → List (Entry (List ℕ)) → ℕ → List ℕ

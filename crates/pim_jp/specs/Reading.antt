@@ -15,7 +15,7 @@ use Rattle.pim_jp.specs.declared.fault.JpKind.TheVariants.{Flags, NotSource, Sec
 use Rattle.pim_jp.specs.declared.fault.JpFault.{JpFault}
 use Rattle.pim_jp.specs.Message.{entry_of, entries_of}
 use Rattle.pim_jp.specs.Spelling.{is_star, same_source}
-use Rattle.pim_jp.specs.Parts.{Part, group, counts, part_then, entry_parts, is_kindless, named_entry}
+use Rattle.pim_jp.specs.Parts.{Part, group, counts, part_then, entry_parts, is_typeless, named_entry}
 use Rattle.pim_jp.specs.Faults.{address_kind, faults_of}
 
 -- the first of the faults is this one
@@ -32,7 +32,7 @@ abbrev pub own_kinds : AddressFamily → List ℕ → List JpKind
 own_kinds family bytes =
     map address_kind (source_faults family bytes)
     ++ (if nat_lt (length bytes) (source_length family) then [] else
-    fault_if (is_kindless (source_value family bytes)) Flags
+    fault_if (is_typeless (source_value family bytes)) Flags
     ++ fault_if (not (is_source family (source_value family bytes).address)) NotSource)
 
 -- those that it has but for the other list; `has_star` says whether a (*,G) stands before it in its set
@@ -60,7 +60,7 @@ abbrev pub StopsAt : AddressFamily → Bool → ℕ → List ℕ → ℕ → JpK
 StopsAt family has_star count bytes place kind =
     (place < count) × AreClean family has_star place bytes × Tells (kinds_at_place family has_star place bytes) kind
 
--- the entry has its source in the other list too, as the same kind
+-- the entry has its source in the other list too, in an entry of its type
 abbrev pub is_in : List (Entry (List ℕ)) → Entry (List ℕ) → Bool
 is_in other this = list_any (same_source this) other
 

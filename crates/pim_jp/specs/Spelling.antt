@@ -16,7 +16,7 @@ use Rattle.pim_jp.specs.Message.{GroupSet, Message}
 abbrev pub Then : (List ℕ → Type 0) → (List ℕ → Type 0) → List ℕ → Type 0
 Then First Second bytes = (first : List ℕ) × (second : List ℕ) × (bytes ≡ first ++ second) × First first × Second second
 
--- the encoded source of an entry, with the bits that name its kind
+-- the encoded source of an entry, with the bits that name its type
 abbrev pub source_of : Entry (List ℕ) → SourceValue
 source_of (Star rp) = record { address = rp; wildcard = true; rpt = true }
 source_of (Source source) = record { address = source; wildcard = false; rpt = false }
@@ -47,7 +47,7 @@ unfoldable pub star_count : List (Entry (List ℕ)) → ℕ
 star_count [] = 0
 star_count (entry ∷ entries) = (if is_star entry then 1 else 0) + star_count entries
 
--- at most one (*,G) over both lists, and no source in both lists as the same kind
+-- at most one (*,G) over both lists, and no source in both lists by entries of one type
 abbrev pub IsLegalSet : GroupSet → Type 0
 IsLegalSet set = (star_count (set.joined ++ set.pruned) ≤ 1)
     × (list_any (λ entry. list_any (same_source entry) set.joined) set.pruned ≡ false)

@@ -10,7 +10,7 @@ ghost use Rattle.pim_jp.specs.declared.entry.Entry.{Entry};
 ghost use Rattle.pim_jp.specs.Seen.{entry_seen};
 ghost use Rattle.pim_jp.specs.Spelling.{same_source};
 ghost use Rattle.pim_jp.specs.Reading.{is_in, entry_at};
-ghost use Rattle.pim_jp.specs.Sources.{is_among, is_of_kind, IsOfKind, is_listed, AreApartInKind};
+ghost use Rattle.pim_jp.specs.Sources.{is_among, is_of_type, IsOfType, is_listed, AreApartInType};
 
 use crate::entries::{Entries, first_entry};
 use crate::entry::Entry;
@@ -29,12 +29,12 @@ fn number_of_source<F: Family>(source: F::Addr) -> F::Number
 
 /// The number of the address of an entry.
 fn number_of_entry<F: Family>(entry: Entry<F::Addr>) -> F::Number
-    ensures same { (rpt : Bool) (this : Entry (List ℕ)) → IsOfKind F.family rpt this
+    ensures same { (rpt : Bool) (this : Entry (List ℕ)) → IsOfType F.family rpt this
         → same_source this (entry_seen F.bytes_of entry)
-        ≡ (is_of_kind rpt (entry_seen F.bytes_of entry) && is_listed F.value_of rpt (result ∷ []) this) }
+        ≡ (is_of_type rpt (entry_seen F.bytes_of entry) && is_listed F.value_of rpt (result ∷ []) this) }
     ensures listed { (rpt : Bool) (numbers : List F.Number)
         → is_listed F.value_of rpt numbers (entry_seen F.bytes_of entry)
-        ≡ (is_of_kind rpt (entry_seen F.bytes_of entry) && is_among F.value_of numbers (F.value_of result)) }
+        ≡ (is_of_type rpt (entry_seen F.bytes_of entry) && is_among F.value_of numbers (F.value_of result)) }
 {
     match entry {
         Entry::Star(address) | Entry::Source(address) | Entry::Rpt(address) => {
@@ -44,8 +44,8 @@ fn number_of_entry<F: Family>(entry: Entry<F::Addr>) -> F::Number
 }
 
 /// Whether the entry is (S,G,rpt), or (S,G).
-fn is_of_kind<F: Family>(entry: Entry<F::Addr>, rpt: bool) -> bool
-    ensures { result ≡ is_of_kind rpt (entry_seen F.bytes_of entry) }
+fn is_of_type<F: Family>(entry: Entry<F::Addr>, rpt: bool) -> bool
+    ensures { result ≡ is_of_type rpt (entry_seen F.bytes_of entry) }
 {
     match entry {
         Entry::Star(_) => false,
@@ -68,15 +68,15 @@ fn holds<F: Family>(sorted: &[F::Number], number: F::Number) -> bool
     sorted[next] == number
 }
 
-/// Whether the entry is of the kind and the number of its source one of these, which are in order.
+/// Whether the entry is of the type and the number of its source one of these, which are in order.
 fn is_listed<F: Family>(sorted: &[F::Number], rpt: bool, entry: Entry<F::Addr>) -> bool
     requires { IsSorted F.Number.cmp sorted.now }
     ensures { result ≡ is_listed F.value_of rpt sorted.now (entry_seen F.bytes_of entry) }
 {
-    is_of_kind::<F>(entry, rpt) && holds::<F>(sorted, number_of_entry::<F>(entry))
+    is_of_type::<F>(entry, rpt) && holds::<F>(sorted, number_of_entry::<F>(entry))
 }
 
-/// The place of the first of so many entries that is of the kind and has its number among these, which are in order;
+/// The place of the first of so many entries that is of the type and has its number among these, which are in order;
 /// their number if there is none.
 fn first_listed<F: Family>(sorted: &[F::Number], rpt: bool, count: u16, bytes: &[u8]) -> u16
     requires long { count * source_length F.family ≤ length bytes.now }
@@ -97,14 +97,14 @@ fn first_listed<F: Family>(sorted: &[F::Number], rpt: bool, count: u16, bytes: &
     count
 }
 
-/// Takes as many entries as the block has room for, and puts the numbers of the sources of those that are of the kind
+/// Takes as many entries as the block has room for, and puts the numbers of the sources of those that are of the type
 /// at its front: so many.
 fn fill<F: Family>(entries: &mut Entries<'_, F>, rpt: bool, block: &mut [F::Number]) -> usize
     requires { 0 < length block.old }
     ensures bound { result ≤ length block.new }
     ensures room { length block.new ≡ length block.old }
     ensures fewer { 0 < length entries.old → length entries.new < length entries.old }
-    ensures listed { (this : Entry (List ℕ)) → IsOfKind F.family rpt this →
+    ensures listed { (this : Entry (List ℕ)) → IsOfType F.family rpt this →
         is_in entries.old this ≡ (is_listed F.value_of rpt (take result block.new) this || is_in entries.new this) }
 {
     let mut used = 0;
@@ -112,7 +112,7 @@ fn fill<F: Family>(entries: &mut Entries<'_, F>, rpt: bool, block: &mut [F::Numb
         let Some(entry) = entries.next() else {
             return used;
         };
-        if is_of_kind::<F>(entry, rpt) {
+        if is_of_type::<F>(entry, rpt) {
             block[used] = number_of_entry::<F>(entry);
             used += 1;
         }
@@ -120,9 +120,9 @@ fn fill<F: Family>(entries: &mut Entries<'_, F>, rpt: bool, block: &mut [F::Numb
     used
 }
 
-/// The place of the first of so many entries of the kind whose source is among the joined ones of the kind; their
+/// The place of the first of so many entries of the type whose source is among the joined ones of the type; their
 /// number if there is none.
-pub(crate) fn first_of_kind<F: Family>(
+pub(crate) fn first_of_type<F: Family>(
     rpt: bool,
     count: u16,
     bytes: &[u8],
@@ -133,7 +133,7 @@ pub(crate) fn first_of_kind<F: Family>(
     requires long { count * source_length F.family ≤ length bytes.now }
     ensures room { length block.new ≡ length block.old }
     ensures bound { result ≤ count }
-    ensures apart { AreApartInKind F.family rpt joined.entry result bytes.now }
+    ensures apart { AreApartInType F.family rpt joined.entry result bytes.now }
     ensures clash { result < count → is_in joined.entry (entry_at F.family result bytes.now) ≡ true }
 {
     let mut end = count;

@@ -1,4 +1,4 @@
-//! Sources that are in both lists of a set as the same kind.
+//! Sources that are in both lists of a set by entries of one type.
 
 ghost use Rattle.std.specs.Prelude.{◌≡◌, ◌*◌, ◌≤◌, ◌<◌, true, length};
 ghost use Rattle.std.specs.List.{list_any};
@@ -7,7 +7,7 @@ ghost use Rattle.pim_jp.specs.Spelling.{same_source};
 ghost use Rattle.pim_jp.specs.Seen.{entry_seen};
 ghost use Rattle.pim_jp.specs.Reading.{is_in, entry_at, AreApart};
 
-use crate::blocks::first_of_kind;
+use crate::blocks::first_of_type;
 use crate::entries::{Entries, first_entry};
 use crate::entry::Entry;
 use pim_addr::{Family, source_length};
@@ -32,7 +32,7 @@ fn same_source<F: Family>(this: Entry<F::Addr>, that: Entry<F::Addr>) -> bool
     }
 }
 
-/// Whether the entry's source is among the entries of the other list, as the same kind.
+/// Whether the entry's source is among those of the other list that are of its type.
 fn is_among<F: Family>(entry: Entry<F::Addr>, others: Entries<'_, F>) -> bool
     ensures { result ≡ list_any (same_source (entry_seen F.bytes_of entry)) others.entry }
 {
@@ -44,7 +44,7 @@ fn is_among<F: Family>(entry: Entry<F::Addr>, others: Entries<'_, F>) -> bool
     false
 }
 
-/// The place of the first of so many pruned entries whose source is among few joined ones, as the same kind; their
+/// The place of the first of so many pruned entries whose source is among few joined ones of its type; their
 /// number if there is none. Each pruned entry is compared with each joined one.
 fn first_clash_among_few<F: Family>(count: u16, bytes: &[u8], joined: &Entries<'_, F>) -> u16
     requires { count * source_length F.family ≤ length bytes.now }
@@ -63,8 +63,8 @@ fn first_clash_among_few<F: Family>(count: u16, bytes: &[u8], joined: &Entries<'
     count
 }
 
-/// The same among many: the numbers of the joined sources of a kind are sorted, as many at a time as `N`, in a block on
-/// the stack, and that of each pruned entry of the kind is looked for in each block.
+/// The same among many: the numbers of the joined sources of a type are sorted, as many at a time as `N`, in a block on
+/// the stack, and that of each pruned entry of the type is looked for in each block.
 fn first_clash_among_many<F: Family, const N: usize>(
     count: u16,
     bytes: &[u8],
@@ -85,11 +85,11 @@ fn first_clash_among_many<F: Family, const N: usize>(
         return first_clash_among_few::<F>(count, bytes, joined);
     }
     let mut block = [number; N];
-    let end = first_of_kind::<F>(false, count, bytes, joined.again(), &mut block);
-    first_of_kind::<F>(true, end, bytes, joined.again(), &mut block)
+    let end = first_of_type::<F>(false, count, bytes, joined.again(), &mut block);
+    first_of_type::<F>(true, end, bytes, joined.again(), &mut block)
 }
 
-/// The place of the first of so many pruned entries whose source is among the joined ones, as the same kind; their
+/// The place of the first of so many pruned entries whose source is among the joined ones of its type; their
 /// number if there is none.
 #[cold]
 #[inline(never)]

@@ -16,7 +16,7 @@ ghost use Rattle.pim_jp.specs.Reading.{lists_then, lists_length, lists_end, afte
 use crate::clashes::first_clash;
 use crate::entries::Entries;
 use crate::fault::{JpFault, JpKind};
-use crate::walking::{Kinds, check_entries, entries_size};
+use crate::walking::{EntryTypes, check_entries, entries_size};
 use byteorder::{BigEndian, ByteOrder};
 use pim_addr::{AddrFault, Family, group_length, read_group, read_unicast, unicast_length};
 
@@ -90,19 +90,19 @@ fn told_at<T>(at: usize, part: Result<T, JpKind>) -> Result<T, JpFault>
     }
 }
 
-/// Looks at the joined entries of a set, and says of which kinds they are.
-fn check_joined<F: Family>(at: usize, count: u16, bytes: &[u8]) -> Result<Kinds, JpFault>
+/// Looks at the joined entries of a set, and says of which types they are.
+fn check_joined<F: Family>(at: usize, count: u16, bytes: &[u8]) -> Result<EntryTypes, JpFault>
     requires fits { at + length bytes.now < 2 ^ 64 }
     ensures passes { IfOk result (λ _. EntriesPass F.family count [] at bytes.now) }
     ensures whole { IfOk result (λ _. count * source_length F.family ≤ length bytes.now) }
-    ensures star { IfOk result (λ kinds. kinds.star ≡ list_any is_star (entries_of F.family count bytes.now)) }
-    ensures source { IfOk result (λ kinds. kinds.source
+    ensures star { IfOk result (λ types. types.star ≡ list_any is_star (entries_of F.family count bytes.now)) }
+    ensures source { IfOk result (λ types. types.source
         ≡ list_any is_source_entry (entries_of F.family count bytes.now)) }
-    ensures rpt { IfOk result (λ kinds. kinds.rpt ≡ list_any is_rpt_entry (entries_of F.family count bytes.now)) }
+    ensures rpt { IfOk result (λ types. types.rpt ≡ list_any is_rpt_entry (entries_of F.family count bytes.now)) }
     ensures stops { IfErr result (Stops F.family (entry_parts F.family count [] [] at bytes.now)) }
 {
     match check_entries::<F>(count, bytes, false) {
-        Ok(kinds) => Ok(kinds),
+        Ok(types) => Ok(types),
         Err(stop) => Err(fault_at::<F>(at, stop.place, stop.kind)),
     }
 }
@@ -137,25 +137,25 @@ fn check_apart<F: Family>(
     Ok(())
 }
 
-/// Looks at the pruned entries of a set, behind the joined ones, which are of these kinds.
+/// Looks at the pruned entries of a set, behind the joined ones, which are of these types.
 fn check_pruned<F: Family>(
     at: usize,
     count: u16,
     bytes: &[u8],
-    kinds: Kinds,
+    types: EntryTypes,
     joined: &Entries<'_, F>,
 ) -> Result<(), JpFault>
     requires fits { at + length bytes.now < 2 ^ 64 }
-    requires star { kinds.star ≡ list_any is_star joined.now }
-    requires source { kinds.source ≡ list_any is_source_entry joined.now }
-    requires rpt { kinds.rpt ≡ list_any is_rpt_entry joined.now }
+    requires star { types.star ≡ list_any is_star joined.now }
+    requires source { types.source ≡ list_any is_source_entry joined.now }
+    requires rpt { types.rpt ≡ list_any is_rpt_entry joined.now }
     ensures passes { IfOk result (λ _. EntriesPass F.family count joined.now at bytes.now) }
     ensures whole { IfOk result (λ _. count * source_length F.family ≤ length bytes.now) }
     ensures stops { IfErr result (Stops F.family (entry_parts F.family count joined.now joined.now at bytes.now)) }
 {
-    match check_entries::<F>(count, bytes, kinds.star) {
+    match check_entries::<F>(count, bytes, types.star) {
         Ok(pruned) => {
-            if !pruned.may_clash(kinds) {
+            if !pruned.may_clash(types) {
                 return Ok(());
             }
             check_apart::<F>(at, count, bytes, joined)
@@ -182,11 +182,11 @@ fn check_lists<F: Family>(at: usize, bytes: &[u8]) -> Result<&[u8], JpFault>
     let (_, joined) = bytes.split_at(4);
     let joined_count = BigEndian::read_u16(bytes);
     let pruned_count = BigEndian::read_u16(second);
-    let kinds = check_joined::<F>(at + 4, joined_count, joined)?;
+    let types = check_joined::<F>(at + 4, joined_count, joined)?;
     let size = entries_size::<F>(joined_count);
     let (_, pruned) = joined.split_at(size);
     let earlier = Entries::new(joined_count, joined);
-    check_pruned::<F>(at + 4 + size, pruned_count, pruned, kinds, &earlier)?;
+    check_pruned::<F>(at + 4 + size, pruned_count, pruned, types, &earlier)?;
     let (_, after) = pruned.split_at(entries_size::<F>(pruned_count));
     Ok(after)
 }

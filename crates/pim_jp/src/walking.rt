@@ -5,16 +5,16 @@ ghost use Rattle.std.specs.List.{list_any};
 ghost use Rattle.pim_addr.specs.Encoded.{source_length, source_value};
 ghost use Rattle.pim_jp.specs.Message.{entry_of, entries_of};
 ghost use Rattle.pim_jp.specs.Spelling.{is_star};
-ghost use Rattle.pim_jp.specs.Parts.{is_kindless};
+ghost use Rattle.pim_jp.specs.Parts.{is_typeless};
 ghost use Rattle.pim_jp.specs.Reading.{Judges, own_kinds, lone_kinds, AreClean, StopsAt, is_source_entry, is_rpt_entry};
 
 use crate::fault::JpKind;
 use bitflags::Flags;
 use pim_addr::{Family, SourceBits, source_length};
 
-/// Which kinds of entries are among some.
+/// Which types of entries are among some.
 #[derive(Clone, Copy)]
-pub(crate) struct Kinds {
+pub(crate) struct EntryTypes {
     /// (*,G).
     pub star: bool,
     /// (S,G).
@@ -23,9 +23,9 @@ pub(crate) struct Kinds {
     pub rpt: bool,
 }
 
-impl Kinds {
-    /// Whether a source may be among these and among the others as the same kind.
-    pub fn may_clash(self, others: Kinds) -> bool
+impl EntryTypes {
+    /// Whether a source may be among these and among the others by entries of one type.
+    pub fn may_clash(self, others: EntryTypes) -> bool
         ensures { result ≡ ((self.source && others.source) || (self.rpt && others.rpt)) }
     {
         self.source && others.source || self.rpt && others.rpt
@@ -50,7 +50,7 @@ pub(crate) fn entries_size<F: Family>(count: u16) -> usize
 fn check_form<F: Family>(bytes: &[u8]) -> Result<(), JpKind>
     ensures told { Judges result (own_kinds F.family bytes.now) }
     ensures whole { IfOk result (λ _. source_length F.family ≤ length bytes.now) }
-    ensures kind { IfOk result (λ _. is_kindless (source_value F.family bytes.now) ≡ false) }
+    ensures typed { IfOk result (λ _. is_typeless (source_value F.family bytes.now) ≡ false) }
 {
     if bytes.len() < source_length::<F>() {
         return Err(JpKind::Short);
@@ -75,54 +75,54 @@ fn check_form<F: Family>(bytes: &[u8]) -> Result<(), JpKind>
     Ok(())
 }
 
-/// Of which kind a whole entry is; one with W and without R counts as (*,G).
-fn kind_of<F: Family>(bytes: &[u8]) -> Kinds
+/// Of which type a whole entry is; one with W and without R counts as (*,G).
+fn types_of<F: Family>(bytes: &[u8]) -> EntryTypes
     requires whole { source_length F.family ≤ length bytes.now }
-    requires kind { is_kindless (source_value F.family bytes.now) ≡ false }
+    requires typed { is_typeless (source_value F.family bytes.now) ≡ false }
     ensures star { result.star ≡ is_star (entry_of (source_value F.family bytes.now)) }
     ensures source { result.source ≡ is_source_entry (entry_of (source_value F.family bytes.now)) }
     ensures rpt { result.rpt ≡ is_rpt_entry (entry_of (source_value F.family bytes.now)) }
 {
     let bits = SourceBits::from_bits_retain(bytes[2]);
-    Kinds {
+    EntryTypes {
         star: bits.is_wildcard(),
         source: !bits.is_rpt(),
         rpt: bits.is_rpt() && !bits.is_wildcard(),
     }
 }
 
-/// Looks at an entry beside those before it in its set, but for the other list, and says of which kind it is.
+/// Looks at an entry beside those before it in its set, but for the other list, and says of which type it is.
 /// `has_star` says whether a (*,G) entry is before it.
-fn check_entry<F: Family>(bytes: &[u8], has_star: bool) -> Result<Kinds, JpKind>
+fn check_entry<F: Family>(bytes: &[u8], has_star: bool) -> Result<EntryTypes, JpKind>
     ensures told { Judges result (lone_kinds F.family has_star bytes.now) }
-    ensures star { IfOk result (λ kinds. kinds.star ≡ is_star (entry_of (source_value F.family bytes.now))) }
-    ensures source { IfOk result (λ kinds. kinds.source
+    ensures star { IfOk result (λ types. types.star ≡ is_star (entry_of (source_value F.family bytes.now))) }
+    ensures source { IfOk result (λ types. types.source
         ≡ is_source_entry (entry_of (source_value F.family bytes.now))) }
-    ensures rpt { IfOk result (λ kinds. kinds.rpt ≡ is_rpt_entry (entry_of (source_value F.family bytes.now))) }
+    ensures rpt { IfOk result (λ types. types.rpt ≡ is_rpt_entry (entry_of (source_value F.family bytes.now))) }
     ensures whole { IfOk result (λ _. source_length F.family ≤ length bytes.now) }
 {
     check_form::<F>(bytes)?;
-    let kinds = kind_of::<F>(bytes);
-    if kinds.star && has_star {
+    let types = types_of::<F>(bytes);
+    if types.star && has_star {
         return Err(JpKind::SecondStar);
     }
-    Ok(kinds)
+    Ok(types)
 }
 
-/// Looks at so many entries of one list, but for the other list, and says which kinds are among them. `has_star` says
+/// Looks at so many entries of one list, but for the other list, and says which types are among them. `has_star` says
 /// whether a (*,G) entry is in their set before them, and the answer counts it.
 #[inline(never)]
 pub(crate) fn check_entries<F: Family>(
     count: u16,
     bytes: &[u8],
     has_star: bool,
-) -> Result<Kinds, Stop>
+) -> Result<EntryTypes, Stop>
     ensures clean { IfOk result (λ _. AreClean F.family has_star count bytes.now) }
-    ensures star { IfOk result (λ kinds. kinds.star
+    ensures star { IfOk result (λ types. types.star
         ≡ (has_star || list_any is_star (entries_of F.family count bytes.now))) }
-    ensures source { IfOk result (λ kinds. kinds.source
+    ensures source { IfOk result (λ types. types.source
         ≡ list_any is_source_entry (entries_of F.family count bytes.now)) }
-    ensures rpt { IfOk result (λ kinds. kinds.rpt ≡ list_any is_rpt_entry (entries_of F.family count bytes.now)) }
+    ensures rpt { IfOk result (λ types. types.rpt ≡ list_any is_rpt_entry (entries_of F.family count bytes.now)) }
     ensures whole { IfOk result (λ _. count * source_length F.family ≤ length bytes.now) }
     ensures stop { IfErr result (λ stop. StopsAt F.family has_star count bytes.now stop.place stop.kind) }
     ensures before { IfErr result (λ stop. stop.place * source_length F.family ≤ length bytes.now) }
@@ -132,15 +132,15 @@ pub(crate) fn check_entries<F: Family>(
     let mut rpt = false;
     let mut rest = bytes;
     for place in 0..count {
-        let kinds = match check_entry::<F>(rest, star) {
-            Ok(kinds) => kinds,
+        let types = match check_entry::<F>(rest, star) {
+            Ok(types) => types,
             Err(kind) => return Err(Stop { place, kind }),
         };
-        star |= kinds.star;
-        source |= kinds.source;
-        rpt |= kinds.rpt;
+        star |= types.star;
+        source |= types.source;
+        rpt |= types.rpt;
         let (_, others) = rest.split_at(source_length::<F>());
         rest = others;
     }
-    Ok(Kinds { star, source, rpt })
+    Ok(EntryTypes { star, source, rpt })
 }

@@ -48,7 +48,7 @@ pub fn put_head<F: Family>(upstream: F::Addr, sets: u8, holdtime: u16, bytes: &m
     BigEndian::write_u16(time, holdtime);
 }
 
-/// The encoded source of an entry, whose bits name its kind.
+/// The encoded source of an entry, whose bits name its type.
 fn source_of<A>(entry: Entry<A>) -> SourceAddress<A>
     ensures { (bytes_of : A → List ℕ) → source_seen bytes_of result ≡ source_of (entry_seen bytes_of entry) }
 {

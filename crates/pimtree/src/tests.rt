@@ -3,7 +3,7 @@
 use crate::check::check_into;
 use crate::fault::{Fault, fault_line};
 use pim_addr::{Family, ScriptedDrain, ScriptedFeed, V4, V6};
-use pim_frame::{Body, FrameFault, Kind, all_routers, open, seal};
+use pim_frame::{Body, FrameFault, MessageType, all_routers, open, seal};
 use std::alloc::{AllocError, Global};
 use std::process::Abort;
 use std::test::Fail;
@@ -255,7 +255,12 @@ fn cuts_are_short_at_their_part(rt: HostRuntime) -> Result<(), Fail> {
     for length in 0..whole.len() {
         let mut cut = Vec::from_slice(alloc, &whole[..length])?;
         if cut.len() >= 4 && cut.len() < 100 {
-            seal::<V4>([0; 4], all_routers::<V4>(), Kind::JoinPrune, &mut cut);
+            seal::<V4>(
+                [0; 4],
+                all_routers::<V4>(),
+                MessageType::JoinPrune,
+                &mut cut,
+            );
         }
         let fault = match length {
             0..=3 => "pimtree: frame short\n",

@@ -4,7 +4,7 @@ ghost use Rattle.std.specs.Prelude.{◌≡◌, ◌+◌, length};
 ghost use Rattle.pim_jp.specs.Canonical.{canonical_head_length, canonical_set_length};
 
 use pim_addr::{Family, V4, V6, read_text};
-use pim_frame::{Kind, all_routers, seal};
+use pim_frame::{MessageType, all_routers, seal};
 use pim_jp::{Entry, head_length, put_head, put_set};
 use std::test::Fail;
 
@@ -37,7 +37,7 @@ fn write_message<F: Family>(
     put_head::<F>(upstream, 1, 210, head);
     let (joined, pruned) = joined.split_at(1);
     put_set::<F>(group, joined, pruned, set);
-    seal::<F>(src, all_routers::<F>(), Kind::JoinPrune, message);
+    seal::<F>(src, all_routers::<F>(), MessageType::JoinPrune, message);
 }
 
 #[test]

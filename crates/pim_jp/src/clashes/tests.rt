@@ -1,4 +1,4 @@
-//! Sources in both lists among as many that each size of block is filled, of both families and both kinds.
+//! Sources in both lists among as many that each size of block is filled, of both families and both types.
 
 use crate::JpKind::BothLists;
 use crate::{JpKind, JpView};
@@ -168,7 +168,7 @@ fn finds_a_source_among_many(rt: HostRuntime) -> Result<(), Fail> {
 
 /// A source that is joined as (S,G) and pruned as (S,G,rpt) doesn't clash.
 #[test]
-fn passes_twins_of_two_kinds(rt: HostRuntime) -> Result<(), Fail> {
+fn passes_twins_of_two_types(rt: HostRuntime) -> Result<(), Fail> {
     let flags = Flags {
         joined: 4,
         pruned: 5,

@@ -1,4 +1,4 @@
-use Rattle.pim_frame.specs.declared.frame.Kind.TheVariants.{JoinPrune}
+use Rattle.pim_frame.specs.declared.frame.MessageType.TheVariants.{JoinPrune}
 use Rattle.pim_form.proofs.Told.{Reads, messages_tell}
 use Rattle.pim_form.proofs.laws.messages_tell_the_form.Goals as goal
 

@@ -1,4 +1,4 @@
-use Rattle.pim_frame.specs.declared.frame.Kind.TheVariants.{JoinPrune}
+use Rattle.pim_frame.specs.declared.frame.MessageType.TheVariants.{JoinPrune}
 use Rattle.pim_form.proofs.Told.{Reads}
 use Rattle.pim_form.proofs.Headline.{same_messages}
 use Rattle.pim_form.proofs.laws.same_messages_same_demand.Goals as goal

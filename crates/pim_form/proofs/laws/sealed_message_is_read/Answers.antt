@@ -1,4 +1,4 @@
-use Rattle.pim_frame.specs.declared.frame.Kind.TheVariants.{JoinPrune}
+use Rattle.pim_frame.specs.declared.frame.MessageType.TheVariants.{JoinPrune}
 use Rattle.pim_jp.specs.Canonical.{canonical}
 use Rattle.pim_form.proofs.laws.sealed_message_is_read.Goals as goal
 
