@@ -1,6 +1,6 @@
 -- Addresses as lists of bytes (RFC 7761, 4.9.1).
 use Rattle.std.specs.Prelude.{◌≡◌, ◌<◌, ◌-◌, ◌/◌, ◌%◌, ◌^◌, ℕ, Bool, List, length, slice_index, nat_lt, nat_le, ◌&&◌}
-use Rattle.std.specs.Prelude.{◌==◌, not}
+use Rattle.std.specs.Prelude.{◌==◌, true, not}
 use Rattle.std.specs.List.{list_all}
 use Rattle.std.specs.Ordering.{nat_cmp}
 use Rattle.std.specs.Cmp.Lexicographic.{slice_cmp}
@@ -44,6 +44,13 @@ is_unspecified address = list_all (λ b. b == 0) address
 abbrev pub is_source : AddressFamily → List ℕ → Bool
 is_source Ipv4 address = nat_lt (slice_index address 0) 224 && not (is_unspecified address)
 is_source Ipv6 address = not (slice_index address 0 == 255) && not (is_unspecified address)
+
+-- the address of a group, and that of a valid source
+abbrev pub IsGroupAddress : AddressFamily → List ℕ → Type 0
+IsGroupAddress family group = IsAddress family group × (is_group family group ≡ true)
+
+abbrev pub IsSourceAddress : AddressFamily → List ℕ → Type 0
+IsSourceAddress family source = IsAddress family source × (is_source family source ≡ true)
 
 -- ---- addresses as numbers
 

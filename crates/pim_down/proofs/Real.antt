@@ -5,6 +5,7 @@ use Rattle.std.specs.declared.cmp.Ordering.TheVariants.{Less, Equal, Greater}
 use Rattle.std.specs.Option.{is_some}
 use Rattle.std.specs.List.{AllByRecursion, flat_map}
 use Rattle.std.proofs.lemmas.Bool.{false≢true}
+use Rattle.pim_addr.specs.Address.{IsGroupAddress}
 use Rattle.pim_addr.specs.declared.family.AddressFamily.{AddressFamily}
 use Rattle.pim_jp.specs.declared.entry.Entry.{Entry}
 use Rattle.pim_jp.specs.declared.entry.Entry.TheVariants as entry
@@ -23,7 +24,7 @@ use Rattle.pim_down.specs.Tables.{Start, join_in, on_join, prune_in, on_prune, s
 use Rattle.pim_down.specs.Records.{machine_at, recorded, at_rank, changed, each_changed}
 use Rattle.pim_down.specs.Hearing.{Event, is_known, entry_events, list_events, set_events, events_of, key_of, on_own, is_rpt, is_star_join, is_rpt_on, is_rpt_of, on_rpts, act, act_all, at_end, hearing}
 use Rattle.pim_down.specs.Time.{pending_after, record_after, on_ppt}
-use Rattle.pim_down.specs.Sound.{is_temporary, IsSettled, IsGroupAddress, HasSource, joined_or_pending, has_state, is_pending, IsReal}
+use Rattle.pim_down.specs.Sound.{is_temporary, IsSettled, HasSource, joined_or_pending, has_state, is_pending, IsReal}
 use Rattle.pim_down.proofs.Order.{equal_keys, same_keys}
 use Rattle.pim_down.proofs.Heard.{settled_hearing}
 

@@ -3,7 +3,7 @@ use Rattle.std.specs.Prelude.{◌≡◌, ℕ, ◌≤◌, ◌<◌, Bool, true, fa
 use Rattle.std.specs.Option.{is_some}
 use Rattle.std.specs.List.{AllByRecursion}
 use Rattle.pim_addr.specs.declared.family.AddressFamily.{AddressFamily}
-use Rattle.pim_addr.specs.Address.{IsAddress, is_group, is_source}
+use Rattle.pim_addr.specs.Address.{IsGroupAddress, IsSourceAddress}
 use Rattle.pim_down.specs.declared.key.What.{What}
 use Rattle.pim_down.specs.declared.key.What.TheVariants.{Star, Source, Rpt}
 use Rattle.pim_down.specs.declared.machine.State.{State}
@@ -26,14 +26,11 @@ IsSettled (held ∷ records) = (is_temporary held.machine.state ≡ false) × Is
 
 -- ---- a record that is held
 
-abbrev pub IsGroupAddress : AddressFamily → List ℕ → Type 0
-IsGroupAddress family group = IsAddress family group × (is_group family group ≡ true)
-
 -- the source of an (S,G) or (S,G,rpt) machine is a valid one
 abbrev pub HasSource : AddressFamily → What (List ℕ) → Type 0
 HasSource family Star = Unit {0}
-HasSource family (Source source) = IsAddress family source × (is_source family source ≡ true)
-HasSource family (Rpt source) = IsAddress family source × (is_source family source ≡ true)
+HasSource family (Source source) = IsSourceAddress family source
+HasSource family (Rpt source) = IsSourceAddress family source
 
 -- (*,G) and (S,G) are in Join or Prune-Pending, (S,G,rpt) is in Prune-Pending or Prune (RFC 7761, figures 2 to 4).
 abbrev pub joined_or_pending : State → Bool

@@ -5,8 +5,8 @@ use Rattle.std.specs.List.{AllByRecursion}
 use Rattle.std.proofs.lemmas.Bool.{false≢true, eqb-true, ne_eqb, eq-eqb}
 use Rattle.pim_addr.specs.declared.family.AddressFamily.{AddressFamily}
 use Rattle.pim_addr.specs.declared.family.AddressFamily.TheVariants.{Ipv4, Ipv6}
-use Rattle.pim_addr.specs.Address.{AreBytes}
-use Rattle.pim_form.specs.NormalForm.{IsSource, same_address, is_listed, most_exceptions}
+use Rattle.pim_addr.specs.Address.{AreBytes, IsSourceAddress}
+use Rattle.pim_form.specs.NormalForm.{same_address, is_listed, most_exceptions}
 use Rattle.pim_form.specs.Laws.{Outside}
 use Rattle.pim_form.proofs.Addresses.{same_is}
 
@@ -111,7 +111,7 @@ bytes_are [] are i = omega arith
 bytes_are (x ∷ xs) are zero = are.0
 bytes_are (x ∷ xs) are (suc i) = bytes_are xs are.1 i
 
-numbered_is_source : (family : AddressFamily) (n : ℕ) → n < 256 * 65536 → IsSource family (numbered family n)
+numbered_is_source : (family : AddressFamily) (n : ℕ) → n < 256 * 65536 → IsSourceAddress family (numbered family n)
 unfolding numbered
 numbered_is_source Ipv4 n small =
     let high : n / 256 / 256 < 256 = omega arith in

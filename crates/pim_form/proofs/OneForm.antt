@@ -9,14 +9,15 @@ use Rattle.std.proofs.lemmas.Bool.{false≢true}
 use Rattle.pim_addr.specs.declared.family.AddressFamily.{AddressFamily}
 use Rattle.pim_form.specs.declared.tree.Tree.{Tree}
 use Rattle.pim_form.specs.declared.tree.Tree.TheVariants.{Shared, Source}
-use Rattle.pim_form.specs.NormalForm.{GroupForm, IsSource, AreAscending, same_address, is_listed, AreExceptions, is_empty, IsNormalGroup, groups_of, IsNormal, is_excepted, group_wants, form_wants, WantTheSame}
+use Rattle.pim_addr.specs.Address.{IsSourceAddress}
+use Rattle.pim_form.specs.NormalForm.{GroupForm, AreAscending, same_address, is_listed, AreExceptions, is_empty, IsNormalGroup, groups_of, IsNormal, is_excepted, group_wants, form_wants, WantTheSame}
 use Rattle.pim_form.proofs.Addresses.{same_itself, same_is, equal_is, less_apart, greater_less, IsBelowAll-trans, listed_first, same_lists}
 use Rattle.pim_form.proofs.Counting.{outside}
 
 -- ---- one group
 
 abbrev ListsWantTheSame : AddressFamily → GroupForm → GroupForm → Type 0
-ListsWantTheSame family one other = (source : List ℕ) (tree : Tree) → IsSource family source → group_wants one source tree ≡ group_wants other source tree
+ListsWantTheSame family one other = (source : List ℕ) (tree : Tree) → IsSourceAddress family source → group_wants one source tree ≡ group_wants other source tree
 
 not_back : (a b : Bool) → not a ≡ not b → a ≡ b
 not_back true true e = refl
@@ -25,7 +26,7 @@ not_back false true e = absurd (false≢true (sym e))
 not_back false false e = refl
 
 one_star : (family : AddressFamily) (a b : Option (List (List ℕ))) → AreExceptions family a → AreExceptions family b
-    → ((s : List ℕ) → IsSource family s → not (is_excepted s a) ≡ not (is_excepted s b)) → a ≡ b
+    → ((s : List ℕ) → IsSourceAddress family s → not (is_excepted s a) ≡ not (is_excepted s b)) → a ≡ b
 one_star family None None are_a are_b same = refl
 one_star family None (Some ys) are_a are_b same =
     let free = outside family ys are_b.2 in
@@ -34,22 +35,22 @@ one_star family (Some xs) None are_a are_b same =
     let free = outside family xs are_a.2 in
     absurd (false≢true (sym (same free.source free.valid) ∙ ap not free.apart))
 one_star family (Some xs) (Some ys) are_a are_b same =
-    ap Some (same_lists (IsSource family) xs ys are_a.0 are_b.0 are_a.1 are_b.1 (λ s is. not_back (is_listed s xs) (is_listed s ys) (same s is)))
+    ap Some (same_lists (IsSourceAddress family) xs ys are_a.0 are_b.0 are_a.1 are_b.1 (λ s is. not_back (is_listed s xs) (is_listed s ys) (same s is)))
 
 one_group : (family : AddressFamily) (a b : GroupForm) → IsNormalGroup family a → IsNormalGroup family b → a.group ≡ b.group → ListsWantTheSame family a b → a ≡ b
 one_group family a b is_a is_b groups same =
     let stars = one_star family a.star b.star is_a.exceptions is_b.exceptions (λ s is. same s Shared is) in
-    let sources = same_lists (IsSource family) a.sources b.sources is_a.ascending is_b.ascending is_a.sources is_b.sources (λ s is. same s Source is) in
+    let sources = same_lists (IsSourceAddress family) a.sources b.sources is_a.ascending is_b.ascending is_a.sources is_b.sources (λ s is. same s Source is) in
     λ i. record { group = groups i; star = stars i; sources = sources i }
 
 -- something is wanted of a group that isn't empty
 record WantsSome (family : AddressFamily) (form : GroupForm) : Type 0 where
   source : List ℕ
   tree : Tree
-  valid : IsSource family source
+  valid : IsSourceAddress family source
   wanted : group_wants form source tree ≡ true
 
-by_star : (family : AddressFamily) (group : List ℕ) (star : Option (List (List ℕ))) (sources : List (List ℕ)) → AreExceptions family star → AllByRecursion (IsSource family) sources → is_empty star sources ≡ false
+by_star : (family : AddressFamily) (group : List ℕ) (star : Option (List (List ℕ))) (sources : List (List ℕ)) → AreExceptions family star → AllByRecursion (IsSourceAddress family) sources → is_empty star sources ≡ false
     → WantsSome family (record { group = group; star = star; sources = sources })
 by_star family group None [] exceptions are some = absurd (false≢true (sym some))
 by_star family group None (s ∷ sources) exceptions are some = record { source = s; tree = Source; valid = are.0; wanted = listed_first s sources }

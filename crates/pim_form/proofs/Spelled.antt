@@ -11,7 +11,8 @@ use Rattle.pim_jp.specs.Spelling.{same_source, star_count, IsLegalSet}
 use Rattle.pim_jp.specs.Canonical.{IsMessageEntry, IsMessageSet, IsMessage, canonical, canonical_head_length, canonical_sets_length}
 use Rattle.pim_frame.specs.Seal.{framed}
 use Rattle.pim_frame.specs.declared.frame.MessageType.TheVariants.{JoinPrune}
-use Rattle.pim_form.specs.NormalForm.{GroupForm, IsGroup, IsSource, AreAscending, AreExceptions, is_empty, IsNormalGroup, groups_of}
+use Rattle.pim_addr.specs.Address.{IsGroupAddress, IsSourceAddress}
+use Rattle.pim_form.specs.NormalForm.{GroupForm, AreAscending, AreExceptions, is_empty, IsNormalGroup, groups_of}
 use Rattle.pim_form.specs.Units.{WantUnit, star_unit, source_unit, star_units, group_units, units_of, run_entries, run_size, empty_message_size, empty_set_size, entry_size}
 use Rattle.pim_form.specs.Packing.{fits}
 use Rattle.pim_form.specs.Messages.{Writing, IsWriting, IsRp, IsRpOf, HaveRps, star_entries, excepted_entries, told_set, told_message}
@@ -23,21 +24,21 @@ use Rattle.pim_form.proofs.OnePacking.{entries_append, fits_parts}
 
 module _ (family : AddressFamily) (rps : List ℕ → Option (List ℕ)) where
   pub IsValidUnit : WantUnit → Type 0
-  IsValidUnit (star_unit group exceptions) = IsGroup family group × AllByRecursion (IsSource family) exceptions × IsRp family (rps group)
-  IsValidUnit (source_unit group source) = IsGroup family group × IsSource family source
+  IsValidUnit (star_unit group exceptions) = IsGroupAddress family group × AllByRecursion (IsSourceAddress family) exceptions × IsRp family (rps group)
+  IsValidUnit (source_unit group source) = IsGroupAddress family group × IsSourceAddress family source
 
   -- what is known of a group of a part
   pub record IsValid (this : GroupForm) : Type 0 where
-    pub group : IsGroup family this.group
+    pub group : IsGroupAddress family this.group
     pub star : AllByRecursion IsValidUnit (star_units this.group this.star)
-    pub sources : AllByRecursion (IsSource family) this.sources
+    pub sources : AllByRecursion (IsSourceAddress family) this.sources
 
-  star_valid : (group : List ℕ) (star : Option (List (List ℕ))) → IsGroup family group → AreExceptions family star → IsRpOf family (rps group) star → AllByRecursion IsValidUnit (star_units group star)
+  star_valid : (group : List ℕ) (star : Option (List (List ℕ))) → IsGroupAddress family group → AreExceptions family star → IsRpOf family (rps group) star → AllByRecursion IsValidUnit (star_units group star)
   unfolding IsValidUnit
   star_valid group None is exceptions rp = tt
   star_valid group (Some xs) is exceptions rp = ((is, exceptions.1, rp), tt)
 
-  source_valid : (group : List ℕ) → IsGroup family group → (s : List ℕ) → IsSource family s → IsValidUnit (source_unit group s)
+  source_valid : (group : List ℕ) → IsGroupAddress family group → (s : List ℕ) → IsSourceAddress family s → IsValidUnit (source_unit group s)
   unfolding IsValidUnit
   source_valid group is s source = (is, source)
 
@@ -45,7 +46,7 @@ module _ (family : AddressFamily) (rps : List ℕ → Option (List ℕ)) where
   group_valid this is rp =
       all_append IsValidUnit (star_units this.group this.star) (map (source_unit this.group) this.sources)
       (star_valid this.group this.star is.group is.exceptions rp)
-      (all_map (IsSource family) IsValidUnit (source_unit this.group) (source_valid this.group is.group) this.sources is.sources)
+      (all_map (IsSourceAddress family) IsValidUnit (source_unit this.group) (source_valid this.group is.group) this.sources is.sources)
 
   pub units_valid : (form : List GroupForm) → AllByRecursion (IsNormalGroup family) form → HaveRps family rps form → AllByRecursion IsValidUnit (units_of form)
   units_valid [] are have = tt
@@ -53,11 +54,11 @@ module _ (family : AddressFamily) (rps : List ℕ → Option (List ℕ)) where
 
   -- ---- and back to the groups of a part
 
-  unit_source : (group s : List ℕ) → IsValidUnit (source_unit group s) → IsSource family s
+  unit_source : (group s : List ℕ) → IsValidUnit (source_unit group s) → IsSourceAddress family s
   unfolding IsValidUnit
   unit_source group s is = is.1
 
-  unit_group_valid : (group : List ℕ) (star : Option (List (List ℕ))) (sources : List (List ℕ)) → is_empty star sources ≡ false → AllByRecursion IsValidUnit (star_units group star ++ map (source_unit group) sources) → IsGroup family group
+  unit_group_valid : (group : List ℕ) (star : Option (List (List ℕ))) (sources : List (List ℕ)) → is_empty star sources ≡ false → AllByRecursion IsValidUnit (star_units group star ++ map (source_unit group) sources) → IsGroupAddress family group
   unfolding IsValidUnit
   unit_group_valid group None [] some all = absurd cc
   unit_group_valid group None (s ∷ sources) some all = all.0.0
@@ -67,7 +68,7 @@ module _ (family : AddressFamily) (rps : List ℕ → Option (List ℕ)) where
   valid_back this some all = record {
     group = unit_group_valid this.group this.star this.sources some all;
     star = all_front IsValidUnit (star_units this.group this.star) (map (source_unit this.group) this.sources) all;
-    sources = all_mapped (IsSource family) IsValidUnit (source_unit this.group) (unit_source this.group) this.sources
+    sources = all_mapped (IsSourceAddress family) IsValidUnit (source_unit this.group) (unit_source this.group) this.sources
         (all_behind IsValidUnit (star_units this.group this.star) (map (source_unit this.group) this.sources) all);
   }
 
@@ -94,13 +95,13 @@ module _ (family : AddressFamily) (rps : List ℕ → Option (List ℕ)) where
   pruned_valid : (group : List ℕ) (star : Option (List (List ℕ))) → AllByRecursion IsValidUnit (star_units group star) → AllByRecursion (IsMessageEntry family) (excepted_entries star)
   unfolding IsValidUnit
   pruned_valid group None all = tt
-  pruned_valid group (Some xs) all = all_map (IsSource family) (IsMessageEntry family) (λ source. Rpt source) (λ s is. is) xs all.0.1
+  pruned_valid group (Some xs) all = all_map (IsSourceAddress family) (IsMessageEntry family) (λ source. Rpt source) (λ s is. is) xs all.0.1
 
   entries_valid : (this : GroupForm) → IsValid this → AllByRecursion (IsMessageEntry family) (told_set rps this).joined × AllByRecursion (IsMessageEntry family) (told_set rps this).pruned
   entries_valid this is = (
     all_append (IsMessageEntry family) (star_entries (rps this.group) this.star) (map (λ source. Source source) this.sources)
         (joined_valid this.group (rps this.group) this.star (rp_of this is))
-        (all_map (IsSource family) (IsMessageEntry family) (λ source. Source source) (λ s s_is. s_is) this.sources is.sources),
+        (all_map (IsSourceAddress family) (IsMessageEntry family) (λ source. Source source) (λ s s_is. s_is) this.sources is.sources),
     pruned_valid this.group this.star is.star,
   )
 

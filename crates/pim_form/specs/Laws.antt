@@ -7,7 +7,8 @@ use Rattle.pim_frame.specs.declared.frame.MessageType.TheVariants.{JoinPrune}
 use Rattle.pim_jp.specs.Message.{Message, message_of}
 use Rattle.pim_jp.specs.Faults.{faults}
 use Rattle.pim_jp.specs.Canonical.{IsMessage, canonical}
-use Rattle.pim_form.specs.NormalForm.{Demand, Agree, IsFormOf, GroupForm, IsNormal, IsSource, is_listed}
+use Rattle.pim_addr.specs.Address.{IsSourceAddress}
+use Rattle.pim_form.specs.NormalForm.{Demand, Agree, IsFormOf, GroupForm, IsNormal, is_listed}
 use Rattle.pim_form.specs.NormalForm.{most_exceptions, WantTheSame}
 use Rattle.pim_form.specs.declared.tree.Tree.{Tree}
 use Rattle.pim_form.specs.Toward.{toward, SharedHaveRps}
@@ -35,7 +36,7 @@ SealedMessageIsRead = (family : AddressFamily) (source : List ℕ) (message : Me
 -- a valid source that is none of these
 pub record Outside (family : AddressFamily) (exceptions : List (List ℕ)) : Type 0 where
   pub source : List ℕ
-  pub valid : IsSource family source
+  pub valid : IsSourceAddress family source
   pub apart : is_listed source exceptions ≡ false
 
 -- there is one outside the exceptions of any star

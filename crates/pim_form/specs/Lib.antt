@@ -10,3 +10,4 @@ pub mod Rows
 pub mod Blocks
 pub mod TooBig
 pub mod Toward
+pub mod Plan

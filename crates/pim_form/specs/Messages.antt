@@ -9,7 +9,8 @@ use Rattle.pim_jp.specs.declared.entry.Entry.{Entry}
 use Rattle.pim_jp.specs.declared.entry.Entry.TheVariants.{Star, Source, Rpt}
 use Rattle.pim_jp.specs.Message.{GroupSet, Message}
 use Rattle.pim_jp.specs.Canonical.{canonical}
-use Rattle.pim_form.specs.NormalForm.{GroupForm, IsSource, AreAscending, groups_of, is_empty}
+use Rattle.pim_addr.specs.Address.{IsSourceAddress}
+use Rattle.pim_form.specs.NormalForm.{GroupForm, AreAscending, groups_of, is_empty}
 use Rattle.pim_form.specs.Units.{WantUnit, units_of}
 use Rattle.pim_form.specs.Packing.{IsPacking}
 
@@ -22,8 +23,8 @@ pub record Writing : Type 0 where
   pub budget : ℕ
 
 pub record IsWriting (family : AddressFamily) (writing : Writing) : Type 0 where
-  pub upstream : IsSource family writing.upstream
-  pub own : IsSource family writing.own
+  pub upstream : IsSourceAddress family writing.upstream
+  pub own : IsSourceAddress family writing.own
   pub apart : writing.own ≢ writing.upstream
   pub long : 99 ≤ writing.holdtime
   pub short : writing.holdtime < 2 ^ 16
@@ -37,7 +38,7 @@ Rps = List ℕ → Option (List ℕ)
 
 abbrev pub IsRp : AddressFamily → Option (List ℕ) → Type 0
 IsRp family None = ⊥
-IsRp family (Some rp) = IsSource family rp
+IsRp family (Some rp) = IsSourceAddress family rp
 
 abbrev pub IsRpOf : AddressFamily → Option (List ℕ) → Option (List (List ℕ)) → Type 0
 IsRpOf family rp None = Unit {0}

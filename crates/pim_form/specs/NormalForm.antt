@@ -6,7 +6,7 @@ use Rattle.std.specs.List.Sorted.{IsStrictlySortedBy}
 use Rattle.std.specs.Ordering.{nat_cmp}
 use Rattle.std.specs.Cmp.Lexicographic.{slice_cmp, pointwise}
 use Rattle.pim_addr.specs.declared.family.AddressFamily.{AddressFamily}
-use Rattle.pim_addr.specs.Address.{IsAddress, is_group, is_source}
+use Rattle.pim_addr.specs.Address.{IsGroupAddress, IsSourceAddress}
 use Rattle.pim_form.specs.declared.tree.Tree.{Tree}
 use Rattle.pim_form.specs.declared.tree.Tree.TheVariants.{Shared, Source}
 
@@ -17,13 +17,7 @@ pub record GroupForm : Type 0 where
   pub star : Option (List (List ℕ))
   pub sources : List (List ℕ)
 
--- ---- addresses
-
-abbrev pub IsGroup : AddressFamily → List ℕ → Type 0
-IsGroup family group = IsAddress family group × (is_group family group ≡ true)
-
-abbrev pub IsSource : AddressFamily → List ℕ → Type 0
-IsSource family source = IsAddress family source × (is_source family source ≡ true)
+-- ---- lists of addresses
 
 -- in strictly ascending order of addresses, which is that of their bytes
 abbrev pub AreAscending : List (List ℕ) → Type 0
@@ -43,7 +37,7 @@ most_exceptions = 100000
 abbrev pub AreExceptions : AddressFamily → Option (List (List ℕ)) → Type 0
 AreExceptions family None = Unit {0}
 AreExceptions family (Some exceptions) =
-    AreAscending exceptions × AllByRecursion (IsSource family) exceptions × (length exceptions ≤ most_exceptions)
+    AreAscending exceptions × AllByRecursion (IsSourceAddress family) exceptions × (length exceptions ≤ most_exceptions)
 
 -- neither a star nor a source
 abbrev pub is_empty : Option (List (List ℕ)) → List (List ℕ) → Bool
@@ -51,10 +45,10 @@ is_empty None [] = true
 is_empty _ _ = false
 
 pub record IsNormalGroup (family : AddressFamily) (form : GroupForm) : Type 0 where
-  pub group : IsGroup family form.group
+  pub group : IsGroupAddress family form.group
   pub exceptions : AreExceptions family form.star
   pub ascending : AreAscending form.sources
-  pub sources : AllByRecursion (IsSource family) form.sources
+  pub sources : AllByRecursion (IsSourceAddress family) form.sources
   pub some : is_empty form.star form.sources ≡ false
 
 abbrev pub groups_of : List GroupForm → List (List ℕ)
@@ -87,7 +81,7 @@ Demand = List ℕ → List ℕ → Tree → Bool
 
 -- Two demands agree on every valid source, every group and both trees.
 abbrev pub Agree : AddressFamily → Demand → Demand → Type 0
-Agree family one other = (source group : List ℕ) (tree : Tree) → IsSource family source → IsGroup family group →
+Agree family one other = (source group : List ℕ) (tree : Tree) → IsSourceAddress family source → IsGroupAddress family group →
     one source group tree ≡ other source group tree
 
 -- two forms want the same

@@ -2,9 +2,12 @@
 -- functions here, `None` where there is none.
 use Rattle.std.specs.Prelude.{◌≡◌, ℕ, Bool, true, false, ◌&&◌, List, Option, None, Some}
 use Rattle.std.specs.Option.{is_some}
+use Rattle.std.specs.List.{list_all}
+use Rattle.pim_addr.specs.declared.family.AddressFamily.{AddressFamily}
+use Rattle.pim_addr.specs.Routes.{RouteTable, via}
 use Rattle.pim_form.specs.declared.tree.Tree.{Tree}
 use Rattle.pim_form.specs.declared.tree.Tree.TheVariants.{Shared, Source}
-use Rattle.pim_form.specs.NormalForm.{Demand, same_address}
+use Rattle.pim_form.specs.NormalForm.{Demand, GroupForm, same_address}
 
 -- the neighbour towards an RP, if there is an RP
 abbrev pub via_rp : (List ℕ → Option (List ℕ)) → Option (List ℕ) → Option (List ℕ)
@@ -27,6 +30,25 @@ module _ (rps via : List ℕ → Option (List ℕ)) where
   toward neighbour demand source group tree =
       demand source group tree && is_neighbour neighbour (upstream_of source group tree)
 
+  -- ---- forms
+
+  -- a star, with all its exceptions, is asked of the neighbour towards the RP
+  abbrev pub is_star_toward : List ℕ → List ℕ → Option (List (List ℕ)) → Bool
+  is_star_toward neighbour group None = true
+  is_star_toward neighbour group (Some exceptions) = is_neighbour neighbour (via_rp via (rps group))
+
+  abbrev pub is_group_toward : List ℕ → GroupForm → Bool
+  is_group_toward neighbour this = is_star_toward neighbour this.group this.star
+      && list_all (λ source. is_neighbour neighbour (via source)) this.sources
+
+  -- a form has no star and no source of which another neighbour, or nobody, is asked
+  abbrev pub is_toward : List ℕ → List GroupForm → Bool
+  is_toward neighbour form = list_all (is_group_toward neighbour) form
+
   -- Each group that is wanted on the shared tree has an RP.
   abbrev pub SharedHaveRps : Demand → Type 0
   SharedHaveRps demand = (source group : List ℕ) → demand source group Shared ≡ true → is_some (rps group) ≡ true
+
+-- the upstream neighbour to which a table leads each address; `known_in` of pim_down is the RP of each group
+abbrev pub via_in : AddressFamily → RouteTable → List ℕ → Option (List ℕ)
+via_in family table address = via family address table

@@ -12,6 +12,7 @@ mod groups;
 mod laws;
 mod messages;
 mod place;
+mod plan;
 mod sizes;
 mod sorted;
 #[cfg(test)]

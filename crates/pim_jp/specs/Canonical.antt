@@ -4,7 +4,7 @@ use Rattle.std.specs.Prelude.{◌≡◌, ℕ, ◌+◌, ◌*◌, ◌<◌, ◌^◌
 use Rattle.std.specs.List.{AllByRecursion, flat_map}
 use Rattle.byteorder.specs.Endian.{big_bytes}
 use Rattle.pim_addr.specs.declared.family.AddressFamily.{AddressFamily}
-use Rattle.pim_addr.specs.Address.{IsAddress, is_group, is_source}
+use Rattle.pim_addr.specs.Address.{IsAddress, IsSourceAddress, is_group}
 use Rattle.pim_addr.specs.Encoded.{unicast_length, group_length, source_length}
 use Rattle.pim_addr.specs.Canonical.{canonical_unicast, canonical_group, canonical_source}
 use Rattle.pim_jp.specs.declared.entry.Entry.{Entry}
@@ -14,8 +14,7 @@ use Rattle.pim_jp.specs.Spelling.{source_of, IsLegalSet}
 -- ---- messages that can be spelled
 
 abbrev pub IsMessageEntry : AddressFamily → Entry (List ℕ) → Type 0
-IsMessageEntry family entry = IsAddress family (source_of entry).address
-    × (is_source family (source_of entry).address ≡ true)
+IsMessageEntry family entry = IsSourceAddress family (source_of entry).address
 
 abbrev pub IsMessageSet : AddressFamily → GroupSet → Type 0
 IsMessageSet family set = IsAddress family set.group × (is_group family set.group ≡ true) × IsLegalSet set
