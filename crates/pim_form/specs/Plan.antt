@@ -26,6 +26,6 @@ module _ {A : Type 0} (bytes_of : A → List ℕ) where
   -- The pieces of each message are a normal form, and together they are a packing of the form's units.
   pub record IsPlan (family : AddressFamily) (budget : ℕ) (row : List A) (places pieces : List (Place A))
       (ends : List ℕ) : Type 0 where
-    pub ends : AreEnds 0 (length pieces) ends
+    pub whole : AreEnds 0 (length pieces) ends
     pub kept : AllByRecursion (IsKept bytes_of family row) (parts_from 0 ends pieces)
     pub packing : IsPacking family budget (run_of row places) (map (run_of row) (parts_from 0 ends pieces))
