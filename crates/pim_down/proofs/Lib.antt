@@ -1,4 +1,5 @@
 pub mod Order
+pub mod Searched
 pub mod Map
 pub mod Time
 pub mod Ends

@@ -23,7 +23,7 @@ use Rattle.pim_down.proofs.Each.{seen_filter}
 not_greater : (r s : Ordering) → ordering_then r s ≡ Less → r ≡ Greater → ⊥
 not_greater r s e g = cc
 
-ports_rise : (a b : Key (List ℕ)) → key_cmp a b ≡ Less → a.port ≤ b.port
+pub ports_rise : (a b : Key (List ℕ)) → key_cmp a b ≡ Less → a.port ≤ b.port
 unfolding key_cmp
 ports_rise a b e = by (ltb b.port a.port) refl
   where

@@ -3,6 +3,7 @@ pub mod Tables
 pub mod Records
 pub mod Hearing
 pub mod Known
+pub mod After
 pub mod Time
 pub mod Seen
 pub mod Ends

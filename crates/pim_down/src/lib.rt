@@ -7,6 +7,7 @@
 //! between calls, and no port has more records than its limit.
 #![tactic(auto)]
 
+mod after;
 mod edits;
 mod event;
 mod fault;

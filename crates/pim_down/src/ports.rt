@@ -1,27 +1,29 @@
 //! The downstream machines of a router's ports.
 
-ghost use Rattle.std.specs.Prelude.{◌≡◌, ◌≤◌, ◌<◌, [], None, max, OnOk, OnErr};
+ghost use Rattle.std.specs.Prelude.{◌≡◌, ◌≤◌, ◌<◌, [], None, max, option_map, OnOk, OnErr};
 ghost use Rattle.std.specs.List.{filter};
 ghost use Rattle.pim_down.specs.declared.step.Step.TheVariants.{Reached};
 ghost use Rattle.pim_down.specs.Records.{state_of, is_on, count_on};
 ghost use Rattle.pim_down.specs.Heard.{heard, needed_for, new_for, IsWithin, MayWantMemory, OthersStay};
 ghost use Rattle.pim_down.specs.Time.{Downstream, Runs, IsNextDue};
 ghost use Rattle.pim_down.specs.Known.{known_in};
-ghost use Rattle.pim_down.specs.Seen.{key_at, step_seen};
+ghost use Rattle.pim_down.specs.Seen.{key_at, what_seen, step_seen, told_seen};
+ghost use Rattle.pim_down.specs.After.{group_after, next_in_group};
 ghost use Rattle.pim_down.specs.Sound.{IsSound};
 
+use crate::after::{first_machine_after, first_of_groups_after};
 use crate::edits::machine_at;
 use crate::event::Timing;
 use crate::fault::HearFault;
 use crate::hear::start_at;
 use crate::held::Held;
 use crate::key::{Key, What};
-use crate::machine::State;
+use crate::machine::{Record, State};
 use crate::message::hear_message;
 use crate::run::run;
 use crate::step::Step;
 use crate::timers::next_end;
-use crate::walk::{Records, count_on, on_port};
+use crate::walk::{Records, count_on, on_port, record_after};
 use pim_addr::{Family, Routes};
 use pim_jp::JpView;
 use std::alloc::Global;
@@ -142,6 +144,34 @@ impl<F: Family> Ports<F> {
         ensures { result ≡ filter (is_on port) self.now.records }
     {
         Records::new(on_port::<F>(&self.records, port), self.moment)
+    }
+
+    /// The least group above this one, or of all, that has a record on the port; `None` where none has. It looks by
+    /// halves, and takes no memory.
+    pub fn group_after(&self, port: usize, group: Option<F::Addr>) -> Option<F::Addr>
+        ensures { option_map F.bytes_of result ≡ group_after port (option_map F.bytes_of group) self.now.records }
+    {
+        match first_of_groups_after::<F>(&self.records, port, group) {
+            Some(first) => Some(first.key.group),
+            None => None,
+        }
+    }
+
+    /// The next record of this group on the port, in key order, behind that of this machine, which need not be held;
+    /// `None` where none follows. It looks by halves, and takes no memory.
+    pub fn record_after(
+        &self,
+        port: usize,
+        group: F::Addr,
+        what: What<F::Addr>,
+    ) -> Option<Record<F::Addr>>
+        ensures { option_map (told_seen F.bytes_of) result
+            ≡ next_in_group port (F.bytes_of group) (what_seen F.bytes_of what) self.now.records }
+    {
+        match first_machine_after::<F>(&self.records, &Key { port, group, what }) {
+            Some(first) => Some(record_after(&first, self.moment)),
+            None => None,
+        }
     }
 
     /// Hears a message on a port. A Join(*,G) counts only where its RP is the one to which the table leads G. No timer

@@ -3,6 +3,7 @@
 
 mod hearing;
 mod limits;
+mod nexts;
 mod running;
 mod tables;
 

@@ -35,7 +35,7 @@ fn machine_after(machine: &Timed, now: u64) -> Machine
 }
 
 /// The record as it stands at this moment.
-fn record_after<A: Copy>(held: &Held<A>, now: u64) -> Record<A>
+pub(crate) fn record_after<A: Copy>(held: &Held<A>, now: u64) -> Record<A>
     ensures { (bytes_of : A → List ℕ) → told_seen bytes_of result ≡ record_after now (record_seen bytes_of held.now) }
 {
     Record {

@@ -1,0 +1,46 @@
+-- What comes next on a port: its groups one after the other, and the machines of a group.
+use Rattle.std.specs.Prelude.{ℕ, Bool, true, ◌&&◌, ◌==◌, List, Option, None, Some, option_map}
+use Rattle.std.specs.List.{find}
+use Rattle.std.specs.Ordering.{ordering_then, is_eq, is_lt, is_le, nat_cmp}
+use Rattle.pim_down.specs.declared.key.What.{What}
+use Rattle.pim_down.specs.declared.key.Key.{Key}
+use Rattle.pim_down.specs.declared.machine.Record.{Record}
+use Rattle.pim_down.specs.Key.{address_cmp, what_cmp, key_cmp}
+use Rattle.pim_down.specs.Records.{is_on}
+
+abbrev pub is_above : Option (List ℕ) → List ℕ → Bool
+is_above None group = true
+is_above (Some bound) group = is_lt (address_cmp bound group)
+
+-- a record of the port whose group is above the bound, or any of the port
+abbrev pub is_of_group_after : ℕ → Option (List ℕ) → Record (List ℕ) → Bool
+is_of_group_after port bound held = is_on port held && is_above bound held.key.group
+
+-- The least group above the bound that has a record on the port: the records stand in key order, so it is that of the
+-- first of them.
+abbrev pub group_after : ℕ → Option (List ℕ) → List (Record (List ℕ)) → Option (List ℕ)
+group_after port bound records = option_map (λ held. held.key.group) (find (is_of_group_after port bound) records)
+
+-- a record of the port and the group whose machine comes after this one
+abbrev pub is_machine_after : ℕ → List ℕ → What (List ℕ) → Record (List ℕ) → Bool
+is_machine_after port group what held =
+    is_on port held && (is_eq (address_cmp held.key.group group) && is_lt (what_cmp what held.key.what))
+
+-- the next record of the group on the port
+abbrev pub next_in_group : ℕ → List ℕ → What (List ℕ) → List (Record (List ℕ)) → Option (Record (List ℕ))
+next_in_group port group what records = find (is_machine_after port group what) records
+
+-- ---- what a search passes over
+
+-- the key stands before all groups of the port above the bound
+abbrev pub is_before_groups : ℕ → Option (List ℕ) → Key (List ℕ) → Bool
+is_before_groups port None key = is_lt (nat_cmp key.port port)
+is_before_groups port (Some bound) key = is_le (ordering_then (nat_cmp key.port port) (address_cmp key.group bound))
+
+-- the key is this one or stands before it
+abbrev pub is_up_to : Key (List ℕ) → Key (List ℕ) → Bool
+is_up_to bound key = is_le (key_cmp key bound)
+
+-- the key is of the port and the group of this one
+abbrev pub is_of_group : Key (List ℕ) → Key (List ℕ) → Bool
+is_of_group bound key = (key.port == bound.port) && is_eq (address_cmp key.group bound.group)
