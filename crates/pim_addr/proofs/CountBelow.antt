@@ -1,5 +1,5 @@
 -- A search that halves what is left of a list in order.
-use Rattle.std.proofs.Common.{◌≡◌, ◌∙◌, sym, ap, ℕ, zero, suc, ◌+◌, ◌-◌, ◌*◌, ◌/◌, ◌%◌, ◌^◌, ◌≤◌, ◌<◌, Bool, true, false, List, Ordering, length, get_or, refl, arith, ⊎_elim}
+use Rattle.std.proofs.Common.{◌≡◌, ◌∙◌, sym, ap, ℕ, zero, suc, ◌+◌, ◌-◌, ◌*◌, ◌/◌, ◌%◌, ◌^◌, ◌≤◌, ◌<◌, Bool, true, false, List, Ordering, length, get_or, min, refl, arith, ⊎_elim}
 use Rattle.std.specs.declared.cmp.Ordering.TheVariants.{Less, Equal, Greater}
 use Rattle.std.specs.Ordering.{is_lt, ordering_index}
 use Rattle.std.specs.Int.{from_bool}
@@ -116,6 +116,34 @@ halved_shift cmp total xs item base shift next less x sorted halved is few at te
     let left : 2 ^ shift - 2 ^ next ≡ 2 ^ next = omega (arith, twice) in
     let more = halved_more cmp total xs item base (2 ^ shift) (2 ^ next) less x sorted halved (omega (arith, twice, some)) half (rw (one_shifted next few) at at) test in
     rw (← test_shifted less next few, left) at more
+
+-- ---- the last levels, from the twelfth to the first
+
+module _ {T : Type 0} (cmp : T → T → Ordering) (xs : List T) (item : T) (base shift done : ℕ) (halved : Halved cmp xs item base (2 ^ min shift (12 - done))) (some : done < 12) where
+  -- a level that isn't below the length was passed over
+  pub halved_passed : shift ≤ 11 - done → Halved cmp xs item base (2 ^ min shift (12 - (done + 1)))
+  halved_passed past = let same : min shift (12 - (done + 1)) ≡ min shift (12 - done) = omega arith in rw same halved
+
+  module _ (within : 11 - done < shift) where
+    level_left : min shift (12 - done) ≡ suc (11 - done)
+    level_left = omega arith
+
+    pub level_is_there : base + 1 * 2 ^ (11 - done) % 2 ^ 64 < length xs
+    level_is_there =
+        let left : 2 ^ min shift (12 - done) ≡ 2 ^ (11 - done) + 2 ^ (11 - done) = ap (λ n. 2 ^ n) level_left ∙ two-pow-succ (11 - done) in
+        omega (arith, one_shifted (11 - done) (omega arith), some_power (11 - done), left, halved.within)
+
+    pub level_is_within : (less : Bool) → base + from_bool less * 2 ^ (11 - done) % 2 ^ 64 ≤ length xs
+    level_is_within true = omega (arith, level_is_there)
+    level_is_within false =
+        let none : from_bool false * 2 ^ (11 - done) % 2 ^ 64 ≡ 0 = ap (λ n. n % 2 ^ 64) (zero-mul (2 ^ (11 - done))) in
+        omega (arith, none, halved.within)
+
+    pub halved_level : IsTotalOrder cmp → (less : Bool) (x : T) → IsSorted cmp xs → x ≡ get_or xs (base + 1 * 2 ^ (11 - done) % 2 ^ 64) x → less ≡ is_lt (cmp x item)
+        → Halved cmp xs item (base + from_bool less * 2 ^ (11 - done) % 2 ^ 64) (2 ^ min shift (12 - (done + 1)))
+    halved_level total less x sorted at test =
+        let next : min shift (12 - (done + 1)) ≡ 11 - done = omega arith in
+        rw next (halved_shift cmp total xs item base (min shift (12 - done)) (11 - done) less x sorted halved level_left (omega arith) at test)
 
 pub halved_one : {T : Type 0} (cmp : T → T → Ordering) (xs : List T) (item : T) (base size : ℕ) (less : Bool) (x : T)
     → Halved cmp xs item base size → size ≡ 1 → x ≡ get_or xs base x → less ≡ is_lt (cmp x item)

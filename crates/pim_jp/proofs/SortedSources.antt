@@ -1,5 +1,5 @@
 -- Sources that are sorted, and looked for.
-use Rattle.std.proofs.Common.{◌≡◌, ◌∙◌, sym, ap, ℕ, ◌+◌, ◌-◌, ◌*◌, ◌≤◌, ◌<◌, ◌↔◌, Bool, true, false, ◌||◌, ◌&&◌, not, IsTrue, List, [], ◌∷◌, Ordering, length, get_or, nat_eq, refl, subst, take, drop, length-drop, take-append-drop, length-take-le, ⊎_elim, arith}
+use Rattle.std.proofs.Common.{◌≡◌, ◌∙◌, sym, ap, ℕ, ◌+◌, ◌-◌, ◌*◌, ◌≤◌, ◌<◌, ◌↔◌, Bool, true, false, ◌||◌, IsTrue, List, [], ◌∷◌, Ordering, length, get_or, nat_eq, refl, subst, take, drop, length-drop, take-append-drop, length-take-le, ⊎_elim, arith}
 use Rattle.std.proofs.lemmas.Bool.{cases_lt, ne_eqb, eq-eqb}
 use Rattle.std.specs.Int.{from_bool}
 use Rattle.std.specs.Cmp.{ranks}
@@ -20,7 +20,7 @@ use Rattle.pim_jp.specs.declared.entry.Entry.TheVariants.{Star, Source, Rpt}
 use Rattle.pim_jp.specs.Message.{entry_of}
 use Rattle.pim_jp.specs.Spelling.{source_of}
 use Rattle.pim_jp.specs.Reading.{is_in, entry_at}
-use Rattle.pim_jp.specs.Sources.{is_among, is_of_type, is_listed}
+use Rattle.pim_jp.specs.Sources.{is_among, is_listed}
 use Rattle.pim_jp.proofs.Counts.{AreBytes-drop, AreBytes-first}
 
 -- ---- addresses and their numbers
@@ -149,21 +149,11 @@ next_place below count step is bound some =
 
 -- ---- sources that are listed
 
-pub listed_permuted : {N : Type 0} (value_of : N → ℕ) (rpt : Bool) (xs ys : List N) (this : Entry (List ℕ)) → IsPermutation xs ys → is_listed value_of rpt xs this ≡ is_listed value_of rpt ys this
-listed_permuted value_of rpt xs ys (Star rp) h = refl
-listed_permuted value_of rpt xs ys (Source source) h = ap (λ b. not rpt && b) (list_any-IsPermutation (λ other. nat_eq (number_of source) (value_of other)) xs ys h)
-listed_permuted value_of rpt xs ys (Rpt source) h = ap (λ b. rpt && b) (list_any-IsPermutation (λ other. nat_eq (number_of source) (value_of other)) xs ys h)
-
-and_or : (a b c : Bool) → a && (b || c) ≡ (a && b) || (a && c)
-and_or true b c = refl
-and_or false b c = refl
-
-pub type_of_listed : {N : Type 0} (value_of : N → ℕ) (rpt : Bool) (xs : List N) (this : Entry (List ℕ)) → is_listed value_of rpt xs this ≡ true → is_of_type rpt this ≡ true
-type_of_listed value_of rpt xs (Star rp) h = absurd cc
-type_of_listed value_of true xs (Source source) h = absurd cc
-type_of_listed value_of false xs (Source source) h = refl
-type_of_listed value_of true xs (Rpt source) h = refl
-type_of_listed value_of false xs (Rpt source) h = absurd cc
+pub listed_permuted : {N : Type 0} (value_of : N → ℕ) (xs ys sorted_xs sorted_ys : List N) (this : Entry (List ℕ)) → IsPermutation xs sorted_xs
+    → IsPermutation ys sorted_ys → is_listed value_of xs ys this ≡ is_listed value_of sorted_xs sorted_ys this
+listed_permuted value_of xs ys sorted_xs sorted_ys (Star rp) h k = refl
+listed_permuted value_of xs ys sorted_xs sorted_ys (Source source) h k = list_any-IsPermutation (λ other. nat_eq (number_of source) (value_of other)) xs sorted_xs h
+listed_permuted value_of xs ys sorted_xs sorted_ys (Rpt source) h k = list_any-IsPermutation (λ other. nat_eq (number_of source) (value_of other)) ys sorted_ys k
 
 pub place_more : (P : ℕ → Type 0) (count : ℕ) → ((place : ℕ) → place < count → P place) → P count → (place : ℕ) → place < count + 1 → P place
 place_more P count before at place below =
@@ -173,15 +163,18 @@ place_more P count before at place below =
     (cases_lt place count)
 
 -- what is left when one more block was looked through
-pub in_left : {N : Type 0} (value_of : N → ℕ) (rpt : Bool) (block sorted : List N) (was left joined : Bool) (this : Entry (List ℕ))
-    → IsPermutation block sorted → joined ≡ was → was ≡ (is_listed value_of rpt block this || left) → is_listed value_of rpt sorted this ≡ false → joined ≡ left
-in_left value_of rpt block sorted was left joined this moved first split none =
-    first ∙ split ∙ rw (listed_permuted value_of rpt block sorted this moved, none) refl
+module _ {N : Type 0} (value_of : N → ℕ) (sources rpts sorted_sources sorted_rpts : List N) (was left joined : Bool) (this : Entry (List ℕ))
+    (moved_sources : IsPermutation sources sorted_sources) (moved_rpts : IsPermutation rpts sorted_rpts) (first : joined ≡ was)
+    (split : was ≡ (is_listed value_of sources rpts this || left)) where
+  pub in_left : is_listed value_of sorted_sources sorted_rpts this ≡ false → joined ≡ left
+  in_left none = first ∙ split ∙ rw (listed_permuted value_of sources rpts sorted_sources sorted_rpts this moved_sources moved_rpts, none) refl
 
-pub in_block : {N : Type 0} (value_of : N → ℕ) (rpt : Bool) (block sorted : List N) (was left joined : Bool) (this : Entry (List ℕ))
-    → IsPermutation block sorted → joined ≡ was → was ≡ (is_listed value_of rpt block this || left) → is_listed value_of rpt sorted this ≡ true → joined ≡ true
-in_block value_of rpt block sorted was left joined this moved first split some =
-    first ∙ split ∙ rw (listed_permuted value_of rpt block sorted this moved, some) refl
+  pub in_block : is_listed value_of sorted_sources sorted_rpts this ≡ true → joined ≡ true
+  in_block some = first ∙ split ∙ rw (listed_permuted value_of sources rpts sorted_sources sorted_rpts this moved_sources moved_rpts, some) refl
+
+pub in_none : (other : List (Entry (List ℕ))) (this : Entry (List ℕ)) → length other ≤ 0 → is_in other this ≡ false
+in_none [] this none = refl
+in_none (that ∷ other) this none = absurd (omega arith)
 
 -- the first place is found sooner, or stays what it was
 pub still_clash : (at : ℕ → Bool) (now before count : ℕ) → now ≤ before → (before < count → at before ≡ true) → (now < before → at now ≡ true) → now < count → at now ≡ true
@@ -190,13 +183,3 @@ still_clash at now before count bound was sooner below =
     (λ (less : now < before). sooner less)
     (λ (same : before ≤ now). let e : now ≡ before = omega arith in rw e (was (omega arith)))
     (cases_lt now before)
-
-star_in_none : (rp : List ℕ) (other : List (Entry (List ℕ))) → is_in other (Star rp) ≡ false
-star_in_none rp [] = refl
-star_in_none rp (that ∷ other) = star_in_none rp other
-
--- an entry is of one kind or the other, or (*,G), which is in no list
-pub apart_in_both : (other : List (Entry (List ℕ))) (this : Entry (List ℕ)) → (is_of_type false this ≡ true → is_in other this ≡ false) → (is_of_type true this ≡ true → is_in other this ≡ false) → is_in other this ≡ false
-apart_in_both other (Star rp) source rpt = star_in_none rp other
-apart_in_both other (Source s) source rpt = source refl
-apart_in_both other (Rpt s) source rpt = rpt refl

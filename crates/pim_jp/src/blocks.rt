@@ -1,7 +1,7 @@
 //! Sources that are looked for among many: the numbers of these are sorted block by block, on the stack.
 
 ghost use Rattle.std.specs.Prelude.{◌≡◌, ℕ, ◌*◌, ◌≤◌, ◌<◌, ◌||◌, true, false};
-ghost use Rattle.std.specs.Prelude.{Bool, ◌&&◌, List, [], ◌∷◌, length, take, nat_eq};
+ghost use Rattle.std.specs.Prelude.{List, length, take, drop, nat_eq};
 ghost use Rattle.std.specs.Cmp.Lexicographic.{pointwise};
 ghost use Rattle.std.specs.List.Sorted.{IsSorted};
 ghost use Rattle.pim_addr.specs.Address.{IsAddress, number_of};
@@ -9,12 +9,20 @@ ghost use Rattle.pim_addr.specs.Encoded.{source_length};
 ghost use Rattle.pim_jp.specs.declared.entry.Entry.{Entry};
 ghost use Rattle.pim_jp.specs.Seen.{entry_seen};
 ghost use Rattle.pim_jp.specs.Spelling.{same_source};
-ghost use Rattle.pim_jp.specs.Reading.{is_in, entry_at};
-ghost use Rattle.pim_jp.specs.Sources.{is_among, is_of_type, IsOfType, is_listed, AreApartInType};
+ghost use Rattle.pim_jp.specs.Reading.{is_in, entry_at, is_source_entry, is_rpt_entry, AreApart};
+ghost use Rattle.pim_jp.specs.Sources.{is_among, is_listed, one_if, HasAddress};
 
 use crate::entries::{Entries, first_entry};
 use crate::entry::Entry;
 use pim_addr::{Family, count_below, numbers_are_in_order, source_length};
+
+/// Where the numbers of a block end: those of (S,G) entries stand before `front`, those of (S,G,rpt) ones from `back` on,
+/// and what is between is free.
+#[derive(Clone, Copy)]
+struct Ends {
+    front: usize,
+    back: usize,
+}
 
 /// The number of a source. Sources are equal exactly if their numbers are.
 fn number_of_source<F: Family>(source: F::Addr) -> F::Number
@@ -29,12 +37,10 @@ fn number_of_source<F: Family>(source: F::Addr) -> F::Number
 
 /// The number of the address of an entry.
 fn number_of_entry<F: Family>(entry: Entry<F::Addr>) -> F::Number
-    ensures same { (rpt : Bool) (this : Entry (List ℕ)) → IsOfType F.family rpt this
+    ensures { (this : Entry (List ℕ)) → HasAddress F.family this
         → same_source this (entry_seen F.bytes_of entry)
-        ≡ (is_of_type rpt (entry_seen F.bytes_of entry) && is_listed F.value_of rpt (result ∷ []) this) }
-    ensures listed { (rpt : Bool) (numbers : List F.Number)
-        → is_listed F.value_of rpt numbers (entry_seen F.bytes_of entry)
-        ≡ (is_of_type rpt (entry_seen F.bytes_of entry) && is_among F.value_of numbers (F.value_of result)) }
+        ≡ is_listed F.value_of (one_if (is_source_entry (entry_seen F.bytes_of entry)) result)
+        (one_if (is_rpt_entry (entry_seen F.bytes_of entry)) result) this }
 {
     match entry {
         Entry::Star(address) | Entry::Source(address) | Entry::Rpt(address) => {
@@ -43,15 +49,18 @@ fn number_of_entry<F: Family>(entry: Entry<F::Addr>) -> F::Number
     }
 }
 
-/// Whether the entry is (S,G,rpt), or (S,G).
-fn is_of_type<F: Family>(entry: Entry<F::Addr>, rpt: bool) -> bool
-    ensures { result ≡ is_of_type rpt (entry_seen F.bytes_of entry) }
+/// Whether the entry is (S,G).
+fn is_source<F: Family>(entry: Entry<F::Addr>) -> bool
+    ensures { result ≡ is_source_entry (entry_seen F.bytes_of entry) }
 {
-    match entry {
-        Entry::Star(_) => false,
-        Entry::Source(_) => !rpt,
-        Entry::Rpt(_) => rpt,
-    }
+    matches!(entry, Entry::Source(_))
+}
+
+/// Whether the entry is (S,G,rpt).
+fn is_rpt<F: Family>(entry: Entry<F::Addr>) -> bool
+    ensures { result ≡ is_rpt_entry (entry_seen F.bytes_of entry) }
+{
+    matches!(entry, Entry::Rpt(_))
 }
 
 /// Whether the number is one of these, which are in order. Neither the search nor the test behind it has a branch that
@@ -68,27 +77,39 @@ fn holds<F: Family>(sorted: &[F::Number], number: F::Number) -> bool
     sorted[next] == number
 }
 
-/// Whether the entry is of the type and the number of its source one of these, which are in order.
-fn is_listed<F: Family>(sorted: &[F::Number], rpt: bool, entry: Entry<F::Addr>) -> bool
-    requires { IsSorted F.Number.cmp sorted.now }
-    ensures { result ≡ is_listed F.value_of rpt sorted.now (entry_seen F.bytes_of entry) }
+/// Whether the number of the entry's source is one of those of its type. Both lists are in order.
+fn is_listed<F: Family>(sources: &[F::Number], rpts: &[F::Number], entry: Entry<F::Addr>) -> bool
+    requires sources { IsSorted F.Number.cmp sources.now }
+    requires rpts { IsSorted F.Number.cmp rpts.now }
+    ensures { result ≡ is_listed F.value_of sources.now rpts.now (entry_seen F.bytes_of entry) }
 {
-    is_of_type::<F>(entry, rpt) && holds::<F>(sorted, number_of_entry::<F>(entry))
+    match entry {
+        Entry::Star(_) => false,
+        Entry::Source(source) => holds::<F>(sources, number_of_source::<F>(source)),
+        Entry::Rpt(source) => holds::<F>(rpts, number_of_source::<F>(source)),
+    }
 }
 
-/// The place of the first of so many entries that is of the type and has its number among these, which are in order;
-/// their number if there is none.
-fn first_listed<F: Family>(sorted: &[F::Number], rpt: bool, count: u16, bytes: &[u8]) -> u16
+/// The place of the first of so many entries whose number is one of those of its type; their number if there is none.
+/// Both lists are in order.
+fn first_listed<F: Family>(
+    sources: &[F::Number],
+    rpts: &[F::Number],
+    count: u16,
+    bytes: &[u8],
+) -> u16
     requires long { count * source_length F.family ≤ length bytes.now }
-    requires sorted { IsSorted F.Number.cmp sorted.now }
+    requires sources { IsSorted F.Number.cmp sources.now }
+    requires rpts { IsSorted F.Number.cmp rpts.now }
     ensures bound { result ≤ count }
     ensures before { (place : ℕ) → place < result
-        → is_listed F.value_of rpt sorted.now (entry_at F.family place bytes.now) ≡ false }
-    ensures at { result < count → is_listed F.value_of rpt sorted.now (entry_at F.family result bytes.now) ≡ true }
+        → is_listed F.value_of sources.now rpts.now (entry_at F.family place bytes.now) ≡ false }
+    ensures at { result < count
+        → is_listed F.value_of sources.now rpts.now (entry_at F.family result bytes.now) ≡ true }
 {
     let mut rest = bytes;
     for place in 0..count {
-        if is_listed::<F>(sorted, rpt, first_entry::<F>(rest)) {
+        if is_listed::<F>(sources, rpts, first_entry::<F>(rest)) {
             return place;
         }
         let (_, others) = rest.split_at(source_length::<F>());
@@ -97,52 +118,58 @@ fn first_listed<F: Family>(sorted: &[F::Number], rpt: bool, count: u16, bytes: &
     count
 }
 
-/// Takes as many entries as the block has room for, and puts the numbers of the sources of those that are of the type
-/// at its front: so many.
-fn fill<F: Family>(entries: &mut Entries<'_, F>, rpt: bool, block: &mut [F::Number]) -> usize
+/// Takes as many entries as the block has room for, and puts the numbers of their sources into it: of (S,G) entries at
+/// its front, of (S,G,rpt) ones at its back. Each number is written at both ends, and then counted at one of them or,
+/// of (*,G), at none, so that a processor has no branch to guess that goes by the type.
+fn fill<F: Family>(entries: &mut Entries<'_, F>, block: &mut [F::Number]) -> Ends
     requires { 0 < length block.old }
-    ensures bound { result ≤ length block.new }
+    ensures order { result.front ≤ result.back }
+    ensures bound { result.back ≤ length block.new }
     ensures room { length block.new ≡ length block.old }
     ensures fewer { 0 < length entries.old → length entries.new < length entries.old }
-    ensures listed { (this : Entry (List ℕ)) → IsOfType F.family rpt this →
-        is_in entries.old this ≡ (is_listed F.value_of rpt (take result block.new) this || is_in entries.new this) }
+    ensures listed { (this : Entry (List ℕ)) → HasAddress F.family this → is_in entries.old this
+        ≡ (is_listed F.value_of (take result.front block.new) (drop result.back block.new) this
+        || is_in entries.new this) }
 {
-    let mut used = 0;
+    let mut front = 0;
+    let mut back = block.len();
     for index in 0..block.len() {
         let Some(entry) = entries.next() else {
-            return used;
+            return Ends { front, back };
         };
-        if is_of_type::<F>(entry, rpt) {
-            block[used] = number_of_entry::<F>(entry);
-            used += 1;
-        }
+        let number = number_of_entry::<F>(entry);
+        block[front] = number;
+        block[back - 1] = number;
+        front += usize::from(is_source::<F>(entry));
+        back -= usize::from(is_rpt::<F>(entry));
     }
-    used
+    Ends { front, back }
 }
 
-/// The place of the first of so many entries of the type whose source is among the joined ones of the type; their
-/// number if there is none.
-pub(crate) fn first_of_type<F: Family>(
-    rpt: bool,
+/// The place of the first of so many entries whose source is among the joined ones of its type; their number if there
+/// is none.
+pub(crate) fn first_clash_by_blocks<F: Family>(
     count: u16,
     bytes: &[u8],
-    joined: Entries<'_, F>,
+    joined: &Entries<'_, F>,
     block: &mut [F::Number],
 ) -> u16
     requires room { 0 < length block.old }
     requires long { count * source_length F.family ≤ length bytes.now }
     ensures room { length block.new ≡ length block.old }
     ensures bound { result ≤ count }
-    ensures apart { AreApartInType F.family rpt joined.entry result bytes.now }
-    ensures clash { result < count → is_in joined.entry (entry_at F.family result bytes.now) ≡ true }
+    ensures apart { AreApart F.family joined.now result bytes.now }
+    ensures clash { result < count → is_in joined.now (entry_at F.family result bytes.now) ≡ true }
 {
     let mut end = count;
-    let mut left = joined;
+    let mut left = joined.again();
     while left.count_left() > 0 {
-        let used = fill::<F>(&mut left, rpt, block);
-        let (numbers, _) = block.split_at_mut(used);
-        numbers.sort_unstable();
-        end = first_listed::<F>(numbers, rpt, end, bytes);
+        let ends = fill::<F>(&mut left, block);
+        let (before, rpts) = block.split_at_mut(ends.back);
+        let (sources, _) = before.split_at_mut(ends.front);
+        sources.sort_unstable();
+        rpts.sort_unstable();
+        end = first_listed::<F>(sources, rpts, end, bytes);
     }
     end
 }

@@ -7,7 +7,7 @@ ghost use Rattle.pim_jp.specs.Spelling.{same_source};
 ghost use Rattle.pim_jp.specs.Seen.{entry_seen};
 ghost use Rattle.pim_jp.specs.Reading.{is_in, entry_at, AreApart};
 
-use crate::blocks::first_of_type;
+use crate::blocks::first_clash_by_blocks;
 use crate::entries::{Entries, first_entry};
 use crate::entry::Entry;
 use pim_addr::{Family, source_length};
@@ -63,8 +63,8 @@ fn first_clash_among_few<F: Family>(count: u16, bytes: &[u8], joined: &Entries<'
     count
 }
 
-/// The same among many: the numbers of the joined sources of a type are sorted, as many at a time as `N`, in a block on
-/// the stack, and that of each pruned entry of the type is looked for in each block.
+/// The same among many: the numbers of the joined sources are sorted, as many at a time as `N`, in a block on the stack,
+/// those of a type apart from those of the other, and that of each pruned entry is looked for in each block.
 fn first_clash_among_many<F: Family, const N: usize>(
     count: u16,
     bytes: &[u8],
@@ -85,8 +85,7 @@ fn first_clash_among_many<F: Family, const N: usize>(
         return first_clash_among_few::<F>(count, bytes, joined);
     }
     let mut block = [number; N];
-    let end = first_of_type::<F>(false, count, bytes, joined.again(), &mut block);
-    first_of_type::<F>(true, end, bytes, joined.again(), &mut block)
+    first_clash_by_blocks::<F>(count, bytes, joined, &mut block)
 }
 
 /// The place of the first of so many pruned entries whose source is among the joined ones of its type; their

@@ -30,7 +30,9 @@ pub(crate) fn first_entry<F: Family>(bytes: &[u8]) -> Entry<F::Addr>
     ensures { entry_seen F.bytes_of result ≡ entry_of (source_value F.family bytes.now) }
 {
     let bits = SourceBits::from_bits_retain(bytes[2]);
-    let (_, address) = bytes.split_at(4);
+    let (_, behind) = bytes.split_at(4);
+    // Its length is one that a compiler knows, so that no test of it is left in loops over entries.
+    let (address, _) = behind.split_at(F::LEN);
     entry_named(SourceAddress {
         address: F::take(address),
         bits,

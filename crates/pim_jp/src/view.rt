@@ -42,7 +42,7 @@ impl<'a, F: Family> JpView<'a, F> {
     /// set have entries (S,G), or both have (S,G,rpt), which no message needs, the sources are looked for too: among 4
     /// joined entries or fewer one by one, among more by their numbers, in blocks of at most 4,096 that are sorted on
     /// the stack (16 KiB for IPv4, 64 KiB for IPv6). So at worst it costs, for n entries, n log n steps, as long as a
-    /// set joins at most 4,096 sources of a type, and one search of each pruned entry for each further 4,096.
+    /// set has at most 4,096 joined entries, and one search of each pruned entry for each further 4,096.
     pub fn read(body: &'a [u8]) -> Result<JpView<'a, F>, JpFault>
         ensures answer { Answers (λ message. message) result
             (judged (faults F.family body.now) (message_of F.family body.now)) }

@@ -1,12 +1,13 @@
 //! The entries of one list, looked at one by one, to the first fault.
 
-ghost use Rattle.std.specs.Prelude.{◌≡◌, ◌*◌, ◌≤◌, ◌&&◌, ◌||◌, false, length, IfOk, IfErr};
+ghost use Rattle.std.specs.Prelude.{◌≡◌, ◌*◌, ◌≤◌, ◌&&◌, ◌||◌, true, [], length, map, IfOk, IfErr};
 ghost use Rattle.std.specs.List.{list_any};
-ghost use Rattle.pim_addr.specs.Encoded.{source_length, source_value};
+ghost use Rattle.pim_addr.specs.Address.{is_source};
+ghost use Rattle.pim_addr.specs.Encoded.{source_faults, source_length, source_value};
 ghost use Rattle.pim_jp.specs.Message.{entry_of, entries_of};
 ghost use Rattle.pim_jp.specs.Spelling.{is_star};
-ghost use Rattle.pim_jp.specs.Parts.{is_typeless};
-ghost use Rattle.pim_jp.specs.Reading.{Judges, own_kinds, lone_kinds, AreClean, StopsAt, is_source_entry, is_rpt_entry};
+ghost use Rattle.pim_jp.specs.Faults.{address_kind};
+ghost use Rattle.pim_jp.specs.Reading.{Judges, lone_kinds, AreClean, StopsAt, is_source_entry, is_rpt_entry};
 
 use crate::fault::JpKind;
 use bitflags::Flags;
@@ -46,11 +47,10 @@ pub(crate) fn entries_size<F: Family>(count: u16) -> usize
     usize::from(count) * source_length::<F>()
 }
 
-/// Looks at what an entry is by itself.
-fn check_form<F: Family>(bytes: &[u8]) -> Result<(), JpKind>
-    ensures told { Judges result (own_kinds F.family bytes.now) }
+/// Looks at the front of an entry, up to its address, but for its flags.
+fn check_front<F: Family>(bytes: &[u8]) -> Result<(), JpKind>
+    ensures told { Judges result (map address_kind (source_faults F.family bytes.now)) }
     ensures whole { IfOk result (λ _. source_length F.family ≤ length bytes.now) }
-    ensures typed { IfOk result (λ _. is_typeless (source_value F.family bytes.now) ≡ false) }
 {
     if bytes.len() < source_length::<F>() {
         return Err(JpKind::Short);
@@ -64,31 +64,44 @@ fn check_form<F: Family>(bytes: &[u8]) -> Result<(), JpKind>
     if bytes[3] != F::FULL {
         return Err(JpKind::Mask);
     }
-    let bits = SourceBits::from_bits_retain(bytes[2]);
-    if bits.is_wildcard() && !bits.is_rpt() {
-        return Err(JpKind::Flags);
-    }
-    let (_, address) = bytes.split_at(4);
-    if !F::is_source(F::take(address)) {
-        return Err(JpKind::NotSource);
-    }
     Ok(())
 }
 
-/// Of which type a whole entry is; one with W and without R counts as (*,G).
-fn types_of<F: Family>(bytes: &[u8]) -> EntryTypes
+/// Whether the address of a whole entry is a valid source.
+fn has_source<F: Family>(bytes: &[u8]) -> bool
+    requires { source_length F.family ≤ length bytes.now }
+    ensures { result ≡ is_source F.family (source_value F.family bytes.now).address }
+{
+    let (_, address) = bytes.split_at(4);
+    F::is_source(F::take(address))
+}
+
+/// Looks at an entry whose front is as it must be and whose W bit is set: (*,G), or none where the R bit isn't set.
+fn check_star<F: Family>(bytes: &[u8], has_star: bool) -> Result<EntryTypes, JpKind>
+    requires front { source_faults F.family bytes.now ≡ [] }
     requires whole { source_length F.family ≤ length bytes.now }
-    requires typed { is_typeless (source_value F.family bytes.now) ≡ false }
-    ensures star { result.star ≡ is_star (entry_of (source_value F.family bytes.now)) }
-    ensures source { result.source ≡ is_source_entry (entry_of (source_value F.family bytes.now)) }
-    ensures rpt { result.rpt ≡ is_rpt_entry (entry_of (source_value F.family bytes.now)) }
+    requires star { (source_value F.family bytes.now).wildcard ≡ true }
+    ensures told { Judges result (lone_kinds F.family has_star bytes.now) }
+    ensures star { IfOk result (λ types. types.star ≡ is_star (entry_of (source_value F.family bytes.now))) }
+    ensures source { IfOk result (λ types. types.source
+        ≡ is_source_entry (entry_of (source_value F.family bytes.now))) }
+    ensures rpt { IfOk result (λ types. types.rpt ≡ is_rpt_entry (entry_of (source_value F.family bytes.now))) }
 {
     let bits = SourceBits::from_bits_retain(bytes[2]);
-    EntryTypes {
-        star: bits.is_wildcard(),
-        source: !bits.is_rpt(),
-        rpt: bits.is_rpt() && !bits.is_wildcard(),
+    if !bits.is_rpt() {
+        return Err(JpKind::Flags);
     }
+    if !has_source::<F>(bytes) {
+        return Err(JpKind::NotSource);
+    }
+    if has_star {
+        return Err(JpKind::SecondStar);
+    }
+    Ok(EntryTypes {
+        star: true,
+        source: false,
+        rpt: false,
+    })
 }
 
 /// Looks at an entry beside those before it in its set, but for the other list, and says of which type it is.
@@ -101,12 +114,19 @@ fn check_entry<F: Family>(bytes: &[u8], has_star: bool) -> Result<EntryTypes, Jp
     ensures rpt { IfOk result (λ types. types.rpt ≡ is_rpt_entry (entry_of (source_value F.family bytes.now))) }
     ensures whole { IfOk result (λ _. source_length F.family ≤ length bytes.now) }
 {
-    check_form::<F>(bytes)?;
-    let types = types_of::<F>(bytes);
-    if types.star && has_star {
-        return Err(JpKind::SecondStar);
+    check_front::<F>(bytes)?;
+    let bits = SourceBits::from_bits_retain(bytes[2]);
+    if bits.is_wildcard() {
+        return check_star::<F>(bytes, has_star);
     }
-    Ok(types)
+    if !has_source::<F>(bytes) {
+        return Err(JpKind::NotSource);
+    }
+    Ok(EntryTypes {
+        star: false,
+        source: !bits.is_rpt(),
+        rpt: bits.is_rpt(),
+    })
 }
 
 /// Looks at so many entries of one list, but for the other list, and says which types are among them. `has_star` says

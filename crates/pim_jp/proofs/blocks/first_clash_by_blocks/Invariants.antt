@@ -1,13 +1,11 @@
 use Rattle.std.proofs.Common.{◌≡◌, ◌≤◌, ◌<◌, ℕ, true, length}
 use Rattle.pim_jp.specs.Reading.{is_in, entry_at}
-use Rattle.pim_jp.specs.Sources.{is_of_type}
-use Rattle.pim_jp.proofs.blocks.first_of_type.Given as goal
+use Rattle.pim_jp.proofs.blocks.first_clash_by_blocks.Given as goal
 
 abbrev pub invariant-loop-left : goal.invariant-loop-left
 invariant-loop-left g l = record {
-  room : length l.block ≡ length l.initial.block;
   bound : l.end ≤ l.fn.count;
-  apart : (place : ℕ) → place < l.end → is_of_type l.fn.rpt (entry_at g.F.Family.family place l.fn.bytes) ≡ true
+  apart : (place : ℕ) → place < l.end
       → is_in l.fn.joined (entry_at g.F.Family.family place l.fn.bytes) ≡ is_in l.left (entry_at g.F.Family.family place l.fn.bytes);
   clash : l.end < l.fn.count → is_in l.fn.joined (entry_at g.F.Family.family l.end l.fn.bytes) ≡ true;
 }
