@@ -4,10 +4,7 @@ pub mod TextNames
 pub mod Places
 pub mod Numbers
 mod FirstEqual
-mod FirstMatch
-mod OneMoreRow
 mod RowOrder
-mod RunLengths
 mod Inserted
 mod SameRows
 mod AnyOrder
