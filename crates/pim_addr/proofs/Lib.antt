@@ -4,6 +4,8 @@ pub mod TextNames
 pub mod Places
 pub mod Numbers
 mod FirstEqual
+mod RangeEnds
+mod OneMoreEnd
 mod RowOrder
 mod Inserted
 mod SameRows
