@@ -5,6 +5,7 @@ pub mod Places
 pub mod Numbers
 mod FirstEqual
 mod RangeEnds
+mod AnswersOver
 mod OneMoreEnd
 mod RowOrder
 mod Inserted

@@ -1,6 +1,6 @@
 //! Ranges of addresses, each with the longest row that matches its addresses.
 
-ghost use Rattle.std.specs.Prelude.{◌≡◌, ◌<◌, ◌≤◌, ◌+◌, true, map, length, option_map, vec_len, vec_capacity};
+ghost use Rattle.std.specs.Prelude.{◌≡◌, ◌<◌, ◌≤◌, ◌+◌, ◌^◌, true, map, length, option_map, vec_len, vec_capacity, Some};
 ghost use Rattle.pim_addr.specs.Address.{mask_length, number_of, ends_within, last_number};
 ghost use Rattle.pim_addr.specs.Routes.{longer_of};
 ghost use Rattle.pim_addr.specs.RouteRows.{row_seen, answers_seen, Rises, before, answer_of, AreRanges, IsStart, IsEnd};
@@ -99,6 +99,16 @@ fn longer<F: Family>(row: Route<F::Addr>, answer: Option<Route<F::Addr>>) -> Rou
     }
 }
 
+/// Lets the row answer in each of these ranges, but where a longer one does.
+fn answer_in_all<F: Family>(answers: &mut [Option<Route<F::Addr>>], row: Route<F::Addr>)
+    ensures { answers_seen F.bytes_of answers.new ≡
+        map (λ answer. Some (longer_of (row_seen F.bytes_of row) answer)) (answers_seen F.bytes_of answers.old) }
+{
+    for answer in answers {
+        *answer = Some(longer::<F>(row, *answer));
+    }
+}
+
 /// Lets the row answer in the ranges from the number `first` to the number `last`, but where a longer one does.
 fn answer_between<F: Family>(
     ends: &[F::Number],
@@ -108,6 +118,8 @@ fn answer_between<F: Family>(
     row: Route<F::Addr>,
 )
     requires ranges { AreRanges (map F.value_of ends.now) (answers_seen F.bytes_of answers.old) }
+    requires small { length ends.now < 2 ^ 63 }
+    requires order { F.value_of first ≤ F.value_of last }
     requires start { IsStart (F.value_of first) (map F.value_of ends.now) }
     requires end { IsEnd (F.value_of last) (map F.value_of ends.now) }
     ensures paired { length answers.new ≡ length answers.old }
@@ -115,12 +127,11 @@ fn answer_between<F: Family>(
         (answer_of (map F.value_of ends.now) (answers_seen F.bytes_of answers.old))
         (answer_of (map F.value_of ends.now) (answers_seen F.bytes_of answers.new)) }
 {
-    let mut place = ranges_before::<F>(ends, first);
-    let place_of_last = ranges_before::<F>(ends, last);
-    while place <= place_of_last {
-        answers[place] = Some(longer::<F>(row, answers[place]));
-        place += 1;
-    }
+    let first_place = ranges_before::<F>(ends, first);
+    let last_place = ranges_before::<F>(ends, last);
+    let (_, from_first) = answers.split_at_mut(first_place);
+    let (between, _) = from_first.split_at_mut(last_place + 1 - first_place);
+    answer_in_all::<F>(between, row);
 }
 
 /// Lets the row answer for the addresses that it matches, but where a longer one does. There is room for two more
