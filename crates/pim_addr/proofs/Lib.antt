@@ -7,6 +7,7 @@ mod FirstEqual
 mod RangeEnds
 mod AnswersOver
 mod OneMoreEnd
+mod OneMoreRow
 mod RowOrder
 mod Inserted
 mod SameRows

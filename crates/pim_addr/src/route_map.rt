@@ -5,11 +5,11 @@ ghost use Rattle.pim_addr.specs.Routes.{led_to, with_row, room_faults, IsRefused
 ghost use Rattle.pim_addr.specs.RouteRows.{row_seen};
 
 use crate::family::Family;
-use crate::ranges::{answer_at, answer_for};
+use crate::ranges::answer_at;
 use crate::route::Route;
 use crate::route_fault::RouteFault;
 use crate::route_rows::RouteRows;
-use crate::rows::{are_same, find_place, reserve};
+use crate::rows::{are_same, find_place, insert_row, reserve};
 use std::alloc::Global;
 use std::marker::Model;
 
@@ -60,6 +60,7 @@ impl<F: Family> RouteMap<F> {
     }
 
     /// Where the longest row that matches the address leads.
+    #[tactic(auto, unfolding(crate::specs::Routes::led_to))]
     pub(crate) fn led_to(&self, address: F::Addr) -> Option<F::Addr>
         ensures { option_map F.bytes_of result ≡ led_to F.family (F.bytes_of address) self.now }
     {
@@ -85,10 +86,13 @@ impl<F: Family> RouteMap<F> {
         reserve(&mut self.rows, 1)?;
         reserve(&mut self.ends, 2)?;
         reserve(&mut self.answers, 2)?;
-        answer_for::<F>(&mut self.ends, &mut self.answers, row);
-        if self.rows.insert(place, row).is_err() {
-            unreachable!()
-        }
+        insert_row::<F>(
+            &mut self.rows,
+            &mut self.ends,
+            &mut self.answers,
+            place,
+            row,
+        );
         Ok(())
     }
 

@@ -1,11 +1,13 @@
-//! Rows in order: where one stands, and whether two lists are the same.
+//! Rows in order: where one stands, adding one, and whether two lists are the same.
 
-ghost use Rattle.std.specs.Prelude.{◌≡◌, ◌↔◌, ◌+◌, ◌≤◌, IsTrue, OnOk, OnErr, vec_len, vec_capacity, Err};
-ghost use Rattle.pim_addr.specs.Routes.{AreInOrder};
-ghost use Rattle.pim_addr.specs.RouteRows.{row_seen, rows_seen, IsRowPlace};
+ghost use Rattle.std.specs.Prelude.{◌≡◌, ◌↔◌, ◌+◌, ◌<◌, ◌≤◌, IsTrue, length, map, OnOk, OnErr, vec_len};
+ghost use Rattle.std.specs.Prelude.{vec_capacity, Err};
+ghost use Rattle.pim_addr.specs.Routes.{AreInOrder, IsRealRow, with_row};
+ghost use Rattle.pim_addr.specs.RouteRows.{row_seen, rows_seen, answers_seen, Stand, IsGap, IsRowPlace};
 ghost use Rattle.pim_addr.specs.declared.route_fault.RouteFault.TheVariants.{Memory};
 
 use crate::family::Family;
+use crate::ranges::answer_for;
 use crate::route::Route;
 use crate::route_fault::RouteFault;
 use std::cmp::Reverse;
@@ -31,6 +33,33 @@ pub(crate) fn reserve<T>(list: &mut Vec<T>, more: usize) -> Result<(), RouteFaul
     match list.reserve(more) {
         Ok(()) => Ok(()),
         Err(_) => Err(RouteFault::Memory),
+    }
+}
+
+/// Puts the row at its place, and lets it answer in its ranges. There is room for one more row, and two more ranges.
+pub(crate) fn insert_row<F: Family>(
+    rows: &mut Vec<Route<F::Addr>>,
+    ends: &mut Vec<F::Number>,
+    answers: &mut Vec<Option<Route<F::Addr>>>,
+    place: usize,
+    row: Route<F::Addr>,
+)
+    requires rows { vec_len rows.old < vec_capacity rows.old }
+    requires ends { vec_len ends.old + 2 ≤ vec_capacity ends.old }
+    requires answers { vec_len answers.old + 2 ≤ vec_capacity answers.old }
+    requires few { length rows.old.items < 4096 }
+    requires real { IsRealRow F.family (row_seen F.bytes_of row) }
+    requires gap { IsGap (row_seen F.bytes_of row).0 (rows_seen F.bytes_of rows.old.items) place }
+    requires stand { Stand F.family (rows_seen F.bytes_of rows.old.items)
+        (map F.value_of ends.old.items) (answers_seen F.bytes_of answers.old.items) }
+    ensures rows { rows_seen F.bytes_of rows.new.items ≡
+        with_row (row_seen F.bytes_of row).0 (row_seen F.bytes_of row).1 (rows_seen F.bytes_of rows.old.items) }
+    ensures stand { Stand F.family (rows_seen F.bytes_of rows.new.items)
+        (map F.value_of ends.new.items) (answers_seen F.bytes_of answers.new.items) }
+{
+    answer_for::<F>(ends, answers, row);
+    if rows.insert(place, row).is_err() {
+        unreachable!()
     }
 }
 
