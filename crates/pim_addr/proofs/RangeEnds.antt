@@ -1,10 +1,9 @@
 -- Ranges of addresses: how many end before a number, with one more end, and with a row that answers in some of them.
-use Rattle.std.proofs.Common.{◌≡◌, ℕ, zero, suc, ◌+◌, ◌<◌, ◌≤◌, ◌⊎◌, inl, inr, Bool, true, false, cond, List, [], ◌∷◌, length, map, get_or, refl, sym, ap, subst, ◌∙◌, arith, nat_lt, add-one}
-use Rattle.std.specs.List.{prefix_len}
+use Rattle.std.proofs.Common.{◌≡◌, ℕ, zero, suc, ◌<◌, ◌≤◌, ◌⊎◌, inl, inr, Bool, true, false, cond, List, [], ◌∷◌, length, map, get_or, refl, sym, ap, ◌∙◌, arith, nat_lt, add-one}
 use Rattle.std.specs.List.Sorted.{IsSorted, IsPartitionPoint}
 use Rattle.std.specs.Ordering.{nat_cmp, is_lt}
 use Rattle.std.specs.declared.cmp.Ordering.{Ordering}
-use Rattle.std.specs.declared.cmp.Ordering.TheVariants.{Less, Equal, Greater}
+use Rattle.std.specs.declared.cmp.Ordering.TheVariants.{Equal, Greater}
 use Rattle.std.specs.Prelude.{◌↔◌}
 use Rattle.std.proofs.lemmas.Bool.{false≢true, cases_lt, lt-ltb, le-ltb}
 use Rattle.std.proofs.lemmas.List.{length-map, get_or_default}
@@ -44,8 +43,8 @@ module _ {N : Type 0} (value_of : N → ℕ) (cmp : N → N → Ordering) (order
   unfolding before
   counted ends number place within part =
       sym (prefix_len_is (λ end. nat_lt end (value_of number)) (map value_of ends) place (value_of number) (omega (arith, length-map ends value_of))
-          (λ k l. told k (omega arith) ∙ part.0 k number (omega arith) l)
-          (λ l. told place (omega (arith, l, length-map ends value_of)) ∙ part.1 place number (omega arith) (omega (arith, l, length-map ends value_of))))
+      (λ k l. told k (omega arith) ∙ part.0 k number (omega arith) l)
+      (λ l. told place (omega (arith, l, length-map ends value_of)) ∙ part.1 place number (omega arith) (omega (arith, l, length-map ends value_of))))
     where
       told : (k : ℕ) → k < length ends → nat_lt (get_or (map value_of ends) k (value_of number)) (value_of number) ≡ is_lt (cmp (get_or ends k number) number)
       told k l = ap (λ n. nat_lt n (value_of number)) (get_or_of_map value_of ends k number (value_of number) l) ∙ sym (compared _ _) ∙ sym (ap is_lt (order (get_or ends k number) number))

@@ -37,7 +37,7 @@ impl<F: Family> Model for RouteMap<F> {
 
     ghost invariant = { λ m.
         Stand F.family (rows_seen F.bytes_of m.rows.items)
-            (map F.value_of m.ends.items) (answers_seen F.bytes_of m.answers.items) };
+        (map F.value_of m.ends.items) (answers_seen F.bytes_of m.answers.items) };
 }
 
 impl<F: Family> RouteMap<F> {

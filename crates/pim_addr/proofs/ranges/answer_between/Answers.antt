@@ -1,8 +1,8 @@
-use Rattle.std.proofs.Common.{◌≡◌, ◌∙◌, ◌+◌, ◌-◌, ◌≤◌, ◌++◌, ℕ, suc, List, Option, Some, map, take, drop, ap, sym, arith, length}
+use Rattle.std.proofs.Common.{◌≡◌, ◌∙◌, ◌+◌, ◌-◌, ◌++◌, ℕ, suc, List, Option, Some, map, take, drop, ap, sym, arith}
 use Rattle.std.proofs.lemmas.List.{length-map, map-append, take-map, drop-map}
 use Rattle.std.specs.Prelude.{option_map}
 use Rattle.pim_addr.specs.Routes.{Row, longer_of}
-use Rattle.pim_addr.specs.RouteRows.{before, IsEnd, row_seen, answers_seen}
+use Rattle.pim_addr.specs.RouteRows.{IsEnd, row_seen, answers_seen}
 use Rattle.pim_addr.proofs.OneMoreEnd.{before_within, before_rises}
 use Rattle.pim_addr.proofs.AnswersOver.{answers_between}
 use Rattle.pim_addr.proofs.ranges.answer_between.Goals as goal
@@ -46,4 +46,4 @@ returns-clause-answers g c =
     answers_between (map g.F.Family.value_of c.args.ends.now) old _ (g.F.Family.value_of c.args.first) (g.F.Family.value_of c.args.last) place count row c.requires.ranges.paired c.requires.order c.requires.start c.requires.end
     c.ranges_before-first_place.ensures (λ i. c.ranges_before-last_place.ensures i + 1 - c.ranges_before-first_place.ensures i)
     (map-append seen c.split_at_mut-from_first.result.0.now (c.answer_in_all.new.answers ++ c.split_at_mut-between.result.1.now)
-        ∙ (λ i. front i ++ (map-append seen c.answer_in_all.new.answers c.split_at_mut-between.result.1.now ∙ (λ j. changed j ++ behind j)) i))
+    ∙ (λ i. front i ++ (map-append seen c.answer_in_all.new.answers c.split_at_mut-between.result.1.now ∙ (λ j. changed j ++ behind j)) i))

@@ -1,4 +1,4 @@
-use Rattle.std.proofs.Common.{◌≡◌, ◌<◌, ◌∙◌, ℕ, List, Option, Some, None, length, map, get_or, set, ap, sym, arith, add-one}
+use Rattle.std.proofs.Common.{◌≡◌, ◌<◌, ◌∙◌, ℕ, List, Option, Some, None, length, get_or, set, ap, sym, arith, add-one}
 use Rattle.std.specs.Prelude.{option_map}
 use Rattle.std.proofs.lemmas.List.{length-map}
 use Rattle.std.proofs.lemmas.List.{get_or-map as get_or_of_map}
@@ -22,7 +22,7 @@ loop-answer-preserved g c =
     let within : i < length old = omega (arith, inside, same, length-map c.args.answers.now (option_map (row_seen bytes_of))) in
     let held : option_map (row_seen bytes_of) (get_or items i c.answer-item.result) ≡ get_or old i None =
     sym (get_or_of_map (option_map (row_seen bytes_of)) items i c.answer-item.result None inside)
-        ∙ ap (λ xs. get_or xs i None) c.loop-answer.invariant ∙ changed_at _ i old None in
+    ∙ ap (λ xs. get_or xs i None) c.loop-answer.invariant ∙ changed_at _ i old None in
     map_set (option_map (row_seen bytes_of)) items i (Some c.longer.result)
     ∙ ap (λ (r : Row). set (answers_seen bytes_of items) i (Some r)) (c.longer.ensures ∙ ap (longer_of row) held)
     ∙ ap (λ xs. set xs i (Some (longer_of row (get_or old i None)))) c.loop-answer.invariant ∙ changed_more (λ answer. Some (longer_of row answer)) i old None within

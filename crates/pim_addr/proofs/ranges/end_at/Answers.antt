@@ -1,7 +1,7 @@
-use Rattle.std.proofs.Common.{◌≡◌, ◌<◌, ◌≤◌, ℕ, List, map, ap, sym, ◌∙◌, arith, length, get_or, Option}
+use Rattle.std.proofs.Common.{◌≡◌, ◌<◌, ℕ, List, map, ap, sym, ◌∙◌, arith, length, get_or, Option}
 use Rattle.std.specs.List.{insert}
 use Rattle.std.specs.Prelude.{option_map}
-use Rattle.std.proofs.lemmas.List.{length-map, get_or_default}
+use Rattle.std.proofs.lemmas.List.{length-map}
 use Rattle.std.proofs.lemmas.List.{get_or-map as get_or_of_map}
 use Rattle.pim_addr.specs.Routes.{Row}
 use Rattle.pim_addr.specs.RouteRows.{row_seen, answers_seen, before, answer_of, AreRanges, IsEnd, KeepAnswers}
@@ -19,7 +19,7 @@ returns-then-eq-clause-end g c =
     let same : g.F.Family.value_of c.index.result.now ≡ number = (g.met.F.Family.equality_of_numbers c.index.result.now c.args.number).0 (sym c.eq.ensures ∙ c.if-eq.true) in
     end_there number ends number (omega (arith, at, inside, length-map c.args.ends.now.items g.F.Family.value_of))
     (ap (λ i. get_or ends i number) (sym at) ∙ get_or_of_map g.F.Family.value_of c.args.ends.now.items c.ranges_before-place.result c.index.result.now number inside
-        ∙ ap g.F.Family.value_of (sym c.index.ensures) ∙ same)
+    ∙ ap g.F.Family.value_of (sym c.index.ensures) ∙ same)
 
 pub insert-requires : goal.insert-requires
 insert-requires g c =
@@ -29,8 +29,16 @@ insert-requires g c =
 pub insert-requires-2 : goal.insert-requires-2
 insert-requires-2 g c =
     let few = before_within (g.F.Family.value_of c.args.number) (map g.F.Family.value_of c.deref.result.now) in
-    omega (arith, few, c.ranges_before-place.ensures, ap length c.deref.ensures.value, length-map c.deref.result.now g.F.Family.value_of, length-map c.args.ends.now.items g.F.Family.value_of,
-    length-map c.args.answers.now.items (option_map (row_seen g.F.Family.bytes_of)), c.requires.ranges.paired)
+    omega (
+      arith,
+      few,
+      c.ranges_before-place.ensures,
+      ap length c.deref.ensures.value,
+      length-map c.deref.result.now g.F.Family.value_of,
+      length-map c.args.ends.now.items g.F.Family.value_of,
+      length-map c.args.answers.now.items (option_map (row_seen g.F.Family.bytes_of)),
+      c.requires.ranges.paired,
+    )
 
 one_more : (g : _) (c : goal.Else-is_err-2 g) →
     let ends : List ℕ = map g.F.Family.value_of c.args.ends.now.items in
@@ -48,7 +56,7 @@ one_more g c =
     let answers_new : c.insert-2.new.self.items ≡ insert c.args.answers.now.items c.ranges_before-place.result c.answer_at-answer.result = rw c.if-is_err-2.ensures.negation at c.insert-2.ensures.items in
     one_more_range ends answers number answer (map g.F.Family.value_of c.insert.new.self.items) (answers_seen g.F.Family.bytes_of c.insert-2.new.self.items) c.requires.ranges
     (c.answer_at-answer.ensures ∙ ap (λ ns. answer_of (map g.F.Family.value_of ns) (answers_seen g.F.Family.bytes_of c.deref-3.result.now) number) c.deref-2.ensures.value
-        ∙ ap (λ rs. answer_of ends (answers_seen g.F.Family.bytes_of rs) number) c.deref-3.ensures.value)
+    ∙ ap (λ rs. answer_of ends (answers_seen g.F.Family.bytes_of rs) number) c.deref-3.ensures.value)
     (λ within same. elim c.else-place-len.branch [
       | else-place-len-via-then-place-len+else-eq w ↦
           told_apart g.F.Family.value_of g.F.Number.PartialEq.eq g.met.F.Family.equality_of_numbers c.args.ends.now.items c.args.number w.index.result.now c.ranges_before-place.result at w.index.ensures
@@ -58,7 +66,7 @@ one_more g c =
     ])
     (ap (map g.F.Family.value_of) ends_new ∙ map_insert g.F.Family.value_of c.args.ends.now.items c.ranges_before-place.result c.args.number ∙ ap (λ i. insert ends i number) at)
     (ap (answers_seen g.F.Family.bytes_of) answers_new ∙ map_insert (option_map (row_seen g.F.Family.bytes_of)) c.args.answers.now.items c.ranges_before-place.result c.answer_at-answer.result
-        ∙ ap (λ i. insert answers i answer) at)
+    ∙ ap (λ i. insert answers i answer) at)
 
 pub returns-clause-ranges : goal.returns-clause-ranges
 returns-clause-ranges g c = (one_more g c).0
