@@ -4,10 +4,11 @@ pub mod TextNames
 pub mod Places
 pub mod Numbers
 mod FirstEqual
-mod FirstMatch
+mod RangeEnds
+mod AnswersOver
+mod OneMoreEnd
 mod OneMoreRow
 mod RowOrder
-mod RunLengths
 mod Inserted
 mod SameRows
 mod AnyOrder

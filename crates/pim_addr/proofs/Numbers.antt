@@ -1,9 +1,10 @@
 -- Addresses as numbers: their order, what their bytes say of them, and their last bits.
-use Rattle.std.proofs.Common.{◌≡◌, ℕ, zero, suc, ◌+◌, ◌-◌, ◌*◌, ◌/◌, ◌^◌, ◌≤◌, ◌<◌, ◌&&◌, not, List, [], ◌∷◌, length, slice_index, refl, sym, ap, ◌∙◌, arith, nat_eq, nat_lt, subst, ◌==◌, ◌⊎◌, inl, inr}
+use Rattle.std.proofs.Common.{◌≡◌, ℕ, zero, suc, ◌+◌, ◌-◌, ◌*◌, ◌/◌, ◌%◌, ◌^◌, true, ◌≤◌, ◌<◌, ◌&&◌, not, List, [], ◌∷◌, length, slice_index, refl, sym, ap, ◌∙◌, arith, nat_eq, nat_lt, nat_le, subst, ◌==◌, ◌⊎◌, inl, inr}
 use Rattle.pim_addr.specs.declared.family.AddressFamily.{AddressFamily}
 use Rattle.pim_addr.specs.declared.family.AddressFamily.TheVariants.{Ipv4, Ipv6}
-use Rattle.std.proofs.Math.Nat.{div-eq_of_lt, mul-le-mul_right, mul_assoc, pow-succ'}
-use Rattle.std.proofs.lemmas.Bool.{lt-ltb, le-ltb, ne_eqb, and_left, cases_lt}
+use Rattle.std.proofs.Math.Nat.{div-eq_of_lt, div-eq_of_lt-le, div-mul-le_self, mul-le-mul_right, mul_assoc, pow-succ', add-mul, one-mul}
+use Rattle.std.proofs.lemmas.Nat.{pow-add, pow_pos, div_below, div-add-mod', le-div}
+use Rattle.std.proofs.lemmas.Bool.{lt-ltb, le-ltb, lt-leb, le-leb, ne_eqb, eq-eqb, eqb-true, and_left, cases_lt}
 use Rattle.std.specs.List.{list_all}
 use Rattle.std.specs.Ordering.{nat_cmp, ordering_then, MatchOrdering}
 use Rattle.std.specs.declared.cmp.Ordering.{Ordering}
@@ -11,7 +12,7 @@ use Rattle.std.specs.declared.cmp.Ordering.TheVariants.{Less, Equal, Greater}
 use Rattle.std.specs.Cmp.{nat_cmp_is, ranks}
 use Rattle.std.specs.Cmp.Lexicographic.{slice_cmp}
 use Rattle.std.specs.Slice.Scan.{big_endian}
-use Rattle.pim_addr.specs.Address.{AreBytes, IsAddress, NumbersAreInOrder, mask_length, number_of, first_bits, is_unspecified, is_source}
+use Rattle.pim_addr.specs.Address.{AreBytes, IsAddress, NumbersAreInOrder, mask_length, number_of, first_bits, ends_within, last_number, is_unspecified, is_source}
 
 -- a smaller start stays smaller, whatever bytes follow
 rises : (a b : ℕ) (us vs : List ℕ) → length us ≡ length vs → AreBytes us → a < b → big_endian a us < big_endian b vs
@@ -64,6 +65,46 @@ fits_family Ipv6 address h = subst (λ n. number_of address < 1 * 256 ^ n) h.0 (
 pub no_bits : (family : AddressFamily) (count : ℕ) (address : List ℕ) → count ≡ 0 → IsAddress family address → 0 ≡ first_bits family count address
 no_bits Ipv4 count address e h = sym (ap (λ n. number_of address / 2 ^ (32 - n)) e ∙ div-eq_of_lt (fits_family Ipv4 address h))
 no_bits Ipv6 count address e h = sym (ap (λ n. number_of address / 2 ^ (128 - n)) e ∙ div-eq_of_lt (fits_family Ipv6 address h))
+
+-- ---- the last address of a prefix
+
+pub last_of_all : (family : AddressFamily) (count : ℕ) (address : List ℕ) → count ≡ 0 → IsAddress family address → 2 ^ mask_length family - 1 ≡ last_number family count address
+last_of_all Ipv4 count address e h = ap (λ n. n * 2 ^ 32 + (2 ^ 32 - 1)) (no_bits Ipv4 0 address refl h) ∙ sym (ap (λ c. last_number Ipv4 c address) e)
+last_of_all Ipv6 count address e h = ap (λ n. n * 2 ^ 128 + (2 ^ 128 - 1)) (no_bits Ipv6 0 address refl h) ∙ sym (ap (λ c. last_number Ipv6 c address) e)
+
+-- no bit is carried past the highest where the bits past a prefix are set
+pub no_carry : (mask count number ones : ℕ) → count ≤ mask → number < 2 ^ mask → (number % 2 ^ (mask - count) == 0) ≡ true → ones ≤ 2 ^ (mask - count) → number + (ones - 1) < 2 ^ mask
+no_carry mask count number ones le fits within few =
+    let power : ℕ = 2 ^ (mask - count) in
+    let whole : 2 ^ mask ≡ 2 ^ count * power = ap (λ n. 2 ^ n) (omega arith) ∙ pow-add 2 count (mask - count) in
+    let some : 0 < power = pow_pos (mask - count) in
+    let low : number / power < 2 ^ count = div_below number power (2 ^ count) some (omega (arith, whole)) in
+    let above : (number / power + 1) * power ≤ 2 ^ count * power = mul-le-mul_right power (omega (arith, low)) in
+    let split : number / power * power + number % power ≡ number = div-add-mod' number power in
+    let none : number % power ≡ 0 = eqb-true (number % power) 0 within in
+    let next : (number / power + 1) * power ≡ number / power * power + power = add-mul (number / power) 1 power ∙ ap (λ n. number / power * power + n) (one-mul power) in
+    omega (arith, split, none, next, above, whole, some)
+
+-- an address is of a prefix exactly where its number lies between the first and the last
+pub between : (family : AddressFamily) (count : ℕ) (prefix address : List ℕ) → ends_within family count prefix ≡ true →
+    (first_bits family count prefix == first_bits family count address) ≡ (nat_le (number_of prefix) (number_of address) && nat_le (number_of address) (last_number family count prefix))
+between family count prefix address within = divided (number_of prefix) (number_of address) (2 ^ (mask_length family - count)) (pow_pos _) (eqb-true _ 0 within)
+  where
+    divided : (p n d : ℕ) → 0 < d → p % d ≡ 0 → (p / d == n / d) ≡ (nat_le p n && nat_le n (p / d * d + (d - 1)))
+    divided p n d some none = by (cases_lt n p) (cases_lt (p / d * d + (d - 1)) n)
+      where
+        start : p / d * d ≡ p
+        start = omega (arith, div-add-mod' p d, none)
+
+        by : (n < p) ⊎ (p ≤ n) → (p / d * d + (d - 1) < n) ⊎ (n ≤ p / d * d + (d - 1)) → (p / d == n / d) ≡ (nat_le p n && nat_le n (p / d * d + (d - 1)))
+        by (inl below) any = ne_eqb _ _ (λ e. let h = div-mul-le_self n d in let m : p / d * d ≡ n / d * d = ap (λ q. q * d) e in omega (arith, h, m, start, below)) ∙ sym (rw (lt-leb p n below) refl)
+        by (inr above) (inl past) =
+            let next : (p / d + 1) * d ≡ p / d * d + d = add-mul (p / d) 1 d ∙ ap (λ n. p / d * d + n) (one-mul d) in
+            let more : p / d + 1 ≤ n / d = le-div (p / d + 1) n d some (omega (arith, next, past, some)) in
+            ne_eqb _ _ (λ e. omega (arith, more, e)) ∙ sym (rw (le-leb p n above) (lt-leb n _ past))
+        by (inr above) (inr last) =
+            let next : (p / d + 1) * d ≡ p / d * d + d = add-mul (p / d) 1 d ∙ ap (λ n. p / d * d + n) (one-mul d) in
+            eq-eqb _ _ (sym (div-eq_of_lt-le d (omega (arith, start, above)) (omega (arith, next, last, some)))) ∙ sym (rw (le-leb p n above) (le-leb n _ last))
 
 -- ---- zero, and the first byte
 

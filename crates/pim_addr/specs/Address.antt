@@ -1,6 +1,6 @@
 -- Addresses as lists of bytes (RFC 7761, 4.9.1).
-use Rattle.std.specs.Prelude.{◌≡◌, ◌<◌, ◌-◌, ◌/◌, ◌%◌, ◌^◌, ℕ, Bool, List, length, slice_index, nat_lt, nat_le, ◌&&◌}
-use Rattle.std.specs.Prelude.{◌==◌, true, not}
+use Rattle.std.specs.Prelude.{◌≡◌, ◌<◌, ◌+◌, ◌-◌, ◌*◌, ◌/◌, ◌%◌, ◌^◌, ℕ, suc, Bool, List, length, slice_index, nat_lt, nat_le, ◌&&◌}
+use Rattle.std.specs.Prelude.{◌==◌, true, not, Option, Some, None}
 use Rattle.std.specs.List.{list_all}
 use Rattle.std.specs.Ordering.{nat_cmp}
 use Rattle.std.specs.Cmp.Lexicographic.{slice_cmp}
@@ -65,6 +65,16 @@ first_bits family count address = number_of address / 2 ^ (mask_length family - 
 -- no bit past the first so many is set
 abbrev pub ends_within : AddressFamily → ℕ → List ℕ → Bool
 ends_within family count address = number_of address % 2 ^ (mask_length family - count) == 0
+
+-- the number of the last address that begins with the first so many bits: all bits past them are set
+abbrev pub last_number : AddressFamily → ℕ → List ℕ → ℕ
+last_number family count address =
+    first_bits family count address * 2 ^ (mask_length family - count) + (2 ^ (mask_length family - count) - 1)
+
+-- the number after this one, the first where there is none
+abbrev pub number_after : Option ℕ → ℕ
+number_after None = 0
+number_after (Some number) = suc number
 
 -- addresses of a family are in order as their numbers are
 abbrev pub NumbersAreInOrder : Type 0

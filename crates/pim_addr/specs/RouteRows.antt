@@ -1,12 +1,12 @@
 -- How rows are kept, and what contracts see of them.
-use Rattle.std.specs.Prelude.{◌≡◌, ◌<◌, ◌≤◌, ℕ, true, false, List, [], ◌∷◌, ◌++◌, map, length, replicate}
-use Rattle.std.specs.Prelude.{slice_index_or, nat_lt, is_some, insert, Result, Ok, Err, if◌then◌else◌}
-use Rattle.std.specs.List.{AllByRecursion}
-use Rattle.pim_addr.specs.Address.{first_bits}
-use Rattle.pim_addr.specs.Routes.{Prefix, Row, row_at, with_row, IsRouteMap}
+use Rattle.std.specs.Prelude.{◌≡◌, ◌<◌, ◌≤◌, ◌*◌, ℕ, suc, true, false, List, [], ◌∷◌, map, length, filter, ◌&&◌, ⊤}
+use Rattle.std.specs.Prelude.{slice_index_or, nat_lt, nat_le, is_some, insert, Result, Ok, Err, if◌then◌else◌}
+use Rattle.std.specs.Prelude.{Option, Some, None, option_map}
+use Rattle.std.specs.List.{prefix_len}
+use Rattle.pim_addr.specs.Address.{IsAddress, number_of}
+use Rattle.pim_addr.specs.Routes.{Prefix, Row, row_at, with_row, matches, longer_of, longest, IsRouteMap}
 use Rattle.pim_addr.specs.declared.family.AddressFamily.{AddressFamily}
 use Rattle.pim_addr.specs.declared.route.Route.{Route}
-use Rattle.pim_addr.specs.declared.route.Run.{Run}
 
 module _ {A : Type 0} (bytes_of : A → List ℕ) where
   abbrev pub row_seen : Route A → Row
@@ -15,21 +15,62 @@ module _ {A : Type 0} (bytes_of : A → List ℕ) where
   abbrev pub rows_seen : List (Route A) → List Row
   rows_seen rows = map row_seen rows
 
--- the number that the bits of a row's prefix spell
-abbrev pub row_number : AddressFamily → Row → ℕ
-row_number family row = first_bits family row.0.bits row.0.address
+-- ---- ranges of addresses, by the numbers of their last ones, and the row that answers in each, if one does
 
--- the lengths of the rows of all runs, one after the other
-abbrev pub lengths : List Run → List ℕ
-lengths [] = []
-lengths (run ∷ runs) = replicate run.count run.length ++ lengths runs
+abbrev pub answers_seen : {A : Type 0} → (A → List ℕ) → List (Option (Route A)) → List (Option Row)
+answers_seen bytes_of answers = map (option_map (row_seen bytes_of)) answers
 
--- Rows, the numbers of their prefixes, and the runs of rows of one length.
-pub record Stand (family : AddressFamily) (rows : List Row) (numbers : List ℕ) (runs : List Run) : Type 0 where
+-- each range ends behind the one before it; the first not before this number
+abbrev pub Rises : ℕ → List ℕ → Type 0
+Rises least [] = ⊤
+Rises least (end ∷ ends) = (least ≤ end) × Rises (suc end) ends
+
+-- how many ranges end before a number
+unfoldable pub before : ℕ → List ℕ → ℕ
+before number ends = prefix_len (λ end. nat_lt end number) ends
+
+-- the row that answers for a number: that of the first range that doesn't end before it
+abbrev pub answer_of : List ℕ → List (Option Row) → ℕ → Option Row
+answer_of ends answers number = slice_index_or answers (before number ends) None
+
+pub record AreRanges (ends : List ℕ) (answers : List (Option Row)) : Type 0 where
+  pub rises : Rises 0 ends
+  pub paired : length ends ≡ length answers
+
+-- a range ends at this number, or begins at it
+abbrev pub IsEnd : ℕ → List ℕ → Type 0
+IsEnd number ends = before number ends < before (suc number) ends
+
+abbrev pub IsStart : ℕ → List ℕ → Type 0
+IsStart number ends = (other : ℕ) → other < number → before other ends < before number ends
+
+-- Each number keeps its answer, and none comes to lie in one range with another that didn't before.
+pub record KeepAnswers (ends : List ℕ) (answers : List (Option Row)) (ends' : List ℕ) (answers' : List (Option Row)) :
+    Type 0 where
+  pub same : (number : ℕ) → answer_of ends' answers' number ≡ answer_of ends answers number
+  pub apart : (one other : ℕ) → before one ends < before other ends → before one ends' < before other ends'
+
+-- the row answers for the numbers from the first to the last, but where a longer one does
+abbrev pub answer_with : ℕ → ℕ → Row → ℕ → Option Row → Option Row
+answer_with first last row number answer =
+    if nat_le first number && nat_le number last then Some (longer_of row answer) else answer
+
+abbrev pub AnswersBetween : ℕ → ℕ → Row → (ℕ → Option Row) → (ℕ → Option Row) → Type 0
+AnswersBetween first last row old new = (number : ℕ) → new number ≡ answer_with first last row number (old number)
+
+-- the longest row that matches an address
+abbrev pub longest_match : AddressFamily → List ℕ → List Row → Option Row
+longest_match family address rows = longest (filter (matches family address) rows)
+
+-- Rows, and the ranges of addresses: in each answers the longest row that matches its addresses. There are at most two
+-- for each row.
+pub record Stand (family : AddressFamily) (rows : List Row) (ends : List ℕ) (answers : List (Option Row)) :
+    Type 0 where
   pub is_map : IsRouteMap family rows
-  pub numbered : numbers ≡ map (row_number family) rows
-  pub cut : map (λ row. row.0.bits) rows ≡ lengths runs
-  pub counted : AllByRecursion (λ run. 0 < run.count) runs
+  pub ranges : AreRanges ends answers
+  pub few : length ends ≤ 2 * length rows
+  pub leads : (address : List ℕ) → IsAddress family address →
+      answer_of ends answers (number_of address) ≡ longest_match family address rows
 
 -- ---- one more row
 
@@ -43,20 +84,3 @@ pub record IsGap (prefix : Prefix) (rows : List Row) (place : ℕ) : Type 0 wher
 abbrev pub IsRowPlace : Prefix → List Row → Result ℕ ℕ → Type 0
 IsRowPlace prefix rows (Ok place) = is_some (row_at prefix rows) ≡ true
 IsRowPlace prefix rows (Err place) = IsGap prefix rows place
-
--- the lengths with one more, where they fall
-abbrev pub with_length : ℕ → List ℕ → List ℕ
-with_length bits [] = bits ∷ []
-with_length bits (first ∷ others) = if nat_lt bits first then first ∷ with_length bits others else bits ∷ first ∷ others
-
--- the runs before this place have longer prefixes
-abbrev pub AreLonger : ℕ → List Run → ℕ → Type 0
-AreLonger bits runs place = (k : ℕ) (d : Run) → k < place → bits < (slice_index_or runs k d).length
-
--- where the run of this length stands, or would stand
-abbrev pub IsRunPlace : ℕ → List Run → Result ℕ ℕ → Type 0
-IsRunPlace bits runs (Ok place) =
-    (place < length runs) × ((d : Run) → (slice_index_or runs place d).length ≡ bits) × AreLonger bits runs place
-IsRunPlace bits runs (Err place) =
-    (place ≤ length runs) × ((d : Run) → place < length runs → (slice_index_or runs place d).length < bits)
-    × AreLonger bits runs place

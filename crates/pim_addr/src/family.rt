@@ -1,10 +1,11 @@
 //! The two address families, and what each knows of its addresses.
 
-ghost use Rattle.std.specs.Prelude.{◌≡◌, ◌≤◌, ◌↔◌, ℕ, List, length, take, IsTrue};
+ghost use Rattle.std.specs.Prelude.{◌≡◌, ◌≤◌, ◌↔◌, ℕ, true, List, length, take, option_map, IsTrue};
 ghost use Rattle.std.specs.Ordering.{nat_cmp};
 ghost use Rattle.std.specs.Cmp.Lexicographic.{slice_cmp};
 ghost use Rattle.pim_addr.specs.Address.{IsAddress, address_length, mask_length, family_byte, is_group, is_source};
-ghost use Rattle.pim_addr.specs.Address.{is_unspecified, number_of, first_bits, ends_within, NumbersAreInOrder};
+ghost use Rattle.pim_addr.specs.Address.{is_unspecified, number_of, ends_within, last_number, number_after};
+ghost use Rattle.pim_addr.specs.Address.{NumbersAreInOrder};
 
 use std::fmt::Debug;
 
@@ -80,15 +81,21 @@ pub trait Family {
     fn number(address: Self::Addr) -> Self::Number
         ensures { value_of result ≡ number_of (bytes_of address) };
 
-    /// The number that its first `count` bits spell, 0 where `count` is 0.
-    fn first_bits(address: Self::Addr, count: u8) -> Self::Number
-        requires { count ≤ mask_length family }
-        ensures { value_of result ≡ first_bits family count (bytes_of address) };
-
     /// Whether no bit past its first `count` is set.
     fn ends_within(address: Self::Addr, count: u8) -> bool
         requires { count ≤ mask_length family }
         ensures { result ≡ ends_within family count (bytes_of address) };
+
+    /// The number of the last address of this prefix, whose bits past the first `count` are 0: that of all its bits,
+    /// with each bit past `count` set.
+    fn last_number(prefix: Self::Addr, count: u8) -> Self::Number
+        requires count { count ≤ mask_length family }
+        requires within { ends_within family count (bytes_of prefix) ≡ true }
+        ensures { value_of result ≡ last_number family count (bytes_of prefix) };
+
+    /// The number before this one, `None` at 0.
+    fn number_before(number: Self::Number) -> Option<Self::Number>
+        ensures { number_after (option_map value_of result) ≡ value_of number };
 
     /// A law: an address has as many bytes as its family says, and they are bytes. It does nothing.
     fn address_has_its_bytes(address: Self::Addr)
@@ -188,14 +195,6 @@ impl Family for V4 {
         u32::from_be_bytes(address)
     }
 
-    fn first_bits(address: [u8; 4], count: u8) -> u32 {
-        if count == 0 {
-            Self::address_has_its_bytes(address);
-            return 0;
-        }
-        Self::number(address) >> (32 - count)
-    }
-
     fn ends_within(address: [u8; 4], count: u8) -> bool {
         let number = Self::number(address);
         if count == 0 {
@@ -203,6 +202,18 @@ impl Family for V4 {
         }
         let past = 32 - count;
         (number >> past) << past == number
+    }
+
+    fn last_number(prefix: [u8; 4], count: u8) -> u32 {
+        Self::address_has_its_bytes(prefix);
+        if count == 0 {
+            return u32::MAX;
+        }
+        Self::number(prefix) + ((1 << (32 - count)) - 1)
+    }
+
+    fn number_before(number: u32) -> Option<u32> {
+        number.checked_sub(1)
     }
 
     fn address_has_its_bytes(_address: [u8; 4]) {}
@@ -286,14 +297,6 @@ impl Family for V6 {
         u128::from_be_bytes(address)
     }
 
-    fn first_bits(address: [u8; 16], count: u8) -> u128 {
-        if count == 0 {
-            Self::address_has_its_bytes(address);
-            return 0;
-        }
-        Self::number(address) >> (128 - count)
-    }
-
     fn ends_within(address: [u8; 16], count: u8) -> bool {
         let number = Self::number(address);
         if count == 0 {
@@ -301,6 +304,18 @@ impl Family for V6 {
         }
         let past = 128 - count;
         (number >> past) << past == number
+    }
+
+    fn last_number(prefix: [u8; 16], count: u8) -> u128 {
+        Self::address_has_its_bytes(prefix);
+        if count == 0 {
+            return u128::MAX;
+        }
+        Self::number(prefix) + ((1 << (128 - count)) - 1)
+    }
+
+    fn number_before(number: u128) -> Option<u128> {
+        number.checked_sub(1)
     }
 
     fn address_has_its_bytes(_address: [u8; 16]) {}

@@ -8,9 +8,9 @@
 mod below;
 mod encoded;
 mod family;
-mod longest;
 mod order;
 mod parsed;
+mod ranges;
 mod route;
 mod route_fault;
 mod route_laws;

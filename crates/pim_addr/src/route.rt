@@ -10,12 +10,3 @@ pub struct Route<A> {
     /// Where they lead: an RP, or an upstream neighbour.
     pub to: A,
 }
-
-/// Rows of one length that stand together.
-#[derive(Clone, Copy)]
-pub(crate) struct Run {
-    /// How many bits of their prefixes count.
-    pub(crate) length: u8,
-    /// How many rows there are.
-    pub(crate) count: usize,
-}

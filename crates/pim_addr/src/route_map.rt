@@ -5,37 +5,39 @@ ghost use Rattle.pim_addr.specs.Routes.{led_to, with_row, room_faults, IsRefused
 ghost use Rattle.pim_addr.specs.RouteRows.{row_seen};
 
 use crate::family::Family;
-use crate::longest::longest;
-use crate::route::{Route, Run};
+use crate::ranges::answer_at;
+use crate::route::Route;
 use crate::route_fault::RouteFault;
 use crate::route_rows::RouteRows;
-use crate::rows::{are_same, find_place, insert_row, reserve_one};
+use crate::rows::{are_same, find_place, insert_row, reserve};
 use std::alloc::Global;
 use std::marker::Model;
 
 /// How many rows a map has at most.
 const ROW_LIMIT: usize = 4096;
 
-/// Rows in their order, the longer prefix first; beside each the number that its prefix spells, and how they are cut
-/// into runs of one length, so that a look-up reads numbers alone.
+/// Rows in their order, the longer prefix first; and all addresses cut into ranges, so that a look-up is one search:
+/// the numbers of their last addresses, and for each the longest row that matches its addresses. Behind the last range
+/// none matches.
 #[derive(Drop)]
 pub(crate) struct RouteMap<F: Family> {
     rows: Vec<Route<F::Addr>>,
-    numbers: Vec<F::Number>,
-    runs: Vec<Run>,
+    ends: Vec<F::Number>,
+    answers: Vec<Option<Route<F::Addr>>>,
 }
 
 impl<F: Family> Model for RouteMap<F> {
     ghost use Rattle.std.specs.Prelude.{List, map};
     ghost use Rattle.pim_addr.specs.Routes.{Row};
-    ghost use Rattle.pim_addr.specs.RouteRows.{rows_seen, Stand};
+    ghost use Rattle.pim_addr.specs.RouteRows.{rows_seen, answers_seen, Stand};
 
     ghost Value = { List Row };
 
     ghost view = { λ m. rows_seen F.bytes_of m.rows.items };
 
     ghost invariant = { λ m.
-        Stand F.family (rows_seen F.bytes_of m.rows.items) (map F.value_of m.numbers.items) m.runs.items };
+        Stand F.family (rows_seen F.bytes_of m.rows.items)
+        (map F.value_of m.ends.items) (answers_seen F.bytes_of m.answers.items) };
 }
 
 impl<F: Family> RouteMap<F> {
@@ -45,8 +47,8 @@ impl<F: Family> RouteMap<F> {
     {
         RouteMap {
             rows: Vec::new(alloc),
-            numbers: Vec::new(alloc),
-            runs: Vec::new(alloc),
+            ends: Vec::new(alloc),
+            answers: Vec::new(alloc),
         }
     }
 
@@ -58,10 +60,13 @@ impl<F: Family> RouteMap<F> {
     }
 
     /// Where the longest row that matches the address leads.
+    #[tactic(auto, unfolding(crate::specs::Routes::led_to))]
     pub(crate) fn led_to(&self, address: F::Addr) -> Option<F::Addr>
         ensures { option_map F.bytes_of result ≡ led_to F.family (F.bytes_of address) self.now }
     {
-        longest::<F>(&self.rows, &self.numbers, &self.runs, address)
+        F::address_has_its_bytes(address);
+        let row = answer_at::<F>(&self.ends, &self.answers, F::number(address))?;
+        Some(row.to)
     }
 
     /// Adds a row: `Twice` where one of its prefix and length is there, `Full` where there are 4,096, else `Memory`.
@@ -78,13 +83,13 @@ impl<F: Family> RouteMap<F> {
         if self.rows.len() >= ROW_LIMIT {
             return Err(RouteFault::Full);
         }
-        reserve_one(&mut self.rows)?;
-        reserve_one(&mut self.numbers)?;
-        reserve_one(&mut self.runs)?;
+        reserve(&mut self.rows, 1)?;
+        reserve(&mut self.ends, 2)?;
+        reserve(&mut self.answers, 2)?;
         insert_row::<F>(
             &mut self.rows,
-            &mut self.numbers,
-            &mut self.runs,
+            &mut self.ends,
+            &mut self.answers,
             place,
             row,
         );
