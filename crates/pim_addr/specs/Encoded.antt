@@ -30,8 +30,8 @@ abbrev pub rpt_bit : ℕ → Bool
 rpt_bit flags = bit_and flags 1 == 1
 
 -- the flags with these two bits alone
-abbrev pub kind_bits : ℕ → ℕ
-kind_bits flags = bit_and flags 3
+abbrev pub type_bits : ℕ → ℕ
+type_bits flags = bit_and flags 3
 
 -- a source with its two bits
 pub record SourceValue : Type 0 where

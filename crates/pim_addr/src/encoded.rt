@@ -5,7 +5,7 @@ ghost use Rattle.pim_addr.specs.Faults.{judged, Answers};
 ghost use Rattle.pim_addr.specs.Encoded.{unicast_length, masked_length, group_length, source_length};
 ghost use Rattle.pim_addr.specs.Encoded.{unicast_faults, unicast_address, masked_faults, masked_address};
 ghost use Rattle.pim_addr.specs.Encoded.{group_faults, source_faults, source_value, IsUnicast, IsGroup, IsSource};
-ghost use Rattle.pim_addr.specs.Encoded.{wildcard_bit, rpt_bit, kind_bits};
+ghost use Rattle.pim_addr.specs.Encoded.{wildcard_bit, rpt_bit, type_bits};
 ghost use Rattle.pim_addr.specs.Seen.{source_seen, bits_kept};
 
 use crate::family::Family;
@@ -68,7 +68,7 @@ impl Flags for SourceBits {
 impl SourceBits {
     /// The W and R bits of a flags byte.
     fn from_flags_byte(flags: u8) -> SourceBits
-        ensures kept { result.0 ≡ kind_bits flags }
+        ensures kept { result.0 ≡ type_bits flags }
         ensures wildcard { wildcard_bit result.0 ≡ wildcard_bit flags }
         ensures rpt { rpt_bit result.0 ≡ rpt_bit flags }
     {
@@ -189,7 +189,7 @@ pub fn read_source<F: Family>(bytes: &[u8]) -> Result<SourceAddress<F::Addr>, Ad
         (judged (source_faults F.family bytes.now) (source_value F.family bytes.now)) }
     ensures spelled { IfOk result
         (λ s. IsSource F.family (source_seen F.bytes_of s) (take (source_length F.family) bytes.now)) }
-    ensures bits { IfOk result (λ s. bits_kept s ≡ kind_bits (slice_index bytes.now 2)) }
+    ensures bits { IfOk result (λ s. bits_kept s ≡ type_bits (slice_index bytes.now 2)) }
 {
     let address = read_masked::<F>(bytes)?;
     let bits = SourceBits::from_flags_byte(bytes[2]);
