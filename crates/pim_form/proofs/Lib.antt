@@ -19,3 +19,4 @@ pub mod PlanSizes
 pub mod PlanRows
 pub mod PlanEnds
 pub mod PlanFilling
+pub mod PlanCuts

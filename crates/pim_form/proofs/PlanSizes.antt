@@ -35,7 +35,7 @@ group_entries this =
 pub units_append : (one other : List GroupForm) → units_of (one ++ other) ≡ units_of one ++ units_of other
 units_append one other = flat_map-append group_units one other
 
-no_entries : run_entries [] ≡ 0
+pub no_entries : run_entries [] ≡ 0
 unfolding run_entries
 no_entries = refl
 

@@ -1,6 +1,6 @@
 //! How the messages of a plan are filled, one after another.
 
-ghost use Rattle.std.specs.Prelude.{◌≡◌, ℕ, ◌≤◌, ◌<◌, ◌+◌, ◌↔◌, ◌++◌, [], ◌∷◌, List, length, IsTrue, IfOk};
+ghost use Rattle.std.specs.Prelude.{◌≡◌, ℕ, ◌≤◌, ◌<◌, ◌+◌, ◌↔◌, ◌++◌, [], ◌∷◌, List, length, IsTrue, IfOk, true};
 ghost use Rattle.pim_form.specs.Filling.{HasRoom, star_count, star_entries, place_sources, IsFilling, IsNext};
 ghost use Rattle.pim_form.specs.Plan.{IsPlan};
 ghost use Rattle.pim_form.specs.declared.place.Place.{Place};
@@ -102,7 +102,8 @@ fn fitting<F: Family>(filling: &Filling<F::Addr>, budget: usize) -> usize
 /// How many entries the star of a group has; none where there is no star.
 fn star_entries<A>(place: &Place<A>) -> usize
     requires within { place.now.exceptions_start ≤ place.now.exceptions_end }
-    requires exceptions { place.now.exceptions_end < place.now.exceptions_start + 65000 }
+    requires exceptions { place.now.starred ≡ true →
+        place.now.exceptions_end < place.now.exceptions_start + 65000 }
     ensures { result ≡ star_entries place.now }
 {
     if !place.starred {
@@ -154,7 +155,8 @@ fn cut<F: Family>(
 fn has_at_most<A>(place: &Place<A>, room: usize) -> bool
     requires sources { place.now.sources_start ≤ place.now.sources_end }
     requires within { place.now.exceptions_start ≤ place.now.exceptions_end }
-    requires exceptions { place.now.exceptions_end < place.now.exceptions_start + 65000 }
+    requires exceptions { place.now.starred ≡ true →
+        place.now.exceptions_end < place.now.exceptions_start + 65000 }
     ensures { IsTrue result ↔ (star_entries place.now + place_sources place.now ≤ room) }
 {
     let star = star_entries(place);
