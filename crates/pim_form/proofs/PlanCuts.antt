@@ -1,8 +1,8 @@
 -- Pieces of a group, and how the plan goes on with them.
-use Rattle.std.proofs.Common.{◌≡◌, ◌∙◌, ℕ, zero, suc, ◌+◌, ◌-◌, ◌*◌, ◌≤◌, ◌<◌, Bool, true, false, List, [], ◌∷◌, ◌++◌, Option, None, Some, length, map, nat_le, is_some, if◌then◌else◌, refl, sym, ap, subst, arith, length-append, append_assoc}
+use Rattle.std.proofs.Common.{◌≡◌, ◌∙◌, ℕ, zero, suc, ◌+◌, ◌-◌, ◌*◌, ◌≤◌, ◌<◌, ◌↔◌, Bool, true, false, List, [], ◌∷◌, ◌++◌, Option, None, Some, length, map, nat_le, is_some, if◌then◌else◌, ⊎_elim, refl, sym, ap, subst, arith, length-append, append_assoc}
 use Rattle.std.specs.List.{AllByRecursion, flat_map}
 use Rattle.std.proofs.lemmas.List.{append-nil, map-append, length-map}
-use Rattle.std.proofs.lemmas.Bool.{leb-true, true≢false}
+use Rattle.std.proofs.lemmas.Bool.{leb-true, true≢false, cases_lt}
 use Rattle.pim_addr.specs.declared.family.AddressFamily.{AddressFamily}
 use Rattle.pim_addr.specs.declared.family.AddressFamily.TheVariants.{Ipv4, Ipv6}
 use Rattle.pim_addr.specs.Address.{IsSourceAddress}
@@ -131,6 +131,18 @@ module _ {A : Type 0} (bytes_of : A → List ℕ) (family : AddressFamily) (row 
       by [] none = refl
       by (x ∷ xs) none = absurd (omega arith)
 
+  -- without a star there is a source
+  pub some_sources : p.starred ≡ false → p.sources_start < p.sources_end
+  some_sources is =
+      let xs : List A = between p.sources_start p.sources_end row in
+      let exceptions : List (List ℕ) = map bytes_of (between p.exceptions_start p.exceptions_end row) in
+      let some_one : is_empty None (map bytes_of xs) ≡ false = subst (λ b. is_empty (star_of b exceptions) (map bytes_of xs) ≡ false) is good.some in
+      omega (arith, length-map xs bytes_of, not_empty (map bytes_of xs) some_one, length-between p.sources_start p.sources_end row within.0 within.1)
+    where
+      not_empty : (xs : List (List ℕ)) → is_empty None xs ≡ false → 0 < length xs
+      not_empty [] is = absurd (true≢false is)
+      not_empty (x ∷ xs) is = omega arith
+
   first_piece : (b : Bool) → p.starred ≡ b → FirstPiece bytes_of family row p
   first_piece true is =
       let piece : Place A = front_piece p.sources_start p in
@@ -155,9 +167,7 @@ module _ {A : Type 0} (bytes_of : A → List ℕ) (family : AddressFamily) (row 
       let xs : List A = between p.sources_start p.sources_end row in
       let x : List ℕ = bytes_of p.group in
       let exceptions : List (List ℕ) = map bytes_of (between p.exceptions_start p.exceptions_end row) in
-      let some_one : is_empty None (map bytes_of xs) ≡ false = subst (λ b. is_empty (star_of b exceptions) (map bytes_of xs) ≡ false) is good.some in
-      let long : 0 < length xs = omega (arith, length-map xs bytes_of, not_empty (map bytes_of xs) some_one) in
-      let less : p.sources_start < p.sources_end = omega (arith, length-between p.sources_start p.sources_end row within.0 within.1, long) in
+      let less : p.sources_start < p.sources_end = some_sources is in
       let middle : ℕ = p.sources_start + 1 in
       let low : p.sources_start ≤ middle = omega arith in
       let high : middle ≤ p.sources_end = omega arith in
@@ -182,10 +192,6 @@ module _ {A : Type 0} (bytes_of : A → List ℕ) (family : AddressFamily) (row 
             ∙ ap (λ (xs : List A). map (source_unit x) (map bytes_of xs ++ behind)) is_here;
         entries = rw is (omega arith);
       }
-    where
-      not_empty : (xs : List (List ℕ)) → is_empty None xs ≡ false → 0 < length xs
-      not_empty [] is = absurd (true≢false is)
-      not_empty (x ∷ xs) is = omega arith
 
 -- ---- the next group
 
@@ -413,3 +419,78 @@ module _ {A : Type 0} (bytes_of : A → List ℕ) (family : AddressFamily) (budg
       where
         regroup : (a b c d : List WantUnit) → a ++ ((b ++ c) ++ d) ≡ (a ++ b) ++ (c ++ d)
         regroup a b c d = simp append_assoc
+
+-- ---- by numbers
+
+pub few_entries : (family : AddressFamily) (budget groups entries : ℕ) → HasRoom family budget groups entries → budget ≤ 65000 → entries ≤ 65000
+few_entries Ipv4 budget groups entries room most = omega (arith, room.0)
+few_entries Ipv6 budget groups entries room most = omega (arith, room.0)
+
+module _ {A : Type 0} (bytes_of : A → List ℕ) (family : AddressFamily) (budget : ℕ) (row : List A) (places : List (Place A)) (p : Place A) (left : List (Place A)) (filled : Filled A)
+    (f : IsFilling bytes_of family budget row places (p ∷ left) filled) where
+  pub few_exceptions : budget ≤ 65000 → p.starred ≡ true → p.exceptions_end < p.exceptions_start + 65000
+  few_exceptions most is =
+      let room : HasRoom family budget 1 (first_entries p) = first_fits bytes_of family budget row places p left filled f in
+      let entries : first_entries p ≡ 1 + (p.exceptions_end - p.exceptions_start) = rw is refl in
+      omega (arith, few_entries family budget 1 (first_entries p) room most, entries)
+
+  module _ (room star : ℕ) (fit : (count : ℕ) → 1 ≤ count → (count ≤ room) ↔ HasRoom family budget (filled.groups + 1) (filled.entries + count)) (counted : star ≡ star_entries p) where
+    first_least : 1 ≤ first_entries p
+    first_least = by p.starred refl
+      where
+        by : (b : Bool) → p.starred ≡ b → 1 ≤ (if b then star_entries p else 1)
+        by true is = rw is (omega arith)
+        by false is = omega arith
+
+    pub less_of_none : room ≡ 0 → room < first_entries p
+    less_of_none none = omega (arith, first_least)
+
+    pub less_of_star : room < star → room < first_entries p
+    less_of_star less = by p.starred refl
+      where
+        by : (b : Bool) → p.starred ≡ b → room < (if b then star_entries p else 1)
+        by true is = omega arith
+        by false is =
+            let none : star_entries p ≡ 0 = rw is refl in
+            omega arith
+
+    none_fits : room < first_entries p → HasRoom family budget (filled.groups + 1) (filled.entries + first_entries p) → ⊥
+    none_fits less has = omega (arith, (fit (first_entries p) first_least).1 has)
+
+    pub closed_before : room < first_entries p
+        → IsFilling bytes_of family budget row places (p ∷ left) (record { pieces = filled.pieces; ends = filled.ends ++ length filled.pieces ∷ []; groups = 0; entries = 0 })
+    closed_before less = closes_before bytes_of family budget row places p left filled f (none_fits less)
+
+    pub groups_before : room < first_entries p → 0 < filled.groups
+    groups_before less = omega (arith, f.groups, some_begun bytes_of family budget row places p left filled f (none_fits less))
+
+    pub fewer_sources : 1 ≤ room → star ≤ room → (HasRoom family budget (filled.groups + 1) (filled.entries + (star_entries p + place_sources p)) → ⊥) → p.sources_start + (room - star) < p.sources_end
+    fewer_sources least enough long =
+        ⊎_elim
+        (λ (less : room < star_entries p + place_sources p). omega arith)
+        (λ (whole : star_entries p + place_sources p ≤ room). absurd (long ((fit (star_entries p + place_sources p) (omega (arith, some_units p.starred refl))).0 whole)))
+        (cases_lt room (star_entries p + place_sources p))
+      where
+        some_units : (b : Bool) → p.starred ≡ b → 1 ≤ star_entries p + place_sources p
+        some_units true is = rw is (omega arith)
+        some_units false is =
+            omega (arith, some_sources bytes_of family row p (next_within bytes_of family budget row places p left filled f) (next_good bytes_of family budget row places p left filled f) is)
+
+    pub closed_within : 1 ≤ room → star ≤ room → (HasRoom family budget (filled.groups + 1) (filled.entries + (star_entries p + place_sources p)) → ⊥)
+        → IsFilling bytes_of family budget row places (rest_piece (p.sources_start + (room - star)) p ∷ left)
+        (record {
+          pieces = filled.pieces ++ front_piece (p.sources_start + (room - star)) p ∷ [];
+          ends = filled.ends ++ length (filled.pieces ++ front_piece (p.sources_start + (room - star)) p ∷ []) ∷ [];
+          groups = 0;
+          entries = 0;
+        })
+    closed_within least enough long =
+        let middle : ℕ = p.sources_start + (room - star) in
+        let whole : star_entries p + (middle - p.sources_start) ≡ room = omega arith in
+        closes_within bytes_of family budget row places p left filled f middle (omega arith) (fewer_sources least enough long)
+        (λ none. omega (arith, no_star none))
+        (subst (λ n. HasRoom family budget (filled.groups + 1) (filled.entries + n)) (sym whole) ((fit room least).0 (omega arith)))
+        (λ more. omega (arith, (fit (room + 1) (omega arith)).1 (subst (λ n. HasRoom family budget (filled.groups + 1) (filled.entries + (n + 1))) whole more)))
+      where
+        no_star : p.starred ≡ false → star_entries p ≡ 0
+        no_star none = rw none refl

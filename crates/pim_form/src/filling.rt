@@ -129,22 +129,23 @@ fn cut<F: Family>(
         star_count rest + place_sources rest + filling.new.groups
         < star_count place.now + place_sources place.now + filling.old.groups) }
 {
+    let place = *place;
     let room = fitting::<F>(filling, budget);
-    let star = star_entries(place);
+    let star = star_entries(&place);
     if room == 0 || room < star {
         filling.close()?;
-        return Ok(*place);
+        return Ok(place);
     }
     let end = place.sources_start + (room - star);
     let front = Place {
         sources_end: end,
-        ..*place
+        ..place
     };
     let rest = Place {
         starred: false,
         sources_start: end,
         exceptions_end: place.exceptions_start,
-        ..*place
+        ..place
     };
     filling.push(front, room)?;
     filling.close()?;
