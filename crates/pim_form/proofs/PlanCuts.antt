@@ -13,7 +13,7 @@ use Rattle.pim_form.specs.Packing.{fits, StopsBefore, IsPacking}
 use Rattle.pim_form.specs.TooBig.{star_fits, too_big}
 use Rattle.pim_form.specs.Rows.{between, star_of, exceptions_of, IsWithin, place_group, place_seen, form_seen, IsKept}
 use Rattle.pim_form.specs.Plan.{run_of}
-use Rattle.pim_form.specs.Filling.{HasRoom, Filled, IsFilling, star_count, star_entries, place_sources}
+use Rattle.pim_form.specs.Filling.{HasRoom, Filled, IsFilling, IsNext, star_entries, place_sources}
 use Rattle.pim_form.proofs.Lists.{all_front, all_behind}
 use Rattle.pim_form.proofs.Kept.{places_count}
 use Rattle.pim_form.proofs.StarSize.{star_fits_by}
@@ -434,6 +434,10 @@ module _ {A : Type 0} (bytes_of : A → List ℕ) (family : AddressFamily) (budg
       let entries : first_entries p ≡ 1 + (p.exceptions_end - p.exceptions_start) = rw is refl in
       omega (arith, few_entries family budget 1 (first_entries p) room most, entries)
 
+  some_units : (b : Bool) → p.starred ≡ b → 1 ≤ star_entries p + place_sources p
+  some_units true is = rw is (omega arith)
+  some_units false is = omega (arith, some_sources bytes_of family row p (next_within bytes_of family budget row places p left filled f) (next_good bytes_of family budget row places p left filled f) is)
+
   module _ (room star : ℕ) (fit : (count : ℕ) → 1 ≤ count → (count ≤ room) ↔ HasRoom family budget (filled.groups + 1) (filled.entries + count)) (counted : star ≡ star_entries p) where
     first_least : 1 ≤ first_entries p
     first_least = by p.starred refl
@@ -468,13 +472,8 @@ module _ {A : Type 0} (bytes_of : A → List ℕ) (family : AddressFamily) (budg
     fewer_sources least enough long =
         ⊎_elim
         (λ (less : room < star_entries p + place_sources p). omega arith)
-        (λ (whole : star_entries p + place_sources p ≤ room). absurd (long ((fit (star_entries p + place_sources p) (omega (arith, some_units p.starred refl))).0 whole)))
+        (λ (whole : star_entries p + place_sources p ≤ room). absurd (long ((fit (star_entries p + place_sources p) (some_units p.starred refl)).0 whole)))
         (cases_lt room (star_entries p + place_sources p))
-      where
-        some_units : (b : Bool) → p.starred ≡ b → 1 ≤ star_entries p + place_sources p
-        some_units true is = rw is (omega arith)
-        some_units false is =
-            omega (arith, some_sources bytes_of family row p (next_within bytes_of family budget row places p left filled f) (next_good bytes_of family budget row places p left filled f) is)
 
     pub closed_within : 1 ≤ room → star ≤ room → (HasRoom family budget (filled.groups + 1) (filled.entries + (star_entries p + place_sources p)) → ⊥)
         → IsFilling bytes_of family budget row places (rest_piece (p.sources_start + (room - star)) p ∷ left)
@@ -494,3 +493,30 @@ module _ {A : Type 0} (bytes_of : A → List ℕ) (family : AddressFamily) (budg
       where
         no_star : p.starred ≡ false → star_entries p ≡ 0
         no_star none = rw none refl
+
+module _ {A : Type 0} (bytes_of : A → List ℕ) (family : AddressFamily) (budget : ℕ) where
+  -- what was put in place of a group is the next piece
+  pub goes_next : (before p : Place A) (first filled : Filled A) → IsNext bytes_of family budget before first
+      → ((row : List A) (places left : List (Place A)) → IsFilling bytes_of family budget row places (before ∷ left) first → IsFilling bytes_of family budget row places (p ∷ left) filled)
+      → IsNext bytes_of family budget p filled
+  goes_next before p first filled next goes = record {
+    row = next.row;
+    places = next.places;
+    left = next.left;
+    filling = goes next.row next.places next.left next.filling;
+  }
+
+  module _ (p : Place A) (filled : Filled A) (next : IsNext bytes_of family budget p filled) where
+    pub within_of : (p.sources_start ≤ p.sources_end) × (p.exceptions_start ≤ p.exceptions_end)
+    within_of = let within = next_within bytes_of family budget next.row next.places p next.left filled next.filling in (within.0, within.2)
+
+    pub room_before : HasRoom family budget filled.groups filled.entries
+    room_before = next.filling.room
+
+    pub few_of : budget ≤ 65000 → p.starred ≡ true → p.exceptions_end < p.exceptions_start + 65000
+    few_of = few_exceptions bytes_of family budget next.row next.places p next.left filled next.filling
+
+    -- all of it fits
+    pub room_behind : (room : ℕ) → ((count : ℕ) → 1 ≤ count → (count ≤ room) ↔ HasRoom family budget (filled.groups + 1) (filled.entries + count))
+        → star_entries p + place_sources p ≤ room → HasRoom family budget (filled.groups + 1) (filled.entries + (star_entries p + place_sources p))
+    room_behind room fit whole = (fit (star_entries p + place_sources p) (some_units bytes_of family budget next.row next.places p next.left filled next.filling p.starred refl)).0 whole
