@@ -1,13 +1,13 @@
 -- Pieces of a group, and how the plan goes on with them.
-use Rattle.std.proofs.Common.{◌≡◌, ◌∙◌, ℕ, zero, suc, ◌+◌, ◌-◌, ◌*◌, ◌≤◌, ◌<◌, ◌↔◌, Bool, true, false, List, [], ◌∷◌, ◌++◌, Option, None, Some, length, map, nat_le, is_some, if◌then◌else◌, ⊎_elim, refl, sym, ap, subst, arith, length-append, append_assoc}
-use Rattle.std.specs.List.{AllByRecursion, flat_map}
+use Rattle.std.proofs.Common.{◌≡◌, ◌∙◌, ℕ, ◌+◌, ◌-◌, ◌*◌, ◌≤◌, ◌<◌, ◌↔◌, Bool, true, false, List, [], ◌∷◌, ◌++◌, Option, None, Some, length, map, is_some, if◌then◌else◌, ⊎_elim, refl, sym, ap, subst, arith, length-append, append_assoc}
+use Rattle.std.specs.List.{flat_map}
 use Rattle.std.proofs.lemmas.List.{append-nil, map-append, length-map}
 use Rattle.std.proofs.lemmas.Bool.{leb-true, true≢false, cases_lt}
 use Rattle.pim_addr.specs.declared.family.AddressFamily.{AddressFamily}
 use Rattle.pim_addr.specs.declared.family.AddressFamily.TheVariants.{Ipv4, Ipv6}
 use Rattle.pim_addr.specs.Address.{IsSourceAddress}
 use Rattle.pim_form.specs.declared.place.Place.{Place}
-use Rattle.pim_form.specs.NormalForm.{GroupForm, AreAscending, IsNormalGroup, is_empty}
+use Rattle.pim_form.specs.NormalForm.{GroupForm, IsNormalGroup, is_empty}
 use Rattle.pim_form.specs.Units.{WantUnit, star_unit, source_unit, star_units, group_units, units_of, run_entries, empty_message_size, empty_set_size, entry_size}
 use Rattle.pim_form.specs.Packing.{fits, StopsBefore, IsPacking}
 use Rattle.pim_form.specs.TooBig.{star_fits, too_big}
@@ -17,7 +17,7 @@ use Rattle.pim_form.specs.Filling.{HasRoom, Filled, IsFilling, IsNext, star_entr
 use Rattle.pim_form.proofs.Lists.{all_front, all_behind}
 use Rattle.pim_form.proofs.Kept.{places_count}
 use Rattle.pim_form.proofs.StarSize.{star_fits_by}
-use Rattle.pim_form.proofs.PlanSizes.{entries_of_star, no_entries, units_append, entries_more, fits_by, fits_not}
+use Rattle.pim_form.proofs.PlanSizes.{entries_of_star, no_entries, entries_more, fits_by, fits_not}
 use Rattle.pim_form.proofs.PlanRows.{meets, length-between, first_of, lone, ascending_front, ascending_behind, IsGood, Holds, holds, kept, holds_front, holds_behind, holds_with}
 use Rattle.pim_form.proofs.PlanFilling.{closes, kept_begun, fits_begun, run_append, some, nonempty}
 

@@ -1,6 +1,6 @@
 -- A plan that is begun, goes on with a whole group, closes a message, and ends.
-use Rattle.std.proofs.Common.{◌≡◌, ◌∙◌, ℕ, ◌+◌, ◌*◌, ◌≤◌, ◌<◌, true, false, List, [], ◌∷◌, ◌++◌, None, length, map, refl, sym, ap, subst, arith, length-append, append_assoc}
-use Rattle.std.specs.List.{AllByRecursion, flat_map}
+use Rattle.std.proofs.Common.{◌≡◌, ◌∙◌, ℕ, ◌+◌, ◌≤◌, ◌<◌, true, List, [], ◌∷◌, ◌++◌, None, length, map, refl, sym, ap, subst, arith, append_assoc}
+use Rattle.std.specs.List.{AllByRecursion}
 use Rattle.std.proofs.lemmas.List.{append-nil, map-append}
 use Rattle.std.proofs.lemmas.Grind.{flat_map-append}
 use Rattle.pim_addr.specs.declared.family.AddressFamily.{AddressFamily}
@@ -13,7 +13,7 @@ use Rattle.pim_form.specs.TooBig.{too_big}
 use Rattle.pim_form.specs.Rows.{place_seen, form_seen, IsKept}
 use Rattle.pim_form.specs.Plan.{run_of, parts_from, AreEnds, IsPlan}
 use Rattle.pim_form.specs.Filling.{HasRoom, Filled, IsFilling, ends_from}
-use Rattle.pim_form.proofs.Lists.{all_append, all_map}
+use Rattle.pim_form.proofs.Lists.{all_append}
 use Rattle.pim_form.proofs.Units.{IsSome, first_unit}
 use Rattle.pim_form.proofs.Kept.{places_count}
 use Rattle.pim_form.proofs.PlanSizes.{units_append, fits_by}

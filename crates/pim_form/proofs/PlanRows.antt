@@ -1,5 +1,5 @@
 -- Parts of a row that meet, and what of a kept form is kept.
-use Rattle.std.proofs.Common.{◌≡◌, ◌∙◌, ℕ, zero, suc, ◌+◌, ◌-◌, ◌≤◌, ◌<◌, List, [], ◌∷◌, ◌++◌, length, map, take, drop, refl, sym, ap, subst, arith, length-append, length-drop}
+use Rattle.std.proofs.Common.{◌≡◌, ◌∙◌, ℕ, ◌+◌, ◌-◌, ◌≤◌, ◌<◌, List, [], ◌∷◌, ◌++◌, length, map, take, drop, refl, sym, ap, subst, arith, length-drop}
 use Rattle.std.proofs.lemmas.List.{drop-append-le, drop-take, length-take, map-append}
 use Rattle.std.proofs.Math.Seq.{take-add}
 use Rattle.std.specs.List.{AllByRecursion}
@@ -9,7 +9,7 @@ use Rattle.std.specs.declared.cmp.Ordering.TheVariants.{Less}
 use Rattle.std.specs.Cmp.Lexicographic.{slice_cmp}
 use Rattle.pim_addr.specs.declared.family.AddressFamily.{AddressFamily}
 use Rattle.pim_form.specs.declared.place.Place.{Place}
-use Rattle.pim_form.specs.NormalForm.{GroupForm, AreAscending, IsNormalGroup, groups_of}
+use Rattle.pim_form.specs.NormalForm.{AreAscending, IsNormalGroup, groups_of}
 use Rattle.pim_form.specs.Rows.{between, IsWithin, place_group, place_seen, form_seen, IsKept}
 use Rattle.pim_form.proofs.Lists.{all_append, all_front, all_behind, all_map, all_mapped}
 use Rattle.pim_form.proofs.Kept.{ascending}
@@ -92,7 +92,7 @@ module _ {A : Type 0} (bytes_of : A → List ℕ) (family : AddressFamily) (row 
   holds_front xs ys are = record {
     within = all_front (IsWithin (length row)) xs ys are.within;
     ascending = ascending_front (map (place_group bytes_of) xs) (map (place_group bytes_of) ys)
-    (subst AreAscending (map-append (place_group bytes_of) xs ys) are.ascending);
+        (subst AreAscending (map-append (place_group bytes_of) xs ys) are.ascending);
     good = all_front IsGood xs ys are.good;
   }
 
@@ -100,7 +100,7 @@ module _ {A : Type 0} (bytes_of : A → List ℕ) (family : AddressFamily) (row 
   holds_behind xs ys are = record {
     within = all_behind (IsWithin (length row)) xs ys are.within;
     ascending = ascending_behind (map (place_group bytes_of) xs) (map (place_group bytes_of) ys)
-    (subst AreAscending (map-append (place_group bytes_of) xs ys) are.ascending);
+        (subst AreAscending (map-append (place_group bytes_of) xs ys) are.ascending);
     good = all_behind IsGood xs ys are.good;
   }
 

@@ -32,10 +32,10 @@ impl<A> Model for Filling<A> {
     ghost Value = { Filled A };
 
     ghost view = { λ f. record {
-        pieces = f.pieces.items;
-        ends = f.ends.items;
-        groups = f.groups;
-        entries = f.entries;
+      pieces = f.pieces.items;
+      ends = f.ends.items;
+      groups = f.groups;
+      entries = f.entries;
     } };
 }
 
@@ -57,10 +57,10 @@ impl<A: Copy> Filling<A> {
         requires groups { self.old.groups < 255 }
         requires entries { self.old.entries + entries ≤ 65000 }
         ensures { IfOk result (λ _. self.new ≡ record {
-            pieces = self.old.pieces ++ piece ∷ [];
-            ends = self.old.ends;
-            groups = self.old.groups + 1;
-            entries = self.old.entries + entries;
+          pieces = self.old.pieces ++ piece ∷ [];
+          ends = self.old.ends;
+          groups = self.old.groups + 1;
+          entries = self.old.entries + entries;
         }) }
     {
         self.pieces.push(piece)?;
@@ -72,10 +72,10 @@ impl<A: Copy> Filling<A> {
     /// Closes the open message.
     fn close(&mut self) -> Result<(), AllocError>
         ensures { IfOk result (λ _. self.new ≡ record {
-            pieces = self.old.pieces;
-            ends = self.old.ends ++ length self.old.pieces ∷ [];
-            groups = 0;
-            entries = 0;
+          pieces = self.old.pieces;
+          ends = self.old.ends ++ length self.old.pieces ∷ [];
+          groups = 0;
+          entries = 0;
         }) }
     {
         self.ends.push(self.pieces.len())?;

@@ -1,7 +1,6 @@
-use Rattle.std.proofs.Common.{◌≡◌, ◌∙◌, ◌+◌, ◌-◌, ◌≤◌, List, [], ◌∷◌, ◌++◌, sym, ap, subst, arith, refl}
+use Rattle.std.proofs.Common.{◌+◌, [], ◌∷◌, ◌++◌, sym, subst, arith, refl}
 use Rattle.std.proofs.lemmas.Result.{IfOk-weaker}
-use Rattle.pim_form.specs.declared.place.Place.{Place}
-use Rattle.pim_form.specs.Filling.{HasRoom, Filled, IsFilling, IsNext, star_entries, place_sources}
+use Rattle.pim_form.specs.Filling.{IsFilling, star_entries, place_sources}
 use Rattle.pim_form.proofs.PlanCuts.{goes_next, within_of, room_before, few_of, room_behind, few_entries, goes_on}
 use Rattle.pim_form.proofs.filling.add.Goals as goal
 
@@ -73,7 +72,7 @@ returns g c =
     let next = goes_next bytes_of family budget c.args.place.now p c.args.filling.now filled c.requires.next c.loop-filling.invariant in
     let room = room_behind bytes_of family budget p filled next c.fitting.result c.fitting.ensures ((c.loop-filling-test.ensures {u = tt}).0 refl) in
     IfOk-weaker c.push.result _ _ (λ x is row places left filling.
-        let on = goes_on bytes_of family budget row places p left filled (c.loop-filling.invariant row places left filling) room in
-        let counted = subst (λ n. IsFilling bytes_of family budget row places left
-            (record { pieces = filled.pieces ++ p ∷ []; ends = filled.ends; groups = filled.groups + 1; entries = filled.entries + (n + place_sources p) })) (sym c.star_entries.ensures) on in
-        subst (IsFilling bytes_of family budget row places left) (sym is) counted) c.push.ensures
+    let on = goes_on bytes_of family budget row places p left filled (c.loop-filling.invariant row places left filling) room in
+    let counted = subst (λ n. IsFilling bytes_of family budget row places left
+    (record { pieces = filled.pieces ++ p ∷ []; ends = filled.ends; groups = filled.groups + 1; entries = filled.entries + (n + place_sources p) })) (sym c.star_entries.ensures) on in
+    subst (IsFilling bytes_of family budget row places left) (sym is) counted) c.push.ensures

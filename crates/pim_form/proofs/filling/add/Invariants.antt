@@ -1,4 +1,4 @@
-use Rattle.std.proofs.Common.{ℕ, ◌+◌, List, ◌∷◌}
+use Rattle.std.proofs.Common.{◌+◌, List, ◌∷◌}
 use Rattle.pim_form.specs.declared.place.Place.{Place}
 use Rattle.pim_form.specs.Filling.{IsFilling, star_count, place_sources}
 use Rattle.pim_form.proofs.filling.add.Given as goal

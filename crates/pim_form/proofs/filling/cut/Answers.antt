@@ -1,5 +1,4 @@
-use Rattle.std.proofs.Common.{◌≡◌, ◌∙◌, ℕ, ◌≤◌, ◌<◌, ◌+◌, ◌-◌, sym, ap, subst, arith, List, [], ◌∷◌, ◌++◌, length}
-use Rattle.pim_form.specs.declared.place.Place.{Place}
+use Rattle.std.proofs.Common.{◌∙◌, ◌<◌, ◌+◌, ◌-◌, sym, ap, subst, arith, [], ◌∷◌, ◌++◌, length}
 use Rattle.pim_form.specs.Filling.{Filled, IsFilling}
 use Rattle.pim_form.proofs.PlanCuts.{few_exceptions, first_entries, few_entries, closed_before, less_of_none, less_of_star, groups_before, fewer_sources, closed_within, rest_piece, next_within}
 use Rattle.pim_form.proofs.filling.cut.Goals.{then-room-eq0-via-then-room-eq0, then-room-eq0-via-else-room-eq0+then-room-star}
@@ -48,9 +47,9 @@ returns-then-room-eq0-clause-cut g c = λ row places left filling.
     let family = g.F.Family.family in
     let budget = c.args.budget in
     let less : c.fitting-room.result < first_entries c.args.place.now = elim c.then-room-eq0.branch [
-      then-room-eq0-via-then-room-eq0 w ↦ less_of_none bytes_of family budget row places c.args.place.now left c.args.filling.now filling
+      | then-room-eq0-via-then-room-eq0 w ↦ less_of_none bytes_of family budget row places c.args.place.now left c.args.filling.now filling
           c.fitting-room.result c.star_entries-star.result c.fitting-room.ensures c.star_entries-star.ensures w.if-room-eq0.true
-    | then-room-eq0-via-else-room-eq0+then-room-star w ↦ less_of_star bytes_of family budget row places c.args.place.now left c.args.filling.now filling
+      | then-room-eq0-via-else-room-eq0+then-room-star w ↦ less_of_star bytes_of family budget row places c.args.place.now left c.args.filling.now filling
           c.fitting-room.result c.star_entries-star.result c.fitting-room.ensures c.star_entries-star.ensures w.if-room-star.true
     ] in
     subst (IsFilling bytes_of family budget row places (c.args.place.now ∷ left)) (sym (c.in_ok-close.ensures {u = tt}))
@@ -61,9 +60,9 @@ pub returns-then-room-eq0-clause-falls : goal.returns-then-room-eq0-clause-falls
 returns-then-room-eq0-clause-falls g c =
     let next = c.requires.next in
     let less : c.fitting-room.result < first_entries c.args.place.now = elim c.then-room-eq0.branch [
-      then-room-eq0-via-then-room-eq0 w ↦ less_of_none g.F.Family.bytes_of g.F.Family.family c.args.budget next.row next.places c.args.place.now next.left c.args.filling.now next.filling
+      | then-room-eq0-via-then-room-eq0 w ↦ less_of_none g.F.Family.bytes_of g.F.Family.family c.args.budget next.row next.places c.args.place.now next.left c.args.filling.now next.filling
           c.fitting-room.result c.star_entries-star.result c.fitting-room.ensures c.star_entries-star.ensures w.if-room-eq0.true
-    | then-room-eq0-via-else-room-eq0+then-room-star w ↦ less_of_star g.F.Family.bytes_of g.F.Family.family c.args.budget next.row next.places c.args.place.now next.left c.args.filling.now next.filling
+      | then-room-eq0-via-else-room-eq0+then-room-star w ↦ less_of_star g.F.Family.bytes_of g.F.Family.family c.args.budget next.row next.places c.args.place.now next.left c.args.filling.now next.filling
           c.fitting-room.result c.star_entries-star.result c.fitting-room.ensures c.star_entries-star.ensures w.if-room-star.true
     ] in
     let some = groups_before g.F.Family.bytes_of g.F.Family.family c.args.budget next.row next.places c.args.place.now next.left c.args.filling.now next.filling

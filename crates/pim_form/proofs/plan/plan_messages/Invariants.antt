@@ -1,8 +1,8 @@
-use Rattle.std.proofs.Common.{◌≡◌, ◌≤◌, None, IfOk, ℕ, ◌+◌, ◌-◌, ◌*◌, ◌<◌, length}
-use Rattle.pim_form.specs.Rows.{IsKept, form_seen}
-use Rattle.pim_form.specs.TooBig.{too_big}
-use Rattle.pim_form.specs.Plan.{IsPlan}
+use Rattle.std.proofs.Common.{drop}
+use Rattle.pim_form.specs.Filling.{IsFilling}
 use Rattle.pim_form.proofs.plan.plan_messages.Given as goal
 
+-- the groups from here on are left
 abbrev pub invariant-loop-place : goal.invariant-loop-place
-invariant-loop-place g l = ?
+invariant-loop-place g l =
+    IsFilling g.F.Family.bytes_of g.F.Family.family l.budget l.row l.places (drop l.place-index l.places) l.filling
