@@ -185,11 +185,8 @@ pub(crate) fn add<F: Family>(
 }
 
 /// Closes the open message, if there is something in it: this is the plan.
-pub(crate) fn finish<F: Family>(
-    filling: Filling<F::Addr>,
-    budget: usize,
-) -> Result<Plan<F::Addr>, AllocError>
-    ensures { IfOk result (λ plan. (row : List F.Addr) (places : List (Place F.Addr)) →
+pub(crate) fn finish<F: Family>(filling: Filling<F::Addr>) -> Result<Plan<F::Addr>, AllocError>
+    ensures { IfOk result (λ plan. (budget : ℕ) (row : List F.Addr) (places : List (Place F.Addr)) →
         IsFilling F.bytes_of F.family budget row places [] filling →
         IsPlan F.bytes_of F.family budget row places plan.pieces.items plan.ends.items) }
 {

@@ -39,5 +39,5 @@ pub(crate) fn plan_messages<F: Family>(
     for place in places {
         add::<F>(&mut filling, budget, place)?;
     }
-    finish::<F>(filling, budget)
+    finish::<F>(filling)
 }

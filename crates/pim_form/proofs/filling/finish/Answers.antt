@@ -5,11 +5,10 @@ use Rattle.pim_form.proofs.filling.finish.Goals.{then-filling-ne0+in_ok-close, e
 use Rattle.pim_form.proofs.filling.finish.Goals as goal
 
 pub returns : goal.returns
-returns g c = λ row places filling.
+returns g c = λ budget row places filling.
     let A = g.row.F-Addr.Denot in
     let bytes_of = g.F.Family.bytes_of in
     let family = g.F.Family.family in
-    let budget = c.args.budget in
     let seen : Filled A = record {
       pieces = c.filling-2.inside.pieces.items;
       ends = c.filling-2.inside.ends.items;

@@ -40,4 +40,4 @@ returns g c =
     let places = c.args.places.now in
     let done : drop c.loop-place.place-index places ≡ [] = drop_of_length-le places c.loop-place-test.false in
     let filling = subst (λ (xs : List (Place g.row.F-Addr.Denot)). IsFilling bytes_of family c.args.budget row places xs c.loop-place.filling) done c.loop-place.invariant in
-    IfOk-weaker c.finish.result _ _ (λ plan goes. goes row places filling) c.finish.ensures
+    IfOk-weaker c.finish.result _ _ (λ plan goes. goes c.args.budget row places filling) c.finish.ensures
