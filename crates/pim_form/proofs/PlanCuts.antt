@@ -520,3 +520,17 @@ module _ {A : Type 0} (bytes_of : A → List ℕ) (family : AddressFamily) (budg
     pub room_behind : (room : ℕ) → ((count : ℕ) → 1 ≤ count → (count ≤ room) ↔ HasRoom family budget (filled.groups + 1) (filled.entries + count))
         → star_entries p + place_sources p ≤ room → HasRoom family budget (filled.groups + 1) (filled.entries + (star_entries p + place_sources p))
     room_behind room fit whole = (fit (star_entries p + place_sources p) (some_units bytes_of family budget next.row next.places p next.left filled next.filling p.starred refl)).0 whole
+
+    pub no_room_behind : (room : ℕ) → ((count : ℕ) → 1 ≤ count → (count ≤ room) ↔ HasRoom family budget (filled.groups + 1) (filled.entries + count))
+        → (star_entries p + place_sources p ≤ room → ⊥) → HasRoom family budget (filled.groups + 1) (filled.entries + (star_entries p + place_sources p)) → ⊥
+    no_room_behind room fit long has =
+        long ((fit (star_entries p + place_sources p) (some_units bytes_of family budget next.row next.places p next.left filled next.filling p.starred refl)).1 has)
+
+  -- what is left of a group is told whole
+  pub tells : (before p : Place A) (first filled new : Filled A)
+      → ((row : List A) (places left : List (Place A)) → IsFilling bytes_of family budget row places (before ∷ left) first → IsFilling bytes_of family budget row places (p ∷ left) filled)
+      → HasRoom family budget (filled.groups + 1) (filled.entries + (star_entries p + place_sources p))
+      → new ≡ record { pieces = filled.pieces ++ p ∷ []; ends = filled.ends; groups = filled.groups + 1; entries = filled.entries + (star_entries p + place_sources p) }
+      → (row : List A) (places left : List (Place A)) → IsFilling bytes_of family budget row places (before ∷ left) first → IsFilling bytes_of family budget row places left new
+  tells before p first filled new goes room is row places left filling =
+      subst (IsFilling bytes_of family budget row places left) (sym is) (goes_on bytes_of family budget row places p left filled (goes row places left filling) room)

@@ -52,18 +52,22 @@ impl<A: Copy> Filling<A> {
         })
     }
 
-    /// Puts a piece with so many entries into the open message.
-    fn push(&mut self, piece: Place<A>, entries: usize) -> Result<(), AllocError>
+    /// Puts a piece into the open message.
+    fn push(&mut self, piece: &Place<A>) -> Result<(), AllocError>
+        requires sources { piece.now.sources_start ≤ piece.now.sources_end }
+        requires exceptions { piece.now.exceptions_start ≤ piece.now.exceptions_end }
         requires groups { self.old.groups < 255 }
-        requires entries { self.old.entries + entries ≤ 65000 }
+        requires entries { self.old.entries + (star_entries piece.now + place_sources piece.now) ≤ 65000 }
         ensures { IfOk result (λ _. self.new ≡ record {
-          pieces = self.old.pieces ++ piece ∷ [];
+          pieces = self.old.pieces ++ piece.now ∷ [];
           ends = self.old.ends;
           groups = self.old.groups + 1;
-          entries = self.old.entries + entries;
+          entries = self.old.entries + (star_entries piece.now + place_sources piece.now);
         }) }
     {
-        self.pieces.push(piece)?;
+        let sources = piece.sources_end - piece.sources_start;
+        let entries = star_entries(piece) + sources;
+        self.pieces.push(*piece)?;
         self.groups += 1;
         self.entries += entries;
         Ok(())
@@ -147,7 +151,7 @@ fn cut<F: Family>(
         exceptions_end: place.exceptions_start,
         ..place
     };
-    filling.push(front, room)?;
+    filling.push(&front)?;
     filling.close()?;
     Ok(rest)
 }
@@ -164,6 +168,30 @@ fn has_at_most<A>(place: &Place<A>, room: usize) -> bool
     star <= room && place.sources_end - place.sources_start <= room - star
 }
 
+/// Tells a group that the open message has no room for whole: in this message and in further ones as far as it fills
+/// them. It answers the piece that is left for the message that is open then.
+fn fill<F: Family>(
+    filling: &mut Filling<F::Addr>,
+    budget: usize,
+    place: &Place<F::Addr>,
+) -> Result<Place<F::Addr>, AllocError>
+    requires next { IsNext F.bytes_of F.family budget place.now filling.old }
+    requires budget { budget ≤ 65000 }
+    requires long { HasRoom F.family budget (filling.old.groups + 1)
+        (filling.old.entries + (star_entries place.now + place_sources place.now)) → ⊥ }
+    ensures filled { IfOk result (λ last. (row : List F.Addr) (places left : List (Place F.Addr)) →
+        IsFilling F.bytes_of F.family budget row places (place.now ∷ left) filling.old →
+        IsFilling F.bytes_of F.family budget row places (last ∷ left) filling.new) }
+    ensures fits { IfOk result (λ last. HasRoom F.family budget (filling.new.groups + 1)
+        (filling.new.entries + (star_entries last + place_sources last))) }
+{
+    let mut left = cut::<F>(filling, budget, place)?;
+    while !has_at_most(&left, fitting::<F>(filling, budget)) {
+        left = cut::<F>(filling, budget, &left)?;
+    }
+    Ok(left)
+}
+
 /// Tells a group: in the open message as far as it has room, and then in further ones.
 pub(crate) fn add<F: Family>(
     filling: &mut Filling<F::Addr>,
@@ -176,12 +204,11 @@ pub(crate) fn add<F: Family>(
         IsFilling F.bytes_of F.family budget row places (place.now ∷ left) filling.old →
         IsFilling F.bytes_of F.family budget row places left filling.new) }
 {
-    let mut left = *place;
-    while !has_at_most(&left, fitting::<F>(filling, budget)) {
-        left = cut::<F>(filling, budget, &left)?;
+    if has_at_most(place, fitting::<F>(filling, budget)) {
+        return filling.push(place);
     }
-    let entries = star_entries(&left) + (left.sources_end - left.sources_start);
-    filling.push(left, entries)
+    let last = fill::<F>(filling, budget, place)?;
+    filling.push(&last)
 }
 
 /// Closes the open message, if there is something in it: this is the plan.

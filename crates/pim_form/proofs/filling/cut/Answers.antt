@@ -29,7 +29,13 @@ push-requires-clause-groups g c =
 pub push-requires-clause-entries : goal.push-requires-clause-entries
 push-requires-clause-entries g c =
     let room = (c.fitting-room.ensures c.fitting-room.result (omega arith)).0 (omega arith) in
-    few_entries g.F.Family.family c.args.budget (c.args.filling.now.groups + 1) (c.args.filling.now.entries + c.fitting-room.result) room c.requires.budget
+    let few = few_entries g.F.Family.family c.args.budget (c.args.filling.now.groups + 1) (c.args.filling.now.entries + c.fitting-room.result) room c.requires.budget in
+    omega (arith, few, c.star_entries-star.ensures)
+
+pub push-requires-clause-exceptions : goal.push-requires-clause-exceptions
+push-requires-clause-exceptions g c =
+    let next = c.requires.next in
+    (next_within g.F.Family.bytes_of g.F.Family.family c.args.budget next.row next.places c.args.place.now next.left c.args.filling.now next.filling).2
 
 pub returns-clause-cut : goal.returns-clause-cut
 returns-clause-cut g c = λ row places left filling.

@@ -1,7 +1,7 @@
 use Rattle.std.proofs.Common.{◌+◌, List, ◌∷◌}
 use Rattle.pim_form.specs.declared.place.Place.{Place}
 use Rattle.pim_form.specs.Filling.{IsFilling, star_count, place_sources}
-use Rattle.pim_form.proofs.filling.add.Given as goal
+use Rattle.pim_form.proofs.filling.fill.Given as goal
 
 -- whatever went on with the group goes on with what is left of it
 abbrev pub invariant-loop-filling : goal.invariant-loop-filling
