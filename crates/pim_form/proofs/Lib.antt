@@ -15,3 +15,8 @@ pub mod Searches
 pub mod Kept
 pub mod Spans
 pub mod StarSize
+pub mod PlanSizes
+pub mod PlanRows
+pub mod PlanEnds
+pub mod PlanFilling
+pub mod PlanCuts
