@@ -11,3 +11,4 @@ pub mod Blocks
 pub mod TooBig
 pub mod Toward
 pub mod Plan
+pub mod Entries

@@ -17,6 +17,7 @@ mod sizes;
 mod sorted;
 #[cfg(test)]
 mod tests;
+mod written;
 mod tree;
 mod wanting;
 mod writer;

@@ -1,0 +1,92 @@
+//! One message, written in place: its head, a set for each group, and at last its header (RFC 7761, 4.9.5).
+
+ghost use Rattle.std.specs.Prelude.{◌≡◌, ◌+◌, ◌*◌, ◌<◌, ◌≤◌, ◌^◌, true, take, drop, ◌++◌, length, map};
+ghost use Rattle.std.specs.List.{AllByRecursion, flat_map};
+ghost use Rattle.pim_addr.specs.Encoded.{source_length};
+ghost use Rattle.pim_frame.specs.Frame.{all_routers};
+ghost use Rattle.pim_frame.specs.Seal.{IsSealed};
+ghost use Rattle.pim_down.specs.Known.{known_in};
+ghost use Rattle.pim_jp.specs.Canonical.{IsMessageSet, canonical_entry, canonical_set, canonical, canonical_set_length};
+ghost use Rattle.pim_jp.specs.Canonical.{canonical_sets_length};
+ghost use Rattle.pim_jp.specs.Seen.{entry_seen};
+ghost use Rattle.pim_form.specs.NormalForm.{IsNormal};
+ghost use Rattle.pim_form.specs.Units.{units_of, run_size};
+ghost use Rattle.pim_form.specs.Packing.{fits};
+ghost use Rattle.pim_form.specs.Messages.{IsRpOf, HaveRps, star_entries, excepted_entries, told_set, told_message};
+ghost use Rattle.pim_form.specs.Entries.{canonical_source_entry, canonical_rpt_entry};
+
+use crate::groups::{GroupView, Groups};
+use crate::writer::Writer;
+use pim_addr::{Family, Routes, group_length, source_length};
+use pim_frame::{MessageType, all_routers, seal};
+use pim_jp::{Entry, head_length, put_entry, put_group_and_counts, put_head};
+
+/// Writes an entry at this place.
+fn write_entry_at<F: Family>(entry: Entry<F::Addr>, at: usize, bytes: &mut [u8])
+    requires { at + source_length F.family ≤ length bytes.old }
+    ensures written { bytes.new ≡ take at bytes.old ++ canonical_entry F.family (entry_seen F.bytes_of entry)
+        ++ drop (at + source_length F.family) bytes.old }
+    ensures length { length bytes.new ≡ length bytes.old }
+{
+    let (_, behind) = bytes.split_at_mut(at);
+    let (place, _) = behind.split_at_mut(source_length::<F>());
+    put_entry::<F>(entry, place);
+}
+
+/// Writes sources as (S,G) entries, one behind the other.
+fn write_sources<F: Family>(sources: &[F::Addr], bytes: &mut [u8])
+    requires { length bytes.old ≡ length sources.now * source_length F.family }
+    ensures { bytes.new ≡ flat_map (canonical_source_entry F.family) (map F.bytes_of sources.now) }
+{
+    for (index, source) in sources.iter().enumerate() {
+        write_entry_at::<F>(Entry::Source(*source), index * source_length::<F>(), bytes);
+    }
+}
+
+/// Writes exceptions as (S,G,rpt) entries, one behind the other.
+fn write_exceptions<F: Family>(exceptions: &[F::Addr], bytes: &mut [u8])
+    requires { length bytes.old ≡ length exceptions.now * source_length F.family }
+    ensures { bytes.new ≡ flat_map (canonical_rpt_entry F.family) (map F.bytes_of exceptions.now) }
+{
+    for (index, exception) in exceptions.iter().enumerate() {
+        write_entry_at::<F>(Entry::Rpt(*exception), index * source_length::<F>(), bytes);
+    }
+}
+
+/// Writes the star entry of a group that has a star, and nothing of another group.
+fn write_star<F: Family>(routes: &Routes<F>, group: &GroupView<'_, F>, bytes: &mut [u8])
+    requires rp { IsRpOf F.family (known_in F.family routes.now group.now.group) group.now.star }
+    requires length { length bytes.old
+        ≡ length (star_entries (known_in F.family routes.now group.now.group) group.now.star) * source_length F.family }
+    ensures { bytes.new ≡ flat_map (canonical_entry F.family)
+        (star_entries (known_in F.family routes.now group.now.group) group.now.star) }
+{
+    if !group.star() {
+        return;
+    }
+    if let Some(rp) = routes.rp_of(group.group()) {
+        put_entry::<F>(Entry::Star(rp), bytes);
+    }
+}
+
+/// Writes the set of a group: joined are its star and then its sources, pruned its exceptions.
+fn write_set<F: Family>(routes: &Routes<F>, group: &GroupView<'_, F>, bytes: &mut [u8])
+    requires rp { IsRpOf F.family (known_in F.family routes.now group.now.group) group.now.star }
+    requires joined { length (told_set (known_in F.family routes.now) group.now).joined < 2 ^ 16 }
+    requires pruned { length (told_set (known_in F.family routes.now) group.now).pruned < 2 ^ 16 }
+    requires length { length bytes.old ≡ canonical_set_length F.family
+        (length (told_set (known_in F.family routes.now) group.now).joined)
+        (length (told_set (known_in F.family routes.now) group.now).pruned) }
+    ensures { bytes.new ≡ canonical_set F.family (told_set (known_in F.family routes.now) group.now) }
+{
+    let stars = usize::from(group.star());
+    let joined = stars + group.sources().len();
+    let pruned = group.exceptions().len();
+    let (front, entries) = bytes.split_at_mut(group_length::<F>() + 4);
+    put_group_and_counts::<F>(group.group(), joined as u16, pruned as u16, front);
+    let (star, listed) = entries.split_at_mut(stars * source_length::<F>());
+    let (sources, exceptions) = listed.split_at_mut(group.sources().len() * source_length::<F>());
+    write_star::<F>(routes, group, star);
+    write_sources::<F>(group.sources(), sources);
+    write_exceptions::<F>(group.exceptions(), exceptions);
+}
