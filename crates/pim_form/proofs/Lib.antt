@@ -15,3 +15,4 @@ pub mod Searches
 pub mod Kept
 pub mod Spans
 pub mod StarSize
+pub mod Sets

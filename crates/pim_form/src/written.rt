@@ -79,14 +79,15 @@ fn write_set<F: Family>(routes: &Routes<F>, group: &GroupView<'_, F>, bytes: &mu
         (length (told_set (known_in F.family routes.now) group.now).pruned) }
     ensures { bytes.new ≡ canonical_set F.family (told_set (known_in F.family routes.now) group.now) }
 {
+    let sources = group.sources();
+    let exceptions = group.exceptions();
     let stars = usize::from(group.star());
-    let joined = stars + group.sources().len();
-    let pruned = group.exceptions().len();
+    let joined = stars + sources.len();
     let (front, entries) = bytes.split_at_mut(group_length::<F>() + 4);
-    put_group_and_counts::<F>(group.group(), joined as u16, pruned as u16, front);
+    put_group_and_counts::<F>(group.group(), joined as u16, exceptions.len() as u16, front);
     let (star, listed) = entries.split_at_mut(stars * source_length::<F>());
-    let (sources, exceptions) = listed.split_at_mut(group.sources().len() * source_length::<F>());
+    let (joins, prunes) = listed.split_at_mut(sources.len() * source_length::<F>());
     write_star::<F>(routes, group, star);
-    write_sources::<F>(group.sources(), sources);
-    write_exceptions::<F>(group.exceptions(), exceptions);
+    write_sources::<F>(sources, joins);
+    write_exceptions::<F>(exceptions, prunes);
 }
