@@ -1,8 +1,9 @@
 -- The set of a group, as it is written: how many entries it has, and its parts one behind the other.
-use Rattle.std.proofs.Common.{◌≡◌, ◌∙◌, ℕ, ◌+◌, ◌*◌, List, [], ◌∷◌, ◌++◌, Option, None, Some, map, length, refl, sym, ap, arith, length-append, append_assoc}
+use Rattle.std.proofs.Common.{◌≡◌, ◌∙◌, ℕ, ◌+◌, ◌*◌, ◌<◌, ◌^◌, List, [], ◌∷◌, ◌++◌, Option, None, Some, map, length, take, refl, sym, ap, arith, length-append, append_assoc}
 use Rattle.std.specs.Prelude.{Bool, is_some}
 use Rattle.std.specs.Int.{from_bool}
 use Rattle.std.specs.List.{flat_map}
+use Rattle.std.proofs.Math.Seq.{take-append_seam}
 use Rattle.std.proofs.lemmas.List.{length-map}
 use Rattle.std.proofs.lemmas.List.Folds.{flat_map-map}
 use Rattle.std.proofs.lemmas.Grind.{flat_map-append}
@@ -65,3 +66,12 @@ set_spelled count family rps this joined pruned front star sources exceptions jo
     ∙ ap (λ (bytes : List ℕ). (front ++ bytes) ++ exceptions) joins
     ∙ ap (λ (bytes : List ℕ). (front ++ flat_map (canonical_entry family) (told_set rps this).joined) ++ bytes) prunes
     ∙ ap (λ (bytes : List ℕ). (bytes ++ flat_map (canonical_entry family) (told_set rps this).joined) ++ flat_map (canonical_entry family) (told_set rps this).pruned) fronts
+
+-- a front of a row that ends behind a piece
+pub front_and_piece : (at size : ℕ) (front piece others : List ℕ) → length front ≡ at → length piece ≡ size → take (at + size) (front ++ (piece ++ others)) ≡ front ++ piece
+front_and_piece at size front piece others is_at is_size =
+    let long : length (front ++ piece) ≡ at + size = omega (arith, length-append front piece) in
+    ap (λ (row : List ℕ). take (at + size) row) (sym (append_assoc front piece others)) ∙ ap (λ (n : ℕ). take n ((front ++ piece) ++ others)) (sym long) ∙ take-append_seam (front ++ piece) others
+
+pub few_sources : (rps : Rps) (this : GroupForm) → length (told_set rps this).joined < 2 ^ 16 → length this.sources < 2 ^ 16
+few_sources rps this few = omega (arith, joined_count rps this)

@@ -12,14 +12,14 @@ ghost use Rattle.pim_jp.specs.Seen.{entry_seen};
 ghost use Rattle.pim_form.specs.NormalForm.{IsNormal};
 ghost use Rattle.pim_form.specs.Units.{units_of, run_size};
 ghost use Rattle.pim_form.specs.Packing.{fits};
-ghost use Rattle.pim_form.specs.Messages.{IsRpOf, HaveRps, star_entries, excepted_entries, told_set, told_message};
+ghost use Rattle.pim_form.specs.Messages.{Rps, IsRpOf, HaveRps, star_entries, excepted_entries, told_set, told_message};
 ghost use Rattle.pim_form.specs.Entries.{canonical_source_entry, canonical_rpt_entry};
 
 use crate::groups::{GroupView, Groups};
 use crate::writer::Writer;
 use pim_addr::{Family, Routes, group_length, source_length};
 use pim_frame::{MessageType, all_routers, seal};
-use pim_jp::{Entry, head_length, put_entry, put_group_and_counts, put_head};
+use pim_jp::{Entry, head_length, put_entry, put_group_and_counts, put_head, set_length};
 
 /// Writes an entry at this place.
 fn write_entry_at<F: Family>(entry: Entry<F::Addr>, at: usize, bytes: &mut [u8])
@@ -69,6 +69,22 @@ fn write_star<F: Family>(routes: &Routes<F>, group: &GroupView<'_, F>, bytes: &m
     }
 }
 
+/// How many entries of a group are joined: its star and its sources.
+fn joined_count<F: Family>(group: &GroupView<'_, F>) -> usize
+    requires { length group.now.sources < 2 ^ 16 }
+    ensures { (rps : Rps) → IsRpOf F.family (rps group.now.group) group.now.star
+        → result ≡ length (told_set rps group.now).joined }
+{
+    usize::from(group.star()) + group.sources().len()
+}
+
+/// How many entries of a group are pruned: its exceptions.
+fn pruned_count<F: Family>(group: &GroupView<'_, F>) -> usize
+    ensures { (rps : Rps) → result ≡ length (told_set rps group.now).pruned }
+{
+    group.exceptions().len()
+}
+
 /// Writes the set of a group: joined are its star and then its sources, pruned its exceptions.
 fn write_set<F: Family>(routes: &Routes<F>, group: &GroupView<'_, F>, bytes: &mut [u8])
     requires rp { IsRpOf F.family (known_in F.family routes.now group.now.group) group.now.star }
@@ -90,4 +106,40 @@ fn write_set<F: Family>(routes: &Routes<F>, group: &GroupView<'_, F>, bytes: &mu
     write_star::<F>(routes, group, star);
     write_sources::<F>(sources, joins);
     write_exceptions::<F>(exceptions, prunes);
+}
+
+/// Writes the set of a group at this place, and answers the place behind it.
+fn write_set_at<F: Family>(routes: &Routes<F>, group: &GroupView<'_, F>, at: usize, bytes: &mut [u8]) -> usize
+    requires rp { IsRpOf F.family (known_in F.family routes.now group.now.group) group.now.star }
+    requires set { IsMessageSet F.family (told_set (known_in F.family routes.now) group.now) }
+    requires room { at + canonical_set_length F.family
+        (length (told_set (known_in F.family routes.now) group.now).joined)
+        (length (told_set (known_in F.family routes.now) group.now).pruned) ≤ length bytes.old }
+    ensures end { result ≡ at + canonical_set_length F.family
+        (length (told_set (known_in F.family routes.now) group.now).joined)
+        (length (told_set (known_in F.family routes.now) group.now).pruned) }
+    ensures front { take result bytes.new
+        ≡ take at bytes.old ++ canonical_set F.family (told_set (known_in F.family routes.now) group.now) }
+    ensures length { length bytes.new ≡ length bytes.old }
+{
+    let length = set_length::<F>(joined_count(group) as u16, pruned_count(group) as u16);
+    let (_, behind) = bytes.split_at_mut(at);
+    let (place, _) = behind.split_at_mut(length);
+    write_set::<F>(routes, group, place);
+    at + length
+}
+
+/// Writes the sets of groups, one behind the other.
+fn write_sets<F: Family>(routes: &Routes<F>, groups: Groups<'_, F>, bytes: &mut [u8])
+    requires rps { HaveRps F.family (known_in F.family routes.now) groups }
+    requires sets { AllByRecursion (IsMessageSet F.family) (map (told_set (known_in F.family routes.now)) groups) }
+    requires length { length bytes.old
+        ≡ canonical_sets_length F.family (map (told_set (known_in F.family routes.now)) groups) }
+    ensures { bytes.new
+        ≡ flat_map (canonical_set F.family) (map (told_set (known_in F.family routes.now)) groups.entry) }
+{
+    let mut at = 0;
+    for group in groups {
+        at = write_set_at::<F>(routes, &group, at, bytes);
+    }
 }
