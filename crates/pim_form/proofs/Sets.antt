@@ -1,17 +1,17 @@
 -- The set of a group, as it is written: how many entries it has, and its parts one behind the other.
-use Rattle.std.proofs.Common.{◌≡◌, ◌∙◌, ℕ, ◌+◌, ◌*◌, ◌<◌, ◌^◌, List, [], ◌∷◌, ◌++◌, Option, None, Some, map, length, take, refl, sym, ap, arith, length-append, append_assoc}
+use Rattle.std.proofs.Common.{◌≡◌, ◌∙◌, ℕ, ◌+◌, ◌*◌, ◌≤◌, ◌<◌, ◌^◌, List, [], ◌∷◌, ◌++◌, Option, None, Some, map, length, take, refl, sym, ap, arith, length-append, append_assoc}
 use Rattle.std.specs.Prelude.{Bool, is_some}
 use Rattle.std.specs.Int.{from_bool}
 use Rattle.std.specs.List.{flat_map}
 use Rattle.std.proofs.Math.Seq.{take-append_seam}
-use Rattle.std.proofs.lemmas.List.{length-map}
+use Rattle.std.proofs.lemmas.List.{length-map, take_all, append-nil}
 use Rattle.std.proofs.lemmas.List.Folds.{flat_map-map}
 use Rattle.std.proofs.lemmas.Grind.{flat_map-append}
 use Rattle.pim_addr.specs.declared.family.AddressFamily.{AddressFamily}
 use Rattle.pim_addr.specs.Canonical.{canonical_group}
 use Rattle.pim_jp.specs.declared.entry.Entry.{Entry}
 use Rattle.pim_jp.specs.declared.entry.Entry.TheVariants.{Source, Rpt}
-use Rattle.pim_jp.specs.Canonical.{canonical_entry}
+use Rattle.pim_jp.specs.Canonical.{canonical_entry, canonical_set, canonical_set_length, canonical_sets_length}
 use Rattle.pim_form.specs.NormalForm.{GroupForm}
 use Rattle.pim_form.specs.Rows.{exceptions_of}
 use Rattle.pim_form.specs.Messages.{Rps, IsRpOf, star_entries, excepted_entries, told_set}
@@ -75,3 +75,40 @@ front_and_piece at size front piece others is_at is_size =
 
 pub few_sources : (rps : Rps) (this : GroupForm) → length (told_set rps this).joined < 2 ^ 16 → length this.sources < 2 ^ 16
 few_sources rps this few = omega (arith, joined_count rps this)
+
+-- ---- sets one behind the other
+
+module _ (family : AddressFamily) (rps : Rps) where
+  abbrev pub set_size : GroupForm → ℕ
+  set_size this = canonical_set_length family (length (told_set rps this).joined) (length (told_set rps this).pruned)
+
+  abbrev pub sets_size : List GroupForm → ℕ
+  sets_size part = canonical_sets_length family (map (told_set rps) part)
+
+  abbrev pub sets_spelled : List GroupForm → List ℕ
+  sets_spelled part = flat_map (canonical_set family) (map (told_set rps) part)
+
+  more_size : (left others : List GroupForm) (this : GroupForm) → left ≡ this ∷ others → sets_size left ≡ set_size this + sets_size others
+  unfolding canonical_sets_length
+  more_size left others this is = ap sets_size is
+
+  none_size : (left : List GroupForm) → left ≡ [] → sets_size left ≡ 0
+  unfolding canonical_sets_length
+  none_size left none = ap sets_size none
+
+  pub room_of_first : (left others : List GroupForm) (this : GroupForm) (at whole : ℕ) → left ≡ this ∷ others → at + sets_size left ≡ whole → at + set_size this ≤ whole
+  room_of_first left others this at whole is room = omega (arith, more_size left others this is)
+
+  pub room_of_others : (left others : List GroupForm) (this : GroupForm) (at end whole : ℕ) → left ≡ this ∷ others → at + sets_size left ≡ whole → end ≡ at + set_size this → end + sets_size others ≡ whole
+  room_of_others left others this at end whole is room ends = omega (arith, more_size left others this is)
+
+  pub one_more_set : (left others : List GroupForm) (this : GroupForm) (before behind all : List ℕ) → left ≡ this ∷ others → before ++ sets_spelled left ≡ all → behind ≡ before ++ canonical_set family (told_set rps this)
+      → behind ++ sets_spelled others ≡ all
+  one_more_set left others this before behind all is written more =
+      ap (λ (bytes : List ℕ). bytes ++ sets_spelled others) more ∙ append_assoc before (canonical_set family (told_set rps this)) (sets_spelled others)
+      ∙ ap (λ (part : List GroupForm). before ++ sets_spelled part) (sym is) ∙ written
+
+  pub no_more_set : (left : List GroupForm) (at : ℕ) (bytes all : List ℕ) → left ≡ [] → at + sets_size left ≡ length bytes → take at bytes ++ sets_spelled left ≡ all → bytes ≡ all
+  no_more_set left at bytes all none room written =
+      let ends : length bytes ≤ at = omega (arith, none_size left none) in
+      sym (take_all at bytes ends) ∙ sym (append-nil (take at bytes)) ∙ ap (λ (part : List GroupForm). take at bytes ++ sets_spelled part) (sym none) ∙ written
