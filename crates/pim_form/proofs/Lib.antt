@@ -16,3 +16,4 @@ pub mod Kept
 pub mod Spans
 pub mod StarSize
 pub mod Sets
+pub mod PartMessage

@@ -82,24 +82,24 @@ module _ (family : AddressFamily) (rps : Rps) where
   abbrev pub set_size : GroupForm → ℕ
   set_size this = canonical_set_length family (length (told_set rps this).joined) (length (told_set rps this).pruned)
 
-  abbrev pub sets_size : List GroupForm → ℕ
-  sets_size part = canonical_sets_length family (map (told_set rps) part)
+  abbrev pub sets_room : List GroupForm → ℕ
+  sets_room part = canonical_sets_length family (map (told_set rps) part)
 
   abbrev pub sets_spelled : List GroupForm → List ℕ
   sets_spelled part = flat_map (canonical_set family) (map (told_set rps) part)
 
-  more_size : (left others : List GroupForm) (this : GroupForm) → left ≡ this ∷ others → sets_size left ≡ set_size this + sets_size others
+  more_size : (left others : List GroupForm) (this : GroupForm) → left ≡ this ∷ others → sets_room left ≡ set_size this + sets_room others
   unfolding canonical_sets_length
-  more_size left others this is = ap sets_size is
+  more_size left others this is = ap sets_room is
 
-  none_size : (left : List GroupForm) → left ≡ [] → sets_size left ≡ 0
+  none_size : (left : List GroupForm) → left ≡ [] → sets_room left ≡ 0
   unfolding canonical_sets_length
-  none_size left none = ap sets_size none
+  none_size left none = ap sets_room none
 
-  pub room_of_first : (left others : List GroupForm) (this : GroupForm) (at whole : ℕ) → left ≡ this ∷ others → at + sets_size left ≡ whole → at + set_size this ≤ whole
+  pub room_of_first : (left others : List GroupForm) (this : GroupForm) (at whole : ℕ) → left ≡ this ∷ others → at + sets_room left ≡ whole → at + set_size this ≤ whole
   room_of_first left others this at whole is room = omega (arith, more_size left others this is)
 
-  pub room_of_others : (left others : List GroupForm) (this : GroupForm) (at end whole : ℕ) → left ≡ this ∷ others → at + sets_size left ≡ whole → end ≡ at + set_size this → end + sets_size others ≡ whole
+  pub room_of_others : (left others : List GroupForm) (this : GroupForm) (at end whole : ℕ) → left ≡ this ∷ others → at + sets_room left ≡ whole → end ≡ at + set_size this → end + sets_room others ≡ whole
   room_of_others left others this at end whole is room ends = omega (arith, more_size left others this is)
 
   pub one_more_set : (left others : List GroupForm) (this : GroupForm) (before behind all : List ℕ) → left ≡ this ∷ others → before ++ sets_spelled left ≡ all → behind ≡ before ++ canonical_set family (told_set rps this)
@@ -108,7 +108,7 @@ module _ (family : AddressFamily) (rps : Rps) where
       ap (λ (bytes : List ℕ). bytes ++ sets_spelled others) more ∙ append_assoc before (canonical_set family (told_set rps this)) (sets_spelled others)
       ∙ ap (λ (part : List GroupForm). before ++ sets_spelled part) (sym is) ∙ written
 
-  pub no_more_set : (left : List GroupForm) (at : ℕ) (bytes all : List ℕ) → left ≡ [] → at + sets_size left ≡ length bytes → take at bytes ++ sets_spelled left ≡ all → bytes ≡ all
+  pub no_more_set : (left : List GroupForm) (at : ℕ) (bytes all : List ℕ) → left ≡ [] → at + sets_room left ≡ length bytes → take at bytes ++ sets_spelled left ≡ all → bytes ≡ all
   no_more_set left at bytes all none room written =
       let ends : length bytes ≤ at = omega (arith, none_size left none) in
       sym (take_all at bytes ends) ∙ sym (append-nil (take at bytes)) ∙ ap (λ (part : List GroupForm). take at bytes ++ sets_spelled part) (sym none) ∙ written

@@ -5,6 +5,7 @@ ghost use Rattle.std.specs.List.{AllByRecursion, flat_map};
 ghost use Rattle.pim_addr.specs.Encoded.{source_length};
 ghost use Rattle.pim_frame.specs.Frame.{all_routers};
 ghost use Rattle.pim_frame.specs.Seal.{IsSealed};
+ghost use Rattle.pim_frame.specs.declared.frame.MessageType.TheVariants.{JoinPrune};
 ghost use Rattle.pim_down.specs.Known.{known_in};
 ghost use Rattle.pim_jp.specs.Canonical.{IsMessageSet, canonical_entry, canonical_set, canonical, canonical_set_length};
 ghost use Rattle.pim_jp.specs.Canonical.{canonical_sets_length};
@@ -142,4 +143,27 @@ fn write_sets<F: Family>(routes: &Routes<F>, groups: Groups<'_, F>, bytes: &mut 
     for group in groups {
         at = write_set_at::<F>(routes, &group, at, bytes);
     }
+}
+
+/// Writes the message of a part of a form, which fits the writer's budget, into a slice of its length: the sets of its
+/// groups behind their head, and the header, sealed for ALL-PIM-ROUTERS.
+pub(crate) fn write_message<F: Family>(
+    writer: &Writer<F>,
+    routes: &Routes<F>,
+    part: Groups<'_, F>,
+    bytes: &mut [u8],
+)
+    requires normal { IsNormal F.family part }
+    requires rps { HaveRps F.family (known_in F.family routes.now) part }
+    requires fitting { fits F.family writer.now.budget (units_of part) ≡ true }
+    requires length { length bytes.old ≡ run_size F.family (units_of part) }
+    ensures { IsSealed F.family writer.now.own (all_routers F.family) JoinPrune
+        (canonical F.family (told_message writer.now (known_in F.family routes.now) part.entry)) bytes.new }
+{
+    writer.is_writing();
+    let (_, body) = bytes.split_at_mut(4);
+    let (head, sets) = body.split_at_mut(head_length::<F>());
+    put_head::<F>(writer.upstream(), part.count_left() as u8, writer.holdtime(), head);
+    write_sets::<F>(routes, part, sets);
+    seal::<F>(writer.own(), all_routers::<F>(), MessageType::JoinPrune, bytes);
 }
