@@ -10,6 +10,7 @@ pub mod Spelled
 pub mod Told
 pub mod Headline
 pub mod OneNeighbour
+pub mod Asked
 pub mod Writers
 pub mod Searches
 pub mod Kept

@@ -17,6 +17,7 @@ mod sizes;
 mod sorted;
 #[cfg(test)]
 mod tests;
+mod toward;
 mod tree;
 mod wanting;
 mod writer;
@@ -28,6 +29,7 @@ pub use laws::{
     one_packing, sealed_message_is_read, size_is_length, some_source_is_outside,
 };
 pub use messages::Messages;
+pub use toward::{is_toward, upstream_of};
 pub use tree::Tree;
 pub use wanting::wants;
 pub use writer::{Writer, WriterFault};
