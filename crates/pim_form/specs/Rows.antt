@@ -10,9 +10,10 @@ use Rattle.pim_form.specs.NormalForm.{GroupForm, IsNormalGroup, IsNormal, is_lis
 abbrev pub between : {A : Type 0} → ℕ → ℕ → List A → List A
 between start end row = drop start (take end row)
 
--- the sources stand first, then the exceptions
+-- its sources and its exceptions are parts of a row of this size
 abbrev pub IsWithin : {A : Type 0} → ℕ → Place A → Type 0
-IsWithin size place = (place.start ≤ place.middle) × (place.middle ≤ place.end) × (place.end ≤ size)
+IsWithin size place = (place.sources_start ≤ place.sources_end) × (place.sources_end ≤ size)
+    × (place.exceptions_start ≤ place.exceptions_end) × (place.exceptions_end ≤ size)
 
 abbrev pub star_of : Bool → List (List ℕ) → Option (List (List ℕ))
 star_of starred exceptions = if starred then Some exceptions else None
@@ -31,8 +32,8 @@ module _ {A : Type 0} (bytes_of : A → List ℕ) where
   }
 
   abbrev pub place_seen : List A → Place A → GroupForm
-  place_seen row place =
-      group_seen place.group place.starred (between place.middle place.end row) (between place.start place.middle row)
+  place_seen row place = group_seen place.group place.starred
+      (between place.exceptions_start place.exceptions_end row) (between place.sources_start place.sources_end row)
 
   abbrev pub form_seen : List A → List (Place A) → List GroupForm
   form_seen row places = map (place_seen row) places

@@ -93,10 +93,10 @@ pub(crate) fn group_at<'a, F: Family>(
     requires normal { IsNormalGroup F.family (place_seen F.bytes_of row.now place.now) }
     ensures { result ≡ place_seen F.bytes_of row.now place.now }
 {
-    let (front, _) = row.split_at(place.end);
-    let (_, exceptions) = front.split_at(place.middle);
-    let (front, _) = row.split_at(place.middle);
-    let (_, sources) = front.split_at(place.start);
+    let (front, _) = row.split_at(place.exceptions_end);
+    let (_, exceptions) = front.split_at(place.exceptions_start);
+    let (front, _) = row.split_at(place.sources_end);
+    let (_, sources) = front.split_at(place.sources_start);
     GroupView {
         group: place.group,
         starred: place.starred,

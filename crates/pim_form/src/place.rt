@@ -1,6 +1,6 @@
 //! Where the addresses of a group stand in a form.
 
-/// A group of a form, and where its addresses stand in the form's row: its sources, then its exceptions.
+/// A group of a form, or a piece of one, and where its addresses stand in the form's row.
 #[derive(Clone, Copy)]
 pub(crate) struct Place<A> {
     /// The group.
@@ -8,9 +8,11 @@ pub(crate) struct Place<A> {
     /// Whether it has a star.
     pub(crate) starred: bool,
     /// Where its sources begin.
-    pub(crate) start: usize,
-    /// Where its sources end and its exceptions begin.
-    pub(crate) middle: usize,
+    pub(crate) sources_start: usize,
+    /// Where its sources end.
+    pub(crate) sources_end: usize,
+    /// Where its exceptions begin.
+    pub(crate) exceptions_start: usize,
     /// Where its exceptions end.
-    pub(crate) end: usize,
+    pub(crate) exceptions_end: usize,
 }
