@@ -38,7 +38,7 @@ fn is_asked<F: Family>(asked: Option<F::Addr>, upstream: F::Addr) -> bool
     }
 }
 
-#[tactic(auto, using(crate::proofs::Asked::all_step, crate::proofs::Asked::all_stop))]
+#[tactic(auto, using(crate::proofs::Asked::all_left, crate::proofs::Asked::none_left))]
 /// Whether all these sources are reached by this neighbour.
 fn all_reached<F: Family>(sources: &[F::Addr], routes: &Routes<F>, upstream: F::Addr) -> bool
     ensures { result ≡ list_all (λ (source : List ℕ). is_neighbour (F.bytes_of upstream)
