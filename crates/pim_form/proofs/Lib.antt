@@ -11,6 +11,7 @@ pub mod Told
 pub mod Headline
 pub mod OneNeighbour
 pub mod Asked
+pub mod PushedGroups
 pub mod Writers
 pub mod Searches
 pub mod Kept

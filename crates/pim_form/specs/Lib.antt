@@ -10,4 +10,5 @@ pub mod Rows
 pub mod Blocks
 pub mod TooBig
 pub mod Toward
+pub mod KeptToward
 pub mod Plan

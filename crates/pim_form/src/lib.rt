@@ -9,6 +9,7 @@
 
 mod form;
 mod groups;
+mod kept_toward;
 mod laws;
 mod messages;
 mod place;

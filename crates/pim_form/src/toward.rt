@@ -29,7 +29,7 @@ pub fn upstream_of<F: Family>(
 }
 
 /// Whether this is the neighbour that is asked, if anybody is.
-fn is_asked<F: Family>(asked: Option<F::Addr>, upstream: F::Addr) -> bool
+pub(crate) fn is_asked<F: Family>(asked: Option<F::Addr>, upstream: F::Addr) -> bool
     ensures { result ≡ is_neighbour (F.bytes_of upstream) (option_map F.bytes_of asked) }
 {
     match asked {
