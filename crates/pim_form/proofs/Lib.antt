@@ -12,6 +12,8 @@ pub mod Headline
 pub mod OneNeighbour
 pub mod Asked
 pub mod PushedGroups
+pub mod KeptForm
+pub mod KeptLoop
 pub mod Writers
 pub mod Searches
 pub mod Kept

@@ -1,10 +1,11 @@
 //! What is left of a form where only one neighbour is asked.
 
-ghost use Rattle.std.specs.Prelude.{◌≡◌, ◌++◌, filter, IfOk, OnOk};
+ghost use Rattle.std.specs.Prelude.{◌≡◌, ◌∷◌, ◌++◌, [], true, filter, if◌then◌else◌, IfOk, OnOk};
 ghost use Rattle.std.specs.Option.{is_some};
 ghost use Rattle.pim_down.specs.Known.{known_in};
-ghost use Rattle.pim_form.specs.Toward.{via_in};
-ghost use Rattle.pim_form.specs.KeptToward.{is_reached, star_toward, group_toward, form_toward, has_some, IsStarPushed, IsPushed};
+ghost use Rattle.pim_form.specs.NormalForm.{IsFormOf, form_wants};
+ghost use Rattle.pim_form.specs.Toward.{via_in, toward, is_toward};
+ghost use Rattle.pim_form.specs.KeptToward.{is_reached, star_toward, group_toward, has_some, IsStarPushed, IsPushed};
 
 use crate::form::NormalForm;
 use crate::groups::GroupView;
@@ -89,6 +90,17 @@ fn has_some<A: Copy>(place: &Place<A>) -> bool
     place.starred || place.sources_start < place.sources_end
 }
 
+/// Appends the place, if it has a star or a source.
+fn push_place<A: Copy>(places: &mut Vec<Place<A>>, place: Place<A>) -> Result<(), AllocError>
+    ensures { OnOk result (places.new.items
+        ≡ (if has_some place then places.old.items ++ place ∷ [] else places.old.items)) }
+{
+    if has_some(&place) {
+        places.push(place)?;
+    }
+    Ok(())
+}
+
 /// The normal form of what a normal form wants of this neighbour: the stars, with all their exceptions, whose RP is
 /// reached by it, and the sources that are. The only refusal is want of memory.
 pub(crate) fn kept_toward<F: Family>(
@@ -97,16 +109,17 @@ pub(crate) fn kept_toward<F: Family>(
     routes: &Routes<F>,
     upstream: F::Addr,
 ) -> Result<NormalForm<F>, AllocError>
-    ensures { IfOk result (λ form. form ≡ form_toward (known_in F.family routes.now) (via_in F.family routes.now)
-        (F.bytes_of upstream) normal.now) }
+    ensures meaning { IfOk result (λ form. IsFormOf F.family (toward (known_in F.family routes.now)
+        (via_in F.family routes.now) (F.bytes_of upstream) (form_wants normal.now)) form) }
+    ensures only { IfOk result (λ form. is_toward (known_in F.family routes.now) (via_in F.family routes.now)
+        (F.bytes_of upstream) form ≡ true) }
 {
+    normal.is_normal();
     let mut row = Vec::new(alloc);
     let mut places = Vec::new(alloc);
     for this in normal.groups() {
         let place = push_group::<F>(&mut row, &this, routes, upstream)?;
-        if has_some(&place) {
-            places.push(place)?;
-        }
+        push_place(&mut places, place)?;
     }
     Ok(NormalForm { row, places })
 }
