@@ -14,6 +14,7 @@ pub mod Asked
 pub mod PushedGroups
 pub mod KeptForm
 pub mod KeptLoop
+pub mod AskedForAll
 pub mod Writers
 pub mod Searches
 pub mod Kept

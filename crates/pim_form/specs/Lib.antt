@@ -11,4 +11,5 @@ pub mod Blocks
 pub mod TooBig
 pub mod Toward
 pub mod KeptToward
+pub mod TowardLaws
 pub mod Plan

@@ -19,6 +19,7 @@ mod sorted;
 #[cfg(test)]
 mod tests;
 mod toward;
+mod toward_laws;
 mod tree;
 mod wanting;
 mod writer;
@@ -31,6 +32,9 @@ pub use laws::{
 };
 pub use messages::Messages;
 pub use toward::{is_toward, upstream_of};
+pub use toward_laws::{
+    one_row_asks_one_neighbour, same_messages_same_asked, test_tells_who_is_asked,
+};
 pub use tree::Tree;
 pub use wanting::wants;
 pub use writer::{Writer, WriterFault};
