@@ -4,7 +4,7 @@ use Rattle.std.proofs.lemmas.Bool.{false≢true}
 use Rattle.std.specs.Cmp.Derive.{both_true}
 use Rattle.std.specs.List.{AllByRecursion, list_all}
 use Rattle.pim_addr.specs.declared.family.AddressFamily.{AddressFamily}
-use Rattle.pim_addr.specs.Address.{IsSourceAddress, IsGroupAddress}
+use Rattle.pim_addr.specs.Address.{IsSourceAddress}
 use Rattle.pim_form.specs.declared.tree.Tree.{Tree}
 use Rattle.pim_form.specs.declared.tree.Tree.TheVariants.{Shared, Source}
 use Rattle.pim_form.specs.NormalForm.{Demand, GroupForm, same_address, is_listed, AreExceptions, is_excepted, IsNormalGroup, IsNormal, group_wants, form_wants, IsFormOf}

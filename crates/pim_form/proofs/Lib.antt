@@ -15,6 +15,8 @@ pub mod PushedGroups
 pub mod KeptForm
 pub mod KeptLoop
 pub mod AskedForAll
+pub mod TableRps
+pub mod OneRow
 pub mod Writers
 pub mod Searches
 pub mod Kept

@@ -28,7 +28,8 @@ pub use form::{NormalForm, normal_again};
 pub use groups::{GroupView, Groups};
 pub use laws::{
     messages_tell_the_form, one_list_of_messages, one_neighbour_is_asked_for_all, one_normal_form,
-    one_packing, sealed_message_is_read, size_is_length, some_source_is_outside,
+    one_packing, same_messages_same_demand, sealed_message_is_read, size_is_length,
+    some_source_is_outside,
 };
 pub use messages::Messages;
 pub use toward::{is_toward, upstream_of};
