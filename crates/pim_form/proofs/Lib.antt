@@ -10,6 +10,13 @@ pub mod Spelled
 pub mod Told
 pub mod Headline
 pub mod OneNeighbour
+pub mod Asked
+pub mod PushedGroups
+pub mod KeptForm
+pub mod KeptLoop
+pub mod AskedForAll
+pub mod TableRps
+pub mod OneRow
 pub mod Writers
 pub mod Searches
 pub mod Kept
