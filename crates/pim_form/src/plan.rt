@@ -1,6 +1,13 @@
 //! How a form is cut into messages.
 
+ghost use Rattle.std.specs.Prelude.{◌≡◌, ◌≤◌, None, IfOk};
+ghost use Rattle.pim_form.specs.Rows.{IsKept, form_seen};
+ghost use Rattle.pim_form.specs.TooBig.{too_big};
+ghost use Rattle.pim_form.specs.Plan.{IsPlan};
+
 use crate::place::Place;
+use pim_addr::Family;
+use std::alloc::{AllocError, Global};
 
 /// Pieces of the groups of a form, in order, and where the pieces of each message end.
 #[derive(Drop)]
@@ -9,4 +16,20 @@ pub(crate) struct Plan<A> {
     pub(crate) pieces: Vec<Place<A>>,
     /// How many pieces stand before the end of each message.
     pub(crate) ends: Vec<usize>,
+}
+
+/// A stand-in.
+pub(crate) fn plan_messages<F: Family>(
+    _alloc: Global,
+    row: &[F::Addr],
+    places: &[Place<F::Addr>],
+    budget: usize,
+) -> Result<Plan<F::Addr>, AllocError>
+    requires kept { IsKept F.bytes_of F.family row.now places.now }
+    requires least { 70 ≤ budget }
+    requires most { budget ≤ 65000 }
+    requires fits { too_big F.family budget (form_seen F.bytes_of row.now places.now) ≡ None }
+    ensures { IfOk result (λ plan. IsPlan F.bytes_of F.family budget row.now places.now plan.pieces.items plan.ends.items) }
+{
+    Err(AllocError)
 }
