@@ -24,3 +24,4 @@ pub mod Spans
 pub mod StarSize
 pub mod Sets
 pub mod PartMessage
+pub mod Counted

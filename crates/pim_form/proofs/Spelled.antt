@@ -150,7 +150,7 @@ legal rps this = (one_star (rps this.group) this.star this.sources, apart (rps t
 
 -- ---- how many entries
 
-sources_entries : (group : List ℕ) (xs : List (List ℕ)) → run_entries (map (source_unit group) xs) ≡ length xs
+pub sources_entries : (group : List ℕ) (xs : List (List ℕ)) → run_entries (map (source_unit group) xs) ≡ length xs
 unfolding run_entries
 sources_entries group [] = refl
 sources_entries group (x ∷ xs) = omega (arith, sources_entries group xs)
@@ -186,7 +186,7 @@ sets_are family rps (this ∷ part) all few =
     let left : run_entries (units_of part) < 2 ^ 16 = omega arith in
     ((all.0.group.0, all.0.group.1, legal rps this, joined, entries.0, pruned, entries.1), sets_are family rps part all.1 left)
 
-entries_few : (family : AddressFamily) (run : List WantUnit) → run_size family run ≤ 65000 → run_entries run < 2 ^ 16
+pub entries_few : (family : AddressFamily) (run : List WantUnit) → run_size family run ≤ 65000 → run_entries run < 2 ^ 16
 entries_few Ipv4 run h = omega arith
 entries_few Ipv6 run h = omega arith
 

@@ -9,7 +9,7 @@ use crate::groups::GroupView;
 use pim_addr::{Family, group_length, source_length, unicast_length};
 
 /// The bytes of a message with so many groups and entries. There are at most 255 of the one and 100,001 of the other.
-fn message_size<F: Family>(groups: usize, entries: usize) -> usize
+pub(crate) fn message_size<F: Family>(groups: usize, entries: usize) -> usize
     requires groups { groups ≤ 255 }
     requires entries { entries ≤ 100001 }
     ensures { result ≡ empty_message_size F.family + groups * empty_set_size F.family + entries * entry_size F.family }

@@ -11,12 +11,13 @@ ghost use Rattle.pim_jp.specs.Canonical.{IsMessageSet, canonical_entry, canonica
 ghost use Rattle.pim_jp.specs.Canonical.{canonical_sets_length};
 ghost use Rattle.pim_jp.specs.Seen.{entry_seen};
 ghost use Rattle.pim_form.specs.NormalForm.{IsNormal};
-ghost use Rattle.pim_form.specs.Units.{units_of, run_size};
+ghost use Rattle.pim_form.specs.Units.{group_units, units_of, run_entries, run_groups, run_size};
 ghost use Rattle.pim_form.specs.Packing.{fits};
 ghost use Rattle.pim_form.specs.Messages.{Rps, IsRpOf, HaveRps, star_entries, excepted_entries, told_set, told_message};
 ghost use Rattle.pim_form.specs.Entries.{canonical_source_entry, canonical_rpt_entry};
 
 use crate::groups::{GroupView, Groups};
+use crate::sizes::message_size;
 use crate::writer::Writer;
 use pim_addr::{Family, Routes, group_length, source_length};
 use pim_frame::{MessageType, all_routers, seal};
@@ -166,4 +167,27 @@ pub(crate) fn write_message<F: Family>(
     put_head::<F>(writer.upstream(), part.count_left() as u8, writer.holdtime(), head);
     write_sets::<F>(routes, part, sets);
     seal::<F>(writer.own(), all_routers::<F>(), MessageType::JoinPrune, bytes);
+}
+
+/// How many entries a group has: its star, its exceptions and its sources.
+fn entry_count<F: Family>(group: &GroupView<'_, F>) -> usize
+    requires { run_entries (group_units group.now) < 2 ^ 16 }
+    ensures { result ≡ run_entries (group_units group.now) }
+{
+    usize::from(group.star()) + group.exceptions().len() + group.sources().len()
+}
+
+/// How many bytes the message of a part of a form has.
+pub(crate) fn message_length<F: Family>(part: Groups<'_, F>) -> usize
+    requires normal { IsNormal F.family part }
+    requires groups { run_groups (units_of part) ≤ 255 }
+    requires size { run_size F.family (units_of part) ≤ 65000 }
+    ensures { result ≡ run_size F.family (units_of part.entry) }
+{
+    let count = part.count_left();
+    let mut entries = 0;
+    for group in part {
+        entries += entry_count::<F>(&group);
+    }
+    message_size::<F>(count, entries)
 }
