@@ -14,3 +14,4 @@ pub mod KeptToward
 pub mod TowardLaws
 pub mod Plan
 pub mod Entries
+pub mod Added

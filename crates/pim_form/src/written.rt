@@ -1,6 +1,6 @@
 //! One message, written in place: its head, a set for each group, and at last its header (RFC 7761, 4.9.5).
 
-ghost use Rattle.std.specs.Prelude.{◌≡◌, ◌+◌, ◌*◌, ◌<◌, ◌≤◌, ◌^◌, true, take, drop, ◌++◌, length, map};
+ghost use Rattle.std.specs.Prelude.{◌≡◌, ◌+◌, ◌*◌, ◌<◌, ◌≤◌, ◌^◌, true, take, drop, ◌++◌, length, map, OnOk, OnErr};
 ghost use Rattle.std.specs.List.{AllByRecursion, flat_map};
 ghost use Rattle.pim_addr.specs.Encoded.{source_length};
 ghost use Rattle.pim_frame.specs.Frame.{all_routers};
@@ -8,15 +8,20 @@ ghost use Rattle.pim_frame.specs.Seal.{IsSealed};
 ghost use Rattle.pim_frame.specs.declared.frame.MessageType.TheVariants.{JoinPrune};
 ghost use Rattle.pim_down.specs.Known.{known_in};
 ghost use Rattle.pim_jp.specs.Canonical.{IsMessageSet, canonical_entry, canonical_set, canonical, canonical_set_length};
+use std::alloc::AllocError;
 ghost use Rattle.pim_jp.specs.Canonical.{canonical_sets_length};
 ghost use Rattle.pim_jp.specs.Seen.{entry_seen};
 ghost use Rattle.pim_form.specs.NormalForm.{IsNormal};
 ghost use Rattle.pim_form.specs.Units.{group_units, units_of, run_entries, run_groups, run_size};
 ghost use Rattle.pim_form.specs.Packing.{fits};
+ghost use Rattle.pim_form.specs.Rows.{IsKept, form_seen};
+ghost use Rattle.pim_form.specs.Plan.{run_of};
+ghost use Rattle.pim_form.specs.Added.{IsAppended};
 ghost use Rattle.pim_form.specs.Messages.{Rps, IsRpOf, HaveRps, star_entries, excepted_entries, told_set, told_message};
 ghost use Rattle.pim_form.specs.Entries.{canonical_source_entry, canonical_rpt_entry};
 
 use crate::groups::{GroupView, Groups};
+use crate::place::Place;
 use crate::sizes::message_size;
 use crate::writer::Writer;
 use pim_addr::{Family, Routes, group_length, source_length};
@@ -190,4 +195,29 @@ pub(crate) fn message_length<F: Family>(part: Groups<'_, F>) -> usize
         entries += entry_count::<F>(&group);
     }
     message_size::<F>(count, entries)
+}
+
+/// Appends the message of a part of a form, which fits the writer's budget. The only refusal is want of memory; then
+/// nothing changes.
+pub(crate) fn append_message<F: Family>(
+    writer: &Writer<F>,
+    routes: &Routes<F>,
+    row: &[F::Addr],
+    pieces: &[Place<F::Addr>],
+    bytes: &mut Vec<u8>,
+) -> Result<(), AllocError>
+    requires kept { IsKept F.bytes_of F.family row.now pieces.now }
+    requires rps { HaveRps F.family (known_in F.family routes.now) (form_seen F.bytes_of row.now pieces.now) }
+    requires fitting { fits F.family writer.now.budget (run_of F.bytes_of row.now pieces.now) ≡ true }
+    ensures ok { OnOk result (IsAppended F.family writer.now (known_in F.family routes.now)
+        (form_seen F.bytes_of row.now pieces.now) bytes.old.items bytes.new.items) }
+    ensures err { OnErr result (bytes.new.items ≡ bytes.old.items) }
+{
+    writer.is_writing();
+    let start = bytes.len();
+    let length = message_length::<F>(Groups::new(row, pieces));
+    bytes.resize(start + length, 0)?;
+    let (_, place) = bytes.split_at_mut(start);
+    write_message::<F>(writer, routes, Groups::new(row, pieces), place);
+    Ok(())
 }
