@@ -25,3 +25,4 @@ pub mod StarSize
 pub mod Sets
 pub mod PartMessage
 pub mod Counted
+pub mod Additions
