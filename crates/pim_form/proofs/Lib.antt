@@ -26,3 +26,4 @@ pub mod Sets
 pub mod PartMessage
 pub mod Counted
 pub mod Additions
+pub mod PlanParts

@@ -15,3 +15,4 @@ pub mod TowardLaws
 pub mod Plan
 pub mod Entries
 pub mod Added
+pub mod Parts

@@ -12,6 +12,7 @@ mod groups;
 mod kept_toward;
 mod laws;
 mod messages;
+mod packing;
 mod place;
 mod plan;
 mod sizes;
