@@ -27,3 +27,4 @@ pub mod PartMessage
 pub mod Counted
 pub mod Additions
 pub mod PlanParts
+pub mod PlannedParts

@@ -85,3 +85,20 @@ fn told_plan<F: Family>(
     }
     Ok(messages)
 }
+
+/// The canonical messages of a form that has no star too big for them. The only refusal is want of memory.
+fn packed<F: Family>(
+    alloc: Global,
+    normal: &NormalForm<F>,
+    writer: &Writer<F>,
+    routes: &Routes<F>,
+) -> Result<Messages, AllocError>
+    requires fits { too_big F.family writer.now.budget normal.now ≡ None }
+    requires rps { HaveRps F.family (known_in F.family routes.now) normal.now }
+    ensures { IfOk result
+        (λ messages. AreCanonical F.family writer.now (known_in F.family routes.now) normal.now messages) }
+{
+    writer.is_writing();
+    let plan = plan_messages::<F>(alloc, &normal.row, &normal.places, writer.budget())?;
+    told_plan::<F>(alloc, writer, routes, &normal.row, &plan)
+}
