@@ -16,3 +16,4 @@ pub mod Plan
 pub mod Entries
 pub mod Added
 pub mod Parts
+pub mod Refused

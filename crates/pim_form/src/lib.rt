@@ -7,6 +7,7 @@
 //! opens without a fault and is read as that message.
 #![tactic(auto)]
 
+mod fault;
 mod form;
 mod groups;
 mod kept_toward;
@@ -26,6 +27,7 @@ mod wanting;
 mod writer;
 mod written;
 
+pub use fault::FormFault;
 pub use form::{NormalForm, normal_again};
 pub use groups::{GroupView, Groups};
 pub use laws::{
@@ -34,6 +36,7 @@ pub use laws::{
     some_source_is_outside,
 };
 pub use messages::Messages;
+pub use packing::pack;
 pub use toward::{is_toward, upstream_of};
 pub use toward_laws::{
     one_row_asks_one_neighbour, same_messages_same_asked, test_tells_who_is_asked,

@@ -1,20 +1,23 @@
 //! The canonical messages of a form.
 
-ghost use Rattle.std.specs.Prelude.{◌≡◌, ◌≤◌, true, None, length, map, IfOk};
+ghost use Rattle.std.specs.Prelude.{◌≡◌, ◌≤◌, true, None, length, map, option_map, IfOk};
 ghost use Rattle.std.specs.List.{AllByRecursion};
 ghost use Rattle.pim_down.specs.Known.{known_in};
 ghost use Rattle.pim_form.specs.Messages.{HaveRps, TellRuns, AreCanonical};
 ghost use Rattle.pim_form.specs.Parts.{IsFitting, PartHasRps, runs_size};
 ghost use Rattle.pim_form.specs.Plan.{AreEnds, parts_from, run_of};
+ghost use Rattle.pim_form.specs.Refused.{told_too_big};
 ghost use Rattle.pim_form.specs.Rows.{between};
 ghost use Rattle.pim_form.specs.TooBig.{too_big};
 ghost use Rattle.pim_form.specs.Toward.{via_in, is_toward};
 
+use crate::fault::FormFault;
 use crate::form::NormalForm;
 use crate::groups::Groups;
 use crate::messages::Messages;
 use crate::place::Place;
 use crate::plan::{Plan, plan_messages};
+use crate::sizes::too_big;
 use crate::writer::Writer;
 use crate::written::message_length;
 use pim_addr::{Family, Routes};
@@ -101,4 +104,33 @@ fn packed<F: Family>(
     writer.is_writing();
     let plan = plan_messages::<F>(alloc, &normal.row, &normal.places, writer.budget())?;
     told_plan::<F>(alloc, writer, routes, &normal.row, &plan)
+}
+
+/// The canonical messages by which a form is told to the writer's upstream neighbour (RFC 7761, 4.9.5): as few groups
+/// and sources a message as fit, sealed from the writer's own address to ALL-PIM-ROUTERS. The form wants only what that
+/// neighbour is asked for, as `is_toward` tells; each star names the RP to which the table leads its group.
+///
+/// # Errors
+/// `TooBig` of the least group whose star, with all its exceptions, is too big for a message of the writer's budget
+/// alone; it is looked for first. `Memory` where a growth is refused.
+pub fn pack<F: Family>(
+    alloc: Global,
+    normal: &NormalForm<F>,
+    writer: &Writer<F>,
+    routes: &Routes<F>,
+) -> Result<Messages, FormFault<F>>
+    requires { is_toward (known_in F.family routes.now) (via_in F.family routes.now) writer.now.upstream normal.now
+        ≡ true }
+    ensures canonical { IfOk result
+        (λ messages. AreCanonical F.family writer.now (known_in F.family routes.now) normal.now messages) }
+    ensures too_big { option_map F.bytes_of (told_too_big result) ≡ too_big F.family writer.now.budget normal.now }
+{
+    routes.is_sound();
+    if let Some(group) = too_big::<F>(normal, writer.budget()) {
+        return Err(FormFault::TooBig(group));
+    }
+    match packed::<F>(alloc, normal, writer, routes) {
+        Ok(messages) => Ok(messages),
+        Err(_) => Err(FormFault::Memory),
+    }
 }
