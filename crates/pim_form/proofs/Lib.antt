@@ -28,3 +28,8 @@ pub mod Counted
 pub mod Additions
 pub mod PlanParts
 pub mod PlannedParts
+pub mod PlanSizes
+pub mod PlanRows
+pub mod PlanEnds
+pub mod PlanFilling
+pub mod PlanCuts

@@ -17,3 +17,4 @@ pub mod Entries
 pub mod Added
 pub mod Parts
 pub mod Refused
+pub mod Filling

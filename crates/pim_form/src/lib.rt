@@ -8,6 +8,7 @@
 #![tactic(auto)]
 
 mod fault;
+mod filling;
 mod form;
 mod groups;
 mod kept_toward;

@@ -5,6 +5,7 @@ ghost use Rattle.pim_form.specs.Rows.{IsKept, form_seen};
 ghost use Rattle.pim_form.specs.TooBig.{too_big};
 ghost use Rattle.pim_form.specs.Plan.{IsPlan};
 
+use crate::filling::{Filling, add, finish};
 use crate::place::Place;
 use pim_addr::Family;
 use std::alloc::{AllocError, Global};
@@ -18,9 +19,10 @@ pub(crate) struct Plan<A> {
     pub(crate) ends: Vec<usize>,
 }
 
-/// A stand-in.
+/// Cuts the form that is kept at these places of the row into messages of at most so many bytes and 255 groups. The
+/// only refusal is want of memory.
 pub(crate) fn plan_messages<F: Family>(
-    _alloc: Global,
+    alloc: Global,
     row: &[F::Addr],
     places: &[Place<F::Addr>],
     budget: usize,
@@ -29,7 +31,13 @@ pub(crate) fn plan_messages<F: Family>(
     requires least { 70 ≤ budget }
     requires most { budget ≤ 65000 }
     requires fits { too_big F.family budget (form_seen F.bytes_of row.now places.now) ≡ None }
-    ensures { IfOk result (λ plan. IsPlan F.bytes_of F.family budget row.now places.now plan.pieces.items plan.ends.items) }
+    ensures { IfOk result
+        (λ plan. IsPlan F.bytes_of F.family budget row.now places.now plan.pieces.items plan.ends.items) }
 {
-    Err(AllocError)
+    let _row = row;
+    let mut filling = Filling::new(alloc, places.len())?;
+    for place in places {
+        add::<F>(&mut filling, budget, place)?;
+    }
+    finish::<F>(filling)
 }

@@ -1,0 +1,70 @@
+-- How a plan is made: some messages are closed, and one is open.
+use Rattle.std.specs.Prelude.{◌≡◌, ℕ, ◌+◌, ◌*◌, ◌-◌, ◌≤◌, List, [], ◌∷◌, ◌++◌, None, length, map}
+use Rattle.std.specs.Prelude.{if◌then◌else◌}
+use Rattle.std.specs.List.{AllByRecursion, flat_map}
+use Rattle.pim_addr.specs.declared.family.AddressFamily.{AddressFamily}
+use Rattle.pim_form.specs.declared.place.Place.{Place}
+use Rattle.pim_form.specs.Units.{WantUnit, empty_message_size, empty_set_size, entry_size, run_entries}
+use Rattle.pim_form.specs.Packing.{IsPacking, most_groups}
+use Rattle.pim_form.specs.TooBig.{too_big}
+use Rattle.pim_form.specs.Rows.{form_seen, IsKept}
+use Rattle.pim_form.specs.Plan.{run_of}
+
+-- a message with so many groups and entries is within the budget of bytes and groups
+abbrev pub HasRoom : AddressFamily → ℕ → ℕ → ℕ → Type 0
+HasRoom family budget groups entries =
+    (empty_message_size family + groups * empty_set_size family + entries * entry_size family ≤ budget)
+    × (groups ≤ most_groups)
+
+-- the plan as far as it is made: the pieces of all messages, where those of each closed message end, and how many
+-- groups and entries the open message has
+pub record Filled (A : Type 0) : Type 0 where
+  pub pieces : List (Place A)
+  pub ends : List ℕ
+  pub groups : ℕ
+  pub entries : ℕ
+
+-- ---- pieces of a group
+
+abbrev pub star_entries : {A : Type 0} → Place A → ℕ
+star_entries place = if place.starred then 1 + (place.exceptions_end - place.exceptions_start) else 0
+
+abbrev pub place_sources : {A : Type 0} → Place A → ℕ
+place_sources place = place.sources_end - place.sources_start
+
+-- whether it has a star, as a number
+abbrev pub star_count : {A : Type 0} → Place A → ℕ
+star_count place = if place.starred then 1 else 0
+
+-- ---- what is done and what is left
+
+-- where each of these parts ends, if the first begins at `start`
+unfoldable pub ends_from : {A : Type 0} → ℕ → List (List A) → List ℕ
+ends_from start [] = []
+ends_from start (part ∷ parts) = (start + length part) ∷ ends_from (start + length part) parts
+
+module _ {A : Type 0} (bytes_of : A → List ℕ) where
+  -- These pieces are left: with those of the open message they are a part of the form, and whatever packing that part
+  -- has makes one of the whole form behind the messages that are closed.
+  pub record IsFilling (family : AddressFamily) (budget : ℕ) (row : List A) (places left : List (Place A))
+      (filled : Filled A) : Type 0 where
+    pub closed : List (List (Place A))
+    pub begun : List (Place A)
+    pub pieces : filled.pieces ≡ flat_map (λ part. part) closed ++ begun
+    pub ends : filled.ends ≡ ends_from 0 closed
+    pub groups : filled.groups ≡ length begun
+    pub entries : filled.entries ≡ run_entries (run_of bytes_of row begun)
+    pub room : HasRoom family budget filled.groups filled.entries
+    pub done : AllByRecursion (IsKept bytes_of family row) closed
+    pub kept : IsKept bytes_of family row (begun ++ left)
+    pub packs : (runs : List (List WantUnit)) → IsPacking family budget (run_of bytes_of row (begun ++ left)) runs →
+        IsPacking family budget (run_of bytes_of row places) (map (run_of bytes_of row) closed ++ runs)
+    pub fits : too_big family budget (form_seen bytes_of row left) ≡ None
+    pub least : 70 ≤ budget
+
+  -- this piece can be told next
+  pub record IsNext (family : AddressFamily) (budget : ℕ) (place : Place A) (filled : Filled A) : Type 0 where
+    pub row : List A
+    pub places : List (Place A)
+    pub left : List (Place A)
+    pub filling : IsFilling family budget row places (place ∷ left) filled
