@@ -63,7 +63,7 @@ wants_some family form is = by_star family form.group form.star form.sources is.
 
 -- ---- forms
 
-of_first : (a : GroupForm) (form : List GroupForm) (s : List ℕ) (tree : Tree) → group_wants a s tree ≡ true → form_wants (a ∷ form) s a.group tree ≡ true
+pub of_first : (a : GroupForm) (form : List GroupForm) (s : List ℕ) (tree : Tree) → group_wants a s tree ≡ true → form_wants (a ∷ form) s a.group tree ≡ true
 of_first a form s tree wanted = rw (same_itself a.group, wanted) refl
 
 none_below : (form : List GroupForm) (s group : List ℕ) (tree : Tree) → AllByRecursion (λ other. slice_cmp nat_cmp group other ≡ Less) (groups_of form) → form_wants form s group tree ≡ false

@@ -150,7 +150,7 @@ legal rps this = (one_star (rps this.group) this.star this.sources, apart (rps t
 
 -- ---- how many entries
 
-sources_entries : (group : List ℕ) (xs : List (List ℕ)) → run_entries (map (source_unit group) xs) ≡ length xs
+pub sources_entries : (group : List ℕ) (xs : List (List ℕ)) → run_entries (map (source_unit group) xs) ≡ length xs
 unfolding run_entries
 sources_entries group [] = refl
 sources_entries group (x ∷ xs) = omega (arith, sources_entries group xs)
@@ -186,7 +186,7 @@ sets_are family rps (this ∷ part) all few =
     let left : run_entries (units_of part) < 2 ^ 16 = omega arith in
     ((all.0.group.0, all.0.group.1, legal rps this, joined, entries.0, pruned, entries.1), sets_are family rps part all.1 left)
 
-entries_few : (family : AddressFamily) (run : List WantUnit) → run_size family run ≤ 65000 → run_entries run < 2 ^ 16
+pub entries_few : (family : AddressFamily) (run : List WantUnit) → run_size family run ≤ 65000 → run_entries run < 2 ^ 16
 entries_few Ipv4 run h = omega arith
 entries_few Ipv6 run h = omega arith
 
@@ -207,7 +207,7 @@ is_message family writing rps part is whole =
 
 -- ---- its length
 
-sets_size : (family : AddressFamily) (rps : List ℕ → Option (List ℕ)) (part : List GroupForm) → AllByRecursion (IsValid family rps) part
+pub sets_size : (family : AddressFamily) (rps : List ℕ → Option (List ℕ)) (part : List GroupForm) → AllByRecursion (IsValid family rps) part
     → canonical_sets_length family (map (told_set rps) part) ≡ length part * empty_set_size family + run_entries (units_of part) * entry_size family
 unfolding canonical_sets_length run_entries
 sets_size Ipv4 rps [] all = refl
@@ -220,7 +220,7 @@ sets_size Ipv6 rps (this ∷ part) all =
 framed_length : (sum : ℕ) (body : List ℕ) → length (framed JoinPrune sum body) ≡ 4 + length body
 framed_length sum body = omega (arith, length-append (to_be_bytes w16 sum) body)
 
-head_and_sets : (family : AddressFamily) (groups entries sets : ℕ) → sets ≡ groups * empty_set_size family + entries * entry_size family
+pub head_and_sets : (family : AddressFamily) (groups entries sets : ℕ) → sets ≡ groups * empty_set_size family + entries * entry_size family
     → 4 + (canonical_head_length family + sets) ≡ empty_message_size family + groups * empty_set_size family + entries * entry_size family
 head_and_sets Ipv4 groups entries sets h = omega arith
 head_and_sets Ipv6 groups entries sets h = omega arith

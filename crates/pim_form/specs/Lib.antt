@@ -10,5 +10,11 @@ pub mod Rows
 pub mod Blocks
 pub mod TooBig
 pub mod Toward
+pub mod KeptToward
+pub mod TowardLaws
 pub mod Plan
+pub mod Entries
+pub mod Added
+pub mod Parts
+pub mod Refused
 pub mod Filling

@@ -14,16 +14,17 @@ abbrev pub via_rp : (List ℕ → Option (List ℕ)) → Option (List ℕ) → O
 via_rp via None = None
 via_rp via (Some rp) = via rp
 
+-- whether it is this neighbour that is asked, if anybody is
+abbrev pub is_neighbour : List ℕ → Option (List ℕ) → Bool
+is_neighbour neighbour None = false
+is_neighbour neighbour (Some upstream) = same_address upstream neighbour
+
 module _ (rps via : List ℕ → Option (List ℕ)) where
   -- the neighbour that is asked for the traffic of a source to a group: the one towards the RP on the shared tree, the
   -- one towards the source on its own (RFC 7761, 4.1: RPF')
   abbrev pub upstream_of : List ℕ → List ℕ → Tree → Option (List ℕ)
   upstream_of source group Shared = via_rp via (rps group)
   upstream_of source group Source = via source
-
-  abbrev pub is_neighbour : List ℕ → Option (List ℕ) → Bool
-  is_neighbour neighbour None = false
-  is_neighbour neighbour (Some upstream) = same_address upstream neighbour
 
   -- a demand, as far as this neighbour is asked for it; what has no route is asked of nobody
   abbrev pub toward : List ℕ → Demand → Demand

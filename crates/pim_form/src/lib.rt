@@ -7,28 +7,41 @@
 //! opens without a fault and is read as that message.
 #![tactic(auto)]
 
+mod fault;
 mod filling;
 mod form;
 mod groups;
+mod kept_toward;
 mod laws;
 mod messages;
+mod packing;
 mod place;
 mod plan;
 mod sizes;
 mod sorted;
 #[cfg(test)]
 mod tests;
+mod toward;
+mod toward_laws;
 mod tree;
 mod wanting;
 mod writer;
+mod written;
 
+pub use fault::FormFault;
 pub use form::{NormalForm, normal_again};
 pub use groups::{GroupView, Groups};
 pub use laws::{
     messages_tell_the_form, one_list_of_messages, one_neighbour_is_asked_for_all, one_normal_form,
-    one_packing, sealed_message_is_read, size_is_length, some_source_is_outside,
+    one_packing, same_messages_same_demand, sealed_message_is_read, size_is_length,
+    some_source_is_outside,
 };
 pub use messages::Messages;
+pub use packing::pack;
+pub use toward::{is_toward, upstream_of};
+pub use toward_laws::{
+    one_row_asks_one_neighbour, same_messages_same_asked, test_tells_who_is_asked,
+};
 pub use tree::Tree;
 pub use wanting::wants;
 pub use writer::{Writer, WriterFault};

@@ -1,9 +1,19 @@
 //! Messages in one block of bytes.
 
-ghost use Rattle.std.specs.Prelude.{IsTrue, ◌↔◌, ◌≡◌, ◌<◌, [], length, slice_get, slice_index_or};
+ghost use Rattle.std.specs.Prelude.{IsTrue, ◌↔◌, ◌≡◌, ◌<◌, true, [], length, slice_get, slice_index_or, OnOk};
+ghost use Rattle.pim_down.specs.Known.{known_in};
+ghost use Rattle.pim_form.specs.Added.{IsAdded};
 ghost use Rattle.pim_form.specs.Blocks.{told_bytes};
+ghost use Rattle.pim_form.specs.Messages.{HaveRps};
+ghost use Rattle.pim_form.specs.Packing.{fits};
+ghost use Rattle.pim_form.specs.Plan.{run_of};
+ghost use Rattle.pim_form.specs.Rows.{IsKept, form_seen};
 
-use std::alloc::Global;
+use crate::place::Place;
+use crate::writer::Writer;
+use crate::written::append_message;
+use pim_addr::{Family, Routes};
+use std::alloc::{AllocError, Global};
 use std::marker::Model;
 
 /// Where a message stands in the block.
@@ -43,6 +53,35 @@ impl Messages {
             bytes: Vec::new(alloc),
             spans: Vec::new(alloc),
         }
+    }
+
+    /// Makes room for so many more messages of so many bytes together.
+    pub(crate) fn reserve(&mut self, messages: usize, bytes: usize) -> Result<(), AllocError>
+        ensures { self.new ≡ self.old }
+    {
+        self.bytes.reserve_exact(bytes)?;
+        self.spans.reserve_exact(messages)
+    }
+
+    /// Adds the message of a part of a form, which fits the writer's budget. The only refusal is want of memory.
+    pub(crate) fn add<F: Family>(
+        &mut self,
+        writer: &Writer<F>,
+        routes: &Routes<F>,
+        row: &[F::Addr],
+        pieces: &[Place<F::Addr>],
+    ) -> Result<(), AllocError>
+        requires kept { IsKept F.bytes_of F.family row.now pieces.now }
+        requires rps { HaveRps F.family (known_in F.family routes.now) (form_seen F.bytes_of row.now pieces.now) }
+        requires fitting { fits F.family writer.now.budget (run_of F.bytes_of row.now pieces.now) ≡ true }
+        ensures { OnOk result (IsAdded F.family writer.now (known_in F.family routes.now)
+            (form_seen F.bytes_of row.now pieces.now) self.old self.new) }
+    {
+        let start = self.bytes.len();
+        append_message::<F>(writer, routes, row, pieces, &mut self.bytes)?;
+        let end = self.bytes.len();
+        self.spans.push(Span { start, end })?;
+        Ok(())
     }
 
     /// How many messages there are.

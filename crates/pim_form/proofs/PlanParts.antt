@@ -1,0 +1,92 @@
+-- The parts of a plan, one after another.
+use Rattle.std.proofs.Common.{◌≡◌, ◌∙◌, ℕ, ◌+◌, ◌<◌, ◌≤◌, true, List, [], ◌∷◌, ◌++◌, map, length, get_or, drop, refl, sym, ap, subst, arith, append_assoc, add-one, drop-cons}
+use Rattle.std.proofs.lemmas.List.{append-nil, drop_all}
+use Rattle.std.specs.List.{AllByRecursion}
+use Rattle.pim_addr.specs.declared.family.AddressFamily.{AddressFamily}
+use Rattle.pim_form.specs.declared.place.Place.{Place}
+use Rattle.pim_form.specs.NormalForm.{GroupForm, IsNormal}
+use Rattle.pim_form.specs.Units.{WantUnit, units_of, run_size}
+use Rattle.pim_form.specs.Messages.{Rps, Writing, TellsRun, TellRuns}
+use Rattle.pim_form.specs.Rows.{between, form_seen, IsKept}
+use Rattle.pim_form.specs.Plan.{AreEnds, parts_from, run_of}
+use Rattle.pim_form.specs.Parts.{runs_size}
+use Rattle.pim_form.specs.Added.{TellsPart}
+use Rattle.pim_form.proofs.Normal.{groups_some}
+
+-- ---- the ends that are left
+
+pub next_end : (items ends : List ℕ) (i : ℕ) → items ≡ ends → i < length items → drop i ends ≡ get_or items i 0 ∷ drop (i + 1) ends
+next_end items ends i is below = subst (λ (these : List ℕ). drop i these ≡ get_or items i 0 ∷ drop (i + 1) these) is (rw (add-one, drop-cons items i 0))
+
+pub no_end : (items ends : List ℕ) (i : ℕ) → items ≡ ends → length items ≤ i → drop i ends ≡ []
+no_end items ends i is beyond = drop_all i ends (omega (arith, beyond, ap length is))
+
+-- where the next end stands
+pub record NextEnd (start last end : ℕ) (others : List ℕ) : Type 0 where
+  pub above : start ≤ end
+  pub within : end ≤ last
+  pub behind : AreEnds end last others
+
+pub end_is_next : (start last end : ℕ) (left others : List ℕ) → left ≡ end ∷ others → AreEnds start last left → NextEnd start last end others
+unfolding AreEnds
+end_is_next start last end left others is are =
+    let parts = subst (AreEnds start last) is are in
+    record { above = parts.0; within = parts.1; behind = parts.2 }
+
+-- ---- the parts that are left
+
+module _ {A : Type 0} (pieces : List (Place A)) (start end : ℕ) (left others : List ℕ) (is : left ≡ end ∷ others) where
+  next_part : parts_from start left pieces ≡ between start end pieces ∷ parts_from end others pieces
+  unfolding parts_from
+  next_part = ap (λ (ends : List ℕ). parts_from start ends pieces) is
+
+  pub of_first : (P : List (Place A) → Type 0) → AllByRecursion P (parts_from start left pieces) → P (between start end pieces)
+  of_first P all = (subst (AllByRecursion P) next_part all).0
+
+  pub of_others : (P : List (Place A) → Type 0) → AllByRecursion P (parts_from start left pieces) → AllByRecursion P (parts_from end others pieces)
+  of_others P all = (subst (AllByRecursion P) next_part all).1
+
+  module _ (family : AddressFamily) (run : List (Place A) → List WantUnit) where
+    pub one_more_run : (total more next all : ℕ) → more ≡ run_size family (run (between start end pieces)) → next ≡ total + more → total + runs_size family (map run (parts_from start left pieces)) ≡ all
+        → next + runs_size family (map run (parts_from end others pieces)) ≡ all
+    unfolding runs_size
+    one_more_run total more next all is_more is_next counted =
+        let parts = ap (λ (these : List (List (Place A))). runs_size family (map run these)) next_part in
+        omega (arith, parts, is_more, is_next, counted)
+
+    pub one_more_told : (writing : Writing) (rps : Rps) (runs : List (List WantUnit)) (messages next : List (List ℕ)) (message : List ℕ)
+        → next ≡ messages ++ message ∷ [] → TellsRun family writing rps (run (between start end pieces)) message
+        → ((behind : List (List ℕ)) → TellRuns family writing rps (map run (parts_from start left pieces)) behind → TellRuns family writing rps runs (messages ++ behind))
+        → (behind : List (List ℕ)) → TellRuns family writing rps (map run (parts_from end others pieces)) behind → TellRuns family writing rps runs (next ++ behind)
+    one_more_told writing rps runs messages next message is_next tells told behind tell =
+        let runs_left : map run (parts_from start left pieces) ≡ run (between start end pieces) ∷ map run (parts_from end others pieces) = ap (map run) next_part in
+        let all : TellRuns family writing rps runs (messages ++ message ∷ behind) =
+        told (message ∷ behind) (subst (λ (these : List (List WantUnit)). TellRuns family writing rps these (message ∷ behind)) (sym runs_left) (tells, tell)) in
+        subst (TellRuns family writing rps runs) (sym (ap (λ (front : List (List ℕ)). front ++ behind) is_next ∙ append_assoc messages (message ∷ []) behind)) all
+
+module _ {A : Type 0} (pieces : List (Place A)) (start : ℕ) (left : List ℕ) (none : left ≡ []) (family : AddressFamily) (run : List (Place A) → List WantUnit) where
+  no_part : parts_from start left pieces ≡ []
+  unfolding parts_from
+  no_part = ap (λ (ends : List ℕ). parts_from start ends pieces) none
+
+  pub no_more_run : (total all : ℕ) → total + runs_size family (map run (parts_from start left pieces)) ≡ all → total ≡ all
+  unfolding runs_size
+  no_more_run total all counted = omega (arith, ap (λ (these : List (List (Place A))). runs_size family (map run these)) no_part, counted)
+
+  pub no_more_told : (writing : Writing) (rps : Rps) (runs : List (List WantUnit)) (messages : List (List ℕ))
+      → ((behind : List (List ℕ)) → TellRuns family writing rps (map run (parts_from start left pieces)) behind → TellRuns family writing rps runs (messages ++ behind))
+      → TellRuns family writing rps runs messages
+  no_more_told writing rps runs messages told =
+      subst (TellRuns family writing rps runs) (append-nil messages)
+      (told [] (subst (λ (these : List (List (Place A))). TellRuns family writing rps (map run these) []) (sym no_part) tt))
+
+-- the message of a part tells its run
+pub part_tells : {A : Type 0} (bytes_of : A → List ℕ) (family : AddressFamily) (writing : Writing) (rps : Rps) (row : List A) (part : List (Place A)) (message : List ℕ)
+    → IsKept bytes_of family row part → TellsPart family writing rps (form_seen bytes_of row part) message → TellsRun family writing rps (run_of bytes_of row part) message
+part_tells bytes_of family writing rps row part message kept tells = record {
+  part = form_seen bytes_of row part;
+  units = refl;
+  ascending = kept.normal.ascending;
+  some = groups_some family (form_seen bytes_of row part) kept.normal.groups;
+  sealed = tells;
+}

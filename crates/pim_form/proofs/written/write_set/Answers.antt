@@ -1,0 +1,48 @@
+use Rattle.std.proofs.Common.{◌≡◌, ◌∙◌, ℕ, ◌+◌, ◌*◌, ◌/◌, ◌%◌, List, [], ◌∷◌, ◌++◌, length, sym, ap, arith}
+use Rattle.std.specs.List.{flat_map}
+use Rattle.std.proofs.lemmas.List.{length-map}
+use Rattle.pim_addr.specs.Canonical.{canonical_group}
+use Rattle.pim_addr.specs.Encoded.{group_length, source_length}
+use Rattle.pim_down.specs.Known.{known_in}
+use Rattle.pim_form.specs.Entries.{canonical_source_entry, canonical_rpt_entry}
+use Rattle.pim_form.specs.Rows.{exceptions_of}
+use Rattle.pim_form.specs.Messages.{star_entries, told_set}
+use Rattle.pim_form.proofs.Sets.{pruned_count, joined_count, stars_count, exceptions_room, set_spelled}
+use Rattle.pim_form.proofs.written.write_set.Goals as goal
+
+-- the two bytes of a count
+abbrev counted : ℕ → List ℕ
+counted n = n / 256 % 256 ∷ n % 256 ∷ []
+
+pub write_exceptions-requires : goal.write_exceptions-requires
+write_exceptions-requires g c =
+    let rps = known_in g.F.Family.family c.args.routes.now in
+    let this = c.args.group.now in
+    let sources : length c.sources-sources.result.now ≡ length this.sources = sym (length-map c.sources-sources.result.now g.F.Family.bytes_of) ∙ ap length c.sources-sources.ensures in
+    let exceptions : length c.exceptions-exceptions.result.now ≡ length (exceptions_of this.star) =
+    sym (length-map c.exceptions-exceptions.result.now g.F.Family.bytes_of) ∙ ap length c.exceptions-exceptions.ensures in
+    let stars : c.from-stars.result ≡ length (star_entries (rps this.group) this.star) =
+    stars_count g.F.Family.family (rps this.group) this.star c.star.result c.from-stars.result c.requires.rp c.star.ensures c.from-stars.ensures in
+    exceptions_room (source_length g.F.Family.family) (group_length g.F.Family.family) c.from-stars.result (length c.sources-sources.result.now) (length c.exceptions-exceptions.result.now)
+    (length (told_set rps this).joined) (length (told_set rps this).pruned) (length c.args.bytes.now) (length c.split_at_mut-front.result.1.now)
+    (length c.split_at_mut-star.result.1.now) (length c.split_at_mut-joins.result.1.now)
+    (omega (arith, joined_count rps this, stars, sources)) (omega (arith, pruned_count this.star, exceptions))
+    c.requires.length (omega (arith, c.split_at_mut-front.ensures.back_len)) (ap (λ (n : ℕ). length c.split_at_mut-star.result.1.now + c.from-stars.result * n) (sym c.source_length.ensures) ∙ c.split_at_mut-star.ensures.back_len)
+    (ap (λ (n : ℕ). length c.split_at_mut-joins.result.1.now + length c.sources-sources.result.now * n) (sym c.source_length-2.ensures) ∙ c.split_at_mut-joins.ensures.back_len)
+
+pub returns : goal.returns
+returns g c =
+    let rps = known_in g.F.Family.family c.args.routes.now in
+    let this = c.args.group.now in
+    let sources : length c.sources-sources.result.now ≡ length this.sources = sym (length-map c.sources-sources.result.now g.F.Family.bytes_of) ∙ ap length c.sources-sources.ensures in
+    let exceptions : length c.exceptions-exceptions.result.now ≡ length (exceptions_of this.star) =
+    sym (length-map c.exceptions-exceptions.result.now g.F.Family.bytes_of) ∙ ap length c.exceptions-exceptions.ensures in
+    let stars : c.from-stars.result ≡ length (star_entries (rps this.group) this.star) =
+    stars_count g.F.Family.family (rps this.group) this.star c.star.result c.from-stars.result c.requires.rp c.star.ensures c.from-stars.ensures in
+    set_spelled counted g.F.Family.family rps this (c.from-stars.result + length c.sources-sources.result.now) (length c.exceptions-exceptions.result.now)
+    c.put_group_and_counts.new.bytes c.write_star.new.bytes c.write_sources.new.bytes c.write_exceptions.new.bytes
+    (omega (arith, joined_count rps this, stars, sources)) (omega (arith, pruned_count this.star, exceptions))
+    (c.put_group_and_counts.ensures ∙ ap (λ (group : List ℕ). canonical_group g.F.Family.family group ++ counted (c.from-stars.result + length c.sources-sources.result.now) ++ counted (length c.exceptions-exceptions.result.now)) c.group.ensures)
+    c.write_star.ensures
+    (c.write_sources.ensures ∙ ap (flat_map (canonical_source_entry g.F.Family.family)) c.sources-sources.ensures)
+    (c.write_exceptions.ensures ∙ ap (flat_map (canonical_rpt_entry g.F.Family.family)) c.exceptions-exceptions.ensures)

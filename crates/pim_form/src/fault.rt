@@ -1,0 +1,29 @@
+//! Why a form isn't packed.
+
+use pim_addr::{Family, write_text};
+use std::fmt;
+use thiserror::Error;
+
+/// Why a form isn't packed. TooBig is told before Memory.
+#[derive(Debug, Drop, PartialEq, Eq, Error)]
+pub enum FormFault<F: Family> {
+    /// The star of this group, with all its exceptions, is too big for a message of the writer's budget. It is the least
+    /// such group.
+    TooBig(F::Addr),
+    /// A growth was refused.
+    Memory,
+}
+
+impl<F: Family> fmt::Display for FormFault<F> {
+    fn fmt<W: fmt::Write>(&self, f: &mut fmt::Formatter<W>) -> fmt::Result {
+        match self {
+            FormFault::TooBig(group) => {
+                let mut text = [0; 39];
+                let length = write_text::<F>(*group, &mut text);
+                f.write_str("too big ")?;
+                f.write_str(std::str::from_utf8(&text[..length]).map_err(|_| fmt::Error)?)
+            }
+            FormFault::Memory => f.write_str("memory"),
+        }
+    }
+}

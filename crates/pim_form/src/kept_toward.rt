@@ -1,0 +1,125 @@
+//! What is left of a form where only one neighbour is asked.
+
+ghost use Rattle.std.specs.Prelude.{◌≡◌, ◌∷◌, ◌++◌, [], true, filter, if◌then◌else◌, IfOk, OnOk};
+ghost use Rattle.std.specs.Option.{is_some};
+ghost use Rattle.pim_down.specs.Known.{known_in};
+ghost use Rattle.pim_form.specs.NormalForm.{IsFormOf, form_wants};
+ghost use Rattle.pim_form.specs.Toward.{via_in, toward, is_toward};
+ghost use Rattle.pim_form.specs.KeptToward.{is_reached, star_toward, group_toward, has_some, IsStarPushed, IsPushed};
+
+use crate::form::NormalForm;
+use crate::groups::GroupView;
+use crate::place::Place;
+use crate::toward::{is_asked, upstream_of};
+use crate::tree::Tree;
+use pim_addr::{Family, Routes};
+use std::alloc::{AllocError, Global};
+
+/// Appends those of these sources that are reached by this neighbour.
+fn push_reached<F: Family>(
+    row: &mut Vec<F::Addr>,
+    sources: &[F::Addr],
+    routes: &Routes<F>,
+    upstream: F::Addr,
+) -> Result<(), AllocError>
+    ensures { OnOk result (row.new.items ≡ row.old.items ++ filter (λ source. is_reached
+        (known_in F.family routes.now) (via_in F.family routes.now) (F.bytes_of upstream) (F.bytes_of source)) sources.now) }
+{
+    for &source in sources {
+        if is_asked::<F>(routes.via(source), upstream) {
+            row.push(source)?;
+        }
+    }
+    Ok(())
+}
+
+/// Whether the star of a group, if it has one, is asked of this neighbour.
+fn keeps_star<F: Family>(this: &GroupView<'_, F>, routes: &Routes<F>, upstream: F::Addr) -> bool
+    ensures { result ≡ is_some (star_toward (known_in F.family routes.now) (via_in F.family routes.now)
+        (F.bytes_of upstream) this.now.group this.now.star) }
+{
+    let group = this.group();
+    this.star() && is_asked::<F>(upstream_of::<F>(routes, group, group, Tree::Shared), upstream)
+}
+
+/// Appends the exceptions of a star that is asked of this neighbour, and tells whether there is one.
+fn push_star<F: Family>(
+    row: &mut Vec<F::Addr>,
+    this: &GroupView<'_, F>,
+    routes: &Routes<F>,
+    upstream: F::Addr,
+) -> Result<bool, AllocError>
+    ensures { IfOk result (IsStarPushed F.bytes_of (star_toward (known_in F.family routes.now) (via_in F.family routes.now)
+        (F.bytes_of upstream) this.now.group this.now.star) row.old.items row.new.items) }
+{
+    if !keeps_star::<F>(this, routes, upstream) {
+        return Ok(false);
+    }
+    row.extend_from_slice(this.exceptions())?;
+    Ok(true)
+}
+
+/// Appends what is left of a group, and tells where it stands.
+fn push_group<F: Family>(
+    row: &mut Vec<F::Addr>,
+    this: &GroupView<'_, F>,
+    routes: &Routes<F>,
+    upstream: F::Addr,
+) -> Result<Place<F::Addr>, AllocError>
+    ensures { IfOk result (IsPushed F.bytes_of (group_toward (known_in F.family routes.now) (via_in F.family routes.now)
+        (F.bytes_of upstream) this.now) row.old.items row.new.items) }
+{
+    let sources_start = row.len();
+    push_reached::<F>(row, this.sources(), routes, upstream)?;
+    let sources_end = row.len();
+    let starred = push_star::<F>(row, this, routes, upstream)?;
+    Ok(Place {
+        group: this.group(),
+        starred,
+        sources_start,
+        sources_end,
+        exceptions_start: sources_end,
+        exceptions_end: row.len(),
+    })
+}
+
+/// Whether a place has a star or a source.
+fn has_some<A: Copy>(place: &Place<A>) -> bool
+    ensures { result ≡ has_some place.now }
+{
+    place.starred || place.sources_start < place.sources_end
+}
+
+/// Appends the place, if it has a star or a source.
+fn push_place<A: Copy>(places: &mut Vec<Place<A>>, place: Place<A>) -> Result<(), AllocError>
+    ensures { OnOk result (places.new.items
+        ≡ (if has_some place then places.old.items ++ place ∷ [] else places.old.items)) }
+{
+    if has_some(&place) {
+        places.push(place)?;
+    }
+    Ok(())
+}
+
+/// The normal form of what a normal form wants of this neighbour: the stars, with all their exceptions, whose RP is
+/// reached by it, and the sources that are. The only refusal is want of memory.
+pub(crate) fn kept_toward<F: Family>(
+    alloc: Global,
+    normal: &NormalForm<F>,
+    routes: &Routes<F>,
+    upstream: F::Addr,
+) -> Result<NormalForm<F>, AllocError>
+    ensures meaning { IfOk result (λ form. IsFormOf F.family (toward (known_in F.family routes.now)
+        (via_in F.family routes.now) (F.bytes_of upstream) (form_wants normal.now)) form) }
+    ensures only { IfOk result (λ form. is_toward (known_in F.family routes.now) (via_in F.family routes.now)
+        (F.bytes_of upstream) form ≡ true) }
+{
+    normal.is_normal();
+    let mut row = Vec::new(alloc);
+    let mut places = Vec::new(alloc);
+    for this in normal.groups() {
+        let place = push_group::<F>(&mut row, &this, routes, upstream)?;
+        push_place(&mut places, place)?;
+    }
+    Ok(NormalForm { row, places })
+}

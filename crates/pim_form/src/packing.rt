@@ -1,0 +1,136 @@
+//! The canonical messages of a form.
+
+ghost use Rattle.std.specs.Prelude.{◌≡◌, ◌≤◌, true, None, length, map, option_map, IfOk};
+ghost use Rattle.std.specs.List.{AllByRecursion};
+ghost use Rattle.pim_down.specs.Known.{known_in};
+ghost use Rattle.pim_form.specs.Messages.{HaveRps, TellRuns, AreCanonical};
+ghost use Rattle.pim_form.specs.Parts.{IsFitting, PartHasRps, runs_size};
+ghost use Rattle.pim_form.specs.Plan.{AreEnds, parts_from, run_of};
+ghost use Rattle.pim_form.specs.Refused.{told_too_big};
+ghost use Rattle.pim_form.specs.Rows.{between};
+ghost use Rattle.pim_form.specs.TooBig.{too_big};
+ghost use Rattle.pim_form.specs.Toward.{via_in, is_toward};
+
+use crate::fault::FormFault;
+use crate::form::NormalForm;
+use crate::groups::Groups;
+use crate::messages::Messages;
+use crate::place::Place;
+use crate::plan::{Plan, plan_messages};
+use crate::sizes::too_big;
+use crate::writer::Writer;
+use crate::written::message_length;
+use pim_addr::{Family, Routes};
+use std::alloc::{AllocError, Global};
+
+/// The pieces from one place to another.
+fn pieces_between<A>(pieces: &[Place<A>], start: usize, end: usize) -> &[Place<A>]
+    requires start { start ≤ end }
+    requires end { end ≤ length pieces.now }
+    ensures { result.now ≡ between start end pieces.now }
+{
+    let (front, _) = pieces.split_at(end);
+    let (_, part) = front.split_at(start);
+    part
+}
+
+/// How many bytes the messages of a plan have together. It is an error if that is more than can be addressed.
+fn total_length<F: Family>(
+    writer: &Writer<F>,
+    row: &[F::Addr],
+    plan: &Plan<F::Addr>,
+) -> Result<usize, AllocError>
+    requires ends { AreEnds 0 (length plan.now.pieces.items) plan.now.ends.items }
+    requires parts { AllByRecursion (IsFitting F.bytes_of F.family writer.now.budget row.now)
+        (parts_from 0 plan.now.ends.items plan.now.pieces.items) }
+    ensures { IfOk result (λ total. total ≡ runs_size F.family
+        (map (run_of F.bytes_of row.now) (parts_from 0 plan.now.ends.items plan.now.pieces.items))) }
+{
+    writer.is_writing();
+    let mut total: usize = 0;
+    let mut start = 0;
+    for &end in &plan.ends {
+        let part = pieces_between(&plan.pieces, start, end);
+        let length = message_length::<F>(Groups::new(row, part));
+        let Some(sum) = total.checked_add(length) else {
+            return Err(AllocError);
+        };
+        total = sum;
+        start = end;
+    }
+    Ok(total)
+}
+
+/// The messages of a plan, in one block of their length.
+fn told_plan<F: Family>(
+    alloc: Global,
+    writer: &Writer<F>,
+    routes: &Routes<F>,
+    row: &[F::Addr],
+    plan: &Plan<F::Addr>,
+) -> Result<Messages, AllocError>
+    requires ends { AreEnds 0 (length plan.now.pieces.items) plan.now.ends.items }
+    requires parts { AllByRecursion (IsFitting F.bytes_of F.family writer.now.budget row.now)
+        (parts_from 0 plan.now.ends.items plan.now.pieces.items) }
+    requires rps { AllByRecursion (PartHasRps F.bytes_of F.family (known_in F.family routes.now) row.now)
+        (parts_from 0 plan.now.ends.items plan.now.pieces.items) }
+    ensures { IfOk result (λ messages. TellRuns F.family writer.now (known_in F.family routes.now)
+        (map (run_of F.bytes_of row.now) (parts_from 0 plan.now.ends.items plan.now.pieces.items)) messages) }
+{
+    let total = total_length::<F>(writer, row, plan)?;
+    let mut messages = Messages::none(alloc);
+    messages.reserve(plan.ends.len(), total)?;
+    let mut start = 0;
+    for &end in &plan.ends {
+        let part = pieces_between(&plan.pieces, start, end);
+        messages.add::<F>(writer, routes, row, part)?;
+        start = end;
+    }
+    Ok(messages)
+}
+
+/// The canonical messages of a form that has no star too big for them. The only refusal is want of memory.
+fn packed<F: Family>(
+    alloc: Global,
+    normal: &NormalForm<F>,
+    writer: &Writer<F>,
+    routes: &Routes<F>,
+) -> Result<Messages, AllocError>
+    requires fits { too_big F.family writer.now.budget normal.now ≡ None }
+    requires rps { HaveRps F.family (known_in F.family routes.now) normal.now }
+    ensures { IfOk result
+        (λ messages. AreCanonical F.family writer.now (known_in F.family routes.now) normal.now messages) }
+{
+    writer.is_writing();
+    let plan = plan_messages::<F>(alloc, &normal.row, &normal.places, writer.budget())?;
+    told_plan::<F>(alloc, writer, routes, &normal.row, &plan)
+}
+
+/// The canonical messages by which a form is told to the writer's upstream neighbour (RFC 7761, 4.9.5): as few groups
+/// and sources a message as fit, sealed from the writer's own address to ALL-PIM-ROUTERS. The form wants only what that
+/// neighbour is asked for, as `is_toward` tells; each star names the RP to which the table leads its group.
+///
+/// # Errors
+/// `TooBig` of the least group whose star, with all its exceptions, is too big for a message of the writer's budget
+/// alone; it is looked for first. `Memory` where a growth is refused.
+pub fn pack<F: Family>(
+    alloc: Global,
+    normal: &NormalForm<F>,
+    writer: &Writer<F>,
+    routes: &Routes<F>,
+) -> Result<Messages, FormFault<F>>
+    requires { is_toward (known_in F.family routes.now) (via_in F.family routes.now) writer.now.upstream normal.now
+        ≡ true }
+    ensures canonical { IfOk result
+        (λ messages. AreCanonical F.family writer.now (known_in F.family routes.now) normal.now messages) }
+    ensures too_big { option_map F.bytes_of (told_too_big result) ≡ too_big F.family writer.now.budget normal.now }
+{
+    routes.is_sound();
+    if let Some(group) = too_big::<F>(normal, writer.budget()) {
+        return Err(FormFault::TooBig(group));
+    }
+    match packed::<F>(alloc, normal, writer, routes) {
+        Ok(messages) => Ok(messages),
+        Err(_) => Err(FormFault::Memory),
+    }
+}

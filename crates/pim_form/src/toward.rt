@@ -1,0 +1,91 @@
+//! Of which upstream neighbour a want is asked.
+
+ghost use Rattle.std.specs.Prelude.{◌≡◌, List, ℕ, map, option_map};
+ghost use Rattle.std.specs.List.{list_all};
+ghost use Rattle.pim_down.specs.Known.{known_in};
+ghost use Rattle.pim_form.specs.Toward.{via_in, upstream_of, is_neighbour, is_group_toward, is_toward};
+
+use crate::form::NormalForm;
+use crate::groups::GroupView;
+use crate::tree::Tree;
+use pim_addr::{Family, Routes};
+
+/// The upstream neighbour that is asked for the traffic of this source to this group: on the shared tree the one by
+/// which the group's RP is reached, on the source's tree the one by which the source is reached (RFC 7761, 4.1). `None`
+/// where the group has no RP or there is no route. It takes no memory.
+pub fn upstream_of<F: Family>(
+    routes: &Routes<F>,
+    source: F::Addr,
+    group: F::Addr,
+    tree: Tree,
+) -> Option<F::Addr>
+    ensures { option_map F.bytes_of result ≡ upstream_of (known_in F.family routes.now) (via_in F.family routes.now)
+        (F.bytes_of source) (F.bytes_of group) tree }
+{
+    match tree {
+        Tree::Shared => routes.via(routes.rp_of(group)?),
+        Tree::Source => routes.via(source),
+    }
+}
+
+/// Whether this is the neighbour that is asked, if anybody is.
+pub(crate) fn is_asked<F: Family>(asked: Option<F::Addr>, upstream: F::Addr) -> bool
+    ensures { result ≡ is_neighbour (F.bytes_of upstream) (option_map F.bytes_of asked) }
+{
+    match asked {
+        Some(neighbour) => neighbour == upstream,
+        None => false,
+    }
+}
+
+#[tactic(auto, using(crate::proofs::Asked::all_left, crate::proofs::Asked::none_left))]
+/// Whether all these sources are reached by this neighbour.
+fn all_reached<F: Family>(sources: &[F::Addr], routes: &Routes<F>, upstream: F::Addr) -> bool
+    ensures { result ≡ list_all (λ (source : List ℕ). is_neighbour (F.bytes_of upstream)
+        (via_in F.family routes.now source)) (map F.bytes_of sources.now) }
+{
+    for &source in sources {
+        if !is_asked::<F>(routes.via(source), upstream) {
+            return false;
+        }
+    }
+    true
+}
+
+/// Whether this neighbour is asked for the star of the group, if it has one, and for all its sources.
+fn is_group_toward<F: Family>(
+    this: &GroupView<'_, F>,
+    routes: &Routes<F>,
+    upstream: F::Addr,
+) -> bool
+    ensures { result ≡ is_group_toward (known_in F.family routes.now) (via_in F.family routes.now)
+        (F.bytes_of upstream) this.now }
+{
+    let group = this.group();
+    if this.star() {
+        let asked = upstream_of::<F>(routes, group, group, Tree::Shared);
+        if !is_asked::<F>(asked, upstream) {
+            return false;
+        }
+    }
+    all_reached::<F>(this.sources(), routes, upstream)
+}
+
+/// Whether a form wants nothing but what this neighbour is asked for: each of its groups with a star has an RP that is
+/// reached by this neighbour, and each of its sources is. It takes no memory, and one look-up or two a star and one a
+/// source.
+pub fn is_toward<F: Family>(
+    normal: &NormalForm<F>,
+    routes: &Routes<F>,
+    upstream: F::Addr,
+) -> bool
+    ensures { result ≡ is_toward (known_in F.family routes.now) (via_in F.family routes.now)
+        (F.bytes_of upstream) normal.now }
+{
+    for this in normal.groups() {
+        if !is_group_toward::<F>(&this, routes, upstream) {
+            return false;
+        }
+    }
+    true
+}

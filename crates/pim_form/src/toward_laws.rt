@@ -1,0 +1,27 @@
+//! What is asked of one upstream neighbour, and the messages that ask it. Nothing here is to be called.
+
+ghost use Rattle.pim_form.specs.TowardLaws.{TestTellsWhoIsAsked, OneRowAsksOneNeighbour, SameMessagesSameAsked};
+
+use crate::laws::same_messages_same_demand;
+
+/// A normal form passes `is_toward` exactly if its neighbour is asked for all that the form wants, of every valid source
+/// and every group, on both trees.
+pub fn test_tells_who_is_asked()
+    ensures { TestTellsWhoIsAsked }
+{}
+
+/// Where a table's one row for neighbours is of all addresses, and each group whose (*,G) is joined has an RP, the
+/// neighbour of that row is asked for all that the machines want: both have one normal form.
+pub fn one_row_asks_one_neighbour()
+    ensures { OneRowAsksOneNeighbour }
+{
+    pim_addr::one_neighbour_for_all();
+}
+
+/// The canonical messages of two states to one upstream neighbour, by one writer and under one route table, are
+/// byte-equal exactly if the states agree on what is asked of that neighbour.
+pub fn same_messages_same_asked()
+    ensures { SameMessagesSameAsked }
+{
+    same_messages_same_demand();
+}
