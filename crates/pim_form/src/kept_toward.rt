@@ -22,8 +22,8 @@ fn push_reached<F: Family>(
     routes: &Routes<F>,
     upstream: F::Addr,
 ) -> Result<(), AllocError>
-    ensures { OnOk result (row.new.items ≡ row.old.items ++ filter (λ source. is_reached
-        (known_in F.family routes.now) (via_in F.family routes.now) (F.bytes_of upstream) (F.bytes_of source)) sources.now) }
+    ensures { OnOk result (row.new.items ≡ row.old.items ++ filter (λ source. is_reached (known_in F.family routes.now)
+        (via_in F.family routes.now) (F.bytes_of upstream) (F.bytes_of source)) sources.now) }
 {
     for &source in sources {
         if is_asked::<F>(routes.via(source), upstream) {
@@ -39,7 +39,11 @@ fn keeps_star<F: Family>(this: &GroupView<'_, F>, routes: &Routes<F>, upstream: 
         (F.bytes_of upstream) this.now.group this.now.star) }
 {
     let group = this.group();
-    this.star() && is_asked::<F>(upstream_of::<F>(routes, group, group, Tree::Shared), upstream)
+    this.star()
+        && is_asked::<F>(
+            upstream_of::<F>(routes, group, group, Tree::Shared),
+            upstream,
+        )
 }
 
 /// Appends the exceptions of a star that is asked of this neighbour, and tells whether there is one.
@@ -49,8 +53,9 @@ fn push_star<F: Family>(
     routes: &Routes<F>,
     upstream: F::Addr,
 ) -> Result<bool, AllocError>
-    ensures { IfOk result (IsStarPushed F.bytes_of (star_toward (known_in F.family routes.now) (via_in F.family routes.now)
-        (F.bytes_of upstream) this.now.group this.now.star) row.old.items row.new.items) }
+    ensures { IfOk result (IsStarPushed F.bytes_of (star_toward (known_in F.family routes.now)
+        (via_in F.family routes.now) (F.bytes_of upstream) this.now.group this.now.star)
+        row.old.items row.new.items) }
 {
     if !keeps_star::<F>(this, routes, upstream) {
         return Ok(false);

@@ -74,11 +74,7 @@ fn is_group_toward<F: Family>(
 /// Whether a form wants nothing but what this neighbour is asked for: each of its groups with a star has an RP that is
 /// reached by this neighbour, and each of its sources is. It takes no memory, and one look-up or two a star and one a
 /// source.
-pub fn is_toward<F: Family>(
-    normal: &NormalForm<F>,
-    routes: &Routes<F>,
-    upstream: F::Addr,
-) -> bool
+pub fn is_toward<F: Family>(normal: &NormalForm<F>, routes: &Routes<F>, upstream: F::Addr) -> bool
     ensures { result ≡ is_toward (known_in F.family routes.now) (via_in F.family routes.now)
         (F.bytes_of upstream) normal.now }
 {
