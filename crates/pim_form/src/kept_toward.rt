@@ -10,8 +10,7 @@ ghost use Rattle.pim_form.specs.KeptToward.{is_reached, star_toward, group_towar
 use crate::form::NormalForm;
 use crate::groups::GroupView;
 use crate::place::Place;
-use crate::toward::{is_asked, upstream_of};
-use crate::tree::Tree;
+use crate::toward::{is_asked, is_rp_reached};
 use pim_addr::{Family, Routes};
 use std::alloc::{AllocError, Global};
 
@@ -38,12 +37,7 @@ fn keeps_star<F: Family>(this: &GroupView<'_, F>, routes: &Routes<F>, upstream: 
     ensures { result ≡ is_some (star_toward (known_in F.family routes.now) (via_in F.family routes.now)
         (F.bytes_of upstream) this.now.group this.now.star) }
 {
-    let group = this.group();
-    this.star()
-        && is_asked::<F>(
-            upstream_of::<F>(routes, group, group, Tree::Shared),
-            upstream,
-        )
+    this.star() && is_rp_reached::<F>(routes, this.group(), upstream)
 }
 
 /// Appends the exceptions of a star that is asked of this neighbour, and tells whether there is one.
