@@ -69,5 +69,5 @@ module _ (family : AddressFamily) (table : RouteTable) (neighbour : List ℕ) (s
     agree = agree;
     forms = λ form. (wanted_form form, asked_form form);
     one = λ asked wanted is_asked is_wanted. one_form family asked wanted is_asked.normal is_wanted.normal (λ s g t valid is_group.
-    sym (is_asked.wants s g t valid is_group) ∙ agree s g t valid is_group ∙ is_wanted.wants s g t valid is_group);
+        sym (is_asked.wants s g t valid is_group) ∙ agree s g t valid is_group ∙ is_wanted.wants s g t valid is_group);
   }

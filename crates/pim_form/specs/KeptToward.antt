@@ -1,6 +1,6 @@
 -- What is left of a form where only one neighbour is asked.
-use Rattle.std.specs.Prelude.{◌≡◌, ℕ, ◌≤◌, Bool, ◌||◌, List, [], ◌∷◌, Option, None, if◌then◌else◌, filter, length, take, nat_lt}
-use Rattle.std.specs.Prelude.{drop, map}
+use Rattle.std.specs.Prelude.{◌≡◌, ℕ, ◌≤◌, Bool, ◌||◌, nat_lt, List, [], ◌∷◌, Option, None, if◌then◌else◌}
+use Rattle.std.specs.Prelude.{filter, length, take, drop, map}
 use Rattle.pim_form.specs.declared.place.Place.{Place}
 use Rattle.pim_form.specs.NormalForm.{GroupForm, is_empty}
 use Rattle.pim_form.specs.Rows.{IsWithin, star_of, place_seen}

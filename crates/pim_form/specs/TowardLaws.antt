@@ -17,7 +17,7 @@ use Rattle.pim_form.specs.Toward.{via_in, upstream_of, is_neighbour, toward, is_
 -- ---- the test of a form
 
 -- whatever is wanted, this neighbour is asked for it
-abbrev pub IsAskedForAll : AddressFamily → (List ℕ → Option (List ℕ)) → (List ℕ → Option (List ℕ)) → List ℕ → Demand → Type 0
+abbrev pub IsAskedForAll : AddressFamily → (rps via : List ℕ → Option (List ℕ)) → List ℕ → Demand → Type 0
 IsAskedForAll family rps via neighbour demand = (source group : List ℕ) (tree : Tree) →
     IsSourceAddress family source → IsGroupAddress family group → demand source group tree ≡ true →
     is_neighbour neighbour (upstream_of rps via source group tree) ≡ true
@@ -66,4 +66,5 @@ SameMessagesSameAsked = (family : AddressFamily) (table : RouteTable) (writing :
     IsFormOf family (asked_of family table writing.upstream that) other →
     AreCanonical family writing (known_in family table) one first →
     AreCanonical family writing (known_in family table) other second →
-    (first ≡ second) ↔ Agree family (asked_of family table writing.upstream this) (asked_of family table writing.upstream that)
+    (first ≡ second)
+    ↔ Agree family (asked_of family table writing.upstream this) (asked_of family table writing.upstream that)

@@ -10,8 +10,7 @@ ghost use Rattle.pim_form.specs.KeptToward.{is_reached, star_toward, group_towar
 use crate::form::NormalForm;
 use crate::groups::GroupView;
 use crate::place::Place;
-use crate::toward::{is_asked, upstream_of};
-use crate::tree::Tree;
+use crate::toward::{is_asked, is_rp_reached};
 use pim_addr::{Family, Routes};
 use std::alloc::{AllocError, Global};
 
@@ -22,8 +21,8 @@ fn push_reached<F: Family>(
     routes: &Routes<F>,
     upstream: F::Addr,
 ) -> Result<(), AllocError>
-    ensures { OnOk result (row.new.items ≡ row.old.items ++ filter (λ source. is_reached
-        (known_in F.family routes.now) (via_in F.family routes.now) (F.bytes_of upstream) (F.bytes_of source)) sources.now) }
+    ensures { OnOk result (row.new.items ≡ row.old.items ++ filter (λ source. is_reached (known_in F.family routes.now)
+        (via_in F.family routes.now) (F.bytes_of upstream) (F.bytes_of source)) sources.now) }
 {
     for &source in sources {
         if is_asked::<F>(routes.via(source), upstream) {
@@ -38,8 +37,7 @@ fn keeps_star<F: Family>(this: &GroupView<'_, F>, routes: &Routes<F>, upstream: 
     ensures { result ≡ is_some (star_toward (known_in F.family routes.now) (via_in F.family routes.now)
         (F.bytes_of upstream) this.now.group this.now.star) }
 {
-    let group = this.group();
-    this.star() && is_asked::<F>(upstream_of::<F>(routes, group, group, Tree::Shared), upstream)
+    this.star() && is_rp_reached::<F>(routes, this.group(), upstream)
 }
 
 /// Appends the exceptions of a star that is asked of this neighbour, and tells whether there is one.
@@ -49,8 +47,9 @@ fn push_star<F: Family>(
     routes: &Routes<F>,
     upstream: F::Addr,
 ) -> Result<bool, AllocError>
-    ensures { IfOk result (IsStarPushed F.bytes_of (star_toward (known_in F.family routes.now) (via_in F.family routes.now)
-        (F.bytes_of upstream) this.now.group this.now.star) row.old.items row.new.items) }
+    ensures { IfOk result (IsStarPushed F.bytes_of (star_toward (known_in F.family routes.now)
+        (via_in F.family routes.now) (F.bytes_of upstream) this.now.group this.now.star)
+        row.old.items row.new.items) }
 {
     if !keeps_star::<F>(this, routes, upstream) {
         return Ok(false);

@@ -3,7 +3,7 @@
 ghost use Rattle.std.specs.Prelude.{◌≡◌, List, ℕ, map, option_map};
 ghost use Rattle.std.specs.List.{list_all};
 ghost use Rattle.pim_down.specs.Known.{known_in};
-ghost use Rattle.pim_form.specs.Toward.{via_in, upstream_of, is_neighbour, is_group_toward, is_toward};
+ghost use Rattle.pim_form.specs.Toward.{via_in, via_rp, upstream_of, is_neighbour, is_group_toward, is_toward};
 
 use crate::form::NormalForm;
 use crate::groups::GroupView;
@@ -38,6 +38,19 @@ pub(crate) fn is_asked<F: Family>(asked: Option<F::Addr>, upstream: F::Addr) -> 
     }
 }
 
+/// Whether the RP of this group is reached by this neighbour.
+pub(crate) fn is_rp_reached<F: Family>(
+    routes: &Routes<F>,
+    group: F::Addr,
+    upstream: F::Addr,
+) -> bool
+    ensures { result ≡ is_neighbour (F.bytes_of upstream)
+        (via_rp (via_in F.family routes.now) (known_in F.family routes.now (F.bytes_of group))) }
+{
+    let asked = upstream_of::<F>(routes, group, group, Tree::Shared);
+    is_asked::<F>(asked, upstream)
+}
+
 #[tactic(auto, using(crate::proofs::Asked::all_left, crate::proofs::Asked::none_left))]
 /// Whether all these sources are reached by this neighbour.
 fn all_reached<F: Family>(sources: &[F::Addr], routes: &Routes<F>, upstream: F::Addr) -> bool
@@ -61,24 +74,16 @@ fn is_group_toward<F: Family>(
     ensures { result ≡ is_group_toward (known_in F.family routes.now) (via_in F.family routes.now)
         (F.bytes_of upstream) this.now }
 {
-    let group = this.group();
-    if this.star() {
-        let asked = upstream_of::<F>(routes, group, group, Tree::Shared);
-        if !is_asked::<F>(asked, upstream) {
-            return false;
-        }
+    if this.star() && !is_rp_reached::<F>(routes, this.group(), upstream) {
+        return false;
     }
     all_reached::<F>(this.sources(), routes, upstream)
 }
 
 /// Whether a form wants nothing but what this neighbour is asked for: each of its groups with a star has an RP that is
-/// reached by this neighbour, and each of its sources is. It takes no memory, and one look-up or two a star and one a
+/// reached by this neighbour, and each of its sources is. It takes no memory, and at most two look-ups a star and one a
 /// source.
-pub fn is_toward<F: Family>(
-    normal: &NormalForm<F>,
-    routes: &Routes<F>,
-    upstream: F::Addr,
-) -> bool
+pub fn is_toward<F: Family>(normal: &NormalForm<F>, routes: &Routes<F>, upstream: F::Addr) -> bool
     ensures { result ≡ is_toward (known_in F.family routes.now) (via_in F.family routes.now)
         (F.bytes_of upstream) normal.now }
 {

@@ -4,8 +4,8 @@ ghost use Rattle.pim_form.specs.TowardLaws.{TestTellsWhoIsAsked, OneRowAsksOneNe
 
 use crate::laws::same_messages_same_demand;
 
-/// A normal form passes `is_toward` exactly if its neighbour is asked for all that the form wants, of every valid source
-/// and every group, on both trees.
+/// A normal form passes `is_toward` exactly if the neighbour is asked for all that the form wants, of every valid
+/// source and every group, on both trees.
 pub fn test_tells_who_is_asked()
     ensures { TestTellsWhoIsAsked }
 {}
