@@ -1,6 +1,7 @@
 //! Ranges of addresses, each with the longest row that matches its addresses.
 
-ghost use Rattle.std.specs.Prelude.{◌≡◌, ◌<◌, ◌≤◌, ◌+◌, ◌^◌, true, map, length, option_map, vec_len, vec_capacity, Some};
+ghost use Rattle.std.specs.Prelude.{◌≡◌, ◌<◌, ◌≤◌, ◌+◌, ◌^◌, true, map, length, option_map, vec_len};
+ghost use Rattle.std.specs.Prelude.{vec_capacity, Some};
 ghost use Rattle.pim_addr.specs.Address.{mask_length, number_of, ends_within, last_number};
 ghost use Rattle.pim_addr.specs.Routes.{longer_of};
 ghost use Rattle.pim_addr.specs.RouteRows.{row_seen, answers_seen, Rises, before, answer_of, AreRanges, IsStart, IsEnd};

@@ -77,8 +77,8 @@ impl<F: Family> Routes<F> {
 
     /// The RP of this group: that of the longest row that matches it, or `None`.
     ///
-    /// It takes no memory. The time is that of one search by halves among at most twice as many numbers as there are rows,
-    /// so it grows with the logarithm of the number of rows, whatever their lengths.
+    /// It takes no memory. The time is that of one search by halves among at most twice as many numbers as there are
+    /// rows, so it grows with the logarithm of the number of rows, whatever their lengths.
     pub fn rp_of(&self, group: F::Addr) -> Option<F::Addr>
         ensures { option_map F.bytes_of result ≡ rp_of F.family (F.bytes_of group) self.now }
     {
