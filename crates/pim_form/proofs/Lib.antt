@@ -15,3 +15,5 @@ pub mod Searches
 pub mod Kept
 pub mod Spans
 pub mod StarSize
+pub mod Merged
+pub mod MergeSteps

@@ -11,3 +11,5 @@ pub mod Blocks
 pub mod TooBig
 pub mod Toward
 pub mod Plan
+pub mod Merge
+pub mod Collect

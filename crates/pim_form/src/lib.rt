@@ -10,6 +10,7 @@
 mod form;
 mod groups;
 mod laws;
+mod merge;
 mod messages;
 mod place;
 mod plan;
