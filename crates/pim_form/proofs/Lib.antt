@@ -17,3 +17,4 @@ pub mod Spans
 pub mod StarSize
 pub mod Merged
 pub mod MergeSteps
+pub mod Drafts

@@ -13,3 +13,4 @@ pub mod Toward
 pub mod Plan
 pub mod Merge
 pub mod Collect
+pub mod Drafts

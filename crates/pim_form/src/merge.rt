@@ -1,9 +1,13 @@
 //! Two forms made one that wants what either wants.
 
-ghost use Rattle.std.specs.Prelude.{◌≡◌, ◌++◌, map, OnOk};
-ghost use Rattle.pim_form.specs.NormalForm.{AreAscending};
-ghost use Rattle.pim_form.specs.Merge.{united, common};
+ghost use Rattle.std.specs.Prelude.{◌≡◌, ◌++◌, ◌∷◌, [], List, map, OnOk};
+ghost use Rattle.pim_form.specs.NormalForm.{GroupForm, AreAscending};
+ghost use Rattle.pim_form.specs.Rows.{exceptions_of};
+ghost use Rattle.pim_form.specs.Drafts.{IsDraft};
+ghost use Rattle.pim_form.specs.Merge.{united, common, both_stars, both_groups};
 
+use crate::groups::GroupView;
+use crate::place::Place;
 use pim_addr::Family;
 use std::alloc::AllocError;
 use std::cmp::Ordering;
@@ -47,4 +51,101 @@ fn push_united<F: Family>(
     }
     append(row, left)?;
     append(row, right)
+}
+
+/// Appends the addresses of both lists to the row, in order.
+fn push_common<F: Family>(
+    row: &mut Vec<F::Addr>,
+    one: &[F::Addr],
+    other: &[F::Addr],
+) -> Result<(), AllocError>
+    requires one { AreAscending (map F.bytes_of one.now) }
+    requires other { AreAscending (map F.bytes_of other.now) }
+    ensures { OnOk result (map F.bytes_of row.new.items ≡
+        map F.bytes_of row.old.items ++ common (map F.bytes_of one.now) (map F.bytes_of other.now)) }
+{
+    let (mut left, mut right) = (one, other);
+    while let Some((a, left_behind)) = left.split_first() {
+        let Some((b, right_behind)) = right.split_first() else {
+            break;
+        };
+        match a.cmp(b) {
+            Ordering::Less => left = left_behind,
+            Ordering::Equal => {
+                row.push(*a)?;
+                left = left_behind;
+                right = right_behind;
+            }
+            Ordering::Greater => right = right_behind,
+        }
+    }
+    Ok(())
+}
+
+/// Appends the exceptions of two groups made one: where both have a star those of both, else those of the one that has
+/// it.
+fn push_exceptions<F: Family>(
+    row: &mut Vec<F::Addr>,
+    one: &GroupView<'_, F>,
+    other: &GroupView<'_, F>,
+) -> Result<(), AllocError>
+    ensures { OnOk result (map F.bytes_of row.new.items ≡
+        map F.bytes_of row.old.items ++ exceptions_of (both_stars one.now.star other.now.star)) }
+{
+    one.is_normal();
+    other.is_normal();
+    if one.star() && other.star() {
+        return push_common::<F>(row, one.exceptions(), other.exceptions());
+    }
+    append(row, one.exceptions())?;
+    append(row, other.exceptions())
+}
+
+/// Appends a group to a form that is being made.
+fn push_group<F: Family>(
+    row: &mut Vec<F::Addr>,
+    places: &mut Vec<Place<F::Addr>>,
+    group: &GroupView<'_, F>,
+) -> Result<(), AllocError>
+    ensures { OnOk result ((form : List GroupForm) → IsDraft F.bytes_of row.old.items places.old.items form →
+        IsDraft F.bytes_of row.new.items places.new.items (form ++ group.now ∷ [])) }
+{
+    let sources_start = row.len();
+    append(row, group.sources())?;
+    let sources_end = row.len();
+    append(row, group.exceptions())?;
+    places.push(Place {
+        group: group.group(),
+        starred: group.star(),
+        sources_start,
+        sources_end,
+        exceptions_start: sources_end,
+        exceptions_end: row.len(),
+    })?;
+    Ok(())
+}
+
+/// Appends two groups of the same address, made one that wants what either wants.
+fn push_both<F: Family>(
+    row: &mut Vec<F::Addr>,
+    places: &mut Vec<Place<F::Addr>>,
+    one: &GroupView<'_, F>,
+    other: &GroupView<'_, F>,
+) -> Result<(), AllocError>
+    ensures { OnOk result ((form : List GroupForm) → IsDraft F.bytes_of row.old.items places.old.items form →
+        IsDraft F.bytes_of row.new.items places.new.items (form ++ both_groups one.now other.now ∷ [])) }
+{
+    let sources_start = row.len();
+    push_united::<F>(row, one.sources(), other.sources())?;
+    let sources_end = row.len();
+    push_exceptions::<F>(row, one, other)?;
+    places.push(Place {
+        group: one.group(),
+        starred: one.star() | other.star(),
+        sources_start,
+        sources_end,
+        exceptions_start: sources_end,
+        exceptions_end: row.len(),
+    })?;
+    Ok(())
 }
