@@ -18,3 +18,4 @@ pub mod StarSize
 pub mod Merged
 pub mod MergeSteps
 pub mod Drafts
+pub mod Merging

@@ -16,9 +16,9 @@ use std::marker::Model;
 #[derive(Drop)]
 pub struct NormalForm<F: Family> {
     /// The addresses of all groups.
-    row: Vec<F::Addr>,
+    pub(crate) row: Vec<F::Addr>,
     /// In the order of groups.
-    places: Vec<Place<F::Addr>>,
+    pub(crate) places: Vec<Place<F::Addr>>,
 }
 
 impl<F: Family> Model for NormalForm<F> {

@@ -1,15 +1,16 @@
 //! Two forms made one that wants what either wants.
 
-ghost use Rattle.std.specs.Prelude.{◌≡◌, ◌++◌, ◌∷◌, [], List, map, OnOk};
+ghost use Rattle.std.specs.Prelude.{◌≡◌, ◌++◌, ◌∷◌, [], List, map, OnOk, IfOk};
 ghost use Rattle.pim_form.specs.NormalForm.{GroupForm, AreAscending};
 ghost use Rattle.pim_form.specs.Rows.{exceptions_of};
 ghost use Rattle.pim_form.specs.Drafts.{IsDraft};
-ghost use Rattle.pim_form.specs.Merge.{united, common, both_stars, both_groups};
+ghost use Rattle.pim_form.specs.Merge.{united, common, both_stars, both_groups, merged};
 
-use crate::groups::GroupView;
+use crate::form::NormalForm;
+use crate::groups::{GroupView, Groups, group_at};
 use crate::place::Place;
 use pim_addr::Family;
-use std::alloc::AllocError;
+use std::alloc::{AllocError, Global};
 use std::cmp::Ordering;
 
 /// Appends these values.
@@ -148,4 +149,58 @@ fn push_both<F: Family>(
         exceptions_end: row.len(),
     })?;
     Ok(())
+}
+
+/// Appends these groups to a form that is being made.
+fn push_groups<F: Family>(
+    row: &mut Vec<F::Addr>,
+    places: &mut Vec<Place<F::Addr>>,
+    groups: Groups<'_, F>,
+) -> Result<(), AllocError>
+    ensures { OnOk result ((form : List GroupForm) → IsDraft F.bytes_of row.old.items places.old.items form →
+        IsDraft F.bytes_of row.new.items places.new.items (form ++ groups.entry)) }
+{
+    for group in groups {
+        push_group::<F>(row, places, &group)?;
+    }
+    Ok(())
+}
+
+/// The form that wants what either wants. The only refusal is want of memory.
+pub(crate) fn merge<F: Family>(
+    alloc: Global,
+    one: &NormalForm<F>,
+    other: &NormalForm<F>,
+) -> Result<NormalForm<F>, AllocError>
+    ensures { IfOk result (λ form. form ≡ merged one.now other.now) }
+{
+    let mut row = Vec::new(alloc);
+    row.reserve(one.row.len().saturating_add(other.row.len()))?;
+    let mut places = Vec::new(alloc);
+    let mut left: &[Place<F::Addr>] = &one.places;
+    let mut right: &[Place<F::Addr>] = &other.places;
+    while let Some((a, left_behind)) = left.split_first() {
+        let Some((b, right_behind)) = right.split_first() else {
+            break;
+        };
+        let (first, second) = (group_at::<F>(&one.row, a), group_at::<F>(&other.row, b));
+        match a.group.cmp(&b.group) {
+            Ordering::Less => {
+                push_group::<F>(&mut row, &mut places, &first)?;
+                left = left_behind;
+            }
+            Ordering::Equal => {
+                push_both::<F>(&mut row, &mut places, &first, &second)?;
+                left = left_behind;
+                right = right_behind;
+            }
+            Ordering::Greater => {
+                push_group::<F>(&mut row, &mut places, &second)?;
+                right = right_behind;
+            }
+        }
+    }
+    push_groups::<F>(&mut row, &mut places, Groups::new(&one.row, left))?;
+    push_groups::<F>(&mut row, &mut places, Groups::new(&other.row, right))?;
+    Ok(NormalForm { row, places })
 }
