@@ -19,3 +19,6 @@ pub mod Merged
 pub mod MergeSteps
 pub mod Drafts
 pub mod Merging
+pub mod PortDemand
+pub mod Collected
+pub mod CollectedWants

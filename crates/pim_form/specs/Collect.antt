@@ -36,25 +36,25 @@ sources_with (Rpt source) state sources = sources
 
 -- the group with what one more of its records says
 abbrev pub added : Record (List ℕ) → GroupForm → GroupForm
-added held open = record {
-  group = open.group;
-  star = star_with held.key.what held.machine.state open.star;
-  sources = sources_with held.key.what held.machine.state open.sources;
+added held form = record {
+  group = form.group;
+  star = star_with held.key.what held.machine.state form.star;
+  sources = sources_with held.key.what held.machine.state form.sources;
 }
 
 -- ---- all groups of a port
 
 -- the group, unless nothing is wanted of it
 abbrev pub closed : GroupForm → List GroupForm
-closed open = if is_empty open.star open.sources then [] else open ∷ []
+closed form = if is_empty form.star form.sources then [] else form ∷ []
 
 -- the form of these records behind a group of which more may be said
 unfoldable pub collected_behind : GroupForm → List (Record (List ℕ)) → List GroupForm
-collected_behind open [] = closed open
-collected_behind open (held ∷ records) =
-    if same_address held.key.group open.group
-    then collected_behind (added held open) records
-    else closed open ++ collected_behind (added held (fresh held.key.group)) records
+collected_behind form [] = closed form
+collected_behind form (held ∷ records) =
+    if same_address held.key.group form.group
+    then collected_behind (added held form) records
+    else closed form ++ collected_behind (added held (fresh held.key.group)) records
 
 unfoldable pub collected : List (Record (List ℕ)) → List GroupForm
 collected [] = []
