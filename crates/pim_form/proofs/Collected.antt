@@ -24,7 +24,7 @@ use Rattle.pim_form.specs.declared.tree.Tree.TheVariants.{Shared, Source as Sour
 use Rattle.pim_form.specs.NormalForm.{GroupForm, AreAscending, AreExceptions, IsNormalGroup, IsNormal, same_address, is_listed, is_empty, groups_of, group_wants, form_wants}
 use Rattle.pim_form.specs.Rows.{exceptions_of}
 use Rattle.pim_form.specs.Wants.{is_joined, is_pruned}
-use Rattle.pim_form.specs.Collect.{fresh, with_exception, star_with, sources_with, added, closed, collected_behind, collected, AreOfPort}
+use Rattle.pim_form.specs.Collect.{Takes, fresh, with_exception, star_with, sources_with, added, closed, collected_behind, collected, AreOfPort}
 use Rattle.pim_form.proofs.Addresses.{same_itself, same_is, equal_is, less_apart, less_apart_back, IsBelowAll-trans}
 use Rattle.pim_form.proofs.Lists.{all_append}
 use Rattle.pim_form.proofs.PortDemand.{same_what, tells, some_tell, told_wants}
@@ -80,12 +80,6 @@ is_run port [] ons up = tt
 is_run port (held ∷ records) ons up = (all_precede port held records ons.0 ons.1 up.0, is_run port records ons.1 up.1)
 
 -- ---- what may follow a group
-
--- the group takes a record of this machine
-abbrev pub Takes : What (List ℕ) → GroupForm → Type 0
-Takes Star form = form.star ≡ None
-Takes (Source source) form = (exceptions_of form.star ≡ []) × AllByRecursion (λ s. slice_cmp nat_cmp s source ≡ Less) form.sources
-Takes (Rpt source) form = AllByRecursion (λ s. slice_cmp nat_cmp s source ≡ Less) (exceptions_of form.star)
 
 abbrev pub IsNext : GroupForm → Record (List ℕ) → Type 0
 IsNext form held = (slice_cmp nat_cmp form.group held.key.group ≡ Less) ⊎ ((form.group ≡ held.key.group) × Takes held.key.what form)

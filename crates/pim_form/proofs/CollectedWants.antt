@@ -20,10 +20,10 @@ use Rattle.pim_form.specs.declared.tree.Tree.TheVariants.{Shared, Source as Sour
 use Rattle.pim_form.specs.NormalForm.{GroupForm, same_address, is_listed, is_excepted, is_empty, group_wants, form_wants, IsFormOf}
 use Rattle.pim_form.specs.Rows.{exceptions_of}
 use Rattle.pim_form.specs.Wants.{is_joined, is_pruned, wants_on}
-use Rattle.pim_form.specs.Collect.{fresh, with_exception, star_with, sources_with, added, closed, collected_behind, collected, AreOfPort, of_port}
+use Rattle.pim_form.specs.Collect.{Takes, wants_at, fresh, with_exception, star_with, sources_with, added, closed, collected_behind, collected, AreOfPort, of_port}
 use Rattle.pim_form.proofs.Addresses.{same_itself, same_is, less_apart}
 use Rattle.pim_form.proofs.PortDemand.{same_what, tells, some_tell, told_wants, port_wants, are_of_port}
-use Rattle.pim_form.proofs.Collected.{Precedes, IsRun, is_run, Takes, IsNext, takes_fresh, all_next, all_first, later, taken, all_rising, collected_normal}
+use Rattle.pim_form.proofs.Collected.{Precedes, IsRun, is_run, IsNext, takes_fresh, all_next, all_first, later, taken, all_rising, collected_normal}
 
 -- ---- truth values
 
@@ -240,7 +240,7 @@ collected_wants [] s group SourceTree run = refl
 collected_wants (held ∷ records) s group tree run = behind_wants (added held (fresh held.key.group)) records s group tree (all_first held records run.0) run.1 ∙ fresh_wants held records s group tree run.0
 
 pub port_form : (apart : KeysAreToldApart) (family : AddressFamily) (state : Downstream) (port : ℕ) → IsSound family state
-    → IsFormOf family (λ source group tree. wants_on state.records source group tree port) (collected (of_port port state))
+    → IsFormOf family (wants_at port state) (collected (of_port port state))
 port_form apart family state port sound =
     let are = are_of_port family state port sound in
     record {

@@ -15,7 +15,7 @@ length_append : {X : Type 0} (xs ys : List X) → length (xs ++ ys) ≡ length x
 length_append [] ys = omega arith
 length_append (x ∷ xs) ys = let others = length_append xs ys in omega arith
 
-take_all : {X : Type 0} (xs : List X) → take (length xs) xs ≡ xs
+pub take_all : {X : Type 0} (xs : List X) → take (length xs) xs ≡ xs
 take_all [] = refl
 take_all {X} (x ∷ xs) = ap (λ (ys : List X). x ∷ ys) (take_all xs)
 

@@ -22,3 +22,4 @@ pub mod Merging
 pub mod PortDemand
 pub mod Collected
 pub mod CollectedWants
+pub mod OpenPlace

@@ -1,6 +1,9 @@
 -- The form of what one port wants, told from its records in key order.
 use Rattle.std.specs.Prelude.{◌≡◌, ◌≤◌, ℕ, List, [], ◌∷◌, ◌++◌, Option, None, Some, length, if◌then◌else◌}
 use Rattle.std.specs.List.{AllByRecursion, filter}
+use Rattle.std.specs.declared.cmp.Ordering.TheVariants.{Less}
+use Rattle.std.specs.Ordering.{nat_cmp}
+use Rattle.std.specs.Cmp.Lexicographic.{slice_cmp}
 use Rattle.pim_addr.specs.declared.family.AddressFamily.{AddressFamily}
 use Rattle.pim_down.specs.declared.key.What.{What}
 use Rattle.pim_down.specs.declared.key.What.TheVariants.{Star, Source, Rpt}
@@ -10,6 +13,7 @@ use Rattle.pim_down.specs.Records.{IsAscending, is_on}
 use Rattle.pim_down.specs.Sound.{IsReal}
 use Rattle.pim_down.specs.Time.{Downstream}
 use Rattle.pim_form.specs.NormalForm.{GroupForm, Demand, same_address, is_empty}
+use Rattle.pim_form.specs.Rows.{exceptions_of}
 use Rattle.pim_form.specs.Wants.{is_joined, is_pruned, wants_on}
 use Rattle.pim_form.specs.Merge.{some_from}
 
@@ -42,6 +46,14 @@ added held form = record {
   sources = sources_with held.key.what held.machine.state form.sources;
 }
 
+-- The group takes a record of this machine: those before it in key order are no star, and no sources or exceptions from
+-- this one on.
+abbrev pub Takes : What (List ℕ) → GroupForm → Type 0
+Takes Star form = form.star ≡ None
+Takes (Source source) form =
+    (exceptions_of form.star ≡ []) × AllByRecursion (λ s. slice_cmp nat_cmp s source ≡ Less) form.sources
+Takes (Rpt source) form = AllByRecursion (λ s. slice_cmp nat_cmp s source ≡ Less) (exceptions_of form.star)
+
 -- ---- all groups of a port
 
 -- the group, unless nothing is wanted of it
@@ -69,6 +81,10 @@ pub record AreOfPort (family : AddressFamily) (port ports : ℕ) (records : List
 
 abbrev pub of_port : ℕ → Downstream → List (Record (List ℕ))
 of_port port state = filter (is_on port) state.records
+
+-- what the port wants
+abbrev pub wants_at : ℕ → Downstream → Demand
+wants_at port state source group tree = wants_on state.records source group tree port
 
 -- ---- ports
 

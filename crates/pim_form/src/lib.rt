@@ -7,6 +7,7 @@
 //! opens without a fault and is read as that message.
 #![tactic(auto)]
 
+mod collect;
 mod form;
 mod groups;
 mod laws;
