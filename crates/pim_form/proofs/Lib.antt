@@ -23,3 +23,4 @@ pub mod PortDemand
 pub mod Collected
 pub mod CollectedWants
 pub mod OpenPlace
+pub mod Collecting

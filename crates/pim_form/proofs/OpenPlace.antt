@@ -110,31 +110,6 @@ module _ {A : Type 0} (bytes_of : A → List ℕ) where
         kept = keeps row row' x grown;
       }
 
-  -- ---- the star, and nothing
-
-  pub nothing_added : (row : List A) (place : Place A) (form : GroupForm) → IsLast (length row) place → place_seen bytes_of row place ≡ form → Becomes bytes_of row row place form
-  nothing_added row place form is seen = record { last = is; seen = seen; kept = λ places draft_form draft. draft }
-
-  starless : (starred : Bool) (exceptions : List (List ℕ)) → star_of starred exceptions ≡ None → starred ≡ false
-  starless true exceptions e = absurd cc
-  starless false exceptions e = refl
-
-  pub star_added : (row : List A) (place place' : Place A) (joined : Bool) → IsLast (length row) place → (place_seen bytes_of row place).star ≡ None → place'.starred ≡ joined →
-      place'.group ≡ place.group → place'.sources_start ≡ place.sources_start → place'.sources_end ≡ place.sources_end → place'.exceptions_start ≡ place.exceptions_start → place'.exceptions_end ≡ place.exceptions_end →
-      Becomes bytes_of row row place' (record { group = bytes_of place.group; star = cond joined (Some []) (place_seen bytes_of row place).star; sources = (place_seen bytes_of row place).sources })
-  star_added row place place' joined is none starred group start end middle last =
-      let bare = is.bare (starless place.starred (read place.exceptions_start place.exceptions_end row) none) in
-      let empty : read place'.exceptions_start place'.exceptions_end row ≡ [] = (λ i. read ((middle ∙ bare) i) (last i) row) ∙ ap (map bytes_of) (none_between place.exceptions_end row) in
-      record {
-        last = record { sources = omega (arith, is.sources); middle = middle ∙ is.middle ∙ sym end; exceptions = omega (arith, is.exceptions); last = last ∙ is.last; bare = λ e. middle ∙ bare ∙ sym last };
-        seen = λ i. record { group = bytes_of (group i); star = ((λ j. star_of (starred j) (empty j)) ∙ by joined ∙ ap (λ s. cond joined (Some []) s) (sym none)) i; sources = read (start i) (end i) row };
-        kept = λ places form draft. draft;
-      }
-    where
-      by : (b : Bool) → star_of b [] ≡ cond b (Some []) None
-      by true = refl
-      by false = refl
-
   -- ---- the end of a group
 
   some_listed : (start end : ℕ) (row : List A) → start < end → end ≤ length row → is_empty None (read start end row) ≡ false
@@ -175,12 +150,3 @@ module _ {A : Type 0} (bytes_of : A → List ℕ) where
   some_source row place e some is =
       ap (λ s. is_empty (star_of s (read place.exceptions_start place.exceptions_end row)) (read place.sources_start place.sources_end row)) e
       ∙ some_listed place.sources_start place.sources_end row some (omega (arith, is.middle, is.last, is.exceptions))
-
-  -- nothing is wanted of it
-  pub closed_none : (row : List A) (places : List (Place A)) (place : Place A) (form : List GroupForm) → place.starred ≡ false → place.sources_end ≤ place.sources_start
-      → IsLast (length row) place → IsDraft bytes_of row places form → IsDraft bytes_of row places (form ++ closed (place_seen bytes_of row place))
-  closed_none row places place form e none is draft =
-      let empty : is_empty (place_seen bytes_of row place).star (place_seen bytes_of row place).sources ≡ true =
-          λ i. is_empty (star_of (e i) (read place.exceptions_start place.exceptions_end row)) (none_listed place.sources_start place.sources_end row none is.sources i) in
-      let same : form ++ closed (place_seen bytes_of row place) ≡ form = ap (λ b. form ++ cond b [] (place_seen bytes_of row place ∷ [])) empty ∙ append-nil form in
-      subst (IsDraft bytes_of row places) (sym same) draft

@@ -118,3 +118,33 @@ fn close<F: Family>(
     }
     Ok(())
 }
+
+/// The form of what one port wants. The only refusal is want of memory.
+pub(crate) fn collect<F: Family>(
+    alloc: Global,
+    ports: &Ports<F>,
+    port: usize,
+) -> Result<NormalForm<F>, AllocError>
+    ensures { IfOk result (λ form. IsFormOf F.family (wants_at port ports.now) form) }
+{
+    ports.is_sound();
+    pim_down::keys_are_told_apart();
+    let mut row = Vec::new(alloc);
+    let mut places = Vec::new(alloc);
+    let mut records = ports.records_on(port);
+    let Some(first) = records.next() else {
+        return Ok(NormalForm { row, places });
+    };
+    row.reserve(ports.count_on(port))?;
+    let mut group = begin::<F>(&mut row, &first)?;
+    for record in records {
+        if record.key.group == group.group {
+            add::<F>(&mut row, &mut group, &record)?;
+        } else {
+            close::<F>(&mut places, &group)?;
+            group = begin::<F>(&mut row, &record)?;
+        }
+    }
+    close::<F>(&mut places, &group)?;
+    Ok(NormalForm { row, places })
+}
