@@ -24,3 +24,4 @@ pub mod Collected
 pub mod CollectedWants
 pub mod OpenPlace
 pub mod Collecting
+pub mod AllPorts

@@ -8,6 +8,7 @@
 #![tactic(auto)]
 
 mod collect;
+mod demand;
 mod form;
 mod groups;
 mod laws;
