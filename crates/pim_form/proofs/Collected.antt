@@ -1,10 +1,9 @@
 -- The records of one port collect to the normal form of what it wants.
-use Rattle.std.proofs.Common.{◌≡◌, ◌∙◌, ℕ, suc, ◌+◌, ◌≤◌, ◌⊎◌, inl, inr, Bool, true, false, ◌||◌, ◌&&◌, not, cond, List, [], ◌∷◌, ◌++◌, Option, None, Some, length, map, refl, sym, ap, subst, arith}
+use Rattle.std.proofs.Common.{◌≡◌, ◌∙◌, ℕ, suc, ◌+◌, ◌≤◌, ◌⊎◌, inl, inr, Bool, true, false, cond, List, [], ◌∷◌, ◌++◌, Option, None, Some, length, refl, sym, ap, subst, arith}
 use Rattle.std.specs.declared.cmp.Ordering.{Ordering}
 use Rattle.std.specs.declared.cmp.Ordering.TheVariants.{Less, Equal, Greater}
-use Rattle.std.specs.List.{AllByRecursion, list_any}
+use Rattle.std.specs.List.{AllByRecursion}
 use Rattle.std.specs.List.Sorted.{IsStrictlySortedBy}
-use Rattle.std.specs.Option.{is_some}
 use Rattle.std.specs.Ordering.{nat_cmp, ordering_then}
 use Rattle.std.specs.Cmp.Lexicographic.{slice_cmp}
 use Rattle.std.proofs.lemmas.Bool.{false≢true}
@@ -13,21 +12,17 @@ use Rattle.pim_addr.specs.declared.family.AddressFamily.{AddressFamily}
 use Rattle.pim_addr.specs.Address.{IsGroupAddress, IsSourceAddress}
 use Rattle.pim_down.specs.declared.key.What.{What}
 use Rattle.pim_down.specs.declared.key.What.TheVariants.{Star, Source, Rpt}
-use Rattle.pim_down.specs.declared.key.Key.{Key}
 use Rattle.pim_down.specs.declared.machine.State.{State}
 use Rattle.pim_down.specs.declared.machine.Record.{Record}
 use Rattle.pim_down.specs.Key.{key_cmp, what_cmp}
 use Rattle.pim_down.specs.Records.{IsBelow, IsAscending}
 use Rattle.pim_down.specs.Sound.{IsReal, HasSource}
-use Rattle.pim_form.specs.declared.tree.Tree.{Tree}
-use Rattle.pim_form.specs.declared.tree.Tree.TheVariants.{Shared, Source as SourceTree}
-use Rattle.pim_form.specs.NormalForm.{GroupForm, AreAscending, AreExceptions, IsNormalGroup, IsNormal, same_address, is_listed, is_empty, groups_of, group_wants, form_wants}
+use Rattle.pim_form.specs.NormalForm.{GroupForm, AreAscending, AreExceptions, IsNormalGroup, IsNormal, same_address, is_empty, groups_of}
 use Rattle.pim_form.specs.Rows.{exceptions_of}
 use Rattle.pim_form.specs.Wants.{is_joined, is_pruned}
 use Rattle.pim_form.specs.Collect.{Takes, fresh, with_exception, star_with, sources_with, added, closed, collected_behind, collected, AreOfPort}
-use Rattle.pim_form.proofs.Addresses.{same_itself, same_is, equal_is, less_apart, less_apart_back, IsBelowAll-trans}
+use Rattle.pim_form.proofs.Addresses.{same_itself, same_is, equal_is, less_apart, less_apart_back}
 use Rattle.pim_form.proofs.Lists.{all_append}
-use Rattle.pim_form.proofs.PortDemand.{same_what, tells, some_tell, told_wants}
 
 either : {X : Type 0} (P : X → Type 0) (b : Bool) (x y : X) → P x → P y → P (cond b x y)
 either P true x y p q = p
@@ -191,8 +186,8 @@ unfolding collected_behind
 all_above a form [] less all = above a form less
 all_above a form (held ∷ records) less all =
     let before : AllByRecursion (λ g. slice_cmp nat_cmp a g ≡ Less) (groups_of (closed form ++ collected_behind (added held (fresh held.key.group)) records)) =
-        subst (AllByRecursion (λ g. slice_cmp nat_cmp a g ≡ Less)) (sym (groups_append (closed form) (collected_behind (added held (fresh held.key.group)) records)))
-        (all_append (λ g. slice_cmp nat_cmp a g ≡ Less) (groups_of (closed form)) (groups_of (collected_behind (added held (fresh held.key.group)) records)) (above a form less) (all_above a (added held (fresh held.key.group)) records all.0 all.1)) in
+    subst (AllByRecursion (λ g. slice_cmp nat_cmp a g ≡ Less)) (sym (groups_append (closed form) (collected_behind (added held (fresh held.key.group)) records)))
+    (all_append (λ g. slice_cmp nat_cmp a g ≡ Less) (groups_of (closed form)) (groups_of (collected_behind (added held (fresh held.key.group)) records)) (above a form less) (all_above a (added held (fresh held.key.group)) records all.0 all.1)) in
     either (λ fs. AllByRecursion (λ g. slice_cmp nat_cmp a g ≡ Less) (groups_of fs)) (same_address held.key.group form.group)
     (collected_behind (added held form) records) (closed form ++ collected_behind (added held (fresh held.key.group)) records)
     (all_above a (added held form) records less all.1) before

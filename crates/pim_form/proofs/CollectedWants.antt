@@ -1,5 +1,5 @@
 -- The form that one port's records collect to wants what the port wants.
-use Rattle.std.proofs.Common.{◌≡◌, ◌∙◌, ℕ, ◌≤◌, inl, inr, Bool, true, false, ◌||◌, ◌&&◌, not, cond, List, [], ◌∷◌, ◌++◌, Option, None, Some, refl, sym, ap, subst, arith}
+use Rattle.std.proofs.Common.{◌≡◌, ◌∙◌, ℕ, inl, inr, Bool, true, false, ◌||◌, ◌&&◌, not, cond, List, [], ◌∷◌, ◌++◌, Option, None, Some, refl, sym, ap, subst}
 use Rattle.std.specs.declared.cmp.Ordering.TheVariants.{Less}
 use Rattle.std.specs.List.{AllByRecursion, list_any}
 use Rattle.std.specs.Option.{is_some}
@@ -19,9 +19,9 @@ use Rattle.pim_form.specs.declared.tree.Tree.{Tree}
 use Rattle.pim_form.specs.declared.tree.Tree.TheVariants.{Shared, Source as SourceTree}
 use Rattle.pim_form.specs.NormalForm.{GroupForm, same_address, is_listed, is_excepted, is_empty, group_wants, form_wants, IsFormOf}
 use Rattle.pim_form.specs.Rows.{exceptions_of}
-use Rattle.pim_form.specs.Wants.{is_joined, is_pruned, wants_on}
-use Rattle.pim_form.specs.Collect.{Takes, wants_at, fresh, with_exception, star_with, sources_with, added, closed, collected_behind, collected, AreOfPort, of_port}
-use Rattle.pim_form.proofs.Addresses.{same_itself, same_is, less_apart}
+use Rattle.pim_form.specs.Wants.{is_joined, is_pruned}
+use Rattle.pim_form.specs.Collect.{Takes, wants_at, fresh, with_exception, star_with, sources_with, added, closed, collected_behind, collected, of_port}
+use Rattle.pim_form.proofs.Addresses.{same_is, less_apart}
 use Rattle.pim_form.proofs.PortDemand.{same_what, tells, some_tell, told_wants, port_wants, are_of_port}
 use Rattle.pim_form.proofs.Collected.{Precedes, IsRun, is_run, IsNext, takes_fresh, all_next, all_first, later, taken, all_rising, collected_normal}
 

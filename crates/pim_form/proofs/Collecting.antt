@@ -1,18 +1,16 @@
 -- The form of one port's records while it is made.
-use Rattle.std.proofs.Common.{◌≡◌, ◌∙◌, ◌↔◌, ℕ, Bool, true, false, cond, List, [], ◌∷◌, ◌++◌, length, refl, sym, ap, subst}
+use Rattle.std.proofs.Common.{◌≡◌, ◌∙◌, ℕ, Bool, true, false, cond, List, [], ◌∷◌, ◌++◌, length, refl, sym, ap, subst}
 use Rattle.std.specs.List.{AllByRecursion}
-use Rattle.std.proofs.lemmas.Bool.{false≢true}
-use Rattle.std.proofs.lemmas.List.{append_assoc, append-nil}
-use Rattle.pim_addr.specs.declared.family.AddressFamily.{AddressFamily}
+use Rattle.std.proofs.lemmas.List.{append_assoc}
 use Rattle.pim_down.specs.declared.machine.Record.{Record}
 use Rattle.pim_form.specs.declared.place.Place.{Place}
 use Rattle.pim_form.specs.NormalForm.{GroupForm, same_address}
-use Rattle.pim_form.specs.Rows.{IsWithin, place_seen, form_seen}
+use Rattle.pim_form.specs.Rows.{place_seen, form_seen}
 use Rattle.pim_form.specs.Drafts.{IsDraft, IsLast, Becomes}
-use Rattle.pim_form.specs.Collect.{Takes, fresh, added, closed, collected_behind, collected, AreOfPort}
+use Rattle.pim_form.specs.Collect.{Takes, fresh, added, closed, collected_behind, collected}
 use Rattle.pim_form.proofs.Addresses.{same_itself, same_is}
-use Rattle.pim_form.proofs.Collected.{Precedes, IsRun, is_run, IsNext, taken, takes_fresh, all_next, all_first}
-use Rattle.pim_form.proofs.Merging.{IsRest, rest_of_draft, draft_of_rest}
+use Rattle.pim_form.proofs.Collected.{IsRun, IsNext, taken, all_next, all_first}
+use Rattle.pim_form.proofs.Merging.{IsRest}
 
 module _ {A : Type 0} (bytes_of : A → List ℕ) where
   -- The groups that are ended, and what comes of the last one and the records that are left, are the form of all.

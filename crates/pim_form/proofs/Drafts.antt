@@ -1,8 +1,8 @@
 -- A form that is being made: what stood before reads as before, and one group more as it was told.
-use Rattle.std.proofs.Common.{◌≡◌, ◌∙◌, ℕ, ◌+◌, ◌≤◌, Bool, List, [], ◌∷◌, ◌++◌, map, length, take, drop, Option, None, Some, ◌||◌, refl, sym, ap, subst, arith}
+use Rattle.std.proofs.Common.{◌≡◌, ◌∙◌, ℕ, ◌+◌, ◌≤◌, List, [], ◌∷◌, ◌++◌, map, length, take, drop, Option, None, Some, ◌||◌, refl, sym, ap, subst, arith}
 use Rattle.std.specs.List.{AllByRecursion}
 use Rattle.std.proofs.lemmas.List.{take-map, drop-map, take-append-le, map-append, length-map}
-use Rattle.std.proofs.Math.Seq.{take-append_seam, drop-append_seam}
+use Rattle.std.proofs.Math.Seq.{drop-append_seam}
 use Rattle.pim_form.specs.declared.place.Place.{Place}
 use Rattle.pim_form.specs.NormalForm.{GroupForm}
 use Rattle.pim_form.specs.Rows.{between, IsWithin, star_of, exceptions_of, place_seen, form_seen}
@@ -73,14 +73,14 @@ module _ {A : Type 0} (bytes_of : A → List ℕ) where
       let second_step = grown_length row' row'' exceptions with_exceptions in
       let inside : IsWithin (length row'') place = (omega arith, omega arith, omega arith, omega arith) in
       let read_sources : map bytes_of (between place.sources_start place.sources_end row'') ≡ sources =
-          same_part row' row'' exceptions with_exceptions place.sources_start place.sources_end (omega arith) ∙ new_part row row' sources with_sources place.sources_start place.sources_end start middle in
+      same_part row' row'' exceptions with_exceptions place.sources_start place.sources_end (omega arith) ∙ new_part row row' sources with_sources place.sources_start place.sources_end start middle in
       let read_exceptions : map bytes_of (between place.exceptions_start place.exceptions_end row'') ≡ exceptions =
-          new_part row' row'' exceptions with_exceptions place.exceptions_start place.exceptions_end middle' last in
+      new_part row' row'' exceptions with_exceptions place.exceptions_start place.exceptions_end middle' last in
       let stars : star_of place.starred (map bytes_of (between place.exceptions_start place.exceptions_end row'')) ≡ this.star = ap (star_of place.starred) read_exceptions ∙ star in
       let lists : map bytes_of (between place.sources_start place.sources_end row'') ≡ this.sources = read_sources ∙ are in
       let seen_place : place_seen bytes_of row'' place ≡ this = λ i. record { group = group i; star = stars i; sources = lists i } in
       let before : form_seen bytes_of row'' places ≡ form =
-          same_form row' row'' exceptions with_exceptions places (still_within row row' sources with_sources places draft.within) ∙ same_form row row' sources with_sources places draft.within ∙ draft.seen in
+      same_form row' row'' exceptions with_exceptions places (still_within row row' sources with_sources places draft.within) ∙ same_form row row' sources with_sources places draft.within ∙ draft.seen in
       let kept = still_within row' row'' exceptions with_exceptions places (still_within row row' sources with_sources places draft.within) in
       record {
         within = subst (AllByRecursion (IsWithin (length row''))) (sym is) (all_append (IsWithin (length row'')) places (place ∷ []) kept (inside, tt));

@@ -8,9 +8,9 @@ use Rattle.std.specs.Cmp.Lexicographic.{slice_cmp}
 use Rattle.pim_addr.specs.declared.family.AddressFamily.{AddressFamily}
 use Rattle.pim_form.specs.declared.tree.Tree.{Tree}
 use Rattle.pim_form.specs.declared.tree.Tree.TheVariants.{Shared, Source}
-use Rattle.pim_form.specs.NormalForm.{GroupForm, AreAscending, AreExceptions, IsNormal, IsNormalGroup, same_address, is_listed, is_empty, groups_of, is_excepted, group_wants, form_wants}
+use Rattle.pim_form.specs.NormalForm.{GroupForm, AreAscending, AreExceptions, IsNormal, IsNormalGroup, same_address, is_listed, is_empty, is_excepted, group_wants, form_wants}
 use Rattle.pim_form.specs.Merge.{by_order, merged_into, merged_by, itself, first_of, united, common, both_stars, both_groups, group_of, merged}
-use Rattle.pim_form.proofs.Addresses.{same_is, equal_is, greater_less, less_apart, less_apart_back, IsBelowAll-trans, unlisted_below, same_itself}
+use Rattle.pim_form.proofs.Addresses.{same_is, equal_is, greater_less, less_apart_back, IsBelowAll-trans, unlisted_below, same_itself}
 use Rattle.pim_form.proofs.Lists.{all_map, all_mapped}
 
 -- ---- truth values

@@ -1,5 +1,5 @@
 -- A form that is being made, and what is still to come.
-use Rattle.std.proofs.Common.{◌≡◌, ◌∙◌, ℕ, List, [], ◌∷◌, ◌++◌, map, length, refl, sym, ap, subst}
+use Rattle.std.proofs.Common.{◌≡◌, ◌∙◌, ℕ, List, [], ◌∷◌, ◌++◌, length, refl, sym, ap, subst}
 use Rattle.std.specs.declared.cmp.Ordering.TheVariants.{Less, Equal, Greater}
 use Rattle.std.specs.List.{AllByRecursion}
 use Rattle.std.specs.Ordering.{nat_cmp}
@@ -11,7 +11,7 @@ use Rattle.pim_form.specs.NormalForm.{GroupForm, IsNormalGroup, IsNormal}
 use Rattle.pim_form.specs.Rows.{IsWithin, place_seen, form_seen, AreKept, IsKept}
 use Rattle.pim_form.specs.Drafts.{IsDraft}
 use Rattle.pim_form.specs.Merge.{by_order, merged_into, merged_by, group_of, both_groups, merged}
-use Rattle.pim_form.proofs.Merged.{merged_none, merged_normal}
+use Rattle.pim_form.proofs.Merged.{merged_none}
 
 -- ---- one step over two lists
 
@@ -117,8 +117,8 @@ module _ {A : Type 0} (bytes_of : A → List ℕ) where
       merged_second none =
           let empty : right ≡ [] = nil_from_length right none in
           let here : form_seen bytes_of row places ++ form_seen bytes_of row_one left ≡ all =
-              ap (λ (l : List GroupForm). form_seen bytes_of row places ++ l) (sym (merged_none group_of both_groups (form_seen bytes_of row_one left)))
-              ∙ subst (λ l. form_seen bytes_of row places ++ merged (form_seen bytes_of row_one left) (form_seen bytes_of row_other l) ≡ all) empty merging.rest.so_far in
+          ap (λ (l : List GroupForm). form_seen bytes_of row places ++ l) (sym (merged_none group_of both_groups (form_seen bytes_of row_one left)))
+          ∙ subst (λ l. form_seen bytes_of row places ++ merged (form_seen bytes_of row_one left) (form_seen bytes_of row_other l) ≡ all) empty merging.rest.so_far in
           subst (IsDraft bytes_of row'' places'')
           (ap (λ (l : List (Place A)). (form_seen bytes_of row places ++ form_seen bytes_of row_one left) ++ form_seen bytes_of row_other l) empty
           ∙ append-nil (form_seen bytes_of row places ++ form_seen bytes_of row_one left) ∙ here) both_appended

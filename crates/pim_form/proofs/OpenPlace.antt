@@ -1,8 +1,8 @@
 -- The last group of a form that is being made, while addresses are appended to it.
-use Rattle.std.proofs.Common.{◌≡◌, ◌∙◌, ℕ, zero, suc, ◌+◌, ◌-◌, ◌≤◌, ◌<◌, Bool, true, false, cond, List, [], ◌∷◌, ◌++◌, Option, None, Some, map, length, take, drop, refl, sym, ap, subst, arith}
+use Rattle.std.proofs.Common.{◌≡◌, ◌∙◌, ℕ, zero, suc, ◌≤◌, ◌<◌, Bool, true, false, cond, List, [], ◌∷◌, ◌++◌, None, map, length, take, drop, refl, sym, ap, subst, arith}
 use Rattle.std.specs.List.{AllByRecursion}
 use Rattle.std.proofs.lemmas.Bool.{false≢true}
-use Rattle.std.proofs.lemmas.List.{drop-append-le, map-append, nil_from_length, length-drop, append-nil}
+use Rattle.std.proofs.lemmas.List.{drop-append-le, map-append, length-drop}
 use Rattle.pim_form.specs.declared.place.Place.{Place}
 use Rattle.pim_form.specs.NormalForm.{GroupForm, is_empty}
 use Rattle.pim_form.specs.Rows.{between, IsWithin, star_of, exceptions_of, place_seen, form_seen}
@@ -73,7 +73,7 @@ module _ {A : Type 0} (bytes_of : A → List ℕ) where
       let longer : length row' ≡ suc (length row) = ap length grown ∙ one_longer row x in
       let at_end : place.sources_end ≡ length row = omega (arith, empty, is.middle, is.last) in
       let sources : read place'.sources_start place'.sources_end row' ≡ read place.sources_start place.sources_end row ++ bytes_of x ∷ [] =
-          ap (λ n. read n place'.sources_end row') start ∙ read_more place.sources_start place.sources_end place'.sources_end row row' x grown (omega (arith, is.sources, at_end)) at_end end in
+      ap (λ n. read n place'.sources_end row') start ∙ read_more place.sources_start place.sources_end place'.sources_end row row' x grown (omega (arith, is.sources, at_end)) at_end end in
       let none_now : read place'.exceptions_start place'.exceptions_end row' ≡ [] = (λ i. read (middle i) (last i) row') ∙ ap (map bytes_of) (none_between (length row') row') in
       let none_then : read place.exceptions_start place.exceptions_end row ≡ [] = ap (λ n. read place.exceptions_start n row) (sym empty) ∙ ap (map bytes_of) (none_between place.exceptions_start row) in
       let stars : star_of place'.starred (read place'.exceptions_start place'.exceptions_end row') ≡ star_of place.starred (read place.exceptions_start place.exceptions_end row) = λ i. star_of (starred i) ((none_now ∙ sym none_then) i) in
@@ -95,9 +95,9 @@ module _ {A : Type 0} (bytes_of : A → List ℕ) where
       let before = same_place bytes_of row row' (bytes_of x ∷ []) grows place within in
       let sources : read place'.sources_start place'.sources_end row' ≡ read place.sources_start place.sources_end row = (λ i. read (start i) (end i) row') ∙ ap (λ (g : GroupForm). g.sources) before in
       let exceptions : read place'.exceptions_start place'.exceptions_end row' ≡ read place.exceptions_start place.exceptions_end row ++ bytes_of x ∷ [] =
-          ap (λ n. read n place'.exceptions_end row') middle ∙ read_more place.exceptions_start place.exceptions_end place'.exceptions_end row row' x grown (omega (arith, is.last, is.exceptions)) is.last last in
+      ap (λ n. read n place'.exceptions_end row') middle ∙ read_more place.exceptions_start place.exceptions_end place'.exceptions_end row row' x grown (omega (arith, is.last, is.exceptions)) is.last last in
       let stars : star_of place'.starred (read place'.exceptions_start place'.exceptions_end row') ≡ with_exception (bytes_of x) (star_of place.starred (read place.exceptions_start place.exceptions_end row)) =
-          (λ i. star_of ((starred ∙ has) i) (exceptions i)) ∙ ap (λ s. with_exception (bytes_of x) (star_of s (read place.exceptions_start place.exceptions_end row))) (sym has) in
+      (λ i. star_of ((starred ∙ has) i) (exceptions i)) ∙ ap (λ s. with_exception (bytes_of x) (star_of s (read place.exceptions_start place.exceptions_end row))) (sym has) in
       record {
         last = record {
           sources = omega (arith, is.sources);

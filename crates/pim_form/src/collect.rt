@@ -23,9 +23,9 @@ fn add_source<F: Family>(
     requires last { IsLast (length row.old.items) group.old }
     requires none { exceptions_of (place_seen F.bytes_of row.old.items group.old).star ≡ [] }
     ensures { OnOk result (Becomes F.bytes_of row.old.items row.new.items group.new (record {
-        group = (place_seen F.bytes_of row.old.items group.old).group;
-        star = (place_seen F.bytes_of row.old.items group.old).star;
-        sources = (place_seen F.bytes_of row.old.items group.old).sources ++ F.bytes_of source ∷ [];
+      group = (place_seen F.bytes_of row.old.items group.old).group;
+      star = (place_seen F.bytes_of row.old.items group.old).star;
+      sources = (place_seen F.bytes_of row.old.items group.old).sources ++ F.bytes_of source ∷ [];
     })) }
 {
     row.push(source)?;
@@ -44,9 +44,9 @@ fn add_exception<F: Family>(
     requires last { IsLast (length row.old.items) group.old }
     requires star { group.old.starred ≡ true }
     ensures { OnOk result (Becomes F.bytes_of row.old.items row.new.items group.new (record {
-        group = (place_seen F.bytes_of row.old.items group.old).group;
-        star = with_exception (F.bytes_of source) (place_seen F.bytes_of row.old.items group.old).star;
-        sources = (place_seen F.bytes_of row.old.items group.old).sources;
+      group = (place_seen F.bytes_of row.old.items group.old).group;
+      star = with_exception (F.bytes_of source) (place_seen F.bytes_of row.old.items group.old).star;
+      sources = (place_seen F.bytes_of row.old.items group.old).sources;
     })) }
 {
     row.push(source)?;

@@ -1,4 +1,4 @@
-use Rattle.std.proofs.Common.{◌≡◌, ◌∙◌, refl}
+use Rattle.std.proofs.Common.{◌∙◌, refl}
 use Rattle.pim_form.proofs.OpenPlace.{source_added}
 use Rattle.pim_form.proofs.collect.add_source.Goals as goal
 

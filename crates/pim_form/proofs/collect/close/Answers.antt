@@ -1,4 +1,3 @@
-use Rattle.std.proofs.Common.{◌≡◌, ◌∙◌, refl}
 use Rattle.pim_form.proofs.OpenPlace.{closed_some, some_star, some_source}
 use Rattle.pim_form.proofs.collect.close.Goals as goal
 use Rattle.pim_form.proofs.collect.close.Goals.{then-group-via-then-group, then-group-via-else-group+then-group-2}

@@ -1,10 +1,9 @@
-use Rattle.std.proofs.Common.{◌≡◌, ◌∙◌, ◌++◌, List, map, sym, ap, subst, refl}
+use Rattle.std.proofs.Common.{◌∙◌, sym, subst}
 use Rattle.std.proofs.lemmas.Bool.{false≢true}
 use Rattle.pim_down.specs.Seen.{told_seen}
-use Rattle.pim_form.specs.NormalForm.{GroupForm, IsFormOf}
-use Rattle.pim_form.specs.Rows.{place_seen, form_seen}
+use Rattle.pim_form.specs.NormalForm.{IsFormOf}
 use Rattle.pim_form.specs.Drafts.{IsDraft}
-use Rattle.pim_form.specs.Collect.{closed, collected, of_port, wants_at}
+use Rattle.pim_form.specs.Collect.{collected, of_port, wants_at}
 use Rattle.pim_form.proofs.Collected.{is_run, IsRun}
 use Rattle.pim_form.proofs.CollectedWants.{port_form}
 use Rattle.pim_form.proofs.Collecting.{IsCollecting, starts, nothing, takes, same_group, other_group, ends}

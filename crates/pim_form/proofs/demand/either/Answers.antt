@@ -1,4 +1,4 @@
-use Rattle.std.proofs.Common.{◌≡◌, ◌∙◌, sym, ap, length}
+use Rattle.std.proofs.Common.{◌∙◌, sym, ap, length}
 use Rattle.pim_form.proofs.AllPorts.{merged_first_none, merged_second_none}
 use Rattle.pim_form.proofs.demand.either.Goals as goal
 

@@ -1,5 +1,5 @@
-use Rattle.std.proofs.Common.{◌≡◌, ◌∙◌, sym, map, refl}
-use Rattle.pim_form.proofs.MergeSteps.{IsMeeting, met_first, met_second, meet_less, meet_equal, meet_greater}
+use Rattle.std.proofs.Common.{◌∙◌, sym}
+use Rattle.pim_form.proofs.MergeSteps.{met_second, meet_less, meet_equal, meet_greater}
 use Rattle.pim_form.proofs.merge.push_common.Goals as goal
 
 pub loop-a-preserved-in-Less : goal.loop-a-preserved-in-Less

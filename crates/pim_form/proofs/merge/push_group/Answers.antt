@@ -1,4 +1,4 @@
-use Rattle.std.proofs.Common.{◌≡◌, ◌∙◌, sym, ap, map, refl}
+use Rattle.std.proofs.Common.{◌∙◌, ap, map}
 use Rattle.std.specs.Option.{is_some}
 use Rattle.pim_form.specs.Rows.{star_of}
 use Rattle.pim_form.proofs.Drafts.{one_more, appended, same_star}

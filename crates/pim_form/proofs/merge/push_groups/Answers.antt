@@ -1,4 +1,4 @@
-use Rattle.std.proofs.Common.{◌≡◌, ◌∙◌, ◌++◌, ◌∷◌, sym, ap, map, refl, subst}
+use Rattle.std.proofs.Common.{◌++◌, subst}
 use Rattle.pim_form.proofs.Merging.{IsRest, rest_step, draft_of_rest}
 use Rattle.pim_form.proofs.merge.push_groups.Goals as goal
 

@@ -1,4 +1,4 @@
-use Rattle.std.proofs.Common.{◌≡◌, sym, subst}
+use Rattle.std.proofs.Common.{subst}
 use Rattle.std.proofs.lemmas.Result.{IfOk-weaker}
 use Rattle.pim_form.specs.NormalForm.{IsFormOf}
 use Rattle.pim_form.specs.Collect.{wants_from}
