@@ -19,8 +19,11 @@ mod tests;
 /// So few entries are compared one by one sooner than sorted.
 const FEW: u16 = 4;
 
-/// So many fit into the smaller block.
+/// So many fit into the smallest block.
 const SOME: u16 = 128;
+
+/// So many fit into the middle one.
+const MORE: u16 = 1024;
 
 /// Whether two entries have the same source, and are both (S,G) or both (S,G,rpt).
 fn same_source<F: Family>(this: Entry<F::Addr>, that: Entry<F::Addr>) -> bool
@@ -103,6 +106,9 @@ pub(crate) fn first_clash<F: Family>(count: u16, bytes: &[u8], joined: &Entries<
     }
     if joined.count_left() <= SOME {
         return first_clash_among_many::<F, 128>(count, bytes, joined);
+    }
+    if joined.count_left() <= MORE {
+        return first_clash_among_many::<F, 1024>(count, bytes, joined);
     }
     first_clash_among_many::<F, 4096>(count, bytes, joined)
 }
