@@ -66,8 +66,8 @@ fn first_clash_among_few<F: Family>(count: u16, bytes: &[u8], joined: &Entries<'
     count
 }
 
-/// The same among many: the numbers of the joined sources are sorted, as many at a time as `N`, in a block on the stack,
-/// those of a type apart from those of the other, and that of each pruned entry is looked for in each block.
+/// The same among many: the numbers of the joined sources are sorted, as many at a time as `N`, in a block on the
+/// stack, those of a type apart from those of the other, and that of each pruned entry is looked for in each block.
 fn first_clash_among_many<F: Family, const N: usize>(
     count: u16,
     bytes: &[u8],
