@@ -16,8 +16,8 @@ use crate::entries::{Entries, first_entry};
 use crate::entry::Entry;
 use pim_addr::{Family, count_below, numbers_are_in_order, source_length};
 
-/// Where the numbers of a block end: those of (S,G) entries stand before `front`, those of (S,G,rpt) ones from `back` on,
-/// and what is between is free.
+/// Where the numbers of a block end: those of (S,G) entries stand before `front`, those of (S,G,rpt) ones from `back`
+/// on, and what is between is free.
 #[derive(Clone, Copy)]
 struct Ends {
     front: usize,

@@ -19,8 +19,11 @@ mod tests;
 /// So few entries are compared one by one sooner than sorted.
 const FEW: u16 = 4;
 
-/// So many fit into the smaller block.
+/// So many fit into the smallest block.
 const SOME: u16 = 128;
+
+/// So many fit into the middle one.
+const MORE: u16 = 1024;
 
 /// Whether two entries have the same source, and are both (S,G) or both (S,G,rpt).
 fn same_source<F: Family>(this: Entry<F::Addr>, that: Entry<F::Addr>) -> bool
@@ -63,8 +66,8 @@ fn first_clash_among_few<F: Family>(count: u16, bytes: &[u8], joined: &Entries<'
     count
 }
 
-/// The same among many: the numbers of the joined sources are sorted, as many at a time as `N`, in a block on the stack,
-/// those of a type apart from those of the other, and that of each pruned entry is looked for in each block.
+/// The same among many: the numbers of the joined sources are sorted, as many at a time as `N`, in a block on the
+/// stack, those of a type apart from those of the other, and that of each pruned entry is looked for in each block.
 fn first_clash_among_many<F: Family, const N: usize>(
     count: u16,
     bytes: &[u8],
@@ -103,6 +106,9 @@ pub(crate) fn first_clash<F: Family>(count: u16, bytes: &[u8], joined: &Entries<
     }
     if joined.count_left() <= SOME {
         return first_clash_among_many::<F, 128>(count, bytes, joined);
+    }
+    if joined.count_left() <= MORE {
+        return first_clash_among_many::<F, 1024>(count, bytes, joined);
     }
     first_clash_among_many::<F, 4096>(count, bytes, joined)
 }

@@ -36,7 +36,7 @@ struct Row {
     twins: Option<(u16, u16)>,
 }
 
-const ROWS: [Row; 9] = [
+const ROWS: [Row; 11] = [
     Row {
         joined: 4,
         pruned: 4,
@@ -66,6 +66,16 @@ const ROWS: [Row; 9] = [
         joined: 129,
         pruned: 9,
         twins: Some((8, 0)),
+    },
+    Row {
+        joined: 1024,
+        pruned: 4,
+        twins: Some((3, 1023)),
+    },
+    Row {
+        joined: 1025,
+        pruned: 4,
+        twins: Some((0, 1024)),
     },
     Row {
         joined: 4096,
