@@ -3,7 +3,6 @@ pub mod ReadBack
 pub mod TextNames
 pub mod Places
 pub mod Numbers
-mod FirstEqual
 mod RangeEnds
 mod AnswersOver
 mod OneMoreEnd

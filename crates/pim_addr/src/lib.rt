@@ -18,7 +18,6 @@ mod route_map;
 mod route_rows;
 mod routes;
 mod rows;
-mod search;
 mod text;
 mod written;
 
@@ -41,7 +40,6 @@ pub use route_laws::{
 };
 pub use route_rows::RouteRows;
 pub use routes::Routes;
-pub use search::place_of;
 pub use text::write_text;
 pub use written::{
     group_reads_back, put_group, put_source, put_unicast, source_reads_back, unicast_reads_back,
