@@ -1,4 +1,5 @@
 pub mod Counted
+pub mod Dense
 pub mod Finding
 pub mod Joined
 pub mod Kept

@@ -7,9 +7,9 @@ ghost use Rattle.sorted_blocks.specs.Places.{IsItem};
 ghost use Rattle.sorted_blocks.specs.Found.{IsFound};
 ghost use Rattle.sorted_blocks.specs.Sought.{IsSought, IsBlockSought, IsBlockGap, IsRowLeft, IsLessAt};
 
-use crate::blocks::Blocks;
 use crate::place::Place;
 use crate::probe::Probe;
+use crate::store::Store;
 use std::cmp::Ordering;
 
 /// Where in a row of items what is sought stands, or would stand; the items before `low` are less.
@@ -32,11 +32,11 @@ fn seek<T: Copy, P: Probe<T>>(probe: &P, row: &[T], low: usize) -> Result<usize,
     Err(low)
 }
 
-impl<T: Copy, const HALF: usize> Blocks<T, HALF> {
+impl<T: Copy, const HALF: usize> Store<T, HALF> {
     /// Where an item stands that compares equal, or else a gap: the item before it is less than what is sought, and
     /// the one behind it is greater. Where the list has the probe's order, that is where the item belongs. It costs as
     /// many comparisons as the number of items has bits, and a few.
-    pub fn find<P: Probe<T>>(&self, probe: &P) -> Result<Place, Place>
+    pub(crate) fn find<P: Probe<T>>(&self, probe: &P) -> Result<Place, Place>
         requires { All (P.can_compare probe.now) (items self.now) }
         ensures { IsFound (P.order probe.now) self.now result }
     {
@@ -48,7 +48,7 @@ impl<T: Copy, const HALF: usize> Blocks<T, HALF> {
 
     /// The same, beginning at a place near which it may stand; whatever place that is, the answer is right. Where it
     /// stands at that place, or right behind, it costs a comparison or two.
-    pub fn find_near<P: Probe<T>>(&self, near: Place, probe: &P) -> Result<Place, Place>
+    pub(crate) fn find_near<P: Probe<T>>(&self, near: Place, probe: &P) -> Result<Place, Place>
         requires { All (P.can_compare probe.now) (items self.now) }
         ensures { IsFound (P.order probe.now) self.now result }
     {

@@ -13,6 +13,7 @@ mod laws;
 mod place;
 mod probe;
 mod room;
+mod store;
 #[cfg(test)]
 mod tests;
 mod walk;

@@ -35,6 +35,11 @@ fn holds(list: &Blocks<u32, 2>, plain: &[u32]) -> bool {
     !list.is_item(place)
 }
 
+/// Whether neighbouring blocks of up to four have more than two items together.
+fn has_few_blocks(list: &Blocks<u32, 2>) -> bool {
+    list.block_count().saturating_sub(1).saturating_mul(3) <= list.len().saturating_mul(2)
+}
+
 /// Puts the number in, or takes it out where it is there; answers the place where it stood or stands. The look-up
 /// begins near a place.
 fn turn(list: &mut Blocks<u32, 2>, plain: &mut Vec<u32>, near: Place, number: u32) -> Place {
@@ -81,6 +86,7 @@ fn goes_beside_a_plain_vector(rt: HostRuntime) -> Result<(), Fail> {
         let number = ((random >> 33) % range) as u32;
         near = turn(&mut list, &mut plain, near, number);
         assert!(rt; holds(&list, plain.as_slice()));
+        assert!(rt; has_few_blocks(&list));
     }
     Ok(())
 }
