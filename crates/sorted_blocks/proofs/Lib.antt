@@ -8,3 +8,4 @@ pub mod Orders
 pub mod Rooms
 pub mod Seeking
 pub mod Starts
+pub mod Walking

@@ -1,12 +1,13 @@
 //! The list: its public calls, and the bound on its blocks.
 
-ghost use Rattle.std.specs.Prelude.{◌≡◌, ◌+◌, ◌-◌, ◌*◌, ◌<◌, ◌≤◌, [], length, slice_index_or, OnOk, IsTrue, ◌↔◌};
+ghost use Rattle.std.specs.Prelude.{◌≡◌, ◌+◌, ◌-◌, ◌*◌, ◌<◌, ◌≤◌, [], length, drop, slice_index_or, OnOk, IsTrue, ◌↔◌};
 ghost use Rattle.std.specs.List.{All, insert, remove};
 ghost use Rattle.sorted_blocks.specs.Shape.{items, room, Shape};
 ghost use Rattle.sorted_blocks.specs.Places.{before, IsPlace, IsItem};
 ghost use Rattle.sorted_blocks.specs.Found.{IsFound};
 ghost use Rattle.sorted_blocks.specs.declared.place.Place.{Place};
 
+use crate::items::Items;
 use crate::place::Place;
 use crate::probe::Probe;
 use crate::store::Store;
@@ -147,6 +148,22 @@ impl<T: Copy, const HALF: usize> Blocks<T, HALF> {
         ensures item { before self.now place < length (items self.now) → IsItem self.now result }
     {
         self.store.settled(place)
+    }
+
+    /// The items in order, from the first one on. The walk takes no memory; a step reads within a block, and at its end
+    /// looks at the next one.
+    pub fn iter(&self) -> Items<'_, T, HALF>
+        ensures { result ≡ items self.now }
+    {
+        self.store.iter_from(Place::START)
+    }
+
+    /// The items in order from this place on, in the same way; beginning costs no search.
+    pub fn iter_from(&self, place: Place) -> Items<'_, T, HALF>
+        requires { IsPlace self.now place }
+        ensures { result ≡ drop (before self.now place) (items self.now) }
+    {
+        self.store.iter_from(place)
     }
 
     /// Where an item stands that compares equal, or else a gap: the item before it is less than what is sought, and

@@ -9,6 +9,7 @@ mod block;
 mod blocks;
 mod edits;
 mod find;
+mod items;
 mod laws;
 mod place;
 mod probe;
@@ -19,6 +20,7 @@ mod tests;
 mod walk;
 
 pub use blocks::Blocks;
-pub use laws::{gap_keeps_the_order, removal_keeps_the_order};
+pub use items::Items;
+pub use laws::{gap_keeps_the_order, item_has_a_place, removal_keeps_the_order};
 pub use place::Place;
 pub use probe::Probe;

@@ -107,6 +107,14 @@ impl<T: Copy, const HALF: usize> Store<T, HALF> {
         self.used[block].as_slice()
     }
 
+    /// The blocks in use, in order.
+    pub(crate) fn all_blocks(&self) -> &[Block<T, HALF>]
+        ensures all { result.now ≡ self.now.blocks }
+        ensures filled { AllFilled HALF result.now }
+    {
+        self.used.as_slice()
+    }
+
     /// Puts an item into a block that isn't full.
     pub(crate) fn put(&mut self, block: usize, at: usize, item: T)
         requires block { block < length self.old.blocks }
