@@ -1,6 +1,6 @@
 //! Looking up an item by the caller's comparison.
 
-ghost use Rattle.std.specs.Prelude.{◌≡◌, ℕ, ◌+◌, ◌-◌, ◌<◌, ◌≤◌, List, [], length, slice_index_or};
+ghost use Rattle.std.specs.Prelude.{◌≡◌, ℕ, ◌+◌, ◌-◌, ◌<◌, ◌≤◌, List, [], length, slice_index_or, IsTrue};
 ghost use Rattle.std.specs.List.{All};
 ghost use Rattle.sorted_blocks.specs.Shape.{items, block_at};
 ghost use Rattle.sorted_blocks.specs.Places.{IsItem};
@@ -12,8 +12,70 @@ use crate::probe::Probe;
 use crate::store::Store;
 use std::cmp::Ordering;
 
-/// Where in a row of items what is sought stands, or would stand; the items before `low` are less.
+/// A guess how many items of a row are less than what is sought: right where the row has the probe's order.
+///
+/// No branch goes by an item, so that a processor has none to guess: what is left is as long as a power of two, and
+/// whether an item is less is shifted into its place.
+fn guess<T: Copy, P: Probe<T>>(probe: &P, row: &[T]) -> usize
+    requires { All (P.can_compare probe.now) row.now }
+    ensures { result ≤ length row.now }
+{
+    if row.is_empty() {
+        return 0;
+    }
+    let mut shift = row.len().ilog2();
+    let over = row.len() - (1 << shift);
+    let mut base = over * usize::from(probe.compare(&row[over]).is_lt());
+    while shift > 0 {
+        shift -= 1;
+        let is_less = probe.compare(&row[base + (1 << shift)]).is_lt();
+        base += usize::from(is_less) << shift;
+    }
+    base + usize::from(probe.compare(&row[base]).is_lt())
+}
+
+/// Whether the item before this place of a row is less than what is sought, or there is none.
+fn is_behind_lesser<T: Copy, P: Probe<T>>(probe: &P, row: &[T], at: usize) -> bool
+    requires can { All (P.can_compare probe.now) row.now }
+    requires at { at ≤ length row.now }
+    ensures { IsTrue result → (d : T) → 0 < at → P.order probe.now (slice_index_or row.now (at - 1) d) ≡ Ordering.Less }
+{
+    if at == 0 {
+        return true;
+    }
+    match probe.compare(&row[at - 1]) {
+        Ordering::Less => true,
+        Ordering::Equal | Ordering::Greater => false,
+    }
+}
+
+/// Where in a row of items what is sought stands, or would stand; the items before `low` are less. The guess is
+/// looked at, so that the answer is right for any probe.
 fn seek<T: Copy, P: Probe<T>>(probe: &P, row: &[T], low: usize) -> Result<usize, usize>
+    requires can { All (P.can_compare probe.now) row.now }
+    requires low { low ≤ length row.now }
+    requires less { (d : T) → 0 < low → P.order probe.now (slice_index_or row.now (low - 1) d) ≡ Ordering.Less }
+    ensures { IsSought (P.order probe.now) row.now low result }
+{
+    let at = guess(probe, row);
+    if at < low {
+        return seek_in_any(probe, row, low);
+    }
+    if !is_behind_lesser(probe, row, at) {
+        return seek_in_any(probe, row, low);
+    }
+    if at == row.len() {
+        return Err(at);
+    }
+    match probe.compare(&row[at]) {
+        Ordering::Less => seek_in_any(probe, row, low),
+        Ordering::Equal => Ok(at),
+        Ordering::Greater => Err(at),
+    }
+}
+
+/// The same for a row that may be in no order.
+fn seek_in_any<T: Copy, P: Probe<T>>(probe: &P, row: &[T], low: usize) -> Result<usize, usize>
     requires can { All (P.can_compare probe.now) row.now }
     requires low { low ≤ length row.now }
     requires less { (d : T) → 0 < low → P.order probe.now (slice_index_or row.now (low - 1) d) ≡ Ordering.Less }
