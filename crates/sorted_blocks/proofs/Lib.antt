@@ -1,6 +1,7 @@
 pub mod Counted
 pub mod Dense
 pub mod Finding
+pub mod Firsts
 pub mod Joined
 pub mod Kept
 pub mod Moves

@@ -129,18 +129,7 @@ impl<T: Copy, const HALF: usize> Store<T, HALF> {
         requires { All (P.can_compare probe.now) (items self.now) }
         ensures { IsBlockSought (P.order probe.now) self.now.blocks result }
     {
-        let mut low = 0;
-        let mut high = self.block_count();
-        while low < high {
-            let middle = low + (high - low) / 2;
-            let _len = self.block_len(middle);
-            match probe.compare(self.item_of(middle, 0)) {
-                Ordering::Less => low = middle + 1,
-                Ordering::Equal => return Ok(middle),
-                Ordering::Greater => high = middle,
-            }
-        }
-        Err(low)
+        seek(probe, self.firsts(), 0)
     }
 
     /// The answer where so many blocks begin with a lesser item.

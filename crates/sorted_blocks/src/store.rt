@@ -5,6 +5,7 @@ ghost use Rattle.std.specs.List.{remove};
 ghost use Rattle.sorted_blocks.specs.Shape.{Shape, joined, room, block_at, together, put_into, taken_out, split};
 ghost use Rattle.sorted_blocks.specs.Shape.{merged};
 ghost use Rattle.sorted_blocks.specs.Sound.{AllFilled};
+ghost use Rattle.sorted_blocks.specs.Sought.{IsLead};
 
 use crate::block::Block;
 use std::alloc::{AllocError, Global};
@@ -19,6 +20,8 @@ pub(crate) struct Store<T: Copy, const HALF: usize> {
     alloc: Global,
     /// None of them empty; with memory for the spare ones too.
     used: Vec<Block<T, HALF>>,
+    /// The first items of the blocks in use, in one row for the search; with memory for the spare ones too.
+    firsts: Vec<T>,
     /// With memory for those in use too.
     spare: Vec<Block<T, HALF>>,
     /// How many items stand beyond their block's first half.
@@ -31,12 +34,13 @@ impl<T: Copy, const HALF: usize> Model for Store<T, HALF> {
 
     ghost Value = { Shape T };
 
-    ghost use Rattle.sorted_blocks.specs.Sound.{IsSound};
+    ghost use Rattle.sorted_blocks.specs.Sound.{IsSound, IsLed};
     ghost use Rattle.std.specs.Prelude.{vec_len};
 
     ghost view = { λ b. record { blocks = b.used.items; spare = vec_len b.spare } };
 
-    ghost invariant = { λ b. IsSound HALF b.used.items b.spare.len b.used.cap b.spare.cap b.over b.count };
+    ghost invariant = { λ b. IsSound HALF b.used.items b.spare.len b.used.cap b.spare.cap b.over b.count
+        × IsLed b.used.items b.spare.len b.firsts.items b.firsts.cap };
 }
 
 /// By how much more a block of so many items stands beyond its half with one item more.
@@ -56,6 +60,7 @@ impl<T: Copy, const HALF: usize> Store<T, HALF> {
         Store {
             alloc,
             used: Vec::new(alloc),
+            firsts: Vec::new(alloc),
             spare: Vec::new(alloc),
             over: 0,
             count: 0,
@@ -115,6 +120,13 @@ impl<T: Copy, const HALF: usize> Store<T, HALF> {
         self.used.as_slice()
     }
 
+    /// The first items of the blocks in use.
+    pub(crate) fn firsts(&self) -> &[T]
+        ensures { IsLead self.now.blocks result.now }
+    {
+        self.firsts.as_slice()
+    }
+
     /// Puts an item into a block that isn't full.
     pub(crate) fn put(&mut self, block: usize, at: usize, item: T)
         requires block { block < length self.old.blocks }
@@ -126,6 +138,7 @@ impl<T: Copy, const HALF: usize> Store<T, HALF> {
         let row = &mut self.used[block];
         let len = row.len();
         row.put(at, item);
+        self.firsts[block] = *row.get(0);
         self.over += grown::<HALF>(len);
         self.count += 1;
     }
@@ -142,6 +155,7 @@ impl<T: Copy, const HALF: usize> Store<T, HALF> {
         fresh.clear();
         fresh.put(0, item);
         self.used.push_reserved(fresh);
+        self.firsts.push_reserved(item);
         self.count += 1;
     }
 
@@ -155,7 +169,13 @@ impl<T: Copy, const HALF: usize> Store<T, HALF> {
         ensures filled { AllFilled HALF self.old.blocks }
     {
         let mut fresh = self.spare.take_last();
-        self.used[block].split_into(&mut fresh);
+        let row = &mut self.used[block];
+        row.split_into(&mut fresh);
+        self.firsts[block] = *row.get(0);
+        let first = *fresh.get(0);
+        if self.firsts.insert(block + 1, first).is_err() {
+            unreachable!()
+        }
         if self.used.insert(block + 1, fresh).is_err() {
             unreachable!()
         }
@@ -174,6 +194,7 @@ impl<T: Copy, const HALF: usize> Store<T, HALF> {
         let row = &mut self.used[block];
         let len = row.len();
         let item = row.take_out(at);
+        self.firsts[block] = *row.get(0);
         self.over -= grown::<HALF>(len - 1);
         self.count -= 1;
         item
@@ -190,6 +211,7 @@ impl<T: Copy, const HALF: usize> Store<T, HALF> {
     {
         let mut row = self.used.remove(block);
         let item = row.take_out(0);
+        let _first = self.firsts.remove(block);
         self.spare.push_reserved(row);
         self.count -= 1;
         item
@@ -203,7 +225,10 @@ impl<T: Copy, const HALF: usize> Store<T, HALF> {
         ensures spare { self.new.spare ≡ self.old.spare + 1 }
     {
         let behind = self.used.remove(block + 1);
-        self.used[block].absorb(&behind);
+        let _first = self.firsts.remove(block + 1);
+        let row = &mut self.used[block];
+        row.absorb(&behind);
+        self.firsts[block] = *row.get(0);
         self.spare.push_reserved(behind);
     }
 
@@ -233,6 +258,7 @@ impl<T: Copy, const HALF: usize> Store<T, HALF> {
         }
         let (for_used, for_spare) = (self.spare.len() + 1, self.used.len() + 1);
         self.used.reserve(for_used)?;
+        self.firsts.reserve(for_used)?;
         self.spare.reserve(for_spare)?;
         let fresh = Block::new(self.alloc)?;
         self.spare.push_reserved(fresh);

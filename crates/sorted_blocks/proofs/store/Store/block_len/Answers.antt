@@ -10,5 +10,5 @@ returns-clause-some g c =
     let e = ap (λ (s : Shape g.row.T.Denot). s.blocks) c.self.view_is in
     let h : c.args.block < length bs = rw e c.requires in
     let r = ap length (get_or_read bs c.args.block c.index.result.now h c.index.ensures []) in
-    let one = (filled-get _ bs c.args.block c.self.invariant.filled h).0 in
+    let one = (filled-get _ bs c.args.block c.self.invariant.0.filled h).0 in
     omega (arith, one, r, c.len.ensures.len)

@@ -14,4 +14,4 @@ pub returns-clause-room : goal.returns-clause-room
 returns-clause-room g c =
     let s : Shape g.row.T.Denot = record { blocks = c.self.inside.used.items; spare = c.self.inside.spare.len } in
     let some : 0 < length s.blocks = omega (arith, c.self.inside.used.ok.0, c.len-count.ensures, c.if-count-eq0.false) in
-    c.saturating_sub-2.ensures ∙ ap (λ n. n * g.row.HALF - c.self.inside.over) c.len-worth.ensures ∙ ap (λ n. s.spare * g.row.HALF - n) c.self.invariant.over_is ∙ sym (room_some g.row.HALF s some) ∙ ap (room g.row.HALF) c.self.view_is
+    c.saturating_sub-2.ensures ∙ ap (λ n. n * g.row.HALF - c.self.inside.over) c.len-worth.ensures ∙ ap (λ n. s.spare * g.row.HALF - n) c.self.invariant.0.over_is ∙ sym (room_some g.row.HALF s some) ∙ ap (room g.row.HALF) c.self.view_is
