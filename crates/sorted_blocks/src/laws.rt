@@ -1,4 +1,5 @@
-//! What an insert in a gap and a removal do to the order of a list, and what an item's place is. Nothing here is to be called.
+//! What an insert in a gap and a removal do to the order of a list, and what an item's place is. Nothing here is to be
+//! called.
 
 ghost use Rattle.sorted_blocks.specs.Laws.{GapKeepsTheOrder, RemovalKeepsTheOrder, ItemHasAPlace};
 
