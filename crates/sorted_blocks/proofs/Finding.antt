@@ -9,7 +9,7 @@ use Rattle.sorted_blocks.specs.declared.place.Place.{Place}
 use Rattle.sorted_blocks.specs.Shape.{Shape, items}
 use Rattle.sorted_blocks.specs.Places.{before}
 use Rattle.sorted_blocks.specs.Found.{IsGap, IsFound}
-use Rattle.sorted_blocks.specs.Sought.{IsBlockGap, IsRowLeft}
+use Rattle.sorted_blocks.specs.Sought.{IsLead, IsBlockGap, IsRowLeft}
 use Rattle.sorted_blocks.proofs.Joined.{start, item_at, start-suc, start-all, start-within}
 use Rattle.sorted_blocks.proofs.Moves.{before_is, is_item, is_place, is_start}
 
@@ -24,6 +24,11 @@ module _ {A : Type 0} where
   -- what holds of all items holds of each in a block
   pub each_row : (P : A → Type 0) (s : Shape A) (block : ℕ) → All P (items s) → block < length s.blocks → All P (get_or s.blocks block [])
   each_row P s block all h = λ k d l. subst P (item_at s.blocks block k d h l) (all (start s.blocks block + k) d (index_within s block k h l))
+
+  pub can_firsts : (P : A → Type 0) (s : Shape A) (row : List A) → All P (items s) → IsLead s.blocks row → All P row
+  can_firsts P s row all lead = λ k d l.
+      let h : k < length s.blocks = omega (arith, l, lead.long) in
+      subst P (sym (lead.same k d h)) (each_row P s k all h 0 d (lead.some k h))
 
   pub found_equal : (order : A → Ordering) (s : Shape A) (p : Place) → p.block < length s.blocks → p.at < length (get_or s.blocks p.block []) → ((d : A) → order (get_or (get_or s.blocks p.block []) p.at d) ≡ Equal) → IsFound order s (Ok p)
   found_equal order s p h l e = (

@@ -1,5 +1,7 @@
 pub mod Counted
+pub mod Dense
 pub mod Finding
+pub mod Firsts
 pub mod Joined
 pub mod Kept
 pub mod Moves
@@ -7,3 +9,4 @@ pub mod Orders
 pub mod Rooms
 pub mod Seeking
 pub mod Starts
+pub mod Walking

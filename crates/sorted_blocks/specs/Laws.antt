@@ -1,8 +1,11 @@
--- What edits do to the order of a list, for the callers.
+-- What edits do to the order of a list, and what a place is, for the callers.
 use Rattle.std.specs.Prelude.{◌≡◌, ℕ, ◌<◌, ◌≤◌, List, [], ◌∷◌, length}
 use Rattle.std.specs.List.{insert, remove}
 use Rattle.std.specs.declared.cmp.Ordering.{Ordering}
 use Rattle.std.specs.declared.cmp.Ordering.TheVariants.{Less, Greater}
+use Rattle.sorted_blocks.specs.declared.place.Place.{Place}
+use Rattle.sorted_blocks.specs.Shape.{Shape, items}
+use Rattle.sorted_blocks.specs.Places.{before, IsPlace, IsItem}
 use Rattle.sorted_blocks.specs.Found.{IsGap}
 
 -- it is less than the first of these, if there is any
@@ -26,3 +29,8 @@ abbrev pub RemovalKeepsTheOrder : Type 0 → Type 0
 RemovalKeepsTheOrder A = (cmp : A → A → Ordering) →
     ((x y z : A) → cmp x y ≡ Less → cmp y z ≡ Less → cmp x z ≡ Less) →
     (xs : List A) (index : ℕ) → index < length xs → IsAscending cmp xs → IsAscending cmp (remove xs index)
+
+-- an item's place is a place, and stands before the list's end
+abbrev pub ItemHasAPlace : Type 0 → Type 0
+ItemHasAPlace A = (shape : Shape A) (place : Place) → IsItem shape place →
+    IsPlace shape place × (before shape place < length (items shape))

@@ -40,6 +40,12 @@ module _ {A : Type 0} where
   abbrev pub items : Shape A → List A
   items shape = joined shape.blocks
 
+  -- the first items of the blocks
+  unfoldable pub firsts : List (List A) → List A
+  firsts [] = []
+  firsts ([] ∷ blocks) = firsts blocks
+  firsts ((item ∷ _) ∷ blocks) = item ∷ firsts blocks
+
   -- how many items stand beyond their block's first half
   unfoldable pub beyond : ℕ → List (List A) → ℕ
   beyond half [] = 0

@@ -15,6 +15,13 @@ module _ {A : Type 0} where
   IsSought order row low (Ok at) = IsEqualAt order row at
   IsSought order row low (Err at) = (low ≤ at) × (at ≤ length row) × IsGap order row at
 
+  -- a row of the first items of blocks that all have some
+  pub record IsLead (blocks : List (List A)) (row : List A) : Type 0 where
+    pub long : length row ≡ length blocks
+    pub some : (block : ℕ) → block < length blocks → 0 < length (block_at blocks block)
+    pub same : (block : ℕ) (d : A) → block < length blocks →
+        slice_index_or row block d ≡ slice_index_or (block_at blocks block) 0 d
+
   -- the first item of the block before `low` is less than what is sought, and that of the block `high` is greater
   pub record IsBlockGap (order : A → Ordering) (blocks : List (List A)) (low high : ℕ) : Type 0 where
     pub low_high : low ≤ high

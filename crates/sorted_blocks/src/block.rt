@@ -9,7 +9,7 @@ use std::marker::Model;
 /// Up to twice `HALF` items, with room for all of them.
 #[derive(Drop)]
 pub(crate) struct Block<T: Copy, const HALF: usize> {
-    items: Vec<T>,
+    pub(crate) items: Vec<T>,
 }
 
 impl<T: Copy, const HALF: usize> Model for Block<T, HALF> {

@@ -1,28 +1,24 @@
-//! The list: blocks in use and spare ones, and the edits of them that the calls are made of.
+//! The list: its public calls, and the bound on its blocks.
 
-ghost use Rattle.std.specs.Prelude.{◌≡◌, ◌+◌, ◌-◌, ◌<◌, ◌≤◌, [], ◌∷◌, length, slice_index_or, OnOk, OnErr};
-ghost use Rattle.std.specs.List.{remove};
-ghost use Rattle.sorted_blocks.specs.Shape.{Shape, joined, room, block_at, together, put_into, taken_out, split};
-ghost use Rattle.sorted_blocks.specs.Shape.{merged};
+ghost use Rattle.std.specs.Prelude.{◌≡◌, ◌+◌, ◌-◌, ◌*◌, ◌<◌, ◌≤◌, [], length, drop, slice_index_or, OnOk, IsTrue, ◌↔◌};
+ghost use Rattle.std.specs.List.{All, insert, remove};
+ghost use Rattle.sorted_blocks.specs.Shape.{items, room, Shape};
+ghost use Rattle.sorted_blocks.specs.Places.{before, IsPlace, IsItem};
+ghost use Rattle.sorted_blocks.specs.Found.{IsFound};
+ghost use Rattle.sorted_blocks.specs.declared.place.Place.{Place};
 
-use crate::block::Block;
+use crate::items::Items;
+use crate::place::Place;
+use crate::probe::Probe;
+use crate::store::Store;
 use std::alloc::{AllocError, Global};
 use std::marker::Model;
 
-/// How many blocks there can be; beyond them there is no memory.
-const MOST_BLOCKS: usize = 1 << 32;
-
-/// A list of items in order, in blocks of up to twice `HALF` items.
+/// A list of items in order, in blocks of up to twice `HALF` items. Neighbouring blocks have more than `HALF` items
+/// together, after whatever edits.
 #[derive(Drop)]
 pub struct Blocks<T: Copy, const HALF: usize> {
-    alloc: Global,
-    /// None of them empty; with memory for the spare ones too.
-    used: Vec<Block<T, HALF>>,
-    /// With memory for those in use too.
-    spare: Vec<Block<T, HALF>>,
-    /// How many items stand beyond their block's first half.
-    over: usize,
-    count: usize,
+    store: Store<T, HALF>,
 }
 
 impl<T: Copy, const HALF: usize> Model for Blocks<T, HALF> {
@@ -30,19 +26,11 @@ impl<T: Copy, const HALF: usize> Model for Blocks<T, HALF> {
 
     ghost Value = { Shape T };
 
-    ghost use Rattle.sorted_blocks.specs.Sound.{IsSound};
-    ghost use Rattle.std.specs.Prelude.{vec_len};
+    ghost use Rattle.sorted_blocks.specs.Sound.{IsDense};
 
-    ghost view = { λ b. record { blocks = b.used.items; spare = vec_len b.spare } };
+    ghost view = { λ b. b.store };
 
-    ghost invariant = { λ b. IsSound HALF b.used.items b.spare.len b.used.cap b.spare.cap b.over b.count };
-}
-
-/// By how much more a block of so many items stands beyond its half with one item more.
-fn grown<const HALF: usize>(len: usize) -> usize
-    ensures { result ≡ (len + 1 - HALF) - (len - HALF) }
-{
-    if len < HALF { 0 } else { 1 }
+    ghost invariant = { λ b. IsDense HALF b.store.blocks };
 }
 
 impl<T: Copy, const HALF: usize> Blocks<T, HALF> {
@@ -53,178 +41,147 @@ impl<T: Copy, const HALF: usize> Blocks<T, HALF> {
         ensures { result ≡ record { blocks = []; spare = 0 } }
     {
         Blocks {
-            alloc,
-            used: Vec::new(alloc),
-            spare: Vec::new(alloc),
-            over: 0,
-            count: 0,
+            store: Store::new(alloc),
         }
     }
 
     /// How many items there are.
     pub fn len(&self) -> usize
-        ensures { result ≡ length (joined self.now.blocks) }
+        ensures { result ≡ length (items self.now) }
     {
-        self.count
+        self.store.len()
     }
 
-    /// How many blocks are in use.
-    pub(crate) fn block_count(&self) -> usize
+    /// How many blocks are in use: for n items in blocks of up to B at most 4 n / B + 1. The clause is a little
+    /// sharper, since neighbouring blocks have more than half of B items together.
+    pub fn block_count(&self) -> usize
         ensures count { result ≡ length self.now.blocks }
-        ensures few { result ≤ 4294967296 }
+        ensures few { (result - 1) * (HALF + 1) ≤ 2 * length (items self.now) }
     {
-        self.used.len()
-    }
-
-    /// How many items the block of this number has.
-    pub(crate) fn block_len(&self, block: usize) -> usize
-        requires { block < length self.now.blocks }
-        ensures len { result ≡ length (block_at self.now.blocks block) }
-        ensures some { 1 ≤ result }
-        ensures most { result ≤ HALF + HALF }
-        ensures half { 1 ≤ HALF }
-        ensures small { HALF ≤ 65536 }
-        ensures few { block < 4294967296 }
-    {
-        self.used[block].len()
-    }
-
-    /// The item at this place of the block of this number.
-    pub(crate) fn item_of(&self, block: usize, at: usize) -> &T
-        requires block { block < length self.now.blocks }
-        requires at { at < length (block_at self.now.blocks block) }
-        ensures { result.now ≡ slice_index_or (block_at self.now.blocks block) at result.now }
-    {
-        self.used[block].get(at)
-    }
-
-    /// The items of the block of this number.
-    pub(crate) fn row(&self, block: usize) -> &[T]
-        requires { block < length self.now.blocks }
-        ensures { result.now ≡ block_at self.now.blocks block }
-    {
-        self.used[block].as_slice()
-    }
-
-    /// Puts an item into a block that isn't full.
-    pub(crate) fn put(&mut self, block: usize, at: usize, item: T)
-        requires block { block < length self.old.blocks }
-        requires at { at ≤ length (block_at self.old.blocks block) }
-        requires not_full { length (block_at self.old.blocks block) < HALF + HALF }
-        ensures blocks { self.new.blocks ≡ put_into self.old.blocks block at item }
-        ensures spare { self.new.spare ≡ self.old.spare }
-    {
-        let row = &mut self.used[block];
-        let len = row.len();
-        row.put(at, item);
-        self.over += grown::<HALF>(len);
-        self.count += 1;
-    }
-
-    /// Puts the first item into a spare block.
-    pub(crate) fn begin(&mut self, item: T)
-        requires none { self.old.blocks ≡ [] }
-        requires spare { 0 < self.old.spare }
-        ensures blocks { self.new.blocks ≡ (item ∷ []) ∷ [] }
-        ensures spare { self.new.spare + 1 ≡ self.old.spare }
-        ensures half { 1 ≤ HALF }
-    {
-        let mut fresh = self.spare.take_last();
-        fresh.clear();
-        fresh.put(0, item);
-        self.used.push_reserved(fresh);
-        self.count += 1;
-    }
-
-    /// Makes two of a full block.
-    pub(crate) fn split(&mut self, block: usize)
-        requires block { block < length self.old.blocks }
-        requires full { length (block_at self.old.blocks block) ≡ HALF + HALF }
-        requires spare { 0 < self.old.spare }
-        ensures blocks { self.new.blocks ≡ split HALF self.old.blocks block }
-        ensures spare { self.new.spare + 1 ≡ self.old.spare }
-    {
-        let mut fresh = self.spare.take_last();
-        self.used[block].split_into(&mut fresh);
-        if self.used.insert(block + 1, fresh).is_err() {
-            unreachable!()
-        }
-        self.over -= HALF;
-    }
-
-    /// Takes an item out of a block that has others.
-    pub(crate) fn take_out(&mut self, block: usize, at: usize) -> T
-        requires block { block < length self.old.blocks }
-        requires at { at < length (block_at self.old.blocks block) }
-        requires others { 1 < length (block_at self.old.blocks block) }
-        ensures value { result ≡ slice_index_or (block_at self.old.blocks block) at result }
-        ensures blocks { self.new.blocks ≡ taken_out self.old.blocks block at }
-        ensures spare { self.new.spare ≡ self.old.spare }
-    {
-        let row = &mut self.used[block];
-        let len = row.len();
-        let item = row.take_out(at);
-        self.over -= grown::<HALF>(len - 1);
-        self.count -= 1;
-        item
-    }
-
-    /// Takes out the only item of a block, which is spare from then on.
-    pub(crate) fn take_whole(&mut self, block: usize) -> T
-        requires block { block < length self.old.blocks }
-        requires alone { length (block_at self.old.blocks block) ≡ 1 }
-        ensures value { result ≡ slice_index_or (block_at self.old.blocks block) 0 result }
-        ensures blocks { self.new.blocks ≡ remove self.old.blocks block }
-        ensures spare { self.new.spare ≡ self.old.spare + 1 }
-    {
-        let mut row = self.used.remove(block);
-        let item = row.take_out(0);
-        self.spare.push_reserved(row);
-        self.count -= 1;
-        item
-    }
-
-    /// Makes one of two neighbours that are half a block together.
-    pub(crate) fn merge(&mut self, block: usize)
-        requires block { block + 1 < length self.old.blocks }
-        requires few { together self.old.blocks block ≤ HALF }
-        ensures blocks { self.new.blocks ≡ merged self.old.blocks block }
-        ensures spare { self.new.spare ≡ self.old.spare + 1 }
-    {
-        let behind = self.used.remove(block + 1);
-        self.used[block].absorb(&behind);
-        self.spare.push_reserved(behind);
+        self.store.block_count()
     }
 
     /// How many inserts succeed without memory.
     pub fn room(&self) -> usize
-        ensures room { result ≡ room HALF self.now }
-        ensures half { 1 ≤ HALF }
+        ensures { result ≡ room HALF self.now }
     {
-        let worth = self.spare.len() * HALF;
-        let count = self.used.len();
-        if count == 0 {
-            return worth.saturating_sub(HALF);
-        }
-        worth.saturating_sub(self.over)
+        self.store.room()
     }
 
-    /// Takes memory for one more block; for want of it nothing changes.
-    pub(crate) fn add_spare(&mut self) -> Result<(), AllocError>
-        ensures blocks { self.new.blocks ≡ self.old.blocks }
-        ensures spare { OnOk result (self.new.spare ≡ self.old.spare + 1) }
-        ensures unchanged { OnErr result (self.new.spare ≡ self.old.spare) }
-        ensures never_less { self.old.spare ≤ self.new.spare }
+    /// Takes memory for so many inserts: at `Ok` they succeed, whatever blocks they split. The blocks in use, and so
+    /// every place, stay, at an `Err` too, and the room is never less than it was.
+    pub fn reserve(&mut self, inserts: usize) -> Result<(), AllocError>
+        ensures ok { OnOk result (inserts ≤ room HALF self.new) }
+        ensures items { items self.new ≡ items self.old }
+        ensures places { (place : Place) → IsPlace self.old place → IsPlace self.new place }
+        ensures before { (place : Place) → before self.new place ≡ before self.old place }
+        ensures room { room HALF self.old ≤ room HALF self.new }
     {
-        let all = self.used.len() + self.spare.len();
-        if all >= MOST_BLOCKS {
-            return Err(AllocError);
-        }
-        let (for_used, for_spare) = (self.spare.len() + 1, self.used.len() + 1);
-        self.used.reserve(for_used)?;
-        self.spare.reserve(for_spare)?;
-        let fresh = Block::new(self.alloc)?;
-        self.spare.push_reserved(fresh);
-        Ok(())
+        self.store.reserve(inserts)
+    }
+
+    /// Puts an item at this place, within what was reserved; it moves the items of one block. The answer is where the
+    /// item stands then.
+    pub fn insert_reserved(&mut self, place: Place, item: T) -> Place
+        requires place { IsPlace self.old place }
+        requires room { 0 < room HALF self.old }
+        ensures items { items self.new ≡ insert (items self.old) (before self.old place) item }
+        ensures room { room HALF self.old ≤ room HALF self.new + 1 }
+        ensures place { IsItem self.new result }
+        ensures before { before self.new result ≡ before self.old place }
+    {
+        self.store.insert_reserved(place, item)
+    }
+
+    /// Takes out the item at this place; it moves the items of one block. Beside it stands the place of the item that
+    /// came next.
+    pub fn remove(&mut self, place: Place) -> (T, Place)
+        requires { IsItem self.old place }
+        ensures item { result.0 ≡ slice_index_or (items self.old) (before self.old place) result.0 }
+        ensures items { items self.new ≡ remove (items self.old) (before self.old place) }
+        ensures room { room HALF self.old ≤ room HALF self.new }
+        ensures place { IsPlace self.new result.1 }
+        ensures before { before self.new result.1 ≡ before self.old place }
+    {
+        self.store.remove(place)
+    }
+
+    /// Whether an item stands at this place.
+    pub fn is_item(&self, place: Place) -> bool
+        ensures { IsTrue result ↔ IsItem self.now place }
+    {
+        self.store.is_item(place)
+    }
+
+    /// The item at this place.
+    pub fn get(&self, place: Place) -> &T
+        requires { IsItem self.now place }
+        ensures { result.now ≡ slice_index_or (items self.now) (before self.now place) result.now }
+    {
+        self.store.get(place)
+    }
+
+    /// The place before all items: the first one's, where there is any.
+    pub fn first(&self) -> Place
+        ensures place { IsPlace self.now result }
+        ensures before { before self.now result ≡ 0 }
+        ensures item { 0 < length (items self.now) → IsItem self.now result }
+    {
+        self.store.first()
+    }
+
+    /// The place behind this item: the next one's, where there is any.
+    pub fn next(&self, place: Place) -> Place
+        requires { IsItem self.now place }
+        ensures place { IsPlace self.now result }
+        ensures before { before self.now result ≡ before self.now place + 1 }
+        ensures item { before self.now place + 1 < length (items self.now) → IsItem self.now result }
+    {
+        self.store.next(place)
+    }
+
+    /// The same place, before the item behind it where that begins the next block.
+    pub fn settled(&self, place: Place) -> Place
+        requires { IsPlace self.now place }
+        ensures place { IsPlace self.now result }
+        ensures before { before self.now result ≡ before self.now place }
+        ensures item { before self.now place < length (items self.now) → IsItem self.now result }
+    {
+        self.store.settled(place)
+    }
+
+    /// The items in order, from the first one on. The walk takes no memory; a step reads within a block, and at its end
+    /// looks at the next one.
+    pub fn iter(&self) -> Items<'_, T, HALF>
+        ensures { result ≡ items self.now }
+    {
+        self.store.iter_from(Place::START)
+    }
+
+    /// The items in order from this place on, in the same way; beginning costs no search.
+    pub fn iter_from(&self, place: Place) -> Items<'_, T, HALF>
+        requires { IsPlace self.now place }
+        ensures { result ≡ drop (before self.now place) (items self.now) }
+    {
+        self.store.iter_from(place)
+    }
+
+    /// Where an item stands that compares equal, or else a gap: the item before it is less than what is sought, and
+    /// the one behind it is greater. Where the list has the probe's order, that is where the item belongs. It costs as
+    /// many comparisons as the number of items has bits, and a few.
+    pub fn find<P: Probe<T>>(&self, probe: &P) -> Result<Place, Place>
+        requires { All (P.can_compare probe.now) (items self.now) }
+        ensures { IsFound (P.order probe.now) self.now result }
+    {
+        self.store.find(probe)
+    }
+
+    /// The same, beginning at a place near which it may stand; whatever place that is, the answer is right. Where it
+    /// stands at that place, or right behind, it costs a comparison or two.
+    pub fn find_near<P: Probe<T>>(&self, near: Place, probe: &P) -> Result<Place, Place>
+        requires { All (P.can_compare probe.now) (items self.now) }
+        ensures { IsFound (P.order probe.now) self.now result }
+    {
+        self.store.find_near(near, probe)
     }
 }

@@ -4,20 +4,22 @@ ghost use Rattle.std.specs.Prelude.{◌≡◌, ℕ, ◌+◌, ◌-◌, ◌<◌, �
 ghost use Rattle.std.specs.List.{insert, remove};
 ghost use Rattle.sorted_blocks.specs.Shape.{items, room, block_at, together};
 ghost use Rattle.sorted_blocks.specs.Places.{before, IsPlace, IsItem};
+ghost use Rattle.sorted_blocks.specs.Sound.{IsDense, IsDenseIn};
 
-use crate::blocks::Blocks;
 use crate::place::Place;
+use crate::store::Store;
 
-impl<T: Copy, const HALF: usize> Blocks<T, HALF> {
+impl<T: Copy, const HALF: usize> Store<T, HALF> {
     /// Puts an item at this place, within what was reserved; it moves the items of one block. The answer is where the
     /// item stands then.
-    pub fn insert_reserved(&mut self, place: Place, item: T) -> Place
+    pub(crate) fn insert_reserved(&mut self, place: Place, item: T) -> Place
         requires place { IsPlace self.old place }
         requires room { 0 < room HALF self.old }
         ensures items { items self.new ≡ insert (items self.old) (before self.old place) item }
         ensures room { room HALF self.old ≤ room HALF self.new + 1 }
         ensures place { IsItem self.new result }
         ensures before { before self.new result ≡ before self.old place }
+        ensures dense { IsDense HALF self.old.blocks → IsDense HALF self.new.blocks }
     {
         if self.block_count() == 0 {
             self.begin(item);
@@ -39,6 +41,7 @@ impl<T: Copy, const HALF: usize> Blocks<T, HALF> {
         ensures at { result.at ≤ length (block_at self.new.blocks result.block) }
         ensures not_full { length (block_at self.new.blocks result.block) < HALF + HALF }
         ensures before { before self.new result ≡ before self.old place }
+        ensures dense { IsDense HALF self.old.blocks → IsDense HALF self.new.blocks }
     {
         if self.block_len(place.block) < HALF + HALF {
             return place;
@@ -55,13 +58,14 @@ impl<T: Copy, const HALF: usize> Blocks<T, HALF> {
 
     /// Takes out the item at this place; it moves the items of one block. Beside it stands the place of the item that
     /// came next.
-    pub fn remove(&mut self, place: Place) -> (T, Place)
+    pub(crate) fn remove(&mut self, place: Place) -> (T, Place)
         requires { IsItem self.old place }
         ensures item { result.0 ≡ slice_index_or (items self.old) (before self.old place) result.0 }
         ensures items { items self.new ≡ remove (items self.old) (before self.old place) }
         ensures room { room HALF self.old ≤ room HALF self.new }
         ensures place { IsPlace self.new result.1 }
         ensures before { before self.new result.1 ≡ before self.old place }
+        ensures dense { IsDense HALF self.old.blocks → IsDense HALF self.new.blocks }
     {
         if self.block_len(place.block) == 1 {
             let item = self.take_whole(place.block);
@@ -104,6 +108,9 @@ impl<T: Copy, const HALF: usize> Blocks<T, HALF> {
         ensures block { result.block < length self.new.blocks }
         ensures at { result.at ≤ length (block_at self.new.blocks result.block) }
         ensures before { before self.new result ≡ before self.old place }
+        ensures front { IsDenseIn HALF self.old.blocks 0 place.block → IsDenseIn HALF self.new.blocks 0 result.block }
+        ensures back { IsDenseIn HALF self.old.blocks (place.block + 1) (length self.old.blocks) →
+            IsDenseIn HALF self.new.blocks result.block (length self.new.blocks) }
     {
         let count = self.block_count();
         if place.block + 1 < count && self.are_short(place.block) {
@@ -120,6 +127,8 @@ impl<T: Copy, const HALF: usize> Blocks<T, HALF> {
         ensures room { room HALF self.old ≤ room HALF self.new }
         ensures place { IsPlace self.new result }
         ensures before { before self.new result ≡ before self.old place }
+        ensures dense { IsDenseIn HALF self.old.blocks 0 place.block →
+            IsDenseIn HALF self.old.blocks place.block (length self.old.blocks) → IsDense HALF self.new.blocks }
     {
         if place.block == 0 || !self.are_short(place.block - 1) {
             return place;

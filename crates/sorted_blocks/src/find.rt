@@ -1,19 +1,81 @@
 //! Looking up an item by the caller's comparison.
 
-ghost use Rattle.std.specs.Prelude.{◌≡◌, ℕ, ◌+◌, ◌-◌, ◌<◌, ◌≤◌, List, [], length, slice_index_or};
+ghost use Rattle.std.specs.Prelude.{◌≡◌, ℕ, ◌+◌, ◌-◌, ◌<◌, ◌≤◌, List, [], length, slice_index_or, IsTrue};
 ghost use Rattle.std.specs.List.{All};
 ghost use Rattle.sorted_blocks.specs.Shape.{items, block_at};
 ghost use Rattle.sorted_blocks.specs.Places.{IsItem};
 ghost use Rattle.sorted_blocks.specs.Found.{IsFound};
 ghost use Rattle.sorted_blocks.specs.Sought.{IsSought, IsBlockSought, IsBlockGap, IsRowLeft, IsLessAt};
 
-use crate::blocks::Blocks;
 use crate::place::Place;
 use crate::probe::Probe;
+use crate::store::Store;
 use std::cmp::Ordering;
 
-/// Where in a row of items what is sought stands, or would stand; the items before `low` are less.
+/// A guess how many items of a row are less than what is sought: right where the row has the probe's order.
+///
+/// No branch goes by an item, so that a processor has none to guess: what is left is as long as a power of two, and
+/// whether an item is less is shifted into its place.
+fn guess<T: Copy, P: Probe<T>>(probe: &P, row: &[T]) -> usize
+    requires { All (P.can_compare probe.now) row.now }
+    ensures { result ≤ length row.now }
+{
+    if row.is_empty() {
+        return 0;
+    }
+    let mut shift = row.len().ilog2();
+    let over = row.len() - (1 << shift);
+    let mut base = over * usize::from(probe.compare(&row[over]).is_lt());
+    while shift > 0 {
+        shift -= 1;
+        let is_less = probe.compare(&row[base + (1 << shift)]).is_lt();
+        base += usize::from(is_less) << shift;
+    }
+    base + usize::from(probe.compare(&row[base]).is_lt())
+}
+
+/// Whether the item before this place of a row is less than what is sought, or there is none.
+fn is_behind_lesser<T: Copy, P: Probe<T>>(probe: &P, row: &[T], at: usize) -> bool
+    requires can { All (P.can_compare probe.now) row.now }
+    requires at { at ≤ length row.now }
+    ensures { IsTrue result → (d : T) → 0 < at → P.order probe.now (slice_index_or row.now (at - 1) d) ≡ Ordering.Less }
+{
+    if at == 0 {
+        return true;
+    }
+    match probe.compare(&row[at - 1]) {
+        Ordering::Less => true,
+        Ordering::Equal | Ordering::Greater => false,
+    }
+}
+
+/// Where in a row of items what is sought stands, or would stand; the items before `low` are less. The guess is
+/// looked at, so that the answer is right for any probe.
 fn seek<T: Copy, P: Probe<T>>(probe: &P, row: &[T], low: usize) -> Result<usize, usize>
+    requires can { All (P.can_compare probe.now) row.now }
+    requires low { low ≤ length row.now }
+    requires less { (d : T) → 0 < low → P.order probe.now (slice_index_or row.now (low - 1) d) ≡ Ordering.Less }
+    ensures { IsSought (P.order probe.now) row.now low result }
+{
+    let at = guess(probe, row);
+    if at < low {
+        return seek_in_any(probe, row, low);
+    }
+    if !is_behind_lesser(probe, row, at) {
+        return seek_in_any(probe, row, low);
+    }
+    if at == row.len() {
+        return Err(at);
+    }
+    match probe.compare(&row[at]) {
+        Ordering::Less => seek_in_any(probe, row, low),
+        Ordering::Equal => Ok(at),
+        Ordering::Greater => Err(at),
+    }
+}
+
+/// The same for a row that may be in no order.
+fn seek_in_any<T: Copy, P: Probe<T>>(probe: &P, row: &[T], low: usize) -> Result<usize, usize>
     requires can { All (P.can_compare probe.now) row.now }
     requires low { low ≤ length row.now }
     requires less { (d : T) → 0 < low → P.order probe.now (slice_index_or row.now (low - 1) d) ≡ Ordering.Less }
@@ -32,11 +94,11 @@ fn seek<T: Copy, P: Probe<T>>(probe: &P, row: &[T], low: usize) -> Result<usize,
     Err(low)
 }
 
-impl<T: Copy, const HALF: usize> Blocks<T, HALF> {
+impl<T: Copy, const HALF: usize> Store<T, HALF> {
     /// Where an item stands that compares equal, or else a gap: the item before it is less than what is sought, and
     /// the one behind it is greater. Where the list has the probe's order, that is where the item belongs. It costs as
     /// many comparisons as the number of items has bits, and a few.
-    pub fn find<P: Probe<T>>(&self, probe: &P) -> Result<Place, Place>
+    pub(crate) fn find<P: Probe<T>>(&self, probe: &P) -> Result<Place, Place>
         requires { All (P.can_compare probe.now) (items self.now) }
         ensures { IsFound (P.order probe.now) self.now result }
     {
@@ -48,7 +110,7 @@ impl<T: Copy, const HALF: usize> Blocks<T, HALF> {
 
     /// The same, beginning at a place near which it may stand; whatever place that is, the answer is right. Where it
     /// stands at that place, or right behind, it costs a comparison or two.
-    pub fn find_near<P: Probe<T>>(&self, near: Place, probe: &P) -> Result<Place, Place>
+    pub(crate) fn find_near<P: Probe<T>>(&self, near: Place, probe: &P) -> Result<Place, Place>
         requires { All (P.can_compare probe.now) (items self.now) }
         ensures { IsFound (P.order probe.now) self.now result }
     {
@@ -67,18 +129,7 @@ impl<T: Copy, const HALF: usize> Blocks<T, HALF> {
         requires { All (P.can_compare probe.now) (items self.now) }
         ensures { IsBlockSought (P.order probe.now) self.now.blocks result }
     {
-        let mut low = 0;
-        let mut high = self.block_count();
-        while low < high {
-            let middle = low + (high - low) / 2;
-            let _len = self.block_len(middle);
-            match probe.compare(self.item_of(middle, 0)) {
-                Ordering::Less => low = middle + 1,
-                Ordering::Equal => return Ok(middle),
-                Ordering::Greater => high = middle,
-            }
-        }
-        Err(low)
+        seek(probe, self.firsts(), 0)
     }
 
     /// The answer where so many blocks begin with a lesser item.

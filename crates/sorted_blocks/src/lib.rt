@@ -2,22 +2,31 @@
 //!
 //! Proved: contracts see the list of the items. An insert is std's `insert` on it, a removal its `remove`; after
 //! `reserve(n)` n inserts succeed without memory, whatever blocks they split; a look-up by the caller's comparison
-//! answers an item that compares equal, or a gap between a lesser and a greater one.
+//! answers an item that compares equal, or a gap between a lesser and a greater one; a walk yields the items from a
+//! place on. Neighbouring blocks have more than half a block's items together, so that n items stand in at most
+//! 4 n / B + 1 blocks of up to B.
+//!
+//! A change of n items in blocks of up to B costs about log n comparisons, and moves up to B items and, where it
+//! splits or merges blocks, a record and an item for each block behind. A walk costs a step an item, and takes no
+//! memory.
 #![tactic(auto)]
 
 mod block;
 mod blocks;
 mod edits;
 mod find;
+mod items;
 mod laws;
 mod place;
 mod probe;
 mod room;
+mod store;
 #[cfg(test)]
 mod tests;
 mod walk;
 
 pub use blocks::Blocks;
-pub use laws::{gap_keeps_the_order, removal_keeps_the_order};
+pub use items::Items;
+pub use laws::{gap_keeps_the_order, item_has_a_place, removal_keeps_the_order};
 pub use place::Place;
 pub use probe::Probe;

@@ -2,7 +2,7 @@
 
 ghost use Rattle.std.specs.Ordering.{nat_cmp};
 
-use crate::{Blocks, Place, Probe};
+use crate::{Blocks, Items, Place, Probe};
 use std::cmp::Ordering;
 use std::test::Fail;
 
@@ -20,7 +20,19 @@ impl Probe<u32> for Number {
     }
 }
 
-/// Whether a walk of the list meets just these numbers.
+/// Whether these are the numbers that are left of the walk.
+fn are_left(walk: Items<'_, u32, 2>, plain: &[u32]) -> bool {
+    let mut left = plain;
+    for item in walk {
+        match left.split_first() {
+            Some((first, rest)) if *first == item => left = rest,
+            _ => return false,
+        }
+    }
+    left.is_empty()
+}
+
+/// Whether the list holds just these numbers, by its places and by its walk.
 fn holds(list: &Blocks<u32, 2>, plain: &[u32]) -> bool {
     if list.len() != plain.len() {
         return false;
@@ -32,7 +44,12 @@ fn holds(list: &Blocks<u32, 2>, plain: &[u32]) -> bool {
         }
         place = list.next(place);
     }
-    !list.is_item(place)
+    !list.is_item(place) && are_left(list.iter(), plain)
+}
+
+/// Whether neighbouring blocks of up to four have more than two items together.
+fn has_few_blocks(list: &Blocks<u32, 2>) -> bool {
+    list.block_count().saturating_sub(1).saturating_mul(3) <= list.len().saturating_mul(2)
 }
 
 /// Puts the number in, or takes it out where it is there; answers the place where it stood or stands. The look-up
@@ -51,6 +68,11 @@ fn turn(list: &mut Blocks<u32, 2>, plain: &mut Vec<u32>, near: Place, number: u3
             if item == number { next } else { Place::START }
         }
         (Err(place), Err(index)) if index <= plain.len() && plain.len() < 512 => {
+            if !are_left(list.iter_from(place), &plain[index..]) {
+                // An empty list beside it, so that the next comparison fails.
+                plain.clear();
+                return Place::START;
+            }
             if plain.insert(index, number).is_err() {
                 return Place::START;
             }
@@ -81,6 +103,7 @@ fn goes_beside_a_plain_vector(rt: HostRuntime) -> Result<(), Fail> {
         let number = ((random >> 33) % range) as u32;
         near = turn(&mut list, &mut plain, near, number);
         assert!(rt; holds(&list, plain.as_slice()));
+        assert!(rt; has_few_blocks(&list));
     }
     Ok(())
 }

@@ -4,13 +4,13 @@ ghost use Rattle.std.specs.Prelude.{◌≡◌, ◌+◌, ◌<◌, ◌≤◌, [], 
 ghost use Rattle.sorted_blocks.specs.Shape.{items};
 ghost use Rattle.sorted_blocks.specs.Places.{before, IsPlace, IsItem};
 
-use crate::blocks::Blocks;
 use crate::place::Place;
+use crate::store::Store;
 
-impl<T: Copy, const HALF: usize> Blocks<T, HALF> {
+impl<T: Copy, const HALF: usize> Store<T, HALF> {
     /// Whether an item stands at this place.
     #[tactic(auto, unfolding(crate::specs::Places::IsItem))]
-    pub fn is_item(&self, place: Place) -> bool
+    pub(crate) fn is_item(&self, place: Place) -> bool
         ensures { IsTrue result ↔ IsItem self.now place }
     {
         if place.block >= self.block_count() {
@@ -21,7 +21,7 @@ impl<T: Copy, const HALF: usize> Blocks<T, HALF> {
 
     /// The item at this place.
     #[tactic(auto, unfolding(crate::specs::Places::IsItem))]
-    pub fn get(&self, place: Place) -> &T
+    pub(crate) fn get(&self, place: Place) -> &T
         requires { IsItem self.now place }
         ensures { result.now ≡ slice_index_or (items self.now) (before self.now place) result.now }
     {
@@ -29,7 +29,7 @@ impl<T: Copy, const HALF: usize> Blocks<T, HALF> {
     }
 
     /// The place before all items: the first one's, where there is any.
-    pub fn first(&self) -> Place
+    pub(crate) fn first(&self) -> Place
         ensures place { IsPlace self.now result }
         ensures before { before self.now result ≡ 0 }
         ensures item { 0 < length (items self.now) → IsItem self.now result }
@@ -39,7 +39,7 @@ impl<T: Copy, const HALF: usize> Blocks<T, HALF> {
 
     /// The place behind this item: the next one's, where there is any.
     #[tactic(auto, unfolding(crate::specs::Places::IsItem))]
-    pub fn next(&self, place: Place) -> Place
+    pub(crate) fn next(&self, place: Place) -> Place
         requires { IsItem self.now place }
         ensures place { IsPlace self.now result }
         ensures before { before self.now result ≡ before self.now place + 1 }
@@ -53,7 +53,7 @@ impl<T: Copy, const HALF: usize> Blocks<T, HALF> {
     }
 
     /// The same place, before the item behind it where that begins the next block.
-    pub fn settled(&self, place: Place) -> Place
+    pub(crate) fn settled(&self, place: Place) -> Place
         requires { IsPlace self.now place }
         ensures place { IsPlace self.now result }
         ensures before { before self.now result ≡ before self.now place }

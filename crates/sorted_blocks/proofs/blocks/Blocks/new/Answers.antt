@@ -1,17 +1,7 @@
-use Rattle.std.proofs.Common.{refl, arith}
-use Rattle.sorted_blocks.specs.Shape.{beyond}
-use Rattle.sorted_blocks.specs.Sound.{AllFilled}
+use Rattle.std.proofs.Common.{ap}
+use Rattle.sorted_blocks.specs.Shape.{Shape}
+use Rattle.sorted_blocks.proofs.Dense.{dense-none}
 use Rattle.sorted_blocks.proofs.blocks.Blocks.new.Goals as goal
 
 pub invariant_of-result : goal.invariant_of-result
-unfolding beyond AllFilled
-invariant_of-result g c = rw c.new.ensures.items (record {
-  half_some = c.requires.some;
-  half_small = c.requires.small;
-  filled = tt;
-  used_room = omega (arith, c.new-2.ensures.len);
-  spare_room = omega (arith, c.new-2.ensures.len);
-  few = omega (arith, c.new-2.ensures.len);
-  over_is = refl;
-  count_is = refl;
-})
+invariant_of-result g c = dense-none g.row.HALF _ (ap (λ (s : Shape g.row.T.Denot). s.blocks) c.new.ensures)

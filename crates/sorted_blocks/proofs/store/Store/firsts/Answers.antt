@@ -1,0 +1,10 @@
+use Rattle.std.proofs.Common.{sym, ap, ◌∙◌}
+use Rattle.sorted_blocks.specs.Shape.{Shape}
+use Rattle.sorted_blocks.proofs.Firsts.{is_lead}
+use Rattle.sorted_blocks.proofs.store.Store.firsts.Goals as goal
+
+pub returns : goal.returns
+returns g c =
+    let e = ap (λ (s : Shape g.row.T.Denot). s.blocks) c.self.view_is in
+    let row = c.as_slice.ensures.value ∙ c.self.invariant.1.row_is in
+    rw (row, sym e) (is_lead _ c.self.inside.used.items c.self.invariant.0.filled)

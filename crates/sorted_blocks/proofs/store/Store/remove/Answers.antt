@@ -1,0 +1,64 @@
+use Rattle.sorted_blocks.specs.Sound.{IsDenseIn}
+use Rattle.std.proofs.Common.{◌+◌, length, sym, ◌∙◌, arith, lit<}
+use Rattle.sorted_blocks.proofs.Rooms.{room_whole}
+use Rattle.sorted_blocks.proofs.Moves.{item_block, item_within, item_of, set_before, take_items, take_room, take_block, take_at, whole_items, whole_before, whole_is}
+use Rattle.sorted_blocks.proofs.Dense.{dense-remove, front-set, back-set}
+use Rattle.sorted_blocks.proofs.store.Store.remove.Goals as goal
+
+pub block_len-requires : goal.block_len-requires
+block_len-requires g c = (lit< tt, item_block c.args.self.now c.args.place c.requires)
+
+pub returns-then-block_len-eq1-clause-item : goal.returns-then-block_len-eq1-clause-item
+returns-then-block_len-eq1-clause-item g c =
+    whole_is c.args.self.now c.args.place c.take_whole-item.result (item_block c.args.self.now c.args.place c.requires) (item_within c.args.self.now c.args.place c.requires) (sym c.block_len.ensures.len ∙ c.if-block_len-eq1.true) c.take_whole-item.ensures.value
+
+pub returns-then-block_len-eq1-clause-items : goal.returns-then-block_len-eq1-clause-items
+returns-then-block_len-eq1-clause-items g c =
+    whole_items c.args.self.now c.take_whole-item.new.self c.args.place (item_block c.args.self.now c.args.place c.requires) (item_within c.args.self.now c.args.place c.requires) (sym c.block_len.ensures.len ∙ c.if-block_len-eq1.true) c.take_whole-item.ensures.blocks
+
+pub returns-then-block_len-eq1-clause-room : goal.returns-then-block_len-eq1-clause-room
+returns-then-block_len-eq1-clause-room g c =
+    room_whole g.row.HALF c.args.self.now c.take_whole-item.new.self c.args.place.block (item_block c.args.self.now c.args.place c.requires) (sym c.block_len.ensures.len ∙ c.if-block_len-eq1.true) c.block_len.ensures.half c.take_whole-item.ensures.blocks c.take_whole-item.ensures.spare
+
+pub returns-then-block_len-eq1-clause-before : goal.returns-then-block_len-eq1-clause-before
+returns-then-block_len-eq1-clause-before g c =
+    c.start_of.ensures.before ∙ whole_before c.args.self.now c.take_whole-item.new.self c.args.place (item_block c.args.self.now c.args.place c.requires) (item_within c.args.self.now c.args.place c.requires) (sym c.block_len.ensures.len ∙ c.if-block_len-eq1.true) c.take_whole-item.ensures.blocks
+
+pub take_out-item-requires : goal.take_out-item-requires
+take_out-item-requires g c =
+    let some = c.block_len.ensures.some in
+    (lit< tt, (item_block c.args.self.now c.args.place c.requires, (item_within c.args.self.now c.args.place c.requires, omega (arith, c.block_len.ensures.len, some, c.if-block_len-eq1.false))))
+
+pub join_behind-place-requires : goal.join_behind-place-requires
+join_behind-place-requires g c =
+    let h = item_block c.args.self.now c.args.place c.requires in
+    let l = item_within c.args.self.now c.args.place c.requires in
+    (lit< tt, (take_block c.args.self.now c.take_out-item.new.self c.args.place h c.take_out-item.ensures.blocks, take_at c.args.self.now c.take_out-item.new.self c.args.place h l c.take_out-item.ensures.blocks))
+
+pub returns-clause-item : goal.returns-clause-item
+returns-clause-item g c = item_of c.args.self.now c.args.place c.take_out-item.result (item_block c.args.self.now c.args.place c.requires) (item_within c.args.self.now c.args.place c.requires) c.take_out-item.ensures.value
+
+pub returns-clause-items : goal.returns-clause-items
+returns-clause-items g c =
+    c.join_before.ensures.items ∙ c.join_behind-place.ensures.items ∙ take_items c.args.self.now c.take_out-item.new.self c.args.place (item_block c.args.self.now c.args.place c.requires) (item_within c.args.self.now c.args.place c.requires) c.take_out-item.ensures.blocks
+
+pub returns-clause-room : goal.returns-clause-room
+returns-clause-room g c =
+    let first = take_room g.row.HALF c.args.self.now c.take_out-item.new.self c.args.place (item_block c.args.self.now c.args.place c.requires) (item_within c.args.self.now c.args.place c.requires) c.take_out-item.ensures.blocks c.take_out-item.ensures.spare in
+    omega (arith, first, c.join_behind-place.ensures.room, c.join_before.ensures.room)
+
+pub returns-clause-before : goal.returns-clause-before
+returns-clause-before g c =
+    c.join_before.ensures.before ∙ c.join_behind-place.ensures.before ∙ set_before c.args.self.now c.take_out-item.new.self c.args.place _ c.take_out-item.ensures.blocks
+
+pub returns-then-block_len-eq1-clause-dense : goal.returns-then-block_len-eq1-clause-dense
+returns-then-block_len-eq1-clause-dense g c d =
+    rw c.take_whole-item.ensures.blocks (dense-remove g.row.HALF c.args.self.now.blocks c.args.place.block c.take_whole-item.ensures.filled (item_block c.args.self.now c.args.place c.requires) (sym c.block_len.ensures.len ∙ c.if-block_len-eq1.true) d)
+
+pub returns-clause-dense : goal.returns-clause-dense
+returns-clause-dense g c d =
+    let h = item_block c.args.self.now c.args.place c.requires in
+    let taken = c.take_out-item.new.self.blocks in
+    let front : IsDenseIn g.row.HALF taken 0 c.args.place.block = rw c.take_out-item.ensures.blocks (front-set g.row.HALF c.args.self.now.blocks c.args.place.block _ d h) in
+    let back : IsDenseIn g.row.HALF taken (c.args.place.block + 1) (length taken) = rw c.take_out-item.ensures.blocks (back-set g.row.HALF c.args.self.now.blocks c.args.place.block _ d) in
+    c.join_before.ensures.dense (c.join_behind-place.ensures.front front) (c.join_behind-place.ensures.back back)

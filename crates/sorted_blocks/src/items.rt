@@ -1,0 +1,81 @@
+//! The items, one after another.
+
+ghost use Rattle.std.specs.Prelude.{◌≡◌, ◌≤◌, ◌++◌, drop};
+ghost use Rattle.std.specs.Iterator.{YieldsFirst, item_count};
+ghost use Rattle.sorted_blocks.specs.Shape.{items, joined};
+ghost use Rattle.sorted_blocks.specs.Places.{before, IsPlace};
+
+use crate::block::Block;
+use crate::place::Place;
+use crate::store::Store;
+use std::marker::Model;
+
+/// The items from a place on, in order. Contracts see those that are left. A step reads within a block; only at its
+/// end does it look at the next one.
+#[derive(Drop)]
+pub struct Items<'a, T: Copy, const HALF: usize> {
+    /// What is left of the block before `next_block`.
+    row: &'a [T],
+    all_blocks: &'a [Block<T, HALF>],
+    next_block: usize,
+}
+
+impl<'a, T: Copy, const HALF: usize> Model for Items<'a, T, HALF> {
+    ghost use Rattle.std.specs.Prelude.{List, ◌++◌, drop};
+    ghost use Rattle.sorted_blocks.specs.Shape.{joined};
+    ghost use Rattle.sorted_blocks.specs.Sound.{AllFilled};
+
+    ghost Value = { List T };
+
+    ghost view = { λ walk. walk.row.now ++ joined (drop walk.next_block walk.all_blocks.now) };
+
+    ghost invariant = { λ walk. AllFilled HALF walk.all_blocks.now };
+}
+
+impl<T: Copy, const HALF: usize> Store<T, HALF> {
+    /// The items from this place on.
+    pub(crate) fn iter_from(&self, place: Place) -> Items<'_, T, HALF>
+        requires { IsPlace self.now place }
+        ensures { result ≡ drop (before self.now place) (items self.now) }
+    {
+        let all_blocks = self.all_blocks();
+        if place.block >= all_blocks.len() {
+            return Items {
+                row: &[],
+                all_blocks,
+                next_block: place.block,
+            };
+        }
+        let (_, row) = all_blocks[place.block].as_slice().split_at(place.at);
+        Items {
+            row,
+            all_blocks,
+            next_block: place.block + 1,
+        }
+    }
+}
+
+impl<'a, T: Copy, const HALF: usize> Iterator for Items<'a, T, HALF> {
+    type Item = T;
+
+    ghost next_gives = { YieldsFirst (λ items. items) };
+
+    ghost remaining = { item_count (λ items. items) };
+
+    fn next(&mut self) -> Option<T> {
+        if let Some((item, rest)) = self.row.split_first() {
+            self.row = rest;
+            return Some(*item);
+        }
+        let block = self.next_block;
+        if block >= self.all_blocks.len() {
+            return None;
+        }
+        let opened = &self.all_blocks[block];
+        // The field: a method's borrow of the block would have to outlive `HALF`, and no bound can say that it does.
+        let (item, rest) = opened.items.as_slice().split_first()?;
+        self.row = rest;
+        self.next_block = block + 1;
+        Some(*item)
+    }
+}

@@ -1,0 +1,267 @@
+//! The blocks in use and the spare ones, and the edits of them that the list's calls are made of.
+
+ghost use Rattle.std.specs.Prelude.{◌≡◌, ◌+◌, ◌-◌, ◌<◌, ◌≤◌, [], ◌∷◌, length, slice_index_or, OnOk, OnErr};
+ghost use Rattle.std.specs.List.{remove};
+ghost use Rattle.sorted_blocks.specs.Shape.{Shape, joined, room, block_at, together, put_into, taken_out, split};
+ghost use Rattle.sorted_blocks.specs.Shape.{merged};
+ghost use Rattle.sorted_blocks.specs.Sound.{AllFilled};
+ghost use Rattle.sorted_blocks.specs.Sought.{IsLead};
+
+use crate::block::Block;
+use std::alloc::{AllocError, Global};
+use std::marker::Model;
+
+/// How many blocks there can be; beyond them there is no memory.
+const MOST_BLOCKS: usize = 1 << 32;
+
+/// A list of items in blocks of up to twice `HALF` items. Between two edits of one call a block may be short.
+#[derive(Drop)]
+pub(crate) struct Store<T: Copy, const HALF: usize> {
+    alloc: Global,
+    /// None of them empty; with memory for the spare ones too.
+    used: Vec<Block<T, HALF>>,
+    /// The first items of the blocks in use, in one row for the search; with memory for the spare ones too.
+    firsts: Vec<T>,
+    /// With memory for those in use too.
+    spare: Vec<Block<T, HALF>>,
+    /// How many items stand beyond their block's first half.
+    over: usize,
+    count: usize,
+}
+
+impl<T: Copy, const HALF: usize> Model for Store<T, HALF> {
+    ghost use Rattle.sorted_blocks.specs.Shape.{Shape};
+
+    ghost Value = { Shape T };
+
+    ghost use Rattle.sorted_blocks.specs.Sound.{IsSound, IsLed};
+    ghost use Rattle.std.specs.Prelude.{vec_len};
+
+    ghost view = { λ b. record { blocks = b.used.items; spare = vec_len b.spare } };
+
+    ghost invariant = { λ b. IsSound HALF b.used.items b.spare.len b.used.cap b.spare.cap b.over b.count
+        × IsLed b.used.items b.spare.len b.firsts.items b.firsts.cap };
+}
+
+/// By how much more a block of so many items stands beyond its half with one item more.
+fn grown<const HALF: usize>(len: usize) -> usize
+    ensures { result ≡ (len + 1 - HALF) - (len - HALF) }
+{
+    if len < HALF { 0 } else { 1 }
+}
+
+impl<T: Copy, const HALF: usize> Store<T, HALF> {
+    /// A list with no item.
+    pub(crate) fn new(alloc: Global) -> Self
+        requires some { 1 ≤ HALF }
+        requires small { HALF ≤ 65536 }
+        ensures { result ≡ record { blocks = []; spare = 0 } }
+    {
+        Store {
+            alloc,
+            used: Vec::new(alloc),
+            firsts: Vec::new(alloc),
+            spare: Vec::new(alloc),
+            over: 0,
+            count: 0,
+        }
+    }
+
+    /// How many items there are.
+    pub(crate) fn len(&self) -> usize
+        ensures { result ≡ length (joined self.now.blocks) }
+    {
+        self.count
+    }
+
+    /// How many blocks are in use.
+    pub(crate) fn block_count(&self) -> usize
+        ensures count { result ≡ length self.now.blocks }
+        ensures few { result ≤ 4294967296 }
+    {
+        self.used.len()
+    }
+
+    /// How many items the block of this number has.
+    pub(crate) fn block_len(&self, block: usize) -> usize
+        requires { block < length self.now.blocks }
+        ensures len { result ≡ length (block_at self.now.blocks block) }
+        ensures some { 1 ≤ result }
+        ensures most { result ≤ HALF + HALF }
+        ensures half { 1 ≤ HALF }
+        ensures small { HALF ≤ 65536 }
+        ensures few { block < 4294967296 }
+    {
+        self.used[block].len()
+    }
+
+    /// The item at this place of the block of this number.
+    pub(crate) fn item_of(&self, block: usize, at: usize) -> &T
+        requires block { block < length self.now.blocks }
+        requires at { at < length (block_at self.now.blocks block) }
+        ensures { result.now ≡ slice_index_or (block_at self.now.blocks block) at result.now }
+    {
+        self.used[block].get(at)
+    }
+
+    /// The items of the block of this number.
+    pub(crate) fn row(&self, block: usize) -> &[T]
+        requires { block < length self.now.blocks }
+        ensures { result.now ≡ block_at self.now.blocks block }
+    {
+        self.used[block].as_slice()
+    }
+
+    /// The blocks in use, in order.
+    pub(crate) fn all_blocks(&self) -> &[Block<T, HALF>]
+        ensures all { result.now ≡ self.now.blocks }
+        ensures filled { AllFilled HALF result.now }
+    {
+        self.used.as_slice()
+    }
+
+    /// The first items of the blocks in use.
+    pub(crate) fn firsts(&self) -> &[T]
+        ensures { IsLead self.now.blocks result.now }
+    {
+        self.firsts.as_slice()
+    }
+
+    /// Puts an item into a block that isn't full.
+    pub(crate) fn put(&mut self, block: usize, at: usize, item: T)
+        requires block { block < length self.old.blocks }
+        requires at { at ≤ length (block_at self.old.blocks block) }
+        requires not_full { length (block_at self.old.blocks block) < HALF + HALF }
+        ensures blocks { self.new.blocks ≡ put_into self.old.blocks block at item }
+        ensures spare { self.new.spare ≡ self.old.spare }
+    {
+        let row = &mut self.used[block];
+        let len = row.len();
+        row.put(at, item);
+        self.firsts[block] = *row.get(0);
+        self.over += grown::<HALF>(len);
+        self.count += 1;
+    }
+
+    /// Puts the first item into a spare block.
+    pub(crate) fn begin(&mut self, item: T)
+        requires none { self.old.blocks ≡ [] }
+        requires spare { 0 < self.old.spare }
+        ensures blocks { self.new.blocks ≡ (item ∷ []) ∷ [] }
+        ensures spare { self.new.spare + 1 ≡ self.old.spare }
+        ensures half { 1 ≤ HALF }
+    {
+        let mut fresh = self.spare.take_last();
+        fresh.clear();
+        fresh.put(0, item);
+        self.used.push_reserved(fresh);
+        self.firsts.push_reserved(item);
+        self.count += 1;
+    }
+
+    /// Makes two of a full block.
+    pub(crate) fn split(&mut self, block: usize)
+        requires block { block < length self.old.blocks }
+        requires full { length (block_at self.old.blocks block) ≡ HALF + HALF }
+        requires spare { 0 < self.old.spare }
+        ensures blocks { self.new.blocks ≡ split HALF self.old.blocks block }
+        ensures spare { self.new.spare + 1 ≡ self.old.spare }
+        ensures filled { AllFilled HALF self.old.blocks }
+    {
+        let mut fresh = self.spare.take_last();
+        let row = &mut self.used[block];
+        row.split_into(&mut fresh);
+        self.firsts[block] = *row.get(0);
+        let first = *fresh.get(0);
+        if self.firsts.insert(block + 1, first).is_err() {
+            unreachable!()
+        }
+        if self.used.insert(block + 1, fresh).is_err() {
+            unreachable!()
+        }
+        self.over -= HALF;
+    }
+
+    /// Takes an item out of a block that has others.
+    pub(crate) fn take_out(&mut self, block: usize, at: usize) -> T
+        requires block { block < length self.old.blocks }
+        requires at { at < length (block_at self.old.blocks block) }
+        requires others { 1 < length (block_at self.old.blocks block) }
+        ensures value { result ≡ slice_index_or (block_at self.old.blocks block) at result }
+        ensures blocks { self.new.blocks ≡ taken_out self.old.blocks block at }
+        ensures spare { self.new.spare ≡ self.old.spare }
+    {
+        let row = &mut self.used[block];
+        let len = row.len();
+        let item = row.take_out(at);
+        self.firsts[block] = *row.get(0);
+        self.over -= grown::<HALF>(len - 1);
+        self.count -= 1;
+        item
+    }
+
+    /// Takes out the only item of a block, which is spare from then on.
+    pub(crate) fn take_whole(&mut self, block: usize) -> T
+        requires block { block < length self.old.blocks }
+        requires alone { length (block_at self.old.blocks block) ≡ 1 }
+        ensures value { result ≡ slice_index_or (block_at self.old.blocks block) 0 result }
+        ensures blocks { self.new.blocks ≡ remove self.old.blocks block }
+        ensures spare { self.new.spare ≡ self.old.spare + 1 }
+        ensures filled { AllFilled HALF self.old.blocks }
+    {
+        let mut row = self.used.remove(block);
+        let item = row.take_out(0);
+        let _first = self.firsts.remove(block);
+        self.spare.push_reserved(row);
+        self.count -= 1;
+        item
+    }
+
+    /// Makes one of two neighbours that are half a block together.
+    pub(crate) fn merge(&mut self, block: usize)
+        requires block { block + 1 < length self.old.blocks }
+        requires few { together self.old.blocks block ≤ HALF }
+        ensures blocks { self.new.blocks ≡ merged self.old.blocks block }
+        ensures spare { self.new.spare ≡ self.old.spare + 1 }
+    {
+        let behind = self.used.remove(block + 1);
+        let _first = self.firsts.remove(block + 1);
+        let row = &mut self.used[block];
+        row.absorb(&behind);
+        self.firsts[block] = *row.get(0);
+        self.spare.push_reserved(behind);
+    }
+
+    /// How many inserts succeed without memory.
+    pub(crate) fn room(&self) -> usize
+        ensures room { result ≡ room HALF self.now }
+        ensures half { 1 ≤ HALF }
+    {
+        let worth = self.spare.len() * HALF;
+        let count = self.used.len();
+        if count == 0 {
+            return worth.saturating_sub(HALF);
+        }
+        worth.saturating_sub(self.over)
+    }
+
+    /// Takes memory for one more block; for want of it nothing changes.
+    pub(crate) fn add_spare(&mut self) -> Result<(), AllocError>
+        ensures blocks { self.new.blocks ≡ self.old.blocks }
+        ensures spare { OnOk result (self.new.spare ≡ self.old.spare + 1) }
+        ensures unchanged { OnErr result (self.new.spare ≡ self.old.spare) }
+        ensures never_less { self.old.spare ≤ self.new.spare }
+    {
+        let all = self.used.len() + self.spare.len();
+        if all >= MOST_BLOCKS {
+            return Err(AllocError);
+        }
+        let (for_used, for_spare) = (self.spare.len() + 1, self.used.len() + 1);
+        self.used.reserve(for_used)?;
+        self.firsts.reserve(for_used)?;
+        self.spare.reserve(for_spare)?;
+        let fresh = Block::new(self.alloc)?;
+        self.spare.push_reserved(fresh);
+        Ok(())
+    }
+}
