@@ -63,7 +63,8 @@ impl<T: Copy, const HALF: usize> Blocks<T, HALF> {
 
     /// How many inserts succeed without memory.
     pub fn room(&self) -> usize
-        ensures { result ≡ room HALF self.now }
+        ensures room { result ≡ room HALF self.now }
+        ensures half { 1 ≤ HALF }
     {
         self.store.room()
     }
