@@ -22,3 +22,13 @@ pub mod Searches
 pub mod Kept
 pub mod Spans
 pub mod StarSize
+pub mod Merged
+pub mod MergeSteps
+pub mod Drafts
+pub mod Merging
+pub mod PortDemand
+pub mod Collected
+pub mod CollectedWants
+pub mod OpenPlace
+pub mod Collecting
+pub mod AllPorts

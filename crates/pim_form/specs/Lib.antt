@@ -13,3 +13,6 @@ pub mod Toward
 pub mod KeptToward
 pub mod TowardLaws
 pub mod Plan
+pub mod Merge
+pub mod Collect
+pub mod Drafts

@@ -7,10 +7,13 @@
 //! opens without a fault and is read as that message.
 #![tactic(auto)]
 
+mod collect;
+mod demand;
 mod form;
 mod groups;
 mod kept_toward;
 mod laws;
+mod merge;
 mod messages;
 mod place;
 mod plan;
