@@ -5,6 +5,7 @@ ghost use Rattle.std.specs.Option.{is_some};
 ghost use Rattle.pim_down.specs.Known.{known_in};
 ghost use Rattle.pim_form.specs.NormalForm.{IsFormOf, form_wants};
 ghost use Rattle.pim_form.specs.Toward.{via_in, toward, is_toward};
+ghost use Rattle.pim_form.specs.Wants.{wants};
 ghost use Rattle.pim_form.specs.KeptToward.{is_reached, star_toward, group_toward, has_some, IsStarPushed, IsPushed};
 
 use crate::form::NormalForm;
@@ -12,6 +13,7 @@ use crate::groups::GroupView;
 use crate::place::Place;
 use crate::toward::{is_asked, is_rp_reached};
 use pim_addr::{Family, Routes};
+use pim_down::Ports;
 use std::alloc::{AllocError, Global};
 
 /// Appends those of these sources that are reached by this neighbour.
@@ -102,7 +104,7 @@ fn push_place<A: Copy>(places: &mut Vec<Place<A>>, place: Place<A>) -> Result<()
 
 /// The normal form of what a normal form wants of this neighbour: the stars, with all their exceptions, whose RP is
 /// reached by it, and the sources that are. The only refusal is want of memory.
-pub(crate) fn kept_toward<F: Family>(
+fn kept_toward<F: Family>(
     alloc: Global,
     normal: &NormalForm<F>,
     routes: &Routes<F>,
@@ -121,4 +123,26 @@ pub(crate) fn kept_toward<F: Family>(
         push_place(&mut places, place)?;
     }
     Ok(NormalForm { row, places })
+}
+
+impl<F: Family> NormalForm<F> {
+    /// The normal form of what the machines of all ports want of this upstream neighbour: the stars whose RP is reached
+    /// by it, with all their exceptions, and the sources that are (RFC 7761, 4.1). What has no route is asked of nobody.
+    /// The only refusal is want of memory.
+    ///
+    /// It takes the time of `of`, and at most two look-ups in the table a star and one a source.
+    pub fn toward(
+        alloc: Global,
+        ports: &Ports<F>,
+        routes: &Routes<F>,
+        upstream: F::Addr,
+    ) -> Result<NormalForm<F>, AllocError>
+        ensures meaning { IfOk result (λ form. IsFormOf F.family (toward (known_in F.family routes.now)
+            (via_in F.family routes.now) (F.bytes_of upstream) (wants ports.now)) form) }
+        ensures only { IfOk result (λ form. is_toward (known_in F.family routes.now) (via_in F.family routes.now)
+            (F.bytes_of upstream) form ≡ true) }
+    {
+        let wanted = NormalForm::of(alloc, ports)?;
+        kept_toward::<F>(alloc, &wanted, routes, upstream)
+    }
 }

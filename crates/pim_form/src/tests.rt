@@ -2,6 +2,7 @@
 
 mod forms;
 mod kept;
+mod toward;
 mod wanting;
 mod writers;
 

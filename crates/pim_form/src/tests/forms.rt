@@ -177,6 +177,7 @@ fn refusals_leave_the_ports(rt: HostRuntime) {
             return;
         }
     }
+    assert_eq!(rt; ports.run_to(0), Step::Reached);
     let form = match NormalForm::of(rt.alloc(), &ports) {
         Ok(form) => form,
         Err(_) => {
