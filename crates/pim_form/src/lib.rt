@@ -19,6 +19,7 @@ mod place;
 mod plan;
 mod sizes;
 mod sorted;
+mod standin;
 #[cfg(test)]
 mod tests;
 mod toward;
