@@ -19,7 +19,6 @@ mod place;
 mod plan;
 mod sizes;
 mod sorted;
-mod standin;
 #[cfg(test)]
 mod tests;
 mod toward;
