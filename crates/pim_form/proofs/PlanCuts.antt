@@ -510,9 +510,6 @@ module _ {A : Type 0} (bytes_of : A → List ℕ) (family : AddressFamily) (budg
     pub within_of : (p.sources_start ≤ p.sources_end) × (p.exceptions_start ≤ p.exceptions_end)
     within_of = let within = next_within bytes_of family budget next.row next.places p next.left filled next.filling in (within.0, within.2)
 
-    pub room_before : HasRoom family budget filled.groups filled.entries
-    room_before = next.filling.room
-
     pub few_of : budget ≤ 65000 → p.starred ≡ true → p.exceptions_end < p.exceptions_start + 65000
     few_of = few_exceptions bytes_of family budget next.row next.places p next.left filled next.filling
 
