@@ -33,3 +33,13 @@ pub mod PlanRows
 pub mod PlanEnds
 pub mod PlanFilling
 pub mod PlanCuts
+pub mod Merged
+pub mod MergeSteps
+pub mod Drafts
+pub mod Merging
+pub mod PortDemand
+pub mod Collected
+pub mod CollectedWants
+pub mod OpenPlace
+pub mod Collecting
+pub mod AllPorts

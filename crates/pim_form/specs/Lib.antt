@@ -18,3 +18,6 @@ pub mod Added
 pub mod Parts
 pub mod Refused
 pub mod Filling
+pub mod Merge
+pub mod Collect
+pub mod Drafts

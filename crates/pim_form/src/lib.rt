@@ -7,12 +7,15 @@
 //! opens without a fault and is read as that message.
 #![tactic(auto)]
 
+mod collect;
+mod demand;
 mod fault;
 mod filling;
 mod form;
 mod groups;
 mod kept_toward;
 mod laws;
+mod merge;
 mod messages;
 mod packing;
 mod place;

@@ -8,14 +8,14 @@ use pim_addr::Family;
 use pim_down::{Ports, State, What};
 
 /// Whether a (*,G) or (S,G) machine in this state lets traffic through.
-fn is_joined(state: Option<State>) -> bool
+pub(crate) fn is_joined(state: Option<State>) -> bool
     ensures { result ≡ is_joined state }
 {
     matches!(state, Some(State::Join | State::PrunePending))
 }
 
 /// Whether an (S,G,rpt) machine in this state holds traffic back.
-fn is_pruned(state: Option<State>) -> bool
+pub(crate) fn is_pruned(state: Option<State>) -> bool
     ensures { result ≡ is_pruned state }
 {
     matches!(state, Some(State::Prune))

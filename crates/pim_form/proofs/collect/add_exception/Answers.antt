@@ -1,0 +1,8 @@
+use Rattle.std.proofs.Common.{◌∙◌, refl}
+use Rattle.pim_form.proofs.OpenPlace.{exception_added}
+use Rattle.pim_form.proofs.collect.add_exception.Goals as goal
+
+pub returns : goal.returns
+returns g c =
+    exception_added g.F.Family.bytes_of c.args.row.now.items c.push.new.self.items c.args.source c.args.group.now _ c.requires.last c.requires.star c.in_ok-push.ensures.items
+    refl refl refl refl refl (c.len-group.ensures ∙ c.push.new.self.ok.0)

@@ -1,0 +1,30 @@
+-- A form that is being made, group by group.
+use Rattle.std.specs.Prelude.{◌≡◌, ℕ, ◌≤◌, false, List, length}
+use Rattle.std.specs.List.{AllByRecursion}
+use Rattle.pim_form.specs.declared.place.Place.{Place}
+use Rattle.pim_form.specs.NormalForm.{GroupForm}
+use Rattle.pim_form.specs.Rows.{IsWithin, place_seen, form_seen}
+
+-- The group's addresses end the row, its sources before its exceptions; it has exceptions only behind its star.
+pub record IsLast {A : Type 0} (size : ℕ) (place : Place A) : Type 0 where
+  pub sources : place.sources_start ≤ place.sources_end
+  pub middle : place.exceptions_start ≡ place.sources_end
+  pub exceptions : place.exceptions_start ≤ place.exceptions_end
+  pub last : place.exceptions_end ≡ size
+  pub bare : place.starred ≡ false → place.exceptions_start ≡ place.exceptions_end
+
+module _ {A : Type 0} (bytes_of : A → List ℕ) where
+  -- the groups at these places of the row
+  pub record IsDraft (row : List A) (places : List (Place A)) (form : List GroupForm) : Type 0 where
+    pub within : AllByRecursion (IsWithin (length row)) places
+    pub seen : form_seen bytes_of row places ≡ form
+
+  -- whatever places were read in the row are read as before
+  abbrev pub Keeps : List A → List A → Type 0
+  Keeps row row' = (places : List (Place A)) (form : List GroupForm) → IsDraft row places form → IsDraft row' places form
+
+  -- the row grew by addresses of the last group, which is now this one
+  pub record Becomes (row row' : List A) (place : Place A) (form : GroupForm) : Type 0 where
+    pub last : IsLast (length row') place
+    pub seen : place_seen bytes_of row' place ≡ form
+    pub kept : Keeps row row'

@@ -1,0 +1,150 @@
+//! The form of what one port wants, in one pass over its records.
+
+ghost use Rattle.std.specs.Prelude.{◌≡◌, ◌||◌, ◌++◌, ◌∷◌, [], true, List, length, OnOk, IfOk};
+ghost use Rattle.pim_down.specs.Seen.{told_seen, what_seen};
+ghost use Rattle.pim_form.specs.NormalForm.{GroupForm, IsFormOf};
+ghost use Rattle.pim_form.specs.Rows.{exceptions_of, place_seen};
+ghost use Rattle.pim_form.specs.Drafts.{IsDraft, IsLast, Becomes};
+ghost use Rattle.pim_form.specs.Collect.{fresh, with_exception, added, Takes, closed, wants_at};
+
+use crate::form::NormalForm;
+use crate::place::Place;
+use crate::wanting::{is_joined, is_pruned};
+use pim_addr::Family;
+use pim_down::{Ports, Record, What};
+use std::alloc::{AllocError, Global};
+
+/// Appends a source to the last group, which has no exceptions yet.
+fn add_source<F: Family>(
+    row: &mut Vec<F::Addr>,
+    group: &mut Place<F::Addr>,
+    source: F::Addr,
+) -> Result<(), AllocError>
+    requires last { IsLast (length row.old.items) group.old }
+    requires none { exceptions_of (place_seen F.bytes_of row.old.items group.old).star ≡ [] }
+    ensures { OnOk result (Becomes F.bytes_of row.old.items row.new.items group.new (record {
+      group = (place_seen F.bytes_of row.old.items group.old).group;
+      star = (place_seen F.bytes_of row.old.items group.old).star;
+      sources = (place_seen F.bytes_of row.old.items group.old).sources ++ F.bytes_of source ∷ [];
+    })) }
+{
+    row.push(source)?;
+    group.sources_end = row.len();
+    group.exceptions_start = row.len();
+    group.exceptions_end = row.len();
+    Ok(())
+}
+
+/// Appends an exception to the last group, which has a star.
+fn add_exception<F: Family>(
+    row: &mut Vec<F::Addr>,
+    group: &mut Place<F::Addr>,
+    source: F::Addr,
+) -> Result<(), AllocError>
+    requires last { IsLast (length row.old.items) group.old }
+    requires star { group.old.starred ≡ true }
+    ensures { OnOk result (Becomes F.bytes_of row.old.items row.new.items group.new (record {
+      group = (place_seen F.bytes_of row.old.items group.old).group;
+      star = with_exception (F.bytes_of source) (place_seen F.bytes_of row.old.items group.old).star;
+      sources = (place_seen F.bytes_of row.old.items group.old).sources;
+    })) }
+{
+    row.push(source)?;
+    group.exceptions_end = row.len();
+    Ok(())
+}
+
+/// Adds what a record says to the last group. (*,G) comes first in key order, then (S,G), then (S,G,rpt).
+fn add<F: Family>(
+    row: &mut Vec<F::Addr>,
+    group: &mut Place<F::Addr>,
+    record: &Record<F::Addr>,
+) -> Result<(), AllocError>
+    requires last { IsLast (length row.old.items) group.old }
+    requires takes { Takes (what_seen F.bytes_of record.now.key.what) (place_seen F.bytes_of row.old.items group.old) }
+    ensures { OnOk result (Becomes F.bytes_of row.old.items row.new.items group.new
+        (added (told_seen F.bytes_of record.now) (place_seen F.bytes_of row.old.items group.old))) }
+{
+    let state = Some(record.machine.state);
+    match record.key.what {
+        What::Star => {
+            group.starred |= is_joined(state);
+        }
+        What::Source(source) => {
+            if is_joined(state) {
+                return add_source::<F>(row, group, source);
+            }
+        }
+        What::Rpt(source) => {
+            if group.starred && is_pruned(state) {
+                return add_exception::<F>(row, group, source);
+            }
+        }
+    }
+    Ok(())
+}
+
+/// Begins a group with its first record.
+fn begin<F: Family>(
+    row: &mut Vec<F::Addr>,
+    record: &Record<F::Addr>,
+) -> Result<Place<F::Addr>, AllocError>
+    ensures { IfOk result (λ group. Becomes F.bytes_of row.old.items row.new.items group
+        (added (told_seen F.bytes_of record.now) (fresh (F.bytes_of record.now.key.group)))) }
+{
+    let mut group = Place {
+        group: record.key.group,
+        starred: false,
+        sources_start: row.len(),
+        sources_end: row.len(),
+        exceptions_start: row.len(),
+        exceptions_end: row.len(),
+    };
+    add::<F>(row, &mut group, record)?;
+    Ok(group)
+}
+
+/// Ends a group: it is one of the form's unless nothing is wanted of it.
+fn close<F: Family>(
+    places: &mut Vec<Place<F::Addr>>,
+    group: &Place<F::Addr>,
+) -> Result<(), AllocError>
+    ensures { OnOk result ((row : List F.Addr) (form : List GroupForm) → IsLast (length row) group.now →
+        IsDraft F.bytes_of row places.old.items form →
+        IsDraft F.bytes_of row places.new.items (form ++ closed (place_seen F.bytes_of row group.now))) }
+{
+    if group.starred || group.sources_start < group.sources_end {
+        places.push(*group)?;
+    }
+    Ok(())
+}
+
+/// The form of what one port wants. The only refusal is want of memory.
+pub(crate) fn collect<F: Family>(
+    alloc: Global,
+    ports: &Ports<F>,
+    port: usize,
+) -> Result<NormalForm<F>, AllocError>
+    ensures { IfOk result (λ form. IsFormOf F.family (wants_at port ports.now) form) }
+{
+    ports.is_sound();
+    pim_down::keys_are_told_apart();
+    let mut row = Vec::new(alloc);
+    let mut places = Vec::new(alloc);
+    let mut records = ports.records_on(port);
+    let Some(first) = records.next() else {
+        return Ok(NormalForm { row, places });
+    };
+    row.reserve(ports.count_on(port))?;
+    let mut group = begin::<F>(&mut row, &first)?;
+    for record in records {
+        if record.key.group == group.group {
+            add::<F>(&mut row, &mut group, &record)?;
+        } else {
+            close::<F>(&mut places, &group)?;
+            group = begin::<F>(&mut row, &record)?;
+        }
+    }
+    close::<F>(&mut places, &group)?;
+    Ok(NormalForm { row, places })
+}
