@@ -33,9 +33,9 @@ module _ {A : Type 0} (bytes_of : A → List ℕ) (family : AddressFamily) (row 
       → AllByRecursion (PartHasRps bytes_of family rps row) parts
   parts_have rps [] kept valid = tt
   parts_have rps (part ∷ parts) kept valid = (
-      units_have family rps (form_seen bytes_of row part) kept.0.normal (all_front (IsValidUnit family rps) (run_of bytes_of row part) (joined (map (run_of bytes_of row) parts)) valid),
-      parts_have rps parts kept.1 (all_behind (IsValidUnit family rps) (run_of bytes_of row part) (joined (map (run_of bytes_of row) parts)) valid),
-    )
+    units_have family rps (form_seen bytes_of row part) kept.0.normal (all_front (IsValidUnit family rps) (run_of bytes_of row part) (joined (map (run_of bytes_of row) parts)) valid),
+    parts_have rps parts kept.1 (all_behind (IsValidUnit family rps) (run_of bytes_of row part) (joined (map (run_of bytes_of row) parts)) valid),
+  )
 
   module _ (budget : ℕ) (places pieces : List (Place A)) (ends : List ℕ) (plan : IsPlan bytes_of family budget row places pieces ends) where
     pub plan_fits : AllByRecursion (IsFitting bytes_of family budget row) (parts_from 0 ends pieces)

@@ -53,7 +53,7 @@ pub set_spelled : (count : ℕ → List ℕ) (family : AddressFamily) (rps : Rps
     → sources ≡ flat_map (canonical_source_entry family) this.sources
     → exceptions ≡ flat_map (canonical_rpt_entry family) (exceptions_of this.star)
     → front ++ (star ++ (sources ++ exceptions)) ≡ canonical_group family this.group ++ count (length (told_set rps this).joined) ++ count (length (told_set rps this).pruned)
-        ++ flat_map (canonical_entry family) (told_set rps this).joined ++ flat_map (canonical_entry family) (told_set rps this).pruned
+    ++ flat_map (canonical_entry family) (told_set rps this).joined ++ flat_map (canonical_entry family) (told_set rps this).pruned
 set_spelled count family rps this joined pruned front star sources exceptions join prune is_front is_star is_sources is_exceptions =
     let joins : star ++ sources ≡ flat_map (canonical_entry family) (told_set rps this).joined =
     ap (λ (bytes : List ℕ). bytes ++ sources) is_star ∙ ap (λ (bytes : List ℕ). flat_map (canonical_entry family) (star_entries (rps this.group) this.star) ++ bytes) is_sources

@@ -3,6 +3,7 @@
 mod forms;
 mod kept;
 mod toward;
+mod packing;
 mod wanting;
 mod writers;
 

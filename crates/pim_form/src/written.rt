@@ -8,7 +8,6 @@ ghost use Rattle.pim_frame.specs.Seal.{IsSealed};
 ghost use Rattle.pim_frame.specs.declared.frame.MessageType.TheVariants.{JoinPrune};
 ghost use Rattle.pim_down.specs.Known.{known_in};
 ghost use Rattle.pim_jp.specs.Canonical.{IsMessageSet, canonical_entry, canonical_set, canonical, canonical_set_length};
-use std::alloc::AllocError;
 ghost use Rattle.pim_jp.specs.Canonical.{canonical_sets_length};
 ghost use Rattle.pim_jp.specs.Seen.{entry_seen};
 ghost use Rattle.pim_form.specs.NormalForm.{IsNormal};
@@ -27,6 +26,7 @@ use crate::writer::Writer;
 use pim_addr::{Family, Routes, group_length, source_length};
 use pim_frame::{MessageType, all_routers, seal};
 use pim_jp::{Entry, head_length, put_entry, put_group_and_counts, put_head, set_length};
+use std::alloc::AllocError;
 
 /// Writes an entry at this place.
 fn write_entry_at<F: Family>(entry: Entry<F::Addr>, at: usize, bytes: &mut [u8])
@@ -116,7 +116,12 @@ fn write_set<F: Family>(routes: &Routes<F>, group: &GroupView<'_, F>, bytes: &mu
 }
 
 /// Writes the set of a group at this place, and answers the place behind it.
-fn write_set_at<F: Family>(routes: &Routes<F>, group: &GroupView<'_, F>, at: usize, bytes: &mut [u8]) -> usize
+fn write_set_at<F: Family>(
+    routes: &Routes<F>,
+    group: &GroupView<'_, F>,
+    at: usize,
+    bytes: &mut [u8],
+) -> usize
     requires rp { IsRpOf F.family (known_in F.family routes.now group.now.group) group.now.star }
     requires set { IsMessageSet F.family (told_set (known_in F.family routes.now) group.now) }
     requires room { at + canonical_set_length F.family
@@ -169,9 +174,19 @@ pub(crate) fn write_message<F: Family>(
     writer.is_writing();
     let (_, body) = bytes.split_at_mut(4);
     let (head, sets) = body.split_at_mut(head_length::<F>());
-    put_head::<F>(writer.upstream(), part.count_left() as u8, writer.holdtime(), head);
+    put_head::<F>(
+        writer.upstream(),
+        part.count_left() as u8,
+        writer.holdtime(),
+        head,
+    );
     write_sets::<F>(routes, part, sets);
-    seal::<F>(writer.own(), all_routers::<F>(), MessageType::JoinPrune, bytes);
+    seal::<F>(
+        writer.own(),
+        all_routers::<F>(),
+        MessageType::JoinPrune,
+        bytes,
+    );
 }
 
 /// How many entries a group has: its star, its exceptions and its sources.

@@ -72,7 +72,7 @@ loop-end-preserved g c =
     let rps = known_in family c.args.routes.now in
     let run = run_of g.F.Family.bytes_of c.args.row.now in
     let tells = subst (λ (these : List _). TellsRun family c.args.writer.now rps (run these) added.message) part
-        (part_tells g.F.Family.bytes_of family c.args.writer.now rps c.args.row.now c.pieces_between-part.result.now added.message is.kept added.tells) in
+    (part_tells g.F.Family.bytes_of family c.args.writer.now rps c.args.row.now c.pieces_between-part.result.now added.message is.kept added.tells) in
     record {
       ends = at.behind;
       parts = of_others plan.pieces.items c.loop-end.start end (drop c.loop-end.end-index plan.ends.items) others next (IsFitting g.F.Family.bytes_of family c.args.writer.now.budget c.args.row.now) c.loop-end.invariant.parts;
