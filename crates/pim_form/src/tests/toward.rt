@@ -13,17 +13,17 @@ const OTHER_GROUP: [u8; 4] = [239, 1, 2, 1];
 /// The RP of the first group.
 const NEARER_RP: [u8; 4] = [10, 8, 8, 8];
 
-const TWO: [u8; 4] = [10, 0, 0, 2];
+pub(super) const TWO: [u8; 4] = [10, 0, 0, 2];
 
-const SIX: [u8; 4] = [10, 0, 0, 6];
+pub(super) const SIX: [u8; 4] = [10, 0, 0, 6];
 
 /// No row leads to it.
 const SEVEN: [u8; 4] = [10, 0, 0, 7];
 
 /// For an RP or a neighbour, a prefix and its length, and where it leads.
-type Row = (bool, [u8; 4], u8, [u8; 4]);
+pub(super) type Row = (bool, [u8; 4], u8, [u8; 4]);
 
-const ROWS: [Row; 6] = [
+pub(super) const ROWS: [Row; 6] = [
     (true, [239, 1, 0, 0], 16, RP),
     (true, [239, 1, 1, 0], 24, NEARER_RP),
     (false, [0, 0, 0, 0], 0, TWO),
@@ -33,7 +33,7 @@ const ROWS: [Row; 6] = [
 ];
 
 /// A table of these rows; `None` where one is refused.
-fn table(alloc: Global, rows: &[Row]) -> Option<Routes<V4>> {
+pub(super) fn table(alloc: Global, rows: &[Row]) -> Option<Routes<V4>> {
     let mut routes: Routes<V4> = Routes::new(alloc);
     for &(is_rp, prefix, length, to) in rows {
         let added = if is_rp {
@@ -57,7 +57,7 @@ const MESSAGE: [u8; 74] = [
 ];
 
 /// A port that has heard the message under the six rows, and whose prunes count; `None` where it is refused.
-fn heard(alloc: Global) -> Option<Ports<V4>> {
+pub(super) fn heard(alloc: Global) -> Option<Ports<V4>> {
     let routes = table(alloc, &ROWS)?;
     let mut ports: Ports<V4> = Ports::new(alloc, 1, 100);
     let Ok(view) = JpView::<V4>::read(&MESSAGE) else {
