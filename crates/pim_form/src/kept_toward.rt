@@ -127,8 +127,8 @@ fn kept_toward<F: Family>(
 
 impl<F: Family> NormalForm<F> {
     /// The normal form of what the machines of all ports want of this upstream neighbour: the stars whose RP is reached
-    /// by it, with all their exceptions, and the sources that are (RFC 7761, 4.1). What has no route is asked of nobody.
-    /// The only refusal is want of memory.
+    /// by it, with all their exceptions, and the sources that are (RFC 7761, 4.1). What has no route is asked of
+    /// nobody. The only refusal is want of memory.
     ///
     /// It takes the time of `of`, and at most two look-ups in the table a star and one a source.
     pub fn toward(
