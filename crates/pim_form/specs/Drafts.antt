@@ -21,7 +21,8 @@ module _ {A : Type 0} (bytes_of : A → List ℕ) where
 
   -- whatever places were read in the row are read as before
   abbrev pub Keeps : List A → List A → Type 0
-  Keeps row row' = (places : List (Place A)) (form : List GroupForm) → IsDraft row places form → IsDraft row' places form
+  Keeps row row' =
+      (places : List (Place A)) (form : List GroupForm) → IsDraft row places form → IsDraft row' places form
 
   -- the row grew by addresses of the last group, which is now this one
   pub record Becomes (row row' : List A) (place : Place A) (form : GroupForm) : Type 0 where
