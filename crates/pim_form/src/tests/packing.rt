@@ -3,7 +3,7 @@
 use super::ALONE;
 use crate::{FormFault, Messages, NormalForm, Writer, is_toward, normal_again, pack};
 use pim_addr::{Family, Routes, V4, V6};
-use pim_down::Ports;
+use pim_down::{Ports, Step};
 use pim_jp::{Entry, JpView, head_length, put_head, put_set, set_length};
 use std::alloc::{AllocError, Global};
 use std::test::Fail;
@@ -78,7 +78,7 @@ fn router6(alloc: Global, budget: usize) -> Option<Router<V6>> {
     })
 }
 
-/// Hears a message of one set: whether it was taken.
+/// Hears a message of one set, and lets its prunes act: whether it was taken.
 fn hear<F: Family>(
     alloc: Global,
     router: &mut Router<F>,
@@ -104,7 +104,14 @@ fn hear<F: Family>(
     if router.ports.port_count() == 0 {
         return Ok(false);
     }
-    Ok(router.ports.hear(0, &view, &router.routes, ALONE).is_ok())
+    if router
+        .ports
+        .hear(0, &view, &router.routes, ALONE)
+        .is_err()
+    {
+        return Ok(false);
+    }
+    Ok(router.ports.run_to(0) == Step::Reached)
 }
 
 /// The messages of what the router wants; `None` where it doesn't want it all of its neighbour, or its form isn't made.
