@@ -1,12 +1,11 @@
 -- How many entries the groups of a part have.
-use Rattle.std.proofs.Common.{◌≡◌, ◌∙◌, ℕ, ◌+◌, ◌<◌, ◌^◌, List, [], ◌∷◌, ◌++◌, Option, None, Some, Bool, is_some, length, refl, ap, arith}
+use Rattle.std.proofs.Common.{◌≡◌, ◌∙◌, ℕ, ◌+◌, ◌<◌, ◌^◌, List, [], ◌∷◌, Option, None, Some, Bool, is_some, length, map, ap, arith}
 use Rattle.std.specs.Int.{from_bool}
 use Rattle.pim_form.specs.NormalForm.{GroupForm}
 use Rattle.pim_form.specs.Rows.{exceptions_of}
-use Rattle.pim_form.specs.Units.{WantUnit, source_unit, star_units, group_units, units_of, run_entries}
+use Rattle.pim_form.specs.Units.{source_unit, star_units, group_units, units_of, run_entries}
 use Rattle.pim_form.proofs.OnePacking.{entries_append}
 use Rattle.pim_form.proofs.Spelled.{sources_entries}
-use Rattle.std.proofs.Common.{map}
 
 star_entries_counted : (group : List ℕ) (star : Option (List (List ℕ))) (has : Bool) (count : ℕ) → has ≡ is_some star → count ≡ from_bool has → run_entries (star_units group star) ≡ count + length (exceptions_of star)
 unfolding run_entries

@@ -1,11 +1,11 @@
 -- The parts of a plan fit messages, and their stars have RPs where those of the form have.
-use Rattle.std.proofs.Common.{◌≡◌, ◌∙◌, ℕ, true, List, [], ◌∷◌, ◌++◌, map, sym, subst}
+use Rattle.std.proofs.Common.{ℕ, List, [], ◌∷◌, map, sym, subst}
 use Rattle.std.specs.List.{AllByRecursion}
 use Rattle.pim_addr.specs.declared.family.AddressFamily.{AddressFamily}
 use Rattle.pim_form.specs.declared.place.Place.{Place}
 use Rattle.pim_form.specs.NormalForm.{GroupForm, IsNormal}
-use Rattle.pim_form.specs.Units.{WantUnit, units_of}
-use Rattle.pim_form.specs.Packing.{fits, joined, AreRuns}
+use Rattle.pim_form.specs.Units.{units_of}
+use Rattle.pim_form.specs.Packing.{joined, AreRuns}
 use Rattle.pim_form.specs.Messages.{Rps, HaveRps}
 use Rattle.pim_form.specs.Rows.{form_seen, IsKept}
 use Rattle.pim_form.specs.Plan.{parts_from, run_of, IsPlan}

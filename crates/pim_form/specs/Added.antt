@@ -11,7 +11,8 @@ use Rattle.pim_form.specs.Messages.{Rps, Writing, told_message}
 module _ (family : AddressFamily) (writing : Writing) (rps : Rps) (part : List GroupForm) where
   -- the part, written canonically and sealed for ALL-PIM-ROUTERS
   abbrev pub TellsPart : List ℕ → Type 0
-  TellsPart bytes = IsSealed family writing.own (all_routers family) JoinPrune (canonical family (told_message writing rps part)) bytes
+  TellsPart bytes = IsSealed family writing.own (all_routers family) JoinPrune
+      (canonical family (told_message writing rps part)) bytes
 
   -- the bytes of its message stand behind those that were there
   pub record IsAppended (before after : List ℕ) : Type 0 where

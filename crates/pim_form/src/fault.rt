@@ -7,8 +7,8 @@ use thiserror::Error;
 /// Why a form isn't packed. TooBig is told before Memory.
 #[derive(Debug, Drop, PartialEq, Eq, Error)]
 pub enum FormFault<F: Family> {
-    /// The star of this group, with all its exceptions, is too big for a message of the writer's budget. It is the least
-    /// such group.
+    /// The star of this group, with all its exceptions, is too big for a message of the writer's budget. It is the
+    /// least such group.
     TooBig(F::Addr),
     /// A growth was refused.
     Memory,

@@ -1,6 +1,6 @@
 //! Messages in one block of bytes.
 
-ghost use Rattle.std.specs.Prelude.{IsTrue, ◌↔◌, ◌≡◌, ◌<◌, true, [], length, slice_get, slice_index_or, OnOk};
+ghost use Rattle.std.specs.Prelude.{IsTrue, ◌↔◌, ◌≡◌, ◌<◌, true, [], length, slice_get, OnOk};
 ghost use Rattle.pim_down.specs.Known.{known_in};
 ghost use Rattle.pim_form.specs.Added.{IsAdded};
 ghost use Rattle.pim_form.specs.Blocks.{told_bytes};

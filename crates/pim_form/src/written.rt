@@ -16,7 +16,7 @@ ghost use Rattle.pim_form.specs.Packing.{fits};
 ghost use Rattle.pim_form.specs.Rows.{IsKept, form_seen};
 ghost use Rattle.pim_form.specs.Plan.{run_of};
 ghost use Rattle.pim_form.specs.Added.{IsAppended};
-ghost use Rattle.pim_form.specs.Messages.{Rps, IsRpOf, HaveRps, star_entries, excepted_entries, told_set, told_message};
+ghost use Rattle.pim_form.specs.Messages.{Rps, IsRpOf, HaveRps, star_entries, told_set, told_message};
 ghost use Rattle.pim_form.specs.Entries.{canonical_source_entry, canonical_rpt_entry};
 
 use crate::groups::{GroupView, Groups};

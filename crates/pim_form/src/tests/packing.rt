@@ -85,12 +85,8 @@ fn hear<F: Family>(
     group: F::Addr,
     joined: &[Entry<F::Addr>],
     pruned: &[Entry<F::Addr>],
-) -> Result<bool, AllocError>
-{
-    let (Ok(joins), Ok(prunes)) = (
-        u16::try_from(joined.len()),
-        u16::try_from(pruned.len()),
-    ) else {
+) -> Result<bool, AllocError> {
+    let (Ok(joins), Ok(prunes)) = (u16::try_from(joined.len()), u16::try_from(pruned.len())) else {
         return Ok(false);
     };
     let size = set_length::<F>(joins, prunes);
@@ -104,11 +100,7 @@ fn hear<F: Family>(
     if router.ports.port_count() == 0 {
         return Ok(false);
     }
-    if router
-        .ports
-        .hear(0, &view, &router.routes, ALONE)
-        .is_err()
-    {
+    if router.ports.hear(0, &view, &router.routes, ALONE).is_err() {
         return Ok(false);
     }
     Ok(router.ports.run_to(0) == Step::Reached)
@@ -304,8 +296,8 @@ fn tells_faults_in_words(rt: HostRuntime) -> Result<(), Fail> {
     Ok(())
 }
 
-// With each allocation refused in turn (`rt try --test --fail-alloc 1..`): the form is as it was, and the same call, with
-// memory, gives its messages.
+// With each allocation refused in turn (`rt try --test --fail-alloc 1..`): the form is as it was, and the same call,
+// with memory, gives its messages.
 #[test]
 fn refusals_change_nothing(rt: HostRuntime) -> Result<(), Fail> {
     let Some(mut router) = router4(rt.alloc(), 1480) else {

@@ -5,7 +5,7 @@ use Rattle.pim_form.specs.NormalForm.{GroupForm}
 use Rattle.pim_form.specs.Units.{units_of}
 use Rattle.pim_form.specs.Rows.{form_seen}
 use Rattle.pim_form.specs.Plan.{IsPlan, parts_from, run_of}
-use Rattle.pim_form.specs.Parts.{IsFitting, PartHasRps}
+use Rattle.pim_form.specs.Parts.{PartHasRps}
 use Rattle.pim_form.specs.Messages.{HaveRps, TellRuns, AreCanonical}
 use Rattle.pim_form.specs.Packing.{IsPacking}
 use Rattle.pim_form.proofs.PlannedParts.{plan_fits, plan_has_rps}

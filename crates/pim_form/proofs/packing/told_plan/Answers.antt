@@ -1,4 +1,4 @@
-use Rattle.std.proofs.Common.{◌≡◌, ◌∙◌, ◌+◌, ◌≤◌, List, ◌∷◌, length, get_or, drop, sym, ap, subst, arith, add-one}
+use Rattle.std.proofs.Common.{◌≡◌, ◌∙◌, ◌+◌, List, ◌∷◌, length, get_or, drop, sym, ap, subst, arith}
 use Rattle.pim_down.specs.Known.{known_in}
 use Rattle.pim_form.specs.Messages.{TellsRun}
 use Rattle.pim_form.specs.Rows.{between}

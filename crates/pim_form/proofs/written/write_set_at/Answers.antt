@@ -1,4 +1,4 @@
-use Rattle.std.proofs.Common.{◌≡◌, ◌∙◌, ◌≤◌, ℕ, ◌+◌, List, length, take, ◌++◌, ap, arith}
+use Rattle.std.proofs.Common.{◌≡◌, ◌∙◌, ℕ, ◌+◌, List, length, take, ◌++◌, ap, arith}
 use Rattle.pim_jp.specs.Canonical.{canonical_set_length}
 use Rattle.pim_down.specs.Known.{known_in}
 use Rattle.pim_form.specs.Messages.{told_set}
