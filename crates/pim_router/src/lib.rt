@@ -1,0 +1,11 @@
+//! A router's part in PIM sparse mode (RFC 7761): one call for each packet, which tells what became of it, and one for
+//! time, which tells the echoes and the periodic refreshes that are to be sent.
+//!
+//! Proved: a router is made exactly where its configuration has no fault, or else the first fault is told.
+#![tactic(auto)]
+
+mod config;
+
+
+pub use config::{Config, ConfigFault, PortConfig};
+
