@@ -1,5 +1,5 @@
 -- The faults of a configuration, in terms of the ports as the code has them.
-use Rattle.std.proofs.Common.{◌≡◌, ◌∙◌, ℕ, Bool, Option, not, nat_lt, List, ◌++◌, length, map, Result, refl, sym, ap}
+use Rattle.std.proofs.Common.{◌≡◌, ◌∙◌, ℕ, Bool, Option, not, nat_lt, List, ◌++◌, length, map, Result, sym, ap}
 use Rattle.std.specs.List.{position}
 use Rattle.std.proofs.lemmas.List.{length-map}
 use Rattle.pim_addr.specs.declared.family.AddressFamily.{AddressFamily}

@@ -1,2 +1,3 @@
 pub mod Positions
 pub mod Configs
+pub mod Made

@@ -1,3 +1,4 @@
 pub mod State
 pub mod Seen
 pub mod Config
+pub mod Sound

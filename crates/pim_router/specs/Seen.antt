@@ -1,9 +1,24 @@
--- What a contract sees: addresses as their lists of bytes.
-use Rattle.std.specs.Prelude.{ℕ, List, map}
+-- What a contract sees: addresses as their lists of bytes, and the next Refresh as the time until then.
+use Rattle.std.specs.Prelude.{ℕ, ◌-◌, List, map}
+use Rattle.pim_addr.specs.Routes.{RouteTable}
+use Rattle.pim_hello.specs.Neighbours.{Table}
+use Rattle.pim_down.specs.Time.{Downstream}
 use Rattle.pim_router.specs.declared.config.PortConfig.{PortConfig}
-use Rattle.pim_router.specs.State.{Port, Setup}
+use Rattle.pim_router.specs.State.{Port, Setup, RouterState}
 
 module _ {A : Type 0} (bytes_of : A → List ℕ) where
   abbrev pub port_seen : PortConfig A → Port
   port_seen port =
       record { address = bytes_of port.address; propagation = port.propagation; override_ms = port.override_ms }
+
+  abbrev pub setup_seen : List (PortConfig A) → RouteTable → ℕ → Setup
+  setup_seen ports routes limit = record { ports = map port_seen ports; routes = routes; limit = limit }
+
+  abbrev pub router_seen : List (PortConfig A) → RouteTable → Downstream → List Table → ℕ → RouterState
+  router_seen ports routes machines tables next_refresh = record {
+    ports = map port_seen ports;
+    routes = routes;
+    machines = machines;
+    tables = tables;
+    refresh = next_refresh - machines.moment;
+  }

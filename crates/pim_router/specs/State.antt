@@ -1,6 +1,6 @@
 -- What a router is: its ports and its route table, which stay as they are, the downstream machines, the neighbours of
 -- each port, and the countdown to the next Refresh.
-use Rattle.std.specs.Prelude.{ℕ, List, [], length, replicate}
+use Rattle.std.specs.Prelude.{ℕ, List, [], length, replicate, slice_index_or}
 use Rattle.pim_addr.specs.Routes.{RouteTable}
 use Rattle.pim_hello.specs.Neighbours.{Table, no_neighbours}
 use Rattle.pim_down.specs.Time.{Downstream}
@@ -66,3 +66,10 @@ with_refresh state refresh = record {
   tables = state.tables;
   refresh = refresh;
 }
+
+-- the port of this number, and its neighbours
+abbrev pub port_at : ℕ → RouterState → Port
+port_at port state = slice_index_or state.ports port (record { address = []; propagation = 0; override_ms = 0 })
+
+abbrev pub table_at : ℕ → RouterState → Table
+table_at port state = slice_index_or state.tables port no_neighbours

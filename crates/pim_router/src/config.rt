@@ -1,7 +1,7 @@
 //! What a router is made from, and what may be wrong with it.
 
-ghost use Rattle.std.specs.Prelude.{◌≡◌, not, nat_lt, ◌||◌, ◌==◌, length, map};
-ghost use Rattle.pim_router.specs.Seen.{port_seen};
+ghost use Rattle.std.specs.Prelude.{◌≡◌, not, nat_lt, ◌||◌, ◌==◌, length};
+ghost use Rattle.pim_router.specs.Seen.{setup_seen};
 ghost use Rattle.std.specs.List.{position};
 ghost use Rattle.pim_addr.specs.Address.{is_source};
 ghost use Rattle.pim_addr.specs.Faults.{judged};
@@ -99,7 +99,8 @@ fn has_bad_limit(limit: usize) -> bool
 
 /// Tells the first fault of a configuration.
 pub(crate) fn check<F: Family>(config: &Config<'_, F>) -> Result<(), ConfigFault>
-    ensures { result ≡ judged (config_faults F.family (record { ports = map (port_seen F.bytes_of) config.now.ports.now; routes = config.now.routes.now; limit = config.now.limit })) tt }
+    ensures { result ≡ judged (config_faults F.family 
+        (setup_seen F.bytes_of config.now.ports.now config.now.routes.now config.now.limit)) tt }
 {
     if has_bad_count(config.ports) {
         return Err(ConfigFault::Ports);

@@ -5,7 +5,9 @@
 #![tactic(auto)]
 
 mod config;
+mod router;
 
 
 pub use config::{Config, ConfigFault, PortConfig};
+pub use router::Router;
 
