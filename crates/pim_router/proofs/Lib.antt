@@ -1,3 +1,4 @@
 pub mod Positions
 pub mod Configs
 pub mod Made
+pub mod Current

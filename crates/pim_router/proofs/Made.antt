@@ -48,7 +48,7 @@ short_delays (port ∷ ports) all = (ltb-false 32767 port.propagation all.0, sho
 
 all_current : (count : ℕ) → AllByRecursion (IsCurrent 0) (replicate count no_neighbours)
 all_current zero = tt
-all_current (suc count) = (record { moment_now = refl; none_ended = refl }, all_current count)
+all_current (suc count) = (record { moment_now = refl; none_ended = tt }, all_current count)
 
 module _ (family : AddressFamily) (setup : Setup) (ok : judged (config_faults family setup) (tt {0}) ≡ Ok (tt {0})) where
   none : config_faults family setup ≡ []

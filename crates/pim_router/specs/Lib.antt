@@ -2,3 +2,4 @@ pub mod State
 pub mod Seen
 pub mod Config
 pub mod Sound
+pub mod Packets

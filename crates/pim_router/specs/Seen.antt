@@ -4,6 +4,7 @@ use Rattle.pim_addr.specs.Routes.{RouteTable}
 use Rattle.pim_hello.specs.Neighbours.{Table}
 use Rattle.pim_down.specs.Time.{Downstream}
 use Rattle.pim_router.specs.declared.config.PortConfig.{PortConfig}
+use Rattle.pim_router.specs.Packets.{Packet}
 use Rattle.pim_router.specs.State.{Port, Setup, RouterState}
 
 module _ {A : Type 0} (bytes_of : A → List ℕ) where
@@ -21,4 +22,12 @@ module _ {A : Type 0} (bytes_of : A → List ℕ) where
     machines = machines;
     tables = tables;
     refresh = next_refresh - machines.moment;
+  }
+
+  abbrev pub packet_seen : ℕ → A → A → List ℕ → Packet
+  packet_seen port source destination bytes = record {
+    port = port;
+    source = bytes_of source;
+    destination = bytes_of destination;
+    bytes = bytes;
   }

@@ -1,16 +1,24 @@
 //! The router: its ports with their machines and neighbours, and its time.
 
-ghost use Rattle.std.specs.Prelude.{◌≡◌, ◌<◌, length, replicate, IfOk};
+ghost use Rattle.std.specs.Prelude.{◌≡◌, ◌<◌, ◌≤◌, ◌^◌, length, replicate, IfOk};
+ghost use Rattle.pim_frame.specs.Frame.{hello, join_prune};
 ghost use Rattle.pim_hello.specs.Neighbours.{no_neighbours};
+ghost use Rattle.pim_hello.specs.Seen.{hello_seen};
 ghost use Rattle.pim_router.specs.Config.{config_faults, IsMadeUnless};
-ghost use Rattle.pim_router.specs.Seen.{setup_seen, port_seen};
+ghost use Rattle.pim_router.specs.Packets.{Receives, causes, received, body_causes, body_received, message_causes};
+ghost use Rattle.pim_router.specs.Packets.{hello_causes, hello_taken};
+ghost use Rattle.pim_router.specs.Packets.{message_taken, room_causes, unless, timing_on, knows, neighbours_on};
+ghost use Rattle.pim_router.specs.Seen.{setup_seen, port_seen, packet_seen};
 ghost use Rattle.pim_router.specs.Sound.{IsRouter};
 ghost use Rattle.pim_router.specs.State.{new_router, port_at, table_at};
 
 use crate::config::{Config, ConfigFault, PortConfig, check};
+use crate::verdict::{Malformed, Store, Verdict};
 use pim_addr::{Family, Routes};
-use pim_down::Ports;
-use pim_hello::{KnownNeighbours, Neighbours};
+use pim_down::{HearFault, Ports, Timing};
+use pim_frame::{Body, open};
+use pim_hello::{Hello, KnownNeighbours, NeighbourFault, Neighbours, PortDelays};
+use pim_jp::JpView;
 use std::alloc::{AllocError, Global};
 use std::marker::Model;
 
@@ -124,5 +132,160 @@ impl<'a, F: Family> Router<'a, F> {
         ensures { result ≡ (table_at port self.now).entries }
     {
         self.neighbours[port].entries()
+    }
+
+    /// The own delays of a port.
+    fn delays(&self, port: usize) -> PortDelays
+        requires { port < length self.now.ports }
+        ensures propagation { result.propagation ≡ (port_at port self.now).propagation }
+        ensures override_ms { result.override_ms ≡ (port_at port self.now).override_ms }
+    {
+        self.is_router();
+        let PortConfig { propagation, override_ms, .. } = self.port(port);
+        PortDelays { propagation, override_ms }
+    }
+
+    /// The neighbours of a port, all of whom have time left.
+    fn table(&self, port: usize) -> &Neighbours<F>
+        requires { port < length self.now.ports }
+        ensures { result.now ≡ neighbours_on port self.now }
+    {
+        &self.neighbours[port]
+    }
+
+    /// Whether a sender is a neighbour on a port.
+    fn knows(&self, port: usize, src: F::Addr) -> bool
+        requires { port < length self.now.ports }
+        ensures { result ≡ knows port (F.bytes_of src) self.now }
+    {
+        self.table(port).knows(src)
+    }
+
+    /// What a port knows of its neighbours when a Join/Prune comes.
+    fn timing(&self, port: usize) -> Timing
+        requires { port < length self.now.ports }
+        ensures timing { result ≡ timing_on port self.now }
+        ensures bound { result.override_ms ≤ 98302 }
+    {
+        let neighbours = self.table(port);
+        Timing {
+            override_ms: neighbours.override_interval(self.delays(port)) as u64,
+            several: neighbours.count() > 1,
+        }
+    }
+
+    /// Lets a port hear a Hello that came from `src`.
+    fn hear_hello(
+        &mut self,
+        port: usize,
+        src: F::Addr,
+        hello: &Hello<'_, F>,
+    ) -> Result<Verdict, AllocError>
+        requires { port < length self.old.ports }
+        ensures { Receives (hello_causes port (F.bytes_of src) self.old (hello_seen F.family hello.now).parameters)
+            (unless (hello_causes port (F.bytes_of src) self.old (hello_seen F.family hello.now).parameters) self.old
+            (hello_taken port (F.bytes_of src) self.old (hello_seen F.family hello.now).parameters))
+            self.old result self.new }
+    {
+        self.machines.is_sound();
+        let now = self.machines.now();
+        match self.neighbours[port].hear(src, hello, now) {
+            Ok(heard) => Ok(Verdict::HelloTaken(heard)),
+            Err(NeighbourFault::Full) => Ok(Verdict::Full(Store::Neighbours)),
+            Err(NeighbourFault::Memory) => Err(AllocError),
+        }
+    }
+
+    /// Takes the body of a Hello that came from `src`.
+    fn take_hello(
+        &mut self,
+        port: usize,
+        src: F::Addr,
+        body: &[u8],
+    ) -> Result<Verdict, AllocError>
+        requires { port < length self.old.ports }
+        ensures { Receives (body_causes F.family port (F.bytes_of src) self.old (hello body.now))
+            (body_received F.family port (F.bytes_of src) self.old (hello body.now)) self.old result self.new }
+    {
+        match Hello::<F>::read(body) {
+            Ok(hello) => self.hear_hello(port, src, &hello),
+            Err(fault) => Ok(Verdict::Malformed(Malformed::Hello(fault))),
+        }
+    }
+
+    /// Lets the machines of a port hear a message that is for it.
+    fn apply(&mut self, port: usize, message: &JpView<'_, F>) -> Result<Verdict, AllocError>
+        requires { port < length self.old.ports }
+        ensures { Receives (room_causes F.family port self.old message.now)
+            (unless (room_causes F.family port self.old message.now) self.old
+            (message_taken F.family port self.old message.now)) self.old result self.new }
+    {
+        let timing = self.timing(port);
+        match self.machines.hear(port, message, self.routes, timing) {
+            Ok(()) => Ok(Verdict::Applied),
+            Err(HearFault::Full { needed }) => Ok(Verdict::Full(Store::Records { needed })),
+            Err(HearFault::Memory) => Err(AllocError),
+        }
+    }
+
+    /// Takes a Join/Prune that came from `src`.
+    fn take_message(
+        &mut self,
+        port: usize,
+        src: F::Addr,
+        message: &JpView<'_, F>,
+    ) -> Result<Verdict, AllocError>
+        requires { port < length self.old.ports }
+        ensures { Receives (message_causes F.family port (F.bytes_of src) self.old message.now)
+            (unless (message_causes F.family port (F.bytes_of src) self.old message.now) self.old
+            (message_taken F.family port self.old message.now)) self.old result self.new }
+    {
+        if !self.knows(port, src) {
+            return Ok(Verdict::UnknownNeighbour);
+        }
+        if message.upstream() != self.port(port).address {
+            return Ok(Verdict::NotForUs);
+        }
+        self.apply(port, message)
+    }
+
+    /// Takes the body of a Join/Prune that came from `src`.
+    fn take_join_prune(&mut self, port: usize, src: F::Addr, body: &[u8]) -> Result<Verdict, AllocError>
+        requires { port < length self.old.ports }
+        ensures { Receives (body_causes F.family port (F.bytes_of src) self.old (join_prune body.now))
+            (body_received F.family port (F.bytes_of src) self.old (join_prune body.now)) self.old result self.new }
+    {
+        match JpView::<F>::read(body) {
+            Ok(message) => self.take_message(port, src, &message),
+            Err(fault) => Ok(Verdict::Malformed(Malformed::JoinPrune(fault))),
+        }
+    }
+
+    /// Takes a packet that a port received: its IP source and destination, and its PIM message.
+    ///
+    /// # Errors
+    /// Where memory is refused, which is told only of a packet that would be taken. Then nothing has changed.
+    pub fn take_packet(
+        &mut self,
+        port: usize,
+        src: F::Addr,
+        dst: F::Addr,
+        bytes: &[u8],
+    ) -> Result<Verdict, AllocError>
+        requires port { port < length self.old.ports }
+        requires bytes { length bytes.now < 2 ^ 32 }
+        ensures { Receives
+            (causes F.family (packet_seen F.bytes_of port src dst bytes.now) self.old)
+            (received F.family (packet_seen F.bytes_of port src dst bytes.now) self.old) self.old result self.new }
+    {
+        if src == self.port(port).address {
+            return Ok(Verdict::Mine);
+        }
+        match open::<F>(src, dst, bytes) {
+            Ok(Body::Hello(body)) => self.take_hello(port, src, body),
+            Ok(Body::JoinPrune(body)) => self.take_join_prune(port, src, body),
+            Ok(Body::Other(message_type)) => Ok(Verdict::OtherType(message_type)),
+            Err(fault) => Ok(Verdict::Malformed(Malformed::Frame(fault))),
+        }
     }
 }
