@@ -1,5 +1,5 @@
 -- Neighbours whose time isn't over.
-use Rattle.std.proofs.Common.{◌≡◌, ◌≢◌, ◌∙◌, ◌<◌, ◌≤◌, ◌-◌, ◌+◌, ◌*◌, ◌==◌, ℕ, zero, suc, Bool, true, false, not, List, [], ◌∷◌, length, map, filter, get_or, set, Option, Some, None, refl, sym, ap, subst, arith, nat_eq, if◌then◌else◌}
+use Rattle.std.proofs.Common.{◌≡◌, ◌≢◌, ◌∙◌, ◌<◌, ◌-◌, ◌+◌, ◌*◌, ◌==◌, ℕ, zero, suc, Bool, true, false, not, List, [], ◌∷◌, length, map, filter, get_or, set, Option, Some, None, refl, ap, arith, nat_eq, if◌then◌else◌}
 use Rattle.std.specs.List.{AllByRecursion}
 use Rattle.std.specs.Option.{option_eq}
 use Rattle.std.specs.Ordering.{nat_cmp, match_ordering}
@@ -42,9 +42,9 @@ no_less l = omega arith
 
 no_wait : (n : Neighbour) → waited 0 n ≡ n
 no_wait n = elim n.left as (λ o. n.left ≡ o → waited 0 n ≡ n) [
-      | None ↦ λ e. rw e refl
-      | Some l ↦ λ e. rw e (ap (λ (k : ℕ). record { parameters = n.parameters; left = Some k }) (no_less l))
-    ] refl
+  | None ↦ λ e. rw e refl
+  | Some l ↦ λ e. rw e (ap (λ (k : ℕ). record { parameters = n.parameters; left = Some k }) (no_less l))
+] refl
 
 waited_all : (es : List (List ℕ × Neighbour)) → map (λ (entry : List ℕ × Neighbour). (entry.0, waited 0 entry.1)) es ≡ es
 waited_all [] = refl

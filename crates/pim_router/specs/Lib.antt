@@ -3,3 +3,4 @@ pub mod Seen
 pub mod Config
 pub mod Sound
 pub mod Packets
+pub mod Told

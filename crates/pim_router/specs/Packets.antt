@@ -4,7 +4,7 @@ use Rattle.std.specs.Prelude.{Result, Ok, Err}
 use Rattle.std.specs.Option.{is_some}
 use Rattle.std.specs.Cmp.Lexicographic.{pointwise}
 use Rattle.pim_addr.specs.declared.family.AddressFamily.{AddressFamily}
-use Rattle.pim_addr.specs.Faults.{fault_if, judged}
+use Rattle.pim_addr.specs.Faults.{fault_if}
 use Rattle.pim_frame.specs.Frame.{Content, hello, join_prune, other, content, frame_faults}
 use Rattle.pim_hello.specs.Faults.{faults as hello_faults}
 use Rattle.pim_hello.specs.Hello.{Parameters}
@@ -20,7 +20,7 @@ use Rattle.pim_router.specs.declared.verdict.Verdict.{Verdict}
 use Rattle.pim_router.specs.declared.verdict.Verdict.TheVariants as verdict
 use Rattle.pim_router.specs.declared.verdict.Malformed.TheVariants as malformed
 use Rattle.pim_router.specs.declared.verdict.Store.TheVariants as store
-use Rattle.pim_router.specs.State.{Port, RouterState, with_machines, with_tables, port_at, table_at}
+use Rattle.pim_router.specs.State.{RouterState, with_machines, with_tables, port_at, table_at}
 
 -- a packet: the port on which it came, its IP addresses, and the PIM message
 pub record Packet : Type 0 where

@@ -7,7 +7,6 @@ ghost use Rattle.pim_addr.specs.Address.{is_source};
 ghost use Rattle.pim_addr.specs.Faults.{judged};
 ghost use Rattle.pim_router.specs.Config.{config_faults, has_bad_count, has_bad_limit};
 
-
 use pim_addr::{Family, Routes};
 use thiserror::Error;
 
@@ -99,7 +98,7 @@ fn has_bad_limit(limit: usize) -> bool
 
 /// Tells the first fault of a configuration.
 pub(crate) fn check<F: Family>(config: &Config<'_, F>) -> Result<(), ConfigFault>
-    ensures { result ≡ judged (config_faults F.family 
+    ensures { result ≡ judged (config_faults F.family
         (setup_seen F.bytes_of config.now.ports.now config.now.routes.now config.now.limit)) tt }
 {
     if has_bad_count(config.ports) {

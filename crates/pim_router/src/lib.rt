@@ -8,8 +8,6 @@ mod config;
 mod router;
 mod verdict;
 
-
 pub use config::{Config, ConfigFault, PortConfig};
 pub use router::Router;
 pub use verdict::{Malformed, Store, Verdict};
-

@@ -9,6 +9,7 @@ ghost use Rattle.pim_router.specs.Packets.{Receives, causes, received, body_caus
 ghost use Rattle.pim_router.specs.Packets.{hello_causes, hello_taken};
 ghost use Rattle.pim_router.specs.Packets.{message_taken, room_causes, unless, timing_on, knows, neighbours_on};
 ghost use Rattle.pim_router.specs.Seen.{setup_seen, port_seen, packet_seen};
+ghost use Rattle.pim_router.specs.Told.{hello_verdict, message_verdict};
 ghost use Rattle.pim_router.specs.Sound.{IsRouter};
 ghost use Rattle.pim_router.specs.State.{new_router, port_at, table_at};
 
@@ -17,7 +18,7 @@ use crate::verdict::{Malformed, Store, Verdict};
 use pim_addr::{Family, Routes};
 use pim_down::{HearFault, Ports, Timing};
 use pim_frame::{Body, open};
-use pim_hello::{Hello, KnownNeighbours, NeighbourFault, Neighbours, PortDelays};
+use pim_hello::{Heard, Hello, KnownNeighbours, NeighbourFault, Neighbours, PortDelays};
 use pim_jp::JpView;
 use std::alloc::{AllocError, Global};
 use std::marker::Model;
@@ -61,6 +62,28 @@ fn no_neighbours<F: Family>(alloc: Global, ports: usize) -> Result<Vec<Neighbour
         tables.push(Neighbours::new(alloc))?;
     }
     Ok(tables)
+}
+
+/// What is told of a Hello that was heard.
+fn hello_verdict(heard: Result<Heard, NeighbourFault>) -> Result<Verdict, AllocError>
+    ensures { result ≡ hello_verdict heard }
+{
+    match heard {
+        Ok(heard) => Ok(Verdict::HelloTaken(heard)),
+        Err(NeighbourFault::Full) => Ok(Verdict::Full(Store::Neighbours)),
+        Err(NeighbourFault::Memory) => Err(AllocError),
+    }
+}
+
+/// What is told of a Join/Prune that was heard.
+fn message_verdict(heard: Result<(), HearFault>) -> Result<Verdict, AllocError>
+    ensures { result ≡ message_verdict heard }
+{
+    match heard {
+        Ok(()) => Ok(Verdict::Applied),
+        Err(HearFault::Full { needed }) => Ok(Verdict::Full(Store::Records { needed })),
+        Err(HearFault::Memory) => Err(AllocError),
+    }
 }
 
 impl<'a, F: Family> Router<'a, F> {
@@ -141,8 +164,15 @@ impl<'a, F: Family> Router<'a, F> {
         ensures override_ms { result.override_ms ≡ (port_at port self.now).override_ms }
     {
         self.is_router();
-        let PortConfig { propagation, override_ms, .. } = self.port(port);
-        PortDelays { propagation, override_ms }
+        let PortConfig {
+            propagation,
+            override_ms,
+            ..
+        } = self.port(port);
+        PortDelays {
+            propagation,
+            override_ms,
+        }
     }
 
     /// The neighbours of a port, all of whom have time left.
@@ -189,20 +219,12 @@ impl<'a, F: Family> Router<'a, F> {
     {
         self.machines.is_sound();
         let now = self.machines.now();
-        match self.neighbours[port].hear(src, hello, now) {
-            Ok(heard) => Ok(Verdict::HelloTaken(heard)),
-            Err(NeighbourFault::Full) => Ok(Verdict::Full(Store::Neighbours)),
-            Err(NeighbourFault::Memory) => Err(AllocError),
-        }
+        let heard = self.neighbours[port].hear(src, hello, now);
+        hello_verdict(heard)
     }
 
     /// Takes the body of a Hello that came from `src`.
-    fn take_hello(
-        &mut self,
-        port: usize,
-        src: F::Addr,
-        body: &[u8],
-    ) -> Result<Verdict, AllocError>
+    fn take_hello(&mut self, port: usize, src: F::Addr, body: &[u8]) -> Result<Verdict, AllocError>
         requires { port < length self.old.ports }
         ensures { Receives (body_causes F.family port (F.bytes_of src) self.old (hello body.now))
             (body_received F.family port (F.bytes_of src) self.old (hello body.now)) self.old result self.new }
@@ -221,11 +243,8 @@ impl<'a, F: Family> Router<'a, F> {
             (message_taken F.family port self.old message.now)) self.old result self.new }
     {
         let timing = self.timing(port);
-        match self.machines.hear(port, message, self.routes, timing) {
-            Ok(()) => Ok(Verdict::Applied),
-            Err(HearFault::Full { needed }) => Ok(Verdict::Full(Store::Records { needed })),
-            Err(HearFault::Memory) => Err(AllocError),
-        }
+        let heard = self.machines.hear(port, message, self.routes, timing);
+        message_verdict(heard)
     }
 
     /// Takes a Join/Prune that came from `src`.
@@ -250,7 +269,12 @@ impl<'a, F: Family> Router<'a, F> {
     }
 
     /// Takes the body of a Join/Prune that came from `src`.
-    fn take_join_prune(&mut self, port: usize, src: F::Addr, body: &[u8]) -> Result<Verdict, AllocError>
+    fn take_join_prune(
+        &mut self,
+        port: usize,
+        src: F::Addr,
+        body: &[u8],
+    ) -> Result<Verdict, AllocError>
         requires { port < length self.old.ports }
         ensures { Receives (body_causes F.family port (F.bytes_of src) self.old (join_prune body.now))
             (body_received F.family port (F.bytes_of src) self.old (join_prune body.now)) self.old result self.new }

@@ -1,5 +1,5 @@
-use Rattle.std.proofs.Common.{◌≡◌, ◌∙◌, ◌<◌, sym, ap, subst, length, get_or, arith, map}
-use Rattle.std.proofs.lemmas.List.{get_or_read, length-map}
+use Rattle.std.proofs.Common.{◌≡◌, ◌∙◌, ◌<◌, sym, subst, length, get_or, arith}
+use Rattle.std.proofs.lemmas.List.{get_or_read}
 use Rattle.pim_hello.specs.Neighbours.{no_neighbours}
 use Rattle.pim_router.specs.Packets.{neighbours_on}
 use Rattle.pim_router.specs.State.{RouterState}
