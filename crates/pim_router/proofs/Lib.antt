@@ -5,3 +5,5 @@ pub mod Current
 pub mod Receiving
 pub mod HeardHello
 pub mod Unless
+pub mod Runs
+pub mod Turns

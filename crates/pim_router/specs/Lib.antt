@@ -4,3 +4,5 @@ pub mod Config
 pub mod Sound
 pub mod Packets
 pub mod Told
+pub mod Time
+pub mod Laws

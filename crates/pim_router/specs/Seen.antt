@@ -4,6 +4,9 @@ use Rattle.pim_addr.specs.Routes.{RouteTable}
 use Rattle.pim_hello.specs.Neighbours.{Table}
 use Rattle.pim_down.specs.Time.{Downstream}
 use Rattle.pim_router.specs.declared.config.PortConfig.{PortConfig}
+use Rattle.pim_router.specs.declared.step.Step.{Step}
+use Rattle.pim_router.specs.declared.step.Step.TheVariants.{Echo, Refresh, Reached}
+use Rattle.pim_down.specs.Seen.{what_seen}
 use Rattle.pim_router.specs.Packets.{Packet}
 use Rattle.pim_router.specs.State.{Port, Setup, RouterState}
 
@@ -31,3 +34,8 @@ module _ {A : Type 0} (bytes_of : A → List ℕ) where
     destination = bytes_of destination;
     bytes = bytes;
   }
+
+  abbrev pub step_seen : Step A → Step (List ℕ)
+  step_seen (Echo port group what) = Echo port (bytes_of group) (what_seen bytes_of what)
+  step_seen Refresh = Refresh
+  step_seen Reached = Reached

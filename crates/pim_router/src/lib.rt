@@ -5,9 +5,13 @@
 #![tactic(auto)]
 
 mod config;
+mod laws;
 mod router;
+mod step;
 mod verdict;
 
 pub use config::{Config, ConfigFault, PortConfig};
+pub use laws::{run_goes_on, run_has_one_end};
 pub use router::Router;
+pub use step::Step;
 pub use verdict::{Malformed, Store, Verdict};
