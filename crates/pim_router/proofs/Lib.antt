@@ -7,3 +7,5 @@ pub mod HeardHello
 pub mod Unless
 pub mod Runs
 pub mod Turns
+pub mod Passing
+pub mod RunTo

@@ -1,5 +1,5 @@
 -- One turn of a router, and runs that go on.
-use Rattle.std.proofs.Common.{◌≡◌, ◌≢◌, ◌∙◌, ◌<◌, ◌≤◌, ℕ, zero, suc, ◌+◌, ◌-◌, ◌==◌, Bool, true, false, List, Option, Some, None, nat_lt, if◌then◌else◌, refl, sym, ap, subst, arith}
+use Rattle.std.proofs.Common.{◌≡◌, ◌∙◌, ◌<◌, ◌≤◌, ℕ, zero, suc, ◌==◌, Bool, true, false, List, Option, Some, None, nat_lt, if◌then◌else◌, refl, sym, ap, subst, arith}
 use Rattle.std.specs.List.{list_any}
 use Rattle.std.proofs.lemmas.Bool.{false≢true, lt-ltb, ltb-true}
 use Rattle.pim_down.specs.declared.machine.Record.{Record}
@@ -9,8 +9,8 @@ use Rattle.pim_down.specs.Time.{fired}
 use Rattle.pim_router.specs.declared.step.Step.{Step}
 use Rattle.pim_router.specs.declared.step.Step.TheVariants.{Echo, Refresh, Reached}
 use Rattle.pim_router.specs.State.{RouterState}
-use Rattle.pim_router.specs.Time.{Outcome, rests, moves, tells, has_ended, told, turn, turn_of_timers, turn_of_refresh, turn_of_time, tick, run_within, Runs}
-use Rattle.pim_router.proofs.Runs.{Answer, pair_of, no_run, run_more}
+use Rattle.pim_router.specs.Time.{Outcome, rests, moves, tells, has_ended, told, turn, turn_of_timers, turn_of_time, tick, run_within, Runs}
+use Rattle.pim_router.proofs.Runs.{pair_of, no_run, run_more}
 
 rests_moves : (next : RouterState) → rests ≡ moves next → ⊥
 rests_moves next e = cc

@@ -1,7 +1,10 @@
 //! A router's part in PIM sparse mode (RFC 7761): one call for each packet, which tells what became of it, and one for
 //! time, which tells the echoes and the periodic refreshes that are to be sent.
 //!
-//! Proved: a router is made exactly where its configuration has no fault, or else the first fault is told.
+//! Proved: a router is made exactly where its configuration has no fault, or else the first fault is told. A packet has
+//! the first verdict that applies, and only a Hello or a Join/Prune that is taken changes anything. Time is one machine
+//! of milliseconds over the neighbours, the downstream machines and the refreshes; a run stops at an echo and at a
+//! refresh, and between calls no neighbour's time is over.
 #![tactic(auto)]
 
 mod config;

@@ -1,6 +1,7 @@
 //! The router: its ports with their machines and neighbours, and its time.
 
-ghost use Rattle.std.specs.Prelude.{◌≡◌, ◌<◌, ◌≤◌, ◌^◌, length, replicate, IfOk};
+ghost use Rattle.std.specs.Prelude.{◌≡◌, ◌<◌, ◌≤◌, ◌^◌, length, replicate, map, max, IfOk};
+ghost use Rattle.pim_hello.specs.Laws.{expired_at};
 ghost use Rattle.pim_frame.specs.Frame.{hello, join_prune};
 ghost use Rattle.pim_hello.specs.Neighbours.{no_neighbours};
 ghost use Rattle.pim_hello.specs.Seen.{hello_seen};
@@ -8,17 +9,23 @@ ghost use Rattle.pim_router.specs.Config.{config_faults, IsMadeUnless};
 ghost use Rattle.pim_router.specs.Packets.{Receives, causes, received, body_causes, body_received, message_causes};
 ghost use Rattle.pim_router.specs.Packets.{hello_causes, hello_taken};
 ghost use Rattle.pim_router.specs.Packets.{message_taken, room_causes, unless, timing_on, knows, neighbours_on};
-ghost use Rattle.pim_router.specs.Seen.{setup_seen, port_seen, packet_seen};
+ghost use Rattle.pim_router.specs.Seen.{setup_seen, port_seen, packet_seen, step_seen};
+ghost use Rattle.pim_router.specs.Time.{Runs};
+ghost use Rattle.pim_router.specs.declared.step.Step.TheVariants.{Reached};
 ghost use Rattle.pim_router.specs.Told.{hello_verdict, message_verdict};
 ghost use Rattle.pim_router.specs.Sound.{IsRouter};
 ghost use Rattle.pim_router.specs.State.{new_router, port_at, table_at};
 
 use crate::config::{Config, ConfigFault, PortConfig, check};
+use crate::step::Step;
 use crate::verdict::{Malformed, Store, Verdict};
 use pim_addr::{Family, Routes};
-use pim_down::{HearFault, Ports, Timing};
+use pim_down::{HearFault, Ports, Step as Fires, Timing};
 use pim_frame::{Body, open};
-use pim_hello::{Heard, Hello, KnownNeighbours, NeighbourFault, Neighbours, PortDelays};
+use pim_hello::{
+    Heard, Hello, KnownNeighbours, NeighbourFault, Neighbours, PortDelays,
+    expiring_twice_is_expiring_once,
+};
 use pim_jp::JpView;
 use std::alloc::{AllocError, Global};
 use std::marker::Model;
@@ -62,6 +69,16 @@ fn no_neighbours<F: Family>(alloc: Global, ports: usize) -> Result<Vec<Neighbour
         tables.push(Neighbours::new(alloc))?;
     }
     Ok(tables)
+}
+
+/// Lets time pass for the neighbours of each port, up to this moment, and removes those whose time has ended.
+fn expire_all<F: Family>(tables: &mut [Neighbours<F>], now: u64)
+    requires { now ≤ 10 ^ 15 }
+    ensures { tables.new ≡ map (expired_at now) tables.old }
+{
+    for table in tables.iter_mut() {
+        table.expire(now);
+    }
 }
 
 /// What is told of a Hello that was heard.
@@ -311,5 +328,31 @@ impl<'a, F: Family> Router<'a, F> {
             Ok(Body::Other(message_type)) => Ok(Verdict::OtherType(message_type)),
             Err(fault) => Ok(Verdict::Malformed(Malformed::Frame(fault))),
         }
+    }
+
+    /// Runs to this moment, in milliseconds, at most 10^15, or until an echo or a Refresh is told; an earlier moment
+    /// counts as now. What is still due stays due, and the next call goes on.
+    ///
+    /// It takes no memory. A call that meets no timer walks no record and no neighbour.
+    pub fn run_to(&mut self, moment: u64) -> Step<F::Addr>
+        requires { moment ≤ 10 ^ 15 }
+        ensures run { Runs moment self.old (step_seen F.bytes_of result) self.new }
+        ensures later { self.old.machines.moment ≤ self.new.machines.moment }
+        ensures moment { self.new.machines.moment ≤ max self.old.machines.moment moment }
+        ensures reached { result ≡ Reached → self.new.machines.moment ≡ max self.old.machines.moment moment }
+    {
+        expiring_twice_is_expiring_once();
+        let step = self.machines.run_to(moment.min(self.next_refresh));
+        self.machines.is_sound();
+        expire_all(&mut self.neighbours, self.machines.now());
+        match step {
+            Fires::Echo { port, group, what } => return Step::Echo { port, group, what },
+            Fires::Reached => {}
+        }
+        if self.machines.now() < self.next_refresh {
+            return Step::Reached;
+        }
+        self.next_refresh += REFRESH_PERIOD;
+        Step::Refresh
     }
 }
