@@ -31,6 +31,7 @@ pub struct PortConfig<A> {
 }
 
 /// What a router is made from. The router borrows the ports and the route table.
+#[derive_where(Clone, Copy)]
 pub struct Config<'a, F: Family> {
     /// The ports, 1 to 64, which are numbered from 0.
     pub ports: &'a [PortConfig<F::Addr>],

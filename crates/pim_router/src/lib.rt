@@ -11,6 +11,8 @@ mod config;
 mod laws;
 mod router;
 mod step;
+#[cfg(test)]
+mod tests;
 mod verdict;
 
 pub use config::{Config, ConfigFault, PortConfig};

@@ -155,6 +155,13 @@ impl<'a, F: Family> Router<'a, F> {
         self.routes
     }
 
+    /// How many ports there are.
+    pub fn port_count(&self) -> usize
+        ensures { result ≡ length self.now.ports }
+    {
+        self.ports.len()
+    }
+
     /// The configuration of a port.
     pub fn port(&self, port: usize) -> PortConfig<F::Addr>
         requires { port < length self.now.ports }
