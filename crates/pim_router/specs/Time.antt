@@ -1,5 +1,5 @@
--- What time does to a router: one machine of milliseconds over its neighbours, its machines and its refreshes. Times are
--- countdowns, and one at 0 is due.
+-- What time does to a router: one machine of milliseconds over its neighbours, its machines and its refreshes. Times
+-- are countdowns, and one at 0 is due. The neighbours' tables stand at the moment of the machines.
 use Rattle.std.specs.Prelude.{◌≡◌, ℕ, zero, suc, ◌+◌, ◌-◌, ◌==◌, Bool, nat_lt, if◌then◌else◌}
 use Rattle.std.specs.Prelude.{List, map, Option, None, Some}
 use Rattle.std.specs.List.{list_any}

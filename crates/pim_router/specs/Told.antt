@@ -1,4 +1,5 @@
--- The verdicts on what the machines or the neighbours of a port answer.
+-- The verdicts on what the machines or the neighbours of a port answer: steps of the code, which no public clause
+-- names.
 use Rattle.std.specs.Prelude.{Result, Ok, Err}
 use Rattle.std.specs.declared.alloc.AllocError.{AllocError}
 use Rattle.std.specs.Allocator.{alloc_error}

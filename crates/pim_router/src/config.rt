@@ -26,7 +26,7 @@ pub struct PortConfig<A> {
     pub address: A,
     /// The propagation delay, in milliseconds: 0 to 32,767, and 500 unless there is a reason.
     pub propagation: u16,
-    /// The override delay, in milliseconds: the other part of the override interval, and 2,500 unless there is a reason.
+    /// The override delay, in milliseconds: the other part of the override interval. 2,500 unless there is a reason.
     pub override_ms: u16,
 }
 

@@ -138,7 +138,7 @@ impl<'a, F: Family> Router<'a, F> {
     pub fn now(&self) -> u64
         ensures { result ≡ self.now.machines.moment }
     {
-        self.machines.now()
+        self.ports().now()
     }
 
     /// The downstream machines of the ports.
