@@ -1,0 +1,11 @@
+pub mod Positions
+pub mod Configs
+pub mod Made
+pub mod Current
+pub mod Receiving
+pub mod HeardHello
+pub mod Unless
+pub mod Runs
+pub mod Turns
+pub mod Passing
+pub mod RunTo

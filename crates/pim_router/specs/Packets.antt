@@ -1,0 +1,127 @@
+-- What becomes of a packet that a port receives.
+use Rattle.std.specs.Prelude.{◌≡◌, ℕ, Bool, not, nat_eq, nat_lt, List, [], ◌∷◌, ◌++◌, length, map, slice_set}
+use Rattle.std.specs.Prelude.{Result, Ok, Err}
+use Rattle.std.specs.Option.{is_some}
+use Rattle.std.specs.Cmp.Lexicographic.{pointwise}
+use Rattle.pim_addr.specs.declared.family.AddressFamily.{AddressFamily}
+use Rattle.pim_addr.specs.Faults.{fault_if}
+use Rattle.pim_frame.specs.Frame.{Content, hello, join_prune, other, content, frame_faults}
+use Rattle.pim_hello.specs.Faults.{faults as hello_faults}
+use Rattle.pim_hello.specs.Hello.{Parameters}
+use Rattle.pim_hello.specs.Value.{hello_of}
+use Rattle.pim_hello.specs.Interval.{override_interval}
+use Rattle.pim_hello.specs.Neighbours.{Table, neighbour_at, hellos_of, without_ended, heard_from, told, is_full}
+use Rattle.pim_jp.specs.Faults.{faults as join_prune_faults}
+use Rattle.pim_jp.specs.Message.{Message, message_of}
+use Rattle.pim_down.specs.declared.event.Timing.{Timing}
+use Rattle.pim_down.specs.Heard.{heard, needed_for}
+use Rattle.pim_down.specs.Known.{known_in}
+use Rattle.pim_router.specs.declared.verdict.Verdict.{Verdict}
+use Rattle.pim_router.specs.declared.verdict.Verdict.TheVariants as verdict
+use Rattle.pim_router.specs.declared.verdict.Malformed.TheVariants as malformed
+use Rattle.pim_router.specs.declared.verdict.Store.TheVariants as store
+use Rattle.pim_router.specs.State.{RouterState, with_machines, with_tables, port_at, table_at}
+
+-- a packet: the port on which it came, its IP addresses, and the PIM message
+pub record Packet : Type 0 where
+  pub port : ℕ
+  pub source : List ℕ
+  pub destination : List ℕ
+  pub bytes : List ℕ
+
+-- ---- what a port knows of its neighbours
+
+-- the neighbours at the present moment, without those whose time is over
+abbrev pub neighbours_on : ℕ → RouterState → Table
+neighbours_on port state = without_ended (table_at port state)
+
+abbrev pub knows : ℕ → List ℕ → RouterState → Bool
+knows port source state = is_some (neighbour_at source (neighbours_on port state))
+
+-- the override interval of the port, by its own delays and its neighbours', and whether it has more than one neighbour
+abbrev pub timing_on : ℕ → RouterState → Timing
+timing_on port state = record {
+  override_ms = override_interval (port_at port state).propagation (port_at port state).override_ms
+      (hellos_of (neighbours_on port state));
+  several = nat_lt 1 (length (neighbours_on port state).entries);
+}
+
+-- ---- why a packet changes nothing: the causes in the order in which they are told
+
+abbrev pub own_address : ℕ → RouterState → List ℕ
+own_address port state = (port_at port state).address
+
+abbrev pub needed_by : AddressFamily → ℕ → Message → RouterState → ℕ
+needed_by family port message state = needed_for port message (known_in family state.routes) state.machines
+
+abbrev pub hello_causes : ℕ → List ℕ → RouterState → Parameters → List Verdict
+hello_causes port source state said =
+    fault_if (is_full source said (neighbours_on port state)) (verdict.Full store.Neighbours)
+
+abbrev pub room_causes : AddressFamily → ℕ → RouterState → Message → List Verdict
+room_causes family port state message = fault_if (nat_lt state.machines.limit (needed_by family port message state))
+    (verdict.Full (store.Records (needed_by family port message state)))
+
+abbrev pub message_causes : AddressFamily → ℕ → List ℕ → RouterState → Message → List Verdict
+message_causes family port source state message =
+    fault_if (not (knows port source state)) verdict.UnknownNeighbour
+    ++ fault_if (not (pointwise nat_eq message.upstream (own_address port state))) verdict.NotForUs
+    ++ room_causes family port state message
+
+abbrev pub body_causes : AddressFamily → ℕ → List ℕ → RouterState → Content → List Verdict
+body_causes family port source state (other type) = verdict.OtherType type ∷ []
+body_causes family port source state (hello body) =
+    map (λ fault. verdict.Malformed (malformed.Hello fault)) (hello_faults body)
+    ++ hello_causes port source state (hello_of family body).parameters
+body_causes family port source state (join_prune body) =
+    map (λ fault. verdict.Malformed (malformed.JoinPrune fault)) (join_prune_faults family body)
+    ++ message_causes family port source state (message_of family body)
+
+abbrev pub causes : AddressFamily → Packet → RouterState → List Verdict
+causes family packet state =
+    fault_if (pointwise nat_eq packet.source (own_address packet.port state)) verdict.Mine
+    ++ map (λ fault. verdict.Malformed (malformed.Frame fault))
+    (frame_faults family packet.source packet.destination packet.bytes)
+    ++ body_causes family packet.port packet.source state (content packet.bytes)
+
+-- ---- what else it does
+
+abbrev pub hello_taken : ℕ → List ℕ → RouterState → Parameters → Verdict × RouterState
+hello_taken port source state said = (
+  verdict.HelloTaken (told (neighbour_at source (neighbours_on port state)) said),
+  with_tables state (slice_set state.tables port (heard_from source said (neighbours_on port state))),
+)
+
+abbrev pub message_taken : AddressFamily → ℕ → RouterState → Message → Verdict × RouterState
+message_taken family port state message = (
+  verdict.Applied,
+  with_machines state (heard port message (known_in family state.routes) (timing_on port state) state.machines),
+)
+
+-- a message of another type isn't taken at all
+abbrev pub body_taken : AddressFamily → ℕ → List ℕ → RouterState → Content → Verdict × RouterState
+body_taken family port source state (other type) = (verdict.OtherType type, state)
+body_taken family port source state (hello body) = hello_taken port source state (hello_of family body).parameters
+body_taken family port source state (join_prune body) = message_taken family port state (message_of family body)
+
+-- ---- the verdict, and the state behind the packet
+
+-- The first cause is the verdict, and nothing changes; where there is none, the packet is taken.
+abbrev pub unless : List Verdict → RouterState → Verdict × RouterState → Verdict × RouterState
+unless [] state taken = taken
+unless (cause ∷ others) state taken = (cause, state)
+
+abbrev pub body_received : AddressFamily → ℕ → List ℕ → RouterState → Content → Verdict × RouterState
+body_received family port source state body =
+    unless (body_causes family port source state body) state (body_taken family port source state body)
+
+abbrev pub received : AddressFamily → Packet → RouterState → Verdict × RouterState
+received family packet state = unless (causes family packet state) state
+    (body_taken family packet.port packet.source state (content packet.bytes))
+
+-- What a call that hears a packet answers and leaves: want of memory is told only where the packet would be taken, and
+-- then nothing changes.
+abbrev pub Receives : {E : Type 0} → List Verdict → Verdict × RouterState → RouterState → Result Verdict E →
+    RouterState → Type 0
+Receives causes end old (Ok told) new = (told, new) ≡ end
+Receives causes end old (Err refused) new = (causes ≡ []) × (new ≡ old)

@@ -1,0 +1,75 @@
+-- What time does to a router: one machine of milliseconds over its neighbours, its machines and its refreshes. Times
+-- are countdowns, and one at 0 is due. The neighbours' tables stand at the moment of the machines.
+use Rattle.std.specs.Prelude.{◌≡◌, ℕ, zero, suc, ◌+◌, ◌-◌, ◌==◌, Bool, nat_lt, if◌then◌else◌}
+use Rattle.std.specs.Prelude.{List, map, Option, None, Some}
+use Rattle.std.specs.List.{list_any}
+use Rattle.pim_hello.specs.Neighbours.{Neighbour, Table, is_over, without_ended, passed_to}
+use Rattle.pim_down.specs.declared.machine.Record.{Record}
+use Rattle.pim_down.specs.declared.step.Step.{Step as Fires}
+use Rattle.pim_down.specs.declared.step.Step.TheVariants as fires
+use Rattle.pim_down.specs.Time.{fired, with_records, tick as machines_tick}
+use Rattle.pim_router.specs.declared.step.Step.{Step}
+use Rattle.pim_router.specs.declared.step.Step.TheVariants.{Echo, Refresh, Reached}
+use Rattle.pim_router.specs.State.{RouterState, with_machines, with_tables, with_refresh, refresh_period}
+
+-- a neighbour of the port has no time left
+abbrev pub has_ended : Table → Bool
+has_ended table = list_any (λ (entry : List ℕ × Neighbour). is_over entry.1.left) table.entries
+
+-- a millisecond passes: every countdown goes down by 1
+abbrev pub tick : RouterState → RouterState
+tick state = record {
+  ports = state.ports;
+  routes = state.routes;
+  machines = machines_tick state.machines;
+  tables = map (passed_to (state.machines.moment + 1)) state.tables;
+  refresh = state.refresh - 1;
+}
+
+-- a turn: nothing is left to do, or the router moves on, or an echo or a Refresh is told
+pub data Outcome : Type 0 where
+  rests : Outcome
+  moves : RouterState → Outcome
+  tells : Step (List ℕ) → RouterState → Outcome
+
+abbrev pub told : Fires (List ℕ) → RouterState → Outcome
+told fires.Reached state = moves state
+told (fires.Echo port group what) state = tells (Echo port group what) state
+
+-- a millisecond passes, unless the moment is reached
+abbrev pub turn_of_time : ℕ → RouterState → Outcome
+turn_of_time moment state = if nat_lt state.machines.moment moment then moves (tick state) else rests
+
+-- Refresh is told where its countdown is over, and the next one comes a period later
+abbrev pub turn_of_refresh : ℕ → RouterState → Outcome
+turn_of_refresh moment state =
+    if state.refresh == 0 then tells Refresh (with_refresh state refresh_period) else turn_of_time moment state
+
+-- the first timer of the machines that is due, if there is one
+abbrev pub turn_of_timers : ℕ → RouterState → Option (Fires (List ℕ) × List (Record (List ℕ))) → Outcome
+turn_of_timers moment state None = turn_of_refresh moment state
+turn_of_timers moment state (Some (answer, records)) =
+    told answer (with_machines state (with_records state.machines records))
+
+-- In one millisecond: the neighbours go whose time is over, then prune-pending timers fire by key, then expiry timers
+-- by key, then Refresh is told.
+unfoldable pub turn : ℕ → RouterState → Outcome
+turn moment state =
+    if list_any has_ended state.tables then moves (with_tables state (map without_ended state.tables))
+    else turn_of_timers moment state (fired state.machines.records)
+
+-- turns until something is told or nothing is left to do, if these many are enough
+abbrev pub run_on : Outcome → RouterState → (RouterState → Option (Step (List ℕ) × RouterState)) →
+    Option (Step (List ℕ) × RouterState)
+run_on rests state more = Some (Reached, state)
+run_on (tells step after) state more = Some (step, after)
+run_on (moves after) state more = more after
+
+unfoldable pub run_within : ℕ → ℕ → RouterState → Option (Step (List ℕ) × RouterState)
+run_within zero moment state = None
+run_within (suc turns) moment state = run_on (turn moment state) state (run_within turns moment)
+
+-- The run up to the moment tells this and leaves that.
+pub record Runs (moment : ℕ) (state : RouterState) (answer : Step (List ℕ)) (after : RouterState) : Type 0 where
+  pub turns : ℕ
+  pub within : run_within turns moment state ≡ Some (answer, after)

@@ -1,0 +1,22 @@
+//! A router's part in PIM sparse mode (RFC 7761): one call for each packet, which tells what became of it, and one for
+//! time, which tells the echoes and the periodic refreshes that are to be sent.
+//!
+//! Proved: a router is made exactly where its configuration has no fault, or else the first fault is told. A packet has
+//! the first verdict that applies, and only a Hello or a Join/Prune that is taken changes anything. Time is one machine
+//! of milliseconds over the neighbours, the downstream machines and the refreshes; a run stops at an echo and at a
+//! refresh, and between calls no neighbour's time is over.
+#![tactic(auto)]
+
+mod config;
+mod laws;
+mod router;
+mod step;
+#[cfg(test)]
+mod tests;
+mod verdict;
+
+pub use config::{Config, ConfigFault, PortConfig};
+pub use laws::{run_goes_on, run_has_one_end};
+pub use router::Router;
+pub use step::Step;
+pub use verdict::{Malformed, Store, Verdict};
