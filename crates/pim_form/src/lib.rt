@@ -7,11 +7,6 @@
 //! at most; a form has at most one list of canonical messages by a writer, and messages tell their form: so the
 //! messages of two states to a neighbour are byte-equal exactly if the states want the same of it. A canonical message
 //! that is sealed for ALL-PIM-ROUTERS opens without a fault and is read as that message.
-//! Proved: `wants` is the macros of RFC 7761, 4.1. Normal forms that want the same are one; a list of units has one
-//! packing at most; a form has at most one list of canonical messages by a writer, and messages tell their form, so
-//! that messages are byte-equal exactly if the demands agree. A canonical message that is sealed for ALL-PIM-ROUTERS
-//! opens without a fault and is read as that message. `pack` answers a form's canonical messages, or the least group
-//! whose star is too big for one.
 #![tactic(auto)]
 
 mod collect;

@@ -340,7 +340,8 @@ impl<'a, F: Family> Router<'a, F> {
     /// Runs to this moment, in milliseconds, at most 10^15, or until an echo or a Refresh is told; an earlier moment
     /// counts as now. What is still due stays due, and the next call goes on.
     ///
-    /// It takes no memory. A call that meets no timer walks no record and no neighbour.
+    /// It takes no memory. It walks through all records once for each timer that fires, and once more; through no
+    /// neighbour whose time isn't over.
     pub fn run_to(&mut self, moment: u64) -> Step<F::Addr>
         requires { moment ≤ 10 ^ 15 }
         ensures run { Runs moment self.old (step_seen F.bytes_of result) self.new }
