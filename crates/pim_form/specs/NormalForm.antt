@@ -81,7 +81,8 @@ Demand = List ℕ → List ℕ → Tree → Bool
 
 -- Two demands agree on every valid source, every group and both trees.
 abbrev pub Agree : AddressFamily → Demand → Demand → Type 0
-Agree family one other = (source group : List ℕ) (tree : Tree) → IsSourceAddress family source → IsGroupAddress family group →
+Agree family one other = (source group : List ℕ) (tree : Tree) →
+    IsSourceAddress family source → IsGroupAddress family group →
     one source group tree ≡ other source group tree
 
 -- two forms want the same

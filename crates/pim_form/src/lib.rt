@@ -1,8 +1,8 @@
 //! The demand of the downstream machines: what they want, its one normal form, and the Join/Prune messages that tell
 //! it.
 //!
-//! Proved: `wants` is the macros of RFC 7761, 4.1. `NormalForm::of` and `NormalForm::toward` give the one normal form of
-//! what the machines want, of all upstream neighbours or of one; `pack` gives the one list of canonical messages of a
+//! Proved: `wants` is the macros of RFC 7761, 4.1. `NormalForm::of` and `NormalForm::toward` give the one normal form
+//! of what the machines want, of all upstream neighbours or of one; `pack` gives the one list of canonical messages of a
 //! form, or the least group that is too big. Normal forms that want the same are one; a list of units has one packing
 //! at most; a form has at most one list of canonical messages by a writer, and messages tell their form: so the
 //! messages of two states to a neighbour are byte-equal exactly if the states want the same of it. A canonical message

@@ -30,8 +30,10 @@ IsSealed family source destination message_type body message =
 
 -- one message at most is that, since at most one checksum below 65,535 makes it sum rightly
 abbrev pub OneChecksum : Type 0
-OneChecksum = (family : AddressFamily) (source destination : List ℕ) (message_type : MessageType) (body first second : List ℕ)
-    → IsSealed family source destination message_type body first → IsSealed family source destination message_type body second
+OneChecksum = (family : AddressFamily) (source destination : List ℕ) (message_type : MessageType)
+    (body first second : List ℕ)
+    → IsSealed family source destination message_type body first
+    → IsSealed family source destination message_type body second
     → first ≡ second
 
 -- what a receiver finds in it

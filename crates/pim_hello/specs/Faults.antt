@@ -18,7 +18,8 @@ number_of Address = 3
 -- an option of a known type that has one length, and this isn't it
 abbrev pub has_other_length : ℕ → List ℕ → Bool
 has_other_length type_code value =
-    (type_code == 1 && not (length value == 2)) || ((type_code == 2 || type_code == 19 || type_code == 20) && not (length value == 4))
+    (type_code == 1 && not (length value == 2))
+    || ((type_code == 2 || type_code == 19 || type_code == 20) && not (length value == 4))
 
 -- the kinds at one part, in the order of their numbers
 abbrev pub kinds_at : Content → List HelloKind
