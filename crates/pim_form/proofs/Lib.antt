@@ -43,3 +43,4 @@ pub mod CollectedWants
 pub mod OpenPlace
 pub mod Collecting
 pub mod AllPorts
+pub mod EntriesWritten
