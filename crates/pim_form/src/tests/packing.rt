@@ -35,7 +35,7 @@ const STAR_MESSAGE: [u8; 34] = [
 ];
 
 /// The star of the group except 192.0.2.1: one message of 42 bytes.
-const EXCEPT_MESSAGE: [u8; 42] = [
+pub(super) const EXCEPT_MESSAGE: [u8; 42] = [
     0x23, 0, 0xfc, 0xb1, 1, 0, 10, 0, 0, 2, 0, 1, 0, 210, 1, 0, 0, 32, 239, 1, 1, 1, 0, 1, 0, 1, 1,
     0, 7, 32, 10, 9, 9, 9, 1, 0, 5, 32, 192, 0, 2, 1,
 ];
