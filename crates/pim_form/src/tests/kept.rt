@@ -1,9 +1,10 @@
-//! Forms and messages that hold nothing.
+//! Forms and messages that hold nothing, and a form of a form.
 
-use super::{FIRST, GROUP};
+use super::{FIRST, GROUP, JOIN_FIRST, RPT_SECOND, SECOND, STAR, alone, hear};
 use crate::messages::Messages;
 use crate::{NormalForm, Tree, normal_again};
 use pim_addr::V4;
+use pim_down::Ports;
 use std::test::Fail;
 
 #[test]
@@ -18,4 +19,38 @@ fn holds_nothing(rt: HostRuntime) -> Result<(), Fail> {
     assert_eq!(rt; messages.get(0), None);
     assert_eq!(rt; messages.same_bytes(&Messages::none(rt.alloc())), true);
     Ok(())
+}
+
+/// Whether the form wants the first source on its own tree, and all sources but the second on the shared one.
+fn wants_as_heard(form: &NormalForm<V4>) -> bool {
+    form.wants(FIRST, GROUP, Tree::Source)
+        && form.wants(FIRST, GROUP, Tree::Shared)
+        && !form.wants(SECOND, GROUP, Tree::Shared)
+}
+
+// With each allocation refused in turn (`rt try --test --fail-alloc 1..`): the form is as before, and the same call, with
+// memory, gives it again.
+#[test]
+fn refusals_leave_the_form(rt: HostRuntime) {
+    let mut ports: Ports<V4> = Ports::new(rt.alloc(), 1, 100);
+    let message = alone(0, &[STAR, JOIN_FIRST], &[RPT_SECOND]);
+    if hear(rt.alloc(), &mut ports, &message) != Ok(true) {
+        return;
+    }
+    ports.run_to(0);
+    let Ok(form) = NormalForm::of(rt.alloc(), &ports) else {
+        return;
+    };
+    let again = match normal_again(rt.alloc(), &form) {
+        Ok(again) => again,
+        Err(_) => {
+            assert!(rt; wants_as_heard(&form));
+            let Ok(again) = normal_again(rt.alloc(), &form) else {
+                assert!(rt; false);
+                return;
+            };
+            again
+        }
+    };
+    assert!(rt; wants_as_heard(&again));
 }
