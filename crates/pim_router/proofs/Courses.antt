@@ -1,14 +1,11 @@
 -- Courses: each list of packets and moments has one.
-use Rattle.std.proofs.Common.{◌≡◌, ◌∙◌, ◌<◌, ◌≤◌, ℕ, zero, suc, ◌+◌, ◌*◌, ◌-◌, ◌==◌, Bool, true, false, List, [], ◌∷◌, ◌++◌, Option, None, Some, refl, sym, ap, subst, arith}
-use Rattle.std.proofs.lemmas.Bool.{false≢true}
+use Rattle.std.proofs.Common.{◌≡◌, ◌∙◌, ℕ, List, [], ◌∷◌, ◌++◌, refl, sym, ap, subst}
 use Rattle.std.proofs.lemmas.List.{append_assoc}
 use Rattle.pim_addr.specs.declared.family.AddressFamily.{AddressFamily}
 use Rattle.pim_down.specs.declared.key.What.{What}
 use Rattle.pim_router.specs.declared.step.Step.{Step}
 use Rattle.pim_router.specs.declared.step.Step.TheVariants.{Echo, Refresh, Reached}
-use Rattle.pim_router.specs.declared.verdict.Verdict.{Verdict}
-use Rattle.pim_router.specs.Course.{Input, runs_to, takes, Telling, echo, refresh, verdict, Reaches, Gives, Follows, IsCourse, HasCourse}
-use Rattle.pim_router.specs.Packets.{Packet, received}
+use Rattle.pim_router.specs.Course.{Input, runs_to, takes, Telling, echo, refresh, verdict, Reaches, Gives, IsCourse}
 use Rattle.pim_router.specs.State.{RouterState}
 use Rattle.pim_router.specs.Time.{Runs}
 use Rattle.pim_router.proofs.Runs.{run_once}

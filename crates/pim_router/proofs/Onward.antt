@@ -1,5 +1,5 @@
 -- A router comes to every moment: each turn brings it nearer.
-use Rattle.std.proofs.Common.{◌≡◌, ◌≢◌, ◌∙◌, ◌<◌, ◌≤◌, ℕ, zero, suc, ◌+◌, ◌*◌, ◌-◌, ◌==◌, Bool, true, false, List, [], ◌∷◌, ◌++◌, Option, None, Some, map, nat_lt, refl, sym, ap, subst, arith}
+use Rattle.std.proofs.Common.{◌≡◌, ◌≢◌, ◌<◌, ◌≤◌, ℕ, zero, suc, ◌==◌, Bool, true, false, List, [], ◌∷◌, ◌++◌, Option, None, Some, map, nat_lt, refl, sym, ap, subst, arith}
 use Rattle.std.specs.List.{list_any}
 use Rattle.std.proofs.lemmas.Bool.{ltb-true}
 use Rattle.pim_addr.specs.declared.family.AddressFamily.{AddressFamily}
@@ -8,13 +8,12 @@ use Rattle.pim_down.specs.declared.key.What.{What}
 use Rattle.pim_down.specs.declared.machine.Record.{Record}
 use Rattle.pim_down.specs.declared.step.Step.{Step as Fires}
 use Rattle.pim_down.specs.declared.step.Step.TheVariants as fires
-use Rattle.pim_down.specs.Ends.{weight}
 use Rattle.pim_down.specs.Laws.{TimersRunOut}
 use Rattle.pim_down.specs.Time.{fired, with_records}
 use Rattle.pim_router.specs.declared.step.Step.{Step}
 use Rattle.pim_router.specs.declared.step.Step.TheVariants.{Echo, Refresh, Reached}
 use Rattle.pim_router.specs.Course.{Input, runs_to, takes, Telling, echo, refresh, verdict, Reaches, HasCourse, IsCourse}
-use Rattle.pim_router.specs.Packets.{Packet, received}
+use Rattle.pim_router.specs.Packets.{received}
 use Rattle.pim_router.specs.State.{RouterState, with_machines, with_tables, with_refresh, refresh_period}
 use Rattle.pim_router.specs.Time.{rests, moves, tells, has_ended, tick, turn, run_within, Runs, one_if, turns_left}
 use Rattle.pim_router.proofs.Passing.{none_ended}

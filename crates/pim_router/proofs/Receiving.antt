@@ -8,7 +8,7 @@ use Rattle.pim_jp.specs.Message.{Message}
 use Rattle.std.specs.declared.alloc.AllocError.{AllocError}
 use Rattle.pim_down.specs.declared.event.Timing.{Timing}
 use Rattle.pim_down.specs.Time.{Downstream}
-use Rattle.pim_down.specs.Heard.{heard, new_for, IsWithin, MayWantMemory}
+use Rattle.pim_down.specs.Heard.{heard, IsWithin, MayWantMemory}
 use Rattle.pim_down.specs.Known.{known_in}
 use Rattle.pim_down.specs.declared.fault.HearFault.{HearFault}
 use Rattle.pim_down.specs.declared.fault.HearFault.TheVariants as machines
