@@ -1,5 +1,5 @@
 -- What the definitions mean together.
-use Rattle.std.specs.Prelude.{◌≡◌, ◌≢◌, ◌<◌, ◌≤◌, ◌↔◌, ℕ, ◌-◌, max, true, false, List, Option}
+use Rattle.std.specs.Prelude.{◌≡◌, ◌≢◌, ◌<◌, ◌≤◌, ◌↔◌, ℕ, ◌-◌, max, true, false, List, map, Option, Some}
 use Rattle.std.specs.declared.cmp.Ordering.TheVariants.{Equal}
 use Rattle.pim_addr.specs.declared.family.AddressFamily.{AddressFamily}
 use Rattle.pim_jp.specs.Message.{Message}
@@ -16,7 +16,8 @@ use Rattle.pim_down.specs.declared.step.Step.TheVariants.{Echo, Reached}
 use Rattle.pim_down.specs.Key.{key_cmp, same_key}
 use Rattle.pim_down.specs.Records.{IsAscending, ChangesAtEach, machine_at, changed, each_changed}
 use Rattle.pim_down.specs.Hearing.{effect, act, at_end, heard_at, hearing}
-use Rattle.pim_down.specs.Time.{Downstream, Runs, HasRun, after_silence, IsEchoOf}
+use Rattle.pim_down.specs.Time.{Downstream, Runs, HasRun, after_silence, IsEchoOf, fired, record_after}
+use Rattle.pim_down.specs.Ends.{weight}
 use Rattle.pim_down.specs.Sound.{IsSound}
 use Rattle.pim_down.specs.Heard.{heard, needed_for}
 
@@ -75,6 +76,12 @@ SilenceActsAtEachKey = (moment : ℕ) (state after : Downstream) → IsAscending
 -- Every state has a run up to every moment.
 abbrev pub EveryStateHasARun : Type 0
 EveryStateHasARun = (moment : ℕ) (state : Downstream) → HasRun moment state
+
+-- Each timer that fires makes the records lighter, and time that passes leaves their weight: so they run out.
+abbrev pub TimersRunOut : Type 0
+TimersRunOut = ((records after : List (Record (List ℕ))) (answer : Step (List ℕ)) →
+    fired records ≡ Some (answer, after) → weight after < weight records)
+    × ((records : List (Record (List ℕ))) → weight (map (record_after 1) records) ≡ weight records)
 
 -- A run keeps the machines sound.
 abbrev pub RunKeepsSound : Type 0

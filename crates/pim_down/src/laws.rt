@@ -5,7 +5,7 @@ ghost use Rattle.pim_down.specs.Laws.{ChangeActsAtItsKey, AMapHasOneList, KeysAr
 ghost use Rattle.pim_down.specs.Laws.{EndActsAtEachKey, EventKeepsTheOrder, HearingKeepsTheOrder, HearingKeepsSound};
 ghost use Rattle.pim_down.specs.Laws.{HearingLeavesOtherPorts, HearingActsAtEachKey, RunGoesOn, RunHasOneEnd};
 ghost use Rattle.pim_down.specs.Laws.{RunKeepsSound, RunKeepsItsBounds, SilenceActsAtEachKey, EveryStateHasARun};
-ghost use Rattle.pim_down.specs.Laws.{EchoNamesAMachine};
+ghost use Rattle.pim_down.specs.Laws.{EchoNamesAMachine, TimersRunOut};
 
 /// A change of one machine leaves the others.
 pub fn change_acts_at_its_key()
@@ -70,6 +70,11 @@ pub fn silence_acts_at_each_key()
 /// Every state has a run up to every moment.
 pub fn every_state_has_a_run()
     ensures { EveryStateHasARun }
+{}
+
+/// Each timer that fires makes the records lighter, and time that passes leaves their weight.
+pub fn timers_run_out()
+    ensures { TimersRunOut }
 {}
 
 /// An echo names a machine that was held, whose prune-pending timer ended when it was told.

@@ -33,6 +33,7 @@ pub use laws::{
     event_acts_at_each_key, event_keeps_the_order, every_state_has_a_run, hearing_acts_at_each_key,
     hearing_keeps_sound, hearing_keeps_the_order, hearing_leaves_other_ports, keys_are_told_apart,
     run_goes_on, run_has_one_end, run_keeps_its_bounds, run_keeps_sound, silence_acts_at_each_key,
+    timers_run_out,
 };
 pub use machine::{Machine, Pending, Record, State};
 pub use ports::Ports;

@@ -1,10 +1,11 @@
 -- A Hello that a port hears.
-use Rattle.std.proofs.Common.{◌≡◌, ◌∙◌, ◌<◌, ◌↔◌, ℕ, Bool, true, false, List, length, get_or, set, Result, Ok, Err, refl, sym, ap, subst, IsTrue}
+use Rattle.std.proofs.Common.{◌≡◌, ◌∙◌, ◌<◌, ◌↔◌, ℕ, Bool, true, false, not, List, length, get_or, set, Result, Ok, Err, refl, sym, ap, subst, IsTrue, IsOk, OnErr}
+use Rattle.std.proofs.lemmas.Bool.{false≢true}
 use Rattle.std.proofs.lemmas.List.{set-get_or, get_or_read, length-set}
 use Rattle.std.specs.declared.alloc.AllocError.{AllocError}
 use Rattle.pim_addr.specs.Faults.{fault_if}
 use Rattle.pim_hello.specs.Hello.{Parameters}
-use Rattle.pim_hello.specs.Neighbours.{Table, Hears, no_neighbours, without_ended, is_full, heard_from, passed_to, neighbour_at, told}
+use Rattle.pim_hello.specs.Neighbours.{Table, Hears, no_neighbours, without_ended, is_full, heard_from, passed_to, neighbour_at, needs_no_memory, told}
 use Rattle.pim_hello.specs.declared.heard.Heard.{Heard}
 use Rattle.pim_hello.specs.declared.heard.NeighbourFault.{NeighbourFault}
 use Rattle.pim_hello.specs.declared.heard.NeighbourFault.TheVariants.{Full, Memory}
@@ -61,6 +62,20 @@ module _ (state : RouterState) (port : ℕ) (sender : List ℕ) (said : Paramete
       subst (IsCurrent moment) (sym (hears.table ∙ ap (heard_from sender said) passed)) (hello_keeps said sender row moment current)
   still_current now moment row passed current (Err fault) after hears = subst (IsCurrent moment) (sym hears.unchanged) current
 
+  -- memory is wanting only where the Hello may take some
+  abbrev Wants : Table → Result Verdict AllocError → Type 0
+  Wants table result = OnErr result (IsTrue (not (needs_no_memory sender said table)))
+
+  may_be_refused : (b : Bool) → (IsTrue b → IsOk {T = Heard} {E = NeighbourFault} (Err Memory)) → IsTrue (not b)
+  may_be_refused true never = absurd (false≢true (never refl))
+  may_be_refused false never = refl
+
+  wants_on_row : (now : ℕ) (row : Table) (result : Result Heard NeighbourFault) (after : Table) → Hears sender said now row result after →
+      Wants row (hello_verdict result)
+  wants_on_row now row (Ok heard) after hears = tt
+  wants_on_row now row (Err Full) after hears = tt
+  wants_on_row now row (Err Memory) after hears = may_be_refused (needs_no_memory sender said row) hears.memory
+
   module _ (sound : IsRouter state) (row : Table) (within : port < length state.tables) (is : row ≡ get_or state.tables port row)
       (now : ℕ) (present : now ≡ state.machines.moment) (result : Result Heard NeighbourFault) (after : Table) (hears : Hears sender said now row result after) where
     is_row : row ≡ get_or state.tables port no_neighbours
@@ -84,6 +99,9 @@ module _ (state : RouterState) (port : ℕ) (sender : List ℕ) (said : Paramete
         (hello_verdict result) (with_tables state (set state.tables port after))
     hello_ends = subst (λ t. Ends t result after) there (on_row now row passed put_back result after hears)
 
+    pub hello_wants : Wants (neighbours_on port state) (hello_verdict result)
+    hello_wants = subst (λ t. Wants t (hello_verdict result)) there (wants_on_row now row result after hears)
+
     pub stays_router : IsRouter (with_tables state (set state.tables port after))
     stays_router = record {
       ports = sound.ports;
@@ -105,3 +123,9 @@ module _ (state : RouterState) (port : ℕ) (sender : List ℕ) (said : Paramete
       (unless (hello_causes port sender now said) now (hello_taken port sender now said)) now r after) (sym says)
       (subst (λ n. Receives (hello_causes port sender n said)
       (unless (hello_causes port sender n said) n (hello_taken port sender n said)) n (hello_verdict heard) after) same ends)
+
+  pub hello_wants_told : (now : RouterState) → state ≡ now → (result : Result Verdict AllocError) (heard : Result Heard NeighbourFault) →
+      result ≡ hello_verdict heard → Wants (neighbours_on port state) (hello_verdict heard) → Wants (neighbours_on port now) result
+  hello_wants_told now same result heard says wants =
+      subst (λ r. Wants (neighbours_on port now) r) (sym says)
+      (subst (λ (n : RouterState). Wants (neighbours_on port n) (hello_verdict heard)) same wants)

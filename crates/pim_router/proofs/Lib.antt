@@ -9,3 +9,5 @@ pub mod Runs
 pub mod Turns
 pub mod Passing
 pub mod RunTo
+pub mod Courses
+pub mod Onward

@@ -1,5 +1,5 @@
 -- What is told of a packet: the first cause, or else that it is taken.
-use Rattle.std.proofs.Common.{◌≡◌, ◌∙◌, ◌-◌, ℕ, List, Result, Ok, Err, refl, sym, ap, subst, OnOk, OnErr}
+use Rattle.std.proofs.Common.{◌≡◌, ◌∙◌, ◌-◌, ℕ, List, Result, Ok, Err, nat_lt, refl, sym, ap, subst, OnOk, OnErr, IsTrue, arith}
 use Rattle.std.proofs.lemmas.Bool.{lt-ltb, le-ltb}
 use Rattle.pim_addr.specs.declared.family.AddressFamily.{AddressFamily}
 use Rattle.pim_addr.specs.Routes.{RouteTable}
@@ -8,7 +8,7 @@ use Rattle.pim_jp.specs.Message.{Message}
 use Rattle.std.specs.declared.alloc.AllocError.{AllocError}
 use Rattle.pim_down.specs.declared.event.Timing.{Timing}
 use Rattle.pim_down.specs.Time.{Downstream}
-use Rattle.pim_down.specs.Heard.{heard, IsWithin}
+use Rattle.pim_down.specs.Heard.{heard, IsWithin, MayWantMemory}
 use Rattle.pim_down.specs.Known.{known_in}
 use Rattle.pim_down.specs.declared.fault.HearFault.{HearFault}
 use Rattle.pim_down.specs.declared.fault.HearFault.TheVariants as machines
@@ -16,12 +16,17 @@ use Rattle.pim_router.specs.declared.config.PortConfig.{PortConfig}
 use Rattle.pim_router.specs.declared.verdict.Verdict.{Verdict}
 use Rattle.pim_router.specs.declared.verdict.Verdict.TheVariants as verdict
 use Rattle.pim_router.specs.declared.verdict.Store.TheVariants as store
-use Rattle.pim_router.specs.Packets.{Receives, unless, room_causes, message_taken, needed_by, timing_on}
+use Rattle.pim_router.specs.Packets.{Receives, unless, room_causes, message_taken, needed_by, new_by, timing_on}
 use Rattle.pim_router.specs.Told.{message_verdict}
 use Rattle.pim_router.specs.Seen.{router_seen}
 use Rattle.pim_router.specs.State.{RouterState, with_machines}
 
 -- ---- a Join/Prune that the machines hear
+
+wants_memory : (new : ℕ) (result : Result (Unit {0}) HearFault) → MayWantMemory new result → OnErr (message_verdict result) (IsTrue (nat_lt 0 new))
+wants_memory new (Ok done) wants = tt
+wants_memory new (Err (machines.Full needed)) wants = tt
+wants_memory new (Err machines.Memory) wants = lt-ltb 0 new (omega (arith, wants))
 
 module _ (family : AddressFamily) (port : ℕ) (message : Message) (old : RouterState) where
   abbrev Applies : Result (Unit {0}) HearFault → Downstream → Type 0
@@ -77,3 +82,12 @@ module _ {A : Type 0} (bytes_of : A → List ℕ) (ports : List (PortConfig A)) 
         subst (λ t. Applied now t (router_seen bytes_of ports routes after tables next)) (sym says)
         (subst (λ n. timing ≡ timing_on port n → Applied n (message_verdict result) (router_seen bytes_of ports routes after tables next)) same
         (λ here. applied_seen timing here result after ok err room) is)
+
+    -- memory is wanting only where it makes a record
+    pub applied_wants : (now : RouterState) → seen ≡ now → (result : Result (Unit {0}) HearFault) →
+        MayWantMemory (new_by family port message seen) result → (told : Result Verdict AllocError) → told ≡ message_verdict result →
+        OnErr told (IsTrue (nat_lt 0 (new_by family port message now)))
+    applied_wants now same result wants told says =
+        subst (λ t. OnErr t (IsTrue (nat_lt 0 (new_by family port message now)))) (sym says)
+        (subst (λ n. OnErr (message_verdict result) (IsTrue (nat_lt 0 (new_by family port message n)))) same
+        (wants_memory (new_by family port message seen) result wants))

@@ -1,5 +1,5 @@
 -- A run of the router, in terms of what the code keeps.
-use Rattle.std.proofs.Common.{◌≡◌, ◌∙◌, ◌<◌, ◌≤◌, ℕ, ◌+◌, ◌-◌, List, ◌++◌, length, map, take, drop, min, max, sym, ap, subst, arith}
+use Rattle.std.proofs.Common.{◌≡◌, ◌∙◌, ◌<◌, ◌≤◌, ℕ, ◌+◌, ◌-◌, List, ◌++◌, length, map, take, drop, min, max, refl, sym, ap, subst, arith}
 use Rattle.std.specs.List.{AllByRecursion}
 use Rattle.std.proofs.lemmas.List.{length-map, take_at}
 use Rattle.pim_addr.specs.Routes.{RouteTable}
@@ -12,7 +12,7 @@ use Rattle.pim_down.specs.Time as down
 use Rattle.pim_router.specs.declared.config.PortConfig.{PortConfig}
 use Rattle.pim_router.specs.declared.step.Step.{Step}
 use Rattle.pim_router.specs.declared.step.Step.TheVariants.{Echo, Refresh, Reached}
-use Rattle.pim_router.specs.Seen.{port_seen, router_seen}
+use Rattle.pim_router.specs.Seen.{port_seen, router_seen, step_seen}
 use Rattle.pim_router.specs.Sound.{IsCurrent, IsRouter}
 use Rattle.pim_router.specs.State.{RouterState, with_refresh}
 use Rattle.pim_router.specs.Time.{Runs}
@@ -90,3 +90,9 @@ pub kept_all : {B : Type 0} (change : B → B) (items fresh borrowed : List B) (
 kept_all change items fresh borrowed len same is long =
     let all = is ∙ ap (map change) same in
     take_at fresh (drop (length fresh) items) len (ap length all ∙ length-map items change ∙ long) ∙ all
+
+-- what is told as reached is reached
+pub seen_reached : {A : Type 0} (bytes_of : A → List ℕ) (step : Step A) → step_seen bytes_of step ≡ Reached → step ≡ Reached
+seen_reached bytes_of (Echo port group what) e = cc
+seen_reached bytes_of Refresh e = cc
+seen_reached bytes_of Reached e = refl

@@ -1,9 +1,11 @@
 -- What the definitions mean together.
-use Rattle.std.specs.Prelude.{◌≡◌, ◌≤◌, ℕ, List}
+use Rattle.std.specs.Prelude.{◌≡◌, ◌≢◌, ◌<◌, ◌≤◌, ℕ, List, ◌++◌}
+use Rattle.pim_addr.specs.declared.family.AddressFamily.{AddressFamily}
 use Rattle.pim_router.specs.declared.step.Step.{Step}
 use Rattle.pim_router.specs.declared.step.Step.TheVariants.{Reached}
+use Rattle.pim_router.specs.Course.{Input, Telling, IsCourse, HasCourse}
 use Rattle.pim_router.specs.State.{RouterState}
-use Rattle.pim_router.specs.Time.{Runs}
+use Rattle.pim_router.specs.Time.{Runs, turns_left}
 
 -- A run up to a moment has one end.
 abbrev pub RunHasOneEnd : Type 0
@@ -14,3 +16,24 @@ RunHasOneEnd = (moment : ℕ) (state after other : RouterState) (answer told : S
 abbrev pub RunGoesOn : Type 0
 RunGoesOn = (earlier later : ℕ) (state middle after : RouterState) (answer : Step (List ℕ)) → earlier ≤ later →
     Runs earlier state Reached middle → Runs later middle answer after → Runs later state answer after
+
+-- A run that tells something before the moment is reached comes nearer to it.
+abbrev pub RunsComeNearer : Type 0
+RunsComeNearer = (moment : ℕ) (state after : RouterState) (answer : Step (List ℕ)) →
+    Runs moment state answer after → answer ≢ Reached → turns_left moment after < turns_left moment state
+
+-- What a router tells over a list of packets and moments, and the state behind it, are a function of the list.
+abbrev pub CourseHasOneEnd : Type 0
+CourseHasOneEnd = (family : AddressFamily) (inputs : List Input) (state after other : RouterState)
+    (told said : List Telling) → IsCourse family inputs told state after → IsCourse family inputs said state other →
+    (told ≡ said) × (after ≡ other)
+
+-- The course over a list and then over another is the course over both joined.
+abbrev pub CourseGoesOn : Type 0
+CourseGoesOn = (family : AddressFamily) (earlier later : List Input) (state between after : RouterState)
+    (told more : List Telling) → IsCourse family earlier told state between → IsCourse family later more between after →
+    IsCourse family (earlier ++ later) (told ++ more) state after
+
+-- From every state there is a course over every list.
+abbrev pub EveryListHasACourse : Type 0
+EveryListHasACourse = (family : AddressFamily) (inputs : List Input) (state : RouterState) → HasCourse family inputs state

@@ -5,4 +5,5 @@ pub mod Sound
 pub mod Packets
 pub mod Told
 pub mod Time
+pub mod Course
 pub mod Laws

@@ -1,5 +1,5 @@
 -- What becomes of a packet that a port receives.
-use Rattle.std.specs.Prelude.{◌≡◌, ℕ, Bool, not, nat_eq, nat_lt, List, [], ◌∷◌, ◌++◌, length, map, slice_set}
+use Rattle.std.specs.Prelude.{◌≡◌, ℕ, Bool, false, not, nat_eq, nat_lt, List, [], ◌∷◌, ◌++◌, length, map, slice_set}
 use Rattle.std.specs.Prelude.{Result, Ok, Err}
 use Rattle.std.specs.Option.{is_some}
 use Rattle.std.specs.Cmp.Lexicographic.{pointwise}
@@ -11,10 +11,11 @@ use Rattle.pim_hello.specs.Hello.{Parameters}
 use Rattle.pim_hello.specs.Value.{hello_of}
 use Rattle.pim_hello.specs.Interval.{override_interval}
 use Rattle.pim_hello.specs.Neighbours.{Table, neighbour_at, hellos_of, without_ended, heard_from, told, is_full}
+use Rattle.pim_hello.specs.Neighbours.{needs_no_memory}
 use Rattle.pim_jp.specs.Faults.{faults as join_prune_faults}
 use Rattle.pim_jp.specs.Message.{Message, message_of}
 use Rattle.pim_down.specs.declared.event.Timing.{Timing}
-use Rattle.pim_down.specs.Heard.{heard, needed_for}
+use Rattle.pim_down.specs.Heard.{heard, needed_for, new_for}
 use Rattle.pim_down.specs.Known.{known_in}
 use Rattle.pim_router.specs.declared.verdict.Verdict.{Verdict}
 use Rattle.pim_router.specs.declared.verdict.Verdict.TheVariants as verdict
@@ -125,3 +126,16 @@ abbrev pub Receives : {E : Type 0} → List Verdict → Verdict × RouterState �
     RouterState → Type 0
 Receives causes end old (Ok told) new = (told, new) ≡ end
 Receives causes end old (Err refused) new = (causes ≡ []) × (new ≡ old)
+
+-- ---- what may take memory
+
+-- how many records a message makes, repeats counted
+abbrev pub new_by : AddressFamily → ℕ → Message → RouterState → ℕ
+new_by family port message state = new_for port message (known_in family state.routes) state.machines
+
+-- A Hello may take memory unless it is a goodbye, or keeps a known sender for ever; a Join/Prune where it makes a record.
+abbrev pub may_grow : AddressFamily → ℕ → List ℕ → RouterState → Content → Bool
+may_grow family port source state (other type) = false
+may_grow family port source state (hello body) =
+    not (needs_no_memory source (hello_of family body).parameters (neighbours_on port state))
+may_grow family port source state (join_prune body) = nat_lt 0 (new_by family port (message_of family body) state)

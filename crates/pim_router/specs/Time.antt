@@ -1,12 +1,13 @@
 -- What time does to a router: one machine of milliseconds over its neighbours, its machines and its refreshes. Times
 -- are countdowns, and one at 0 is due. The neighbours' tables stand at the moment of the machines.
-use Rattle.std.specs.Prelude.{◌≡◌, ℕ, zero, suc, ◌+◌, ◌-◌, ◌==◌, Bool, nat_lt, if◌then◌else◌}
+use Rattle.std.specs.Prelude.{◌≡◌, ℕ, zero, suc, ◌+◌, ◌-◌, ◌*◌, ◌==◌, Bool, true, false, nat_lt, if◌then◌else◌}
 use Rattle.std.specs.Prelude.{List, map, Option, None, Some}
 use Rattle.std.specs.List.{list_any}
 use Rattle.pim_hello.specs.Neighbours.{Neighbour, Table, is_over, without_ended, passed_to}
 use Rattle.pim_down.specs.declared.machine.Record.{Record}
 use Rattle.pim_down.specs.declared.step.Step.{Step as Fires}
 use Rattle.pim_down.specs.declared.step.Step.TheVariants as fires
+use Rattle.pim_down.specs.Ends.{weight}
 use Rattle.pim_down.specs.Time.{fired, with_records, tick as machines_tick}
 use Rattle.pim_router.specs.declared.step.Step.{Step}
 use Rattle.pim_router.specs.declared.step.Step.TheVariants.{Echo, Refresh, Reached}
@@ -73,3 +74,16 @@ run_within (suc turns) moment state = run_on (turn moment state) state (run_with
 pub record Runs (moment : ℕ) (state : RouterState) (answer : Step (List ℕ)) (after : RouterState) : Type 0 where
   pub turns : ℕ
   pub within : run_within turns moment state ≡ Some (answer, after)
+
+-- ---- how far it is to a moment
+
+abbrev pub one_if : Bool → ℕ
+one_if true = 1
+one_if false = 0
+
+-- At most so many turns lead to the moment: three for each millisecond, in which neighbours may go and a Refresh may be
+-- told, and those for what is due or may fire. It falls with each turn, so a caller's loop over runs comes to its end.
+unfoldable pub turns_left : ℕ → RouterState → ℕ
+turns_left moment state =
+    3 * (moment - state.machines.moment) + one_if (list_any has_ended state.tables) + one_if (state.refresh == 0)
+    + weight state.machines.records

@@ -16,7 +16,10 @@ mod tests;
 mod verdict;
 
 pub use config::{Config, ConfigFault, PortConfig};
-pub use laws::{run_goes_on, run_has_one_end};
+pub use laws::{
+    course_goes_on, course_has_one_end, every_list_has_a_course, run_goes_on, run_has_one_end,
+    runs_come_nearer,
+};
 pub use router::Router;
 pub use step::Step;
 pub use verdict::{Malformed, Store, Verdict};

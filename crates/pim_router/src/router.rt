@@ -1,22 +1,23 @@
 //! The router: its ports with their machines and neighbours, and its time.
 
-ghost use Rattle.std.specs.Prelude.{◌≡◌, ◌<◌, ◌≤◌, ◌^◌, length, replicate, map, max, IfOk};
+ghost use Rattle.std.specs.Prelude.{◌≡◌, ◌≢◌, ◌<◌, ◌≤◌, ◌^◌, length, replicate, map, max, IfOk, OnErr, IsTrue, not, nat_lt};
 ghost use Rattle.pim_hello.specs.Laws.{expired_at};
-ghost use Rattle.pim_frame.specs.Frame.{hello, join_prune};
-ghost use Rattle.pim_hello.specs.Neighbours.{no_neighbours};
+ghost use Rattle.pim_frame.specs.Frame.{content, hello, join_prune};
+ghost use Rattle.pim_hello.specs.Neighbours.{no_neighbours, needs_no_memory};
 ghost use Rattle.pim_hello.specs.Seen.{hello_seen};
 ghost use Rattle.pim_router.specs.Config.{config_faults, IsMadeUnless};
 ghost use Rattle.pim_router.specs.Packets.{Receives, causes, received, body_causes, body_received, message_causes};
-ghost use Rattle.pim_router.specs.Packets.{hello_causes, hello_taken};
+ghost use Rattle.pim_router.specs.Packets.{hello_causes, hello_taken, new_by, may_grow};
 ghost use Rattle.pim_router.specs.Packets.{message_taken, room_causes, unless, timing_on, knows, neighbours_on};
 ghost use Rattle.pim_router.specs.Seen.{setup_seen, port_seen, packet_seen, step_seen};
-ghost use Rattle.pim_router.specs.Time.{Runs};
+ghost use Rattle.pim_router.specs.Time.{Runs, turns_left};
 ghost use Rattle.pim_router.specs.declared.step.Step.TheVariants.{Reached};
 ghost use Rattle.pim_router.specs.Told.{hello_verdict, message_verdict};
 ghost use Rattle.pim_router.specs.Sound.{IsRouter};
 ghost use Rattle.pim_router.specs.State.{new_router, port_at, table_at};
 
 use crate::config::{Config, ConfigFault, PortConfig, check};
+use crate::laws::runs_come_nearer;
 use crate::step::Step;
 use crate::verdict::{Malformed, Store, Verdict};
 use pim_addr::{Family, Routes};
@@ -236,10 +237,12 @@ impl<'a, F: Family> Router<'a, F> {
         hello: &Hello<'_, F>,
     ) -> Result<Verdict, AllocError>
         requires { port < length self.old.ports }
-        ensures { Receives (hello_causes port (F.bytes_of src) self.old (hello_seen F.family hello.now).parameters)
+        ensures told { Receives (hello_causes port (F.bytes_of src) self.old (hello_seen F.family hello.now).parameters)
             (unless (hello_causes port (F.bytes_of src) self.old (hello_seen F.family hello.now).parameters) self.old
             (hello_taken port (F.bytes_of src) self.old (hello_seen F.family hello.now).parameters))
             self.old result self.new }
+        ensures memory { OnErr result (IsTrue (not (needs_no_memory (F.bytes_of src)
+            (hello_seen F.family hello.now).parameters (neighbours_on port self.old)))) }
     {
         self.machines.is_sound();
         let now = self.machines.now();
@@ -250,8 +253,10 @@ impl<'a, F: Family> Router<'a, F> {
     /// Takes the body of a Hello that came from `src`.
     fn take_hello(&mut self, port: usize, src: F::Addr, body: &[u8]) -> Result<Verdict, AllocError>
         requires { port < length self.old.ports }
-        ensures { Receives (body_causes F.family port (F.bytes_of src) self.old (hello body.now))
+        ensures told { Receives (body_causes F.family port (F.bytes_of src) self.old (hello body.now))
             (body_received F.family port (F.bytes_of src) self.old (hello body.now)) self.old result self.new }
+        ensures memory { OnErr result
+            (IsTrue (may_grow F.family port (F.bytes_of src) self.old (hello body.now))) }
     {
         match Hello::<F>::read(body) {
             Ok(hello) => self.hear_hello(port, src, &hello),
@@ -262,9 +267,10 @@ impl<'a, F: Family> Router<'a, F> {
     /// Lets the machines of a port hear a message that is for it.
     fn apply(&mut self, port: usize, message: &JpView<'_, F>) -> Result<Verdict, AllocError>
         requires { port < length self.old.ports }
-        ensures { Receives (room_causes F.family port self.old message.now)
+        ensures told { Receives (room_causes F.family port self.old message.now)
             (unless (room_causes F.family port self.old message.now) self.old
             (message_taken F.family port self.old message.now)) self.old result self.new }
+        ensures memory { OnErr result (IsTrue (nat_lt 0 (new_by F.family port message.now self.old))) }
     {
         let timing = self.timing(port);
         let heard = self.machines.hear(port, message, self.routes, timing);
@@ -279,9 +285,10 @@ impl<'a, F: Family> Router<'a, F> {
         message: &JpView<'_, F>,
     ) -> Result<Verdict, AllocError>
         requires { port < length self.old.ports }
-        ensures { Receives (message_causes F.family port (F.bytes_of src) self.old message.now)
+        ensures told { Receives (message_causes F.family port (F.bytes_of src) self.old message.now)
             (unless (message_causes F.family port (F.bytes_of src) self.old message.now) self.old
             (message_taken F.family port self.old message.now)) self.old result self.new }
+        ensures memory { OnErr result (IsTrue (nat_lt 0 (new_by F.family port message.now self.old))) }
     {
         if !self.knows(port, src) {
             return Ok(Verdict::UnknownNeighbour);
@@ -300,8 +307,10 @@ impl<'a, F: Family> Router<'a, F> {
         body: &[u8],
     ) -> Result<Verdict, AllocError>
         requires { port < length self.old.ports }
-        ensures { Receives (body_causes F.family port (F.bytes_of src) self.old (join_prune body.now))
+        ensures told { Receives (body_causes F.family port (F.bytes_of src) self.old (join_prune body.now))
             (body_received F.family port (F.bytes_of src) self.old (join_prune body.now)) self.old result self.new }
+        ensures memory { OnErr result
+            (IsTrue (may_grow F.family port (F.bytes_of src) self.old (join_prune body.now))) }
     {
         match JpView::<F>::read(body) {
             Ok(message) => self.take_message(port, src, &message),
@@ -312,7 +321,8 @@ impl<'a, F: Family> Router<'a, F> {
     /// Takes a packet that a port received: its IP source and destination, and its PIM message.
     ///
     /// # Errors
-    /// Where memory is refused, which is told only of a packet that would be taken. Then nothing has changed.
+    /// Where memory is refused, which is told only of a packet that would be taken: of a Hello whose sender is new or
+    /// whose time ends, and that is no goodbye, or of a Join/Prune that makes a record. Then nothing has changed.
     pub fn take_packet(
         &mut self,
         port: usize,
@@ -322,9 +332,11 @@ impl<'a, F: Family> Router<'a, F> {
     ) -> Result<Verdict, AllocError>
         requires port { port < length self.old.ports }
         requires bytes { length bytes.now < 2 ^ 32 }
-        ensures { Receives
+        ensures told { Receives
             (causes F.family (packet_seen F.bytes_of port src dst bytes.now) self.old)
             (received F.family (packet_seen F.bytes_of port src dst bytes.now) self.old) self.old result self.new }
+        ensures memory { OnErr result
+            (IsTrue (may_grow F.family port (F.bytes_of src) self.old (content bytes.now))) }
     {
         if src == self.port(port).address {
             return Ok(Verdict::Mine);
@@ -341,8 +353,22 @@ impl<'a, F: Family> Router<'a, F> {
     /// counts as now. What is still due stays due, and the next call goes on.
     ///
     /// It takes no memory. It walks through all records once for each timer that fires, and once more; through no
-    /// neighbour whose time isn't over.
+    /// neighbour whose time isn't over. A loop of calls that goes on until `Reached` comes to its end, since
+    /// `turns_left` falls.
     pub fn run_to(&mut self, moment: u64) -> Step<F::Addr>
+        requires { moment ≤ 10 ^ 15 }
+        ensures run { Runs moment self.old (step_seen F.bytes_of result) self.new }
+        ensures later { self.old.machines.moment ≤ self.new.machines.moment }
+        ensures moment { self.new.machines.moment ≤ max self.old.machines.moment moment }
+        ensures reached { result ≡ Reached → self.new.machines.moment ≡ max self.old.machines.moment moment }
+        ensures nearer { result ≢ Reached → turns_left moment self.new < turns_left moment self.old }
+    {
+        runs_come_nearer();
+        self.run_until(moment)
+    }
+
+    /// Lets the machines run to this moment or to the next Refresh, whichever is sooner, and time pass for all.
+    fn run_until(&mut self, moment: u64) -> Step<F::Addr>
         requires { moment ≤ 10 ^ 15 }
         ensures run { Runs moment self.old (step_seen F.bytes_of result) self.new }
         ensures later { self.old.machines.moment ≤ self.new.machines.moment }
