@@ -1,0 +1,5 @@
+pub mod Exchange
+pub mod Deliveries
+pub mod Hearing
+pub mod Expected
+pub mod Laws
