@@ -9,3 +9,4 @@ pub mod Runs
 pub mod Turns
 pub mod Passing
 pub mod RunTo
+pub mod Compared

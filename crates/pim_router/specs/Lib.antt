@@ -6,3 +6,4 @@ pub mod Packets
 pub mod Told
 pub mod Time
 pub mod Laws
+pub mod Canonical
