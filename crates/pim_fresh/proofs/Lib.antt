@@ -7,3 +7,5 @@ pub mod Hearings
 pub mod Echoes
 pub mod Staying
 pub mod Counts
+pub mod Asking
+pub mod OneEnd

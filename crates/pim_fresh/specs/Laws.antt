@@ -1,12 +1,14 @@
 -- What a fresh port holds, whatever the order of the deliveries and however often each comes.
-use Rattle.std.specs.Prelude.{◌≡◌, ℕ, ◌-◌, ◌≤◌, List, ◌∷◌, length, option_map}
+use Rattle.std.specs.Prelude.{◌≡◌, ℕ, ◌-◌, ◌≤◌, List, [], ◌∷◌, Option, length, option_map}
 use Rattle.pim_down.specs.declared.key.Key.{Key}
 use Rattle.pim_down.specs.declared.step.Step.{Step}
 use Rattle.pim_down.specs.declared.step.Step.TheVariants.{Reached}
 use Rattle.pim_down.specs.Records.{machine_at, state_of}
-use Rattle.pim_down.specs.Hearing.{needed}
+use Rattle.pim_jp.specs.Message.{Message}
+use Rattle.pim_down.specs.Hearing.{needed, events_of}
 use Rattle.pim_down.specs.Time.{Downstream, machine_after, Runs}
-use Rattle.pim_fresh.specs.Exchange.{Exchange, TellsUnitsOnce, starts}
+use Rattle.pim_fresh.specs.Exchange.{Exchange, TellsUnitsOnce, starts, AreUnits}
+use Rattle.pim_fresh.specs.Asking.{IsAsking}
 use Rattle.pim_fresh.specs.Deliveries.{Delivery, IsTimely, final_moment}
 use Rattle.pim_fresh.specs.Hearing.{Leaves, after_message}
 use Rattle.pim_fresh.specs.Expected.{IsAsExpected, IsAsAsked, units_of}
@@ -70,3 +72,14 @@ NeedsTheUnits = (exchange : Exchange) (ports limit : ℕ) (delivery : Delivery) 
     Leaves exchange ports limit earlier delivery.moment before →
     needed exchange.port before.records (exchange.messages delivery.message)
     ≡ length (units_of exchange (delivery ∷ earlier))
+
+-- The events of a message that asks for traffic, as canonical ones do, tell units.
+abbrev pub AskingTellsUnits : Type 0
+AskingTellsUnits = (known : List ℕ → Option (List ℕ)) (port : ℕ) (message : Message) → IsAsking known message →
+    AreUnits port [] (events_of known message)
+
+-- Deliveries leave the machines that they leave, and no others.
+abbrev pub HearingHasOneEnd : Type 0
+HearingHasOneEnd = (exchange : Exchange) (ports limit : ℕ) (deliveries : List Delivery) (moment : ℕ)
+    (one other : Downstream) → Leaves exchange ports limit deliveries moment one →
+    Leaves exchange ports limit deliveries moment other → one ≡ other
