@@ -1,8 +1,8 @@
 -- A form that is being made: what stood before reads as before, and one group more as it was told.
-use Rattle.std.proofs.Common.{◌≡◌, ◌∙◌, ℕ, ◌+◌, ◌≤◌, List, [], ◌∷◌, ◌++◌, map, length, take, drop, Option, None, Some, ◌||◌, refl, sym, ap, subst, arith}
+use Rattle.std.proofs.Common.{◌≡◌, ◌∙◌, ℕ, ◌+◌, ◌≤◌, List, [], ◌∷◌, ◌++◌, map, length, take, drop, Option, None, Some, ◌||◌, refl, sym, ap, subst, arith, length-append}
 use Rattle.std.specs.List.{AllByRecursion}
 use Rattle.std.proofs.lemmas.List.{take-map, drop-map, take-append-le, map-append, length-map}
-use Rattle.std.proofs.Math.Seq.{drop-append_seam}
+use Rattle.std.proofs.Math.Seq.{drop-append_seam, take-length}
 use Rattle.pim_form.specs.declared.place.Place.{Place}
 use Rattle.pim_form.specs.NormalForm.{GroupForm}
 use Rattle.pim_form.specs.Rows.{between, IsWithin, star_of, exceptions_of, place_seen, form_seen}
@@ -10,14 +10,6 @@ use Rattle.std.specs.Option.{is_some}
 use Rattle.pim_form.specs.Merge.{both_stars}
 use Rattle.pim_form.specs.Drafts.{IsDraft}
 use Rattle.pim_form.proofs.Lists.{all_append}
-
-length_append : {X : Type 0} (xs ys : List X) → length (xs ++ ys) ≡ length xs + length ys
-length_append [] ys = omega arith
-length_append (x ∷ xs) ys = let others = length_append xs ys in omega arith
-
-pub take_all : {X : Type 0} (xs : List X) → take (length xs) xs ≡ xs
-take_all [] = refl
-take_all {X} (x ∷ xs) = ap (λ (ys : List X). x ∷ ys) (take_all xs)
 
 module _ {A : Type 0} (bytes_of : A → List ℕ) where
   -- a place is read in the list of all bytes
@@ -32,7 +24,7 @@ module _ {A : Type 0} (bytes_of : A → List ℕ) where
 
   module _ (row row' : List A) (more : List (List ℕ)) (grows : map bytes_of row' ≡ map bytes_of row ++ more) where
     pub grown_length : length row' ≡ length row + length more
-    grown_length = sym (same_length row') ∙ ap length grows ∙ length_append (map bytes_of row) more ∙ ap (λ n. n + length more) (same_length row)
+    grown_length = sym (same_length row') ∙ ap length grows ∙ length-append (map bytes_of row) more ∙ ap (λ n. n + length more) (same_length row)
 
     same_part : (start end : ℕ) → end ≤ length row → map bytes_of (between start end row') ≡ map bytes_of (between start end row)
     same_part start end below =
@@ -59,7 +51,7 @@ module _ {A : Type 0} (bytes_of : A → List ℕ) where
     -- the part that was appended
     pub new_part : (start end : ℕ) → start ≡ length row → end ≡ length row' → map bytes_of (between start end row') ≡ more
     new_part start end first last =
-        let whole : take end (map bytes_of row') ≡ map bytes_of row' = ap (λ n. take n (map bytes_of row')) (last ∙ sym (same_length row')) ∙ take_all (map bytes_of row') in
+        let whole : take end (map bytes_of row') ≡ map bytes_of row' = ap (λ n. take n (map bytes_of row')) (last ∙ sym (same_length row')) ∙ take-length (map bytes_of row') in
         by_bytes start end row' ∙ ap (drop start) (whole ∙ grows) ∙ ap (λ n. drop n (map bytes_of row ++ more)) (first ∙ sym (same_length row)) ∙ drop-append_seam (map bytes_of row) more
 
   -- one group more

@@ -51,7 +51,7 @@ module _ {A : Type 0} (bytes_of : A → List ℕ) where
         → HasKept row places before all → before ≡ this ∷ left → IsPushed bytes_of (group_toward rps via neighbour this) row new place → has_some place ≡ false
         → HasKept new places left all
     steps_over row new places before left all this place is next push none = record {
-      within = within_front bytes_of places (length row) (length new) is.within push.longer;
+      within = within_front bytes_of places row new is.within push.front;
       seen =
           ap (λ (form : List GroupForm). form ++ form_toward rps via neighbour left) (form_front bytes_of places row new is.within push.front)
           ∙ ap (λ (form : List GroupForm). form_seen bytes_of row places ++ form) (sym (form_dropped rps via neighbour this left (empty_pushed this row new place push ∙ ap not none)))
@@ -63,7 +63,7 @@ module _ {A : Type 0} (bytes_of : A → List ℕ) where
         → HasKept row places before all → before ≡ this ∷ left → IsPushed bytes_of (group_toward rps via neighbour this) row new place → has_some place ≡ true
         → more ≡ places ++ place ∷ [] → HasKept new more left all
     steps_on row new places more before left all this place is next push some grown = subst (λ ps. HasKept new ps left all) (sym grown) (record {
-      within = all_append (IsWithin (length new)) places (place ∷ []) (within_front bytes_of places (length row) (length new) is.within push.longer) (push.within, tt);
+      within = all_append (IsWithin (length new)) places (place ∷ []) (within_front bytes_of places row new is.within push.front) (push.within, tt);
       seen =
           let front = form_front bytes_of places row new is.within push.front in
           let joined : form_seen bytes_of new (places ++ place ∷ []) ≡ form_seen bytes_of row places ++ group_toward rps via neighbour this ∷ [] =

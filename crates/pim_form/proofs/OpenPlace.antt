@@ -2,14 +2,15 @@
 use Rattle.std.proofs.Common.{◌≡◌, ◌∙◌, ℕ, zero, suc, ◌≤◌, ◌<◌, Bool, true, false, cond, List, [], ◌∷◌, ◌++◌, None, map, length, take, drop, refl, sym, ap, subst, arith}
 use Rattle.std.specs.List.{AllByRecursion}
 use Rattle.std.proofs.lemmas.Bool.{false≢true}
-use Rattle.std.proofs.lemmas.List.{drop-append-le, map-append, length-drop}
+use Rattle.std.proofs.lemmas.List.{drop-append-le, map-append, length-drop, length-map, length-take-le}
+use Rattle.std.proofs.Math.Seq.{take-length}
 use Rattle.pim_form.specs.declared.place.Place.{Place}
 use Rattle.pim_form.specs.NormalForm.{GroupForm, is_empty}
 use Rattle.pim_form.specs.Rows.{between, IsWithin, star_of, exceptions_of, place_seen, form_seen}
 use Rattle.pim_form.specs.Drafts.{IsDraft, IsLast, Keeps, Becomes}
 use Rattle.pim_form.specs.Collect.{with_exception, closed}
 use Rattle.pim_form.proofs.Lists.{all_append}
-use Rattle.pim_form.proofs.Drafts.{appended, same_form, same_place, still_within, take_all}
+use Rattle.pim_form.proofs.Drafts.{appended, same_form, same_place, still_within}
 
 none_between : {X : Type 0} (n : ℕ) (xs : List X) → between n n xs ≡ []
 none_between zero xs = zero_taken xs
@@ -22,7 +23,7 @@ none_between (suc n) (x ∷ xs) = none_between n xs
 
 -- up to the end of the row
 to_end : {X : Type 0} (start end : ℕ) (xs : List X) → end ≡ length xs → between start end xs ≡ drop start xs
-to_end start end xs is = ap (λ n. drop start (take n xs)) is ∙ ap (drop start) (take_all xs)
+to_end start end xs is = ap (λ n. drop start (take n xs)) is ∙ ap (drop start) (take-length xs)
 
 one_longer : {X : Type 0} (xs : List X) (x : X) → length (xs ++ x ∷ []) ≡ suc (length xs)
 one_longer [] x = refl
@@ -55,15 +56,11 @@ module _ {A : Type 0} (bytes_of : A → List ℕ) where
       by false e = is.bare e
       by true e =
           let empty : read place.exceptions_start place.exceptions_end row ≡ [] = subst (λ s. exceptions_of (star_of s (read place.exceptions_start place.exceptions_end row)) ≡ []) e none in
-          let whole : length (drop place.exceptions_start row) ≡ 0 = sym (ap length (to_end place.exceptions_start place.exceptions_end row is.last)) ∙ sym (same_length (between place.exceptions_start place.exceptions_end row)) ∙ ap length empty in
+          let whole : length (drop place.exceptions_start row) ≡ 0 = sym (ap length (to_end place.exceptions_start place.exceptions_end row is.last)) ∙ sym (length-map (between place.exceptions_start place.exceptions_end row) bytes_of) ∙ ap length empty in
           let long = length-drop place.exceptions_start row in
           let last = is.last in
           let order = is.exceptions in
           omega arith
-        where
-          same_length : (xs : List A) → length (map bytes_of xs) ≡ length xs
-          same_length [] = refl
-          same_length (x ∷ xs) = ap suc (same_length xs)
 
   pub source_added : (row row' : List A) (x : A) (place place' : Place A) → IsLast (length row) place → exceptions_of (place_seen bytes_of row place).star ≡ [] → row' ≡ row ++ x ∷ [] →
       place'.group ≡ place.group → place'.starred ≡ place.starred → place'.sources_start ≡ place.sources_start → place'.sources_end ≡ length row' → place'.exceptions_start ≡ length row' → place'.exceptions_end ≡ length row' →
@@ -118,15 +115,9 @@ module _ {A : Type 0} (bytes_of : A → List ℕ) where
       by : (xs : List A) → between start end row ≡ xs → is_empty None (map bytes_of xs) ≡ false
       by [] e =
           let long = length-drop start (take end row) in
-          let taken = length_take end row within in
+          let taken = length-take-le end row within in
           let none : length (drop start (take end row)) ≡ 0 = ap length e in
           absurd (omega arith)
-        where
-          length_take : (n : ℕ) (xs : List A) → n ≤ length xs → length (take n xs) ≡ n
-          length_take zero [] le = refl
-          length_take zero (x ∷ xs) le = refl
-          length_take (suc n) [] le = absurd (omega arith)
-          length_take (suc n) (x ∷ xs) le = ap suc (length_take n xs (omega arith))
       by (x ∷ xs) e = refl
 
   none_listed : (start end : ℕ) (row : List A) → end ≤ start → start ≤ end → read start end row ≡ []

@@ -14,43 +14,38 @@ use Rattle.pim_form.proofs.Normal.{groups_some}
 
 -- ---- the ends that are left
 
-pub next_end : (items ends : List ℕ) (i : ℕ) → items ≡ ends → i < length items → drop i ends ≡ get_or items i 0 ∷ drop (i + 1) ends
+next_end : (items ends : List ℕ) (i : ℕ) → items ≡ ends → i < length items → drop i ends ≡ get_or items i 0 ∷ drop (i + 1) ends
 next_end items ends i is below = subst (λ (these : List ℕ). drop i these ≡ get_or items i 0 ∷ drop (i + 1) these) is (rw (add-one, drop-cons items i 0))
 
 pub no_end : (items ends : List ℕ) (i : ℕ) → items ≡ ends → length items ≤ i → drop i ends ≡ []
 no_end items ends i is beyond = drop_all i ends (omega (arith, beyond, ap length is))
 
--- where the next end stands
-pub record NextEnd (start last end : ℕ) (others : List ℕ) : Type 0 where
+-- the pieces of the next part, and the ends behind them
+pub record NextPart {A : Type 0} (pieces : List (Place A)) (start end : ℕ) (left others : List ℕ) : Type 0 where
+  pub next : left ≡ end ∷ others
   pub above : start ≤ end
-  pub within : end ≤ last
-  pub behind : AreEnds end last others
-
-pub end_is_next : (start last end : ℕ) (left others : List ℕ) → left ≡ end ∷ others → AreEnds start last left → NextEnd start last end others
-unfolding AreEnds
-end_is_next start last end left others is are =
-    let parts = subst (AreEnds start last) is are in
-    record { above = parts.0; within = parts.1; behind = parts.2 }
+  pub within : end ≤ length pieces
+  pub behind : AreEnds end (length pieces) others
 
 -- ---- the parts that are left
 
 module _ {A : Type 0} (pieces : List (Place A)) (start end : ℕ) (left others : List ℕ) (is : left ≡ end ∷ others) where
-  next_part : parts_from start left pieces ≡ between start end pieces ∷ parts_from end others pieces
+  these_parts : parts_from start left pieces ≡ between start end pieces ∷ parts_from end others pieces
   unfolding parts_from
-  next_part = ap (λ (ends : List ℕ). parts_from start ends pieces) is
+  these_parts = ap (λ (ends : List ℕ). parts_from start ends pieces) is
 
-  pub of_first : (P : List (Place A) → Type 0) → AllByRecursion P (parts_from start left pieces) → P (between start end pieces)
-  of_first P all = (subst (AllByRecursion P) next_part all).0
+  of_first : (P : List (Place A) → Type 0) → AllByRecursion P (parts_from start left pieces) → P (between start end pieces)
+  of_first P all = (subst (AllByRecursion P) these_parts all).0
 
   pub of_others : (P : List (Place A) → Type 0) → AllByRecursion P (parts_from start left pieces) → AllByRecursion P (parts_from end others pieces)
-  of_others P all = (subst (AllByRecursion P) next_part all).1
+  of_others P all = (subst (AllByRecursion P) these_parts all).1
 
   module _ (family : AddressFamily) (run : List (Place A) → List WantUnit) where
     pub one_more_run : (total more next all : ℕ) → more ≡ run_size family (run (between start end pieces)) → next ≡ total + more → total + runs_size family (map run (parts_from start left pieces)) ≡ all
         → next + runs_size family (map run (parts_from end others pieces)) ≡ all
     unfolding runs_size
     one_more_run total more next all is_more is_next counted =
-        let parts = ap (λ (these : List (List (Place A))). runs_size family (map run these)) next_part in
+        let parts = ap (λ (these : List (List (Place A))). runs_size family (map run these)) these_parts in
         omega (arith, parts, is_more, is_next, counted)
 
     pub one_more_told : (writing : Writing) (rps : Rps) (runs : List (List WantUnit)) (messages next : List (List ℕ)) (message : List ℕ)
@@ -58,10 +53,23 @@ module _ {A : Type 0} (pieces : List (Place A)) (start end : ℕ) (left others :
         → ((behind : List (List ℕ)) → TellRuns family writing rps (map run (parts_from start left pieces)) behind → TellRuns family writing rps runs (messages ++ behind))
         → (behind : List (List ℕ)) → TellRuns family writing rps (map run (parts_from end others pieces)) behind → TellRuns family writing rps runs (next ++ behind)
     one_more_told writing rps runs messages next message is_next tells told behind tell =
-        let runs_left : map run (parts_from start left pieces) ≡ run (between start end pieces) ∷ map run (parts_from end others pieces) = ap (map run) next_part in
+        let runs_left : map run (parts_from start left pieces) ≡ run (between start end pieces) ∷ map run (parts_from end others pieces) = ap (map run) these_parts in
         let all : TellRuns family writing rps runs (messages ++ message ∷ behind) =
         told (message ∷ behind) (subst (λ (these : List (List WantUnit)). TellRuns family writing rps these (message ∷ behind)) (sym runs_left) (tells, tell)) in
         subst (TellRuns family writing rps runs) (sym (ap (λ (front : List (List ℕ)). front ++ behind) is_next ∙ append_assoc messages (message ∷ []) behind)) all
+
+module _ {A : Type 0} (pieces : List (Place A)) (items ends : List ℕ) (i start : ℕ) (is : items ≡ ends) (below : i < length items) where
+  pub next_part : AreEnds start (length pieces) (drop i ends) → NextPart pieces start (get_or items i 0) (drop i ends) (drop (i + 1) ends)
+  unfolding AreEnds
+  next_part are =
+      let next = next_end items ends i is below in
+      let parts = subst (AreEnds start (length pieces)) next are in
+      record { next = next; above = parts.0; within = parts.1; behind = parts.2 }
+
+  -- where these pieces are seen, the next part is what all parts are
+  pub of_next : (P : List (Place A) → Type 0) → AllByRecursion P (parts_from start (drop i ends) pieces) → (seen part : List (Place A)) → seen ≡ pieces → part ≡ between start (get_or items i 0) seen → P part
+  of_next P all seen part same first =
+      subst P (sym (first ∙ ap (between start (get_or items i 0)) same)) (of_first pieces start (get_or items i 0) (drop i ends) (drop (i + 1) ends) (next_end items ends i is below) P all)
 
 module _ {A : Type 0} (pieces : List (Place A)) (start : ℕ) (left : List ℕ) (none : left ≡ []) (family : AddressFamily) (run : List (Place A) → List WantUnit) where
   no_part : parts_from start left pieces ≡ []

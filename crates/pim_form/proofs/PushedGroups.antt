@@ -1,13 +1,14 @@
 -- A row of addresses behind which what is left of a group is put.
 use Rattle.std.proofs.Common.{◌≡◌, ◌∙◌, ◌++◌, ◌+◌, ◌≤◌, ℕ, Bool, true, false, List, [], ◌∷◌, length, take, drop, map, refl, sym, ap, arith, length-append}
 use Rattle.std.specs.List.{filter}
-use Rattle.std.proofs.lemmas.List.{take-take}
+use Rattle.std.proofs.lemmas.List.{take-take, take-append-drop}
 use Rattle.std.proofs.Math.Seq.{take-append_seam, drop-append_seam, take-length}
 use Rattle.std.specs.List.{AllByRecursion}
 use Rattle.pim_form.specs.declared.place.Place.{Place}
 use Rattle.pim_form.specs.NormalForm.{GroupForm}
-use Rattle.pim_form.specs.Rows.{between, IsWithin, star_of, place_seen, form_seen}
+use Rattle.pim_form.specs.Rows.{between, IsWithin, star_of, form_seen}
 use Rattle.pim_form.specs.KeptToward.{IsFront, IsStarPushed, IsPushed}
+use Rattle.pim_form.proofs.Drafts.{appended, same_form, still_within}
 
 module _ {A : Type 0} (bytes_of : A → List ℕ) where
   pub filter_mapped : (test : List ℕ → Bool) (xs : List A) → map bytes_of (filter (λ x. test (bytes_of x)) xs) ≡ filter test (map bytes_of xs)
@@ -38,23 +39,11 @@ module _ {A : Type 0} (bytes_of : A → List ℕ) where
 
   -- ---- what was there before stays
 
-  between_front : (s e : ℕ) (old new : List A) → e ≤ length old → IsFront old new → between s e new ≡ between s e old
-  between_front s e old new inside front = ap (drop s) (sym (take-take e (length old) new inside) ∙ ap (take e) front)
-
-  seen_front : (place : Place A) (old new : List A) → IsWithin (length old) place → IsFront old new → place_seen bytes_of new place ≡ place_seen bytes_of old place
-  seen_front place old new within front =
-      let stars = ap (λ xs. star_of place.starred (map bytes_of xs)) (between_front place.exceptions_start place.exceptions_end old new within.3 front) in
-      let lists = ap (map bytes_of) (between_front place.sources_start place.sources_end old new within.1 front) in
-      λ i. record { group = bytes_of place.group; star = stars i; sources = lists i }
+  grows : (old new : List A) → IsFront old new → map bytes_of new ≡ map bytes_of old ++ map bytes_of (drop (length old) new)
+  grows old new front = appended bytes_of old new (drop (length old) new) (sym (take-append-drop (length old) new) ∙ ap (λ (xs : List A). xs ++ drop (length old) new) front)
 
   pub form_front : (places : List (Place A)) (old new : List A) → AllByRecursion (IsWithin (length old)) places → IsFront old new → form_seen bytes_of new places ≡ form_seen bytes_of old places
-  form_front [] old new within front = refl
-  form_front (place ∷ places) old new within front =
-      let head = seen_front place old new within.0 front in
-      let tail = form_front places old new within.1 front in
-      λ i. head i ∷ tail i
+  form_front places old new within front = same_form bytes_of old new (map bytes_of (drop (length old) new)) (grows old new front) places within
 
-  pub within_front : (places : List (Place A)) (old new : ℕ) → AllByRecursion (IsWithin old) places → old ≤ new → AllByRecursion (IsWithin new) places
-  within_front [] old new within longer = tt
-  within_front (place ∷ places) old new within longer =
-      ((within.0.0, omega (arith, within.0.1), within.0.2, omega (arith, within.0.3)), within_front places old new within.1 longer)
+  pub within_front : (places : List (Place A)) (old new : List A) → AllByRecursion (IsWithin (length old)) places → IsFront old new → AllByRecursion (IsWithin (length new)) places
+  within_front places old new within front = still_within bytes_of old new (map bytes_of (drop (length old) new)) (grows old new front) places within

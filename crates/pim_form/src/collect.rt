@@ -58,15 +58,15 @@ fn add_exception<F: Family>(
 fn add<F: Family>(
     row: &mut Vec<F::Addr>,
     group: &mut Place<F::Addr>,
-    record: &Record<F::Addr>,
+    held: &Record<F::Addr>,
 ) -> Result<(), AllocError>
     requires last { IsLast (length row.old.items) group.old }
-    requires takes { Takes (what_seen F.bytes_of record.now.key.what) (place_seen F.bytes_of row.old.items group.old) }
+    requires takes { Takes (what_seen F.bytes_of held.now.key.what) (place_seen F.bytes_of row.old.items group.old) }
     ensures { OnOk result (Becomes F.bytes_of row.old.items row.new.items group.new
-        (added (told_seen F.bytes_of record.now) (place_seen F.bytes_of row.old.items group.old))) }
+        (added (told_seen F.bytes_of held.now) (place_seen F.bytes_of row.old.items group.old))) }
 {
-    let state = Some(record.machine.state);
-    match record.key.what {
+    let state = Some(held.machine.state);
+    match held.key.what {
         What::Star => {
             group.starred |= is_joined(state);
         }
@@ -87,20 +87,20 @@ fn add<F: Family>(
 /// Begins a group with its first record.
 fn begin<F: Family>(
     row: &mut Vec<F::Addr>,
-    record: &Record<F::Addr>,
+    held: &Record<F::Addr>,
 ) -> Result<Place<F::Addr>, AllocError>
     ensures { IfOk result (λ group. Becomes F.bytes_of row.old.items row.new.items group
-        (added (told_seen F.bytes_of record.now) (fresh (F.bytes_of record.now.key.group)))) }
+        (added (told_seen F.bytes_of held.now) (fresh (F.bytes_of held.now.key.group)))) }
 {
     let mut group = Place {
-        group: record.key.group,
+        group: held.key.group,
         starred: false,
         sources_start: row.len(),
         sources_end: row.len(),
         exceptions_start: row.len(),
         exceptions_end: row.len(),
     };
-    add::<F>(row, &mut group, record)?;
+    add::<F>(row, &mut group, held)?;
     Ok(group)
 }
 

@@ -1,83 +1,62 @@
-use Rattle.std.proofs.Common.{◌≡◌, ◌∙◌, ◌+◌, List, ◌∷◌, length, get_or, drop, sym, ap, subst, arith}
+use Rattle.std.proofs.Common.{◌≡◌, ◌∙◌, ◌+◌, List, length, get_or, drop, ap, subst, arith}
 use Rattle.pim_down.specs.Known.{known_in}
 use Rattle.pim_form.specs.Messages.{TellsRun}
 use Rattle.pim_form.specs.Rows.{between}
 use Rattle.pim_form.specs.Plan.{run_of}
 use Rattle.pim_form.specs.Parts.{IsFitting, PartHasRps}
-use Rattle.pim_form.proofs.PlanParts.{next_end, no_end, end_is_next, of_first, of_others, one_more_told, no_more_told, part_tells}
+use Rattle.pim_form.proofs.PlanParts.{next_part, of_next, no_end, of_others, one_more_told, no_more_told, part_tells}
 use Rattle.pim_form.proofs.packing.told_plan.Goals as goal
 
 pub pieces_between-part-requires-clause-start : goal.pieces_between-part-requires-clause-start
 pieces_between-part-requires-clause-start g c =
-    let plan = c.args.plan.now in
-    let end = get_or c.deref-end-items.result.now c.loop-end.end-index 0 in
-    let others = drop (c.loop-end.end-index + 1) plan.ends.items in
-    let next : drop c.loop-end.end-index plan.ends.items ≡ end ∷ others = next_end c.deref-end-items.result.now plan.ends.items c.loop-end.end-index c.deref-end-items.ensures.value c.loop-end-test.true in
-    let at = end_is_next c.loop-end.start (length plan.pieces.items) end (drop c.loop-end.end-index plan.ends.items) others next c.loop-end.invariant.ends in
+    let at = next_part c.args.plan.now.pieces.items c.deref-end-items.result.now c.args.plan.now.ends.items c.loop-end.end-index c.loop-end.start c.deref-end-items.ensures.value c.loop-end-test.true c.loop-end.invariant.ends in
     at.above
 
 pub pieces_between-part-requires-clause-end : goal.pieces_between-part-requires-clause-end
 pieces_between-part-requires-clause-end g c =
-    let plan = c.args.plan.now in
-    let end = get_or c.deref-end-items.result.now c.loop-end.end-index 0 in
-    let others = drop (c.loop-end.end-index + 1) plan.ends.items in
-    let next : drop c.loop-end.end-index plan.ends.items ≡ end ∷ others = next_end c.deref-end-items.result.now plan.ends.items c.loop-end.end-index c.deref-end-items.ensures.value c.loop-end-test.true in
-    let at = end_is_next c.loop-end.start (length plan.pieces.items) end (drop c.loop-end.end-index plan.ends.items) others next c.loop-end.invariant.ends in
+    let at = next_part c.args.plan.now.pieces.items c.deref-end-items.result.now c.args.plan.now.ends.items c.loop-end.end-index c.loop-end.start c.deref-end-items.ensures.value c.loop-end-test.true c.loop-end.invariant.ends in
     omega (arith, at.within, ap length c.deref.ensures.value)
 
 pub add-requires-clause-kept : goal.add-requires-clause-kept
 add-requires-clause-kept g c =
-    let plan = c.args.plan.now in
-    let end = get_or c.deref-end-items.result.now c.loop-end.end-index 0 in
-    let others = drop (c.loop-end.end-index + 1) plan.ends.items in
-    let next : drop c.loop-end.end-index plan.ends.items ≡ end ∷ others = next_end c.deref-end-items.result.now plan.ends.items c.loop-end.end-index c.deref-end-items.ensures.value c.loop-end-test.true in
-    let part : c.pieces_between-part.result.now ≡ between c.loop-end.start end plan.pieces.items = c.pieces_between-part.ensures ∙ ap (between c.loop-end.start end) c.deref.ensures.value in
-    let fitting = of_first plan.pieces.items c.loop-end.start end (drop c.loop-end.end-index plan.ends.items) others next (IsFitting g.F.Family.bytes_of g.F.Family.family c.args.writer.now.budget c.args.row.now) c.loop-end.invariant.parts in
-    let is = subst (IsFitting g.F.Family.bytes_of g.F.Family.family c.args.writer.now.budget c.args.row.now) (sym part) fitting in
+    let is = of_next c.args.plan.now.pieces.items c.deref-end-items.result.now c.args.plan.now.ends.items c.loop-end.end-index c.loop-end.start c.deref-end-items.ensures.value c.loop-end-test.true
+    (IsFitting g.F.Family.bytes_of g.F.Family.family c.args.writer.now.budget c.args.row.now) c.loop-end.invariant.parts _ _ c.deref.ensures.value c.pieces_between-part.ensures in
     is.kept
 
 pub add-requires-clause-rps : goal.add-requires-clause-rps
 add-requires-clause-rps g c =
-    let plan = c.args.plan.now in
-    let end = get_or c.deref-end-items.result.now c.loop-end.end-index 0 in
-    let others = drop (c.loop-end.end-index + 1) plan.ends.items in
-    let next : drop c.loop-end.end-index plan.ends.items ≡ end ∷ others = next_end c.deref-end-items.result.now plan.ends.items c.loop-end.end-index c.deref-end-items.ensures.value c.loop-end-test.true in
-    let part : c.pieces_between-part.result.now ≡ between c.loop-end.start end plan.pieces.items = c.pieces_between-part.ensures ∙ ap (between c.loop-end.start end) c.deref.ensures.value in
-    let have = of_first plan.pieces.items c.loop-end.start end (drop c.loop-end.end-index plan.ends.items) others next (PartHasRps g.F.Family.bytes_of g.F.Family.family (known_in g.F.Family.family c.args.routes.now) c.args.row.now) c.loop-end.invariant.rps in
-    subst (PartHasRps g.F.Family.bytes_of g.F.Family.family (known_in g.F.Family.family c.args.routes.now) c.args.row.now) (sym part) have
+    of_next c.args.plan.now.pieces.items c.deref-end-items.result.now c.args.plan.now.ends.items c.loop-end.end-index c.loop-end.start c.deref-end-items.ensures.value c.loop-end-test.true
+    (PartHasRps g.F.Family.bytes_of g.F.Family.family (known_in g.F.Family.family c.args.routes.now) c.args.row.now) c.loop-end.invariant.rps
+    _ _ c.deref.ensures.value c.pieces_between-part.ensures
 
 pub add-requires-clause-fitting : goal.add-requires-clause-fitting
 add-requires-clause-fitting g c =
-    let plan = c.args.plan.now in
-    let end = get_or c.deref-end-items.result.now c.loop-end.end-index 0 in
-    let others = drop (c.loop-end.end-index + 1) plan.ends.items in
-    let next : drop c.loop-end.end-index plan.ends.items ≡ end ∷ others = next_end c.deref-end-items.result.now plan.ends.items c.loop-end.end-index c.deref-end-items.ensures.value c.loop-end-test.true in
-    let part : c.pieces_between-part.result.now ≡ between c.loop-end.start end plan.pieces.items = c.pieces_between-part.ensures ∙ ap (between c.loop-end.start end) c.deref.ensures.value in
-    let fitting = of_first plan.pieces.items c.loop-end.start end (drop c.loop-end.end-index plan.ends.items) others next (IsFitting g.F.Family.bytes_of g.F.Family.family c.args.writer.now.budget c.args.row.now) c.loop-end.invariant.parts in
-    let is = subst (IsFitting g.F.Family.bytes_of g.F.Family.family c.args.writer.now.budget c.args.row.now) (sym part) fitting in
+    let is = of_next c.args.plan.now.pieces.items c.deref-end-items.result.now c.args.plan.now.ends.items c.loop-end.end-index c.loop-end.start c.deref-end-items.ensures.value c.loop-end-test.true
+    (IsFitting g.F.Family.bytes_of g.F.Family.family c.args.writer.now.budget c.args.row.now) c.loop-end.invariant.parts _ _ c.deref.ensures.value c.pieces_between-part.ensures in
     is.fitting
 
 pub loop-end-preserved : goal.loop-end-preserved
 loop-end-preserved g c =
-    let plan = c.args.plan.now in
+    let pieces = c.args.plan.now.pieces.items in
     let end = get_or c.deref-end-items.result.now c.loop-end.end-index 0 in
-    let others = drop (c.loop-end.end-index + 1) plan.ends.items in
-    let next : drop c.loop-end.end-index plan.ends.items ≡ end ∷ others = next_end c.deref-end-items.result.now plan.ends.items c.loop-end.end-index c.deref-end-items.ensures.value c.loop-end-test.true in
-    let at = end_is_next c.loop-end.start (length plan.pieces.items) end (drop c.loop-end.end-index plan.ends.items) others next c.loop-end.invariant.ends in
-    let part : c.pieces_between-part.result.now ≡ between c.loop-end.start end plan.pieces.items = c.pieces_between-part.ensures ∙ ap (between c.loop-end.start end) c.deref.ensures.value in
-    let fitting = of_first plan.pieces.items c.loop-end.start end (drop c.loop-end.end-index plan.ends.items) others next (IsFitting g.F.Family.bytes_of g.F.Family.family c.args.writer.now.budget c.args.row.now) c.loop-end.invariant.parts in
-    let is = subst (IsFitting g.F.Family.bytes_of g.F.Family.family c.args.writer.now.budget c.args.row.now) (sym part) fitting in
+    let left = drop c.loop-end.end-index c.args.plan.now.ends.items in
+    let others = drop (c.loop-end.end-index + 1) c.args.plan.now.ends.items in
+    let at = next_part c.args.plan.now.pieces.items c.deref-end-items.result.now c.args.plan.now.ends.items c.loop-end.end-index c.loop-end.start c.deref-end-items.ensures.value c.loop-end-test.true c.loop-end.invariant.ends in
+    let is = of_next c.args.plan.now.pieces.items c.deref-end-items.result.now c.args.plan.now.ends.items c.loop-end.end-index c.loop-end.start c.deref-end-items.ensures.value c.loop-end-test.true
+    (IsFitting g.F.Family.bytes_of g.F.Family.family c.args.writer.now.budget c.args.row.now) c.loop-end.invariant.parts _ _ c.deref.ensures.value c.pieces_between-part.ensures in
     let added = c.in_ok-add.ensures in
+    let bytes_of = g.F.Family.bytes_of in
     let family = g.F.Family.family in
     let rps = known_in family c.args.routes.now in
-    let run = run_of g.F.Family.bytes_of c.args.row.now in
+    let run = run_of bytes_of c.args.row.now in
+    let part : c.pieces_between-part.result.now ≡ between c.loop-end.start end pieces = c.pieces_between-part.ensures ∙ ap (between c.loop-end.start end) c.deref.ensures.value in
     let tells = subst (λ (these : List _). TellsRun family c.args.writer.now rps (run these) added.message) part
-    (part_tells g.F.Family.bytes_of family c.args.writer.now rps c.args.row.now c.pieces_between-part.result.now added.message is.kept added.tells) in
+    (part_tells bytes_of family c.args.writer.now rps c.args.row.now c.pieces_between-part.result.now added.message is.kept added.tells) in
     record {
       ends = at.behind;
-      parts = of_others plan.pieces.items c.loop-end.start end (drop c.loop-end.end-index plan.ends.items) others next (IsFitting g.F.Family.bytes_of family c.args.writer.now.budget c.args.row.now) c.loop-end.invariant.parts;
-      rps = of_others plan.pieces.items c.loop-end.start end (drop c.loop-end.end-index plan.ends.items) others next (PartHasRps g.F.Family.bytes_of family rps c.args.row.now) c.loop-end.invariant.rps;
-      told = one_more_told plan.pieces.items c.loop-end.start end (drop c.loop-end.end-index plan.ends.items) others next family run c.args.writer.now rps _ c.loop-end.messages _ added.message added.more tells c.loop-end.invariant.told;
+      parts = of_others pieces c.loop-end.start end left others at.next (IsFitting bytes_of family c.args.writer.now.budget c.args.row.now) c.loop-end.invariant.parts;
+      rps = of_others pieces c.loop-end.start end left others at.next (PartHasRps bytes_of family rps c.args.row.now) c.loop-end.invariant.rps;
+      told = one_more_told pieces c.loop-end.start end left others at.next family run c.args.writer.now rps _ c.loop-end.messages _ added.message added.more tells c.loop-end.invariant.told;
     }
 
 pub returns : goal.returns

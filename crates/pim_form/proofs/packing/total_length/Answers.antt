@@ -1,93 +1,65 @@
-use Rattle.std.proofs.Common.{◌≡◌, ◌∙◌, ◌+◌, ◌≤◌, List, ◌∷◌, length, get_or, drop, sym, ap, subst, arith}
+use Rattle.std.proofs.Common.{◌≡◌, ◌∙◌, ◌+◌, ◌≤◌, List, length, get_or, drop, sym, ap, subst, arith}
 use Rattle.pim_form.specs.NormalForm.{GroupForm, IsNormal}
 use Rattle.pim_form.specs.Units.{units_of, run_groups, run_size}
 use Rattle.pim_form.specs.Rows.{between}
 use Rattle.pim_form.specs.Plan.{run_of}
 use Rattle.pim_form.specs.Parts.{IsFitting}
 use Rattle.pim_form.proofs.OnePacking.{fits_parts}
-use Rattle.pim_form.proofs.PlanParts.{next_end, no_end, end_is_next, of_first, of_others, one_more_run, no_more_run}
+use Rattle.pim_form.proofs.PlanParts.{next_part, of_next, no_end, of_others, one_more_run, no_more_run}
 use Rattle.pim_form.proofs.packing.total_length.Goals as goal
 
 pub pieces_between-part-requires-clause-start : goal.pieces_between-part-requires-clause-start
 pieces_between-part-requires-clause-start g c =
-    let plan = c.args.plan.now in
-    let end = get_or c.deref-end-items.result.now c.loop-end.end-index 0 in
-    let others = drop (c.loop-end.end-index + 1) plan.ends.items in
-    let next : drop c.loop-end.end-index plan.ends.items ≡ end ∷ others = next_end c.deref-end-items.result.now plan.ends.items c.loop-end.end-index c.deref-end-items.ensures.value c.loop-end-test.true in
-    let at = end_is_next c.loop-end.start (length plan.pieces.items) end (drop c.loop-end.end-index plan.ends.items) others next c.loop-end.invariant.ends in
+    let at = next_part c.args.plan.now.pieces.items c.deref-end-items.result.now c.args.plan.now.ends.items c.loop-end.end-index c.loop-end.start c.deref-end-items.ensures.value c.loop-end-test.true c.loop-end.invariant.ends in
     at.above
 
 pub pieces_between-part-requires-clause-end : goal.pieces_between-part-requires-clause-end
 pieces_between-part-requires-clause-end g c =
-    let plan = c.args.plan.now in
-    let end = get_or c.deref-end-items.result.now c.loop-end.end-index 0 in
-    let others = drop (c.loop-end.end-index + 1) plan.ends.items in
-    let next : drop c.loop-end.end-index plan.ends.items ≡ end ∷ others = next_end c.deref-end-items.result.now plan.ends.items c.loop-end.end-index c.deref-end-items.ensures.value c.loop-end-test.true in
-    let at = end_is_next c.loop-end.start (length plan.pieces.items) end (drop c.loop-end.end-index plan.ends.items) others next c.loop-end.invariant.ends in
+    let at = next_part c.args.plan.now.pieces.items c.deref-end-items.result.now c.args.plan.now.ends.items c.loop-end.end-index c.loop-end.start c.deref-end-items.ensures.value c.loop-end-test.true c.loop-end.invariant.ends in
     omega (arith, at.within, ap length c.deref.ensures.value)
 
 pub new-requires : goal.new-requires
 new-requires g c =
-    let plan = c.args.plan.now in
-    let end = get_or c.deref-end-items.result.now c.loop-end.end-index 0 in
-    let others = drop (c.loop-end.end-index + 1) plan.ends.items in
-    let next : drop c.loop-end.end-index plan.ends.items ≡ end ∷ others = next_end c.deref-end-items.result.now plan.ends.items c.loop-end.end-index c.deref-end-items.ensures.value c.loop-end-test.true in
-    let part : c.pieces_between-part.result.now ≡ between c.loop-end.start end plan.pieces.items = c.pieces_between-part.ensures ∙ ap (between c.loop-end.start end) c.deref.ensures.value in
-    let fitting = of_first plan.pieces.items c.loop-end.start end (drop c.loop-end.end-index plan.ends.items) others next (IsFitting g.F.Family.bytes_of g.F.Family.family c.args.writer.now.budget c.args.row.now) c.loop-end.invariant.parts in
-    let is = subst (IsFitting g.F.Family.bytes_of g.F.Family.family c.args.writer.now.budget c.args.row.now) (sym part) fitting in
+    let is = of_next c.args.plan.now.pieces.items c.deref-end-items.result.now c.args.plan.now.ends.items c.loop-end.end-index c.loop-end.start c.deref-end-items.ensures.value c.loop-end-test.true
+    (IsFitting g.F.Family.bytes_of g.F.Family.family c.args.writer.now.budget c.args.row.now) c.loop-end.invariant.parts _ _ c.deref.ensures.value c.pieces_between-part.ensures in
     (is.kept.within, is.kept.normal.groups)
 
 pub message_length-length-requires-clause-normal : goal.message_length-length-requires-clause-normal
 message_length-length-requires-clause-normal g c =
-    let plan = c.args.plan.now in
-    let end = get_or c.deref-end-items.result.now c.loop-end.end-index 0 in
-    let others = drop (c.loop-end.end-index + 1) plan.ends.items in
-    let next : drop c.loop-end.end-index plan.ends.items ≡ end ∷ others = next_end c.deref-end-items.result.now plan.ends.items c.loop-end.end-index c.deref-end-items.ensures.value c.loop-end-test.true in
-    let part : c.pieces_between-part.result.now ≡ between c.loop-end.start end plan.pieces.items = c.pieces_between-part.ensures ∙ ap (between c.loop-end.start end) c.deref.ensures.value in
-    let fitting = of_first plan.pieces.items c.loop-end.start end (drop c.loop-end.end-index plan.ends.items) others next (IsFitting g.F.Family.bytes_of g.F.Family.family c.args.writer.now.budget c.args.row.now) c.loop-end.invariant.parts in
-    let is = subst (IsFitting g.F.Family.bytes_of g.F.Family.family c.args.writer.now.budget c.args.row.now) (sym part) fitting in
+    let is = of_next c.args.plan.now.pieces.items c.deref-end-items.result.now c.args.plan.now.ends.items c.loop-end.end-index c.loop-end.start c.deref-end-items.ensures.value c.loop-end-test.true
+    (IsFitting g.F.Family.bytes_of g.F.Family.family c.args.writer.now.budget c.args.row.now) c.loop-end.invariant.parts _ _ c.deref.ensures.value c.pieces_between-part.ensures in
     subst (IsNormal g.F.Family.family) (sym c.new.ensures) is.kept.normal
 
 pub message_length-length-requires-clause-groups : goal.message_length-length-requires-clause-groups
 message_length-length-requires-clause-groups g c =
-    let plan = c.args.plan.now in
-    let end = get_or c.deref-end-items.result.now c.loop-end.end-index 0 in
-    let others = drop (c.loop-end.end-index + 1) plan.ends.items in
-    let next : drop c.loop-end.end-index plan.ends.items ≡ end ∷ others = next_end c.deref-end-items.result.now plan.ends.items c.loop-end.end-index c.deref-end-items.ensures.value c.loop-end-test.true in
-    let part : c.pieces_between-part.result.now ≡ between c.loop-end.start end plan.pieces.items = c.pieces_between-part.ensures ∙ ap (between c.loop-end.start end) c.deref.ensures.value in
-    let fitting = of_first plan.pieces.items c.loop-end.start end (drop c.loop-end.end-index plan.ends.items) others next (IsFitting g.F.Family.bytes_of g.F.Family.family c.args.writer.now.budget c.args.row.now) c.loop-end.invariant.parts in
-    let is = subst (IsFitting g.F.Family.bytes_of g.F.Family.family c.args.writer.now.budget c.args.row.now) (sym part) fitting in
+    let is = of_next c.args.plan.now.pieces.items c.deref-end-items.result.now c.args.plan.now.ends.items c.loop-end.end-index c.loop-end.start c.deref-end-items.ensures.value c.loop-end-test.true
+    (IsFitting g.F.Family.bytes_of g.F.Family.family c.args.writer.now.budget c.args.row.now) c.loop-end.invariant.parts _ _ c.deref.ensures.value c.pieces_between-part.ensures in
     let bounds = fits_parts g.F.Family.family c.args.writer.now.budget (run_of g.F.Family.bytes_of c.args.row.now c.pieces_between-part.result.now) is.fitting in
     subst (λ (form : List GroupForm). run_groups (units_of form) ≤ 255) (sym c.new.ensures) bounds.1
 
 pub message_length-length-requires-clause-size : goal.message_length-length-requires-clause-size
 message_length-length-requires-clause-size g c =
-    let plan = c.args.plan.now in
-    let end = get_or c.deref-end-items.result.now c.loop-end.end-index 0 in
-    let others = drop (c.loop-end.end-index + 1) plan.ends.items in
-    let next : drop c.loop-end.end-index plan.ends.items ≡ end ∷ others = next_end c.deref-end-items.result.now plan.ends.items c.loop-end.end-index c.deref-end-items.ensures.value c.loop-end-test.true in
-    let part : c.pieces_between-part.result.now ≡ between c.loop-end.start end plan.pieces.items = c.pieces_between-part.ensures ∙ ap (between c.loop-end.start end) c.deref.ensures.value in
-    let fitting = of_first plan.pieces.items c.loop-end.start end (drop c.loop-end.end-index plan.ends.items) others next (IsFitting g.F.Family.bytes_of g.F.Family.family c.args.writer.now.budget c.args.row.now) c.loop-end.invariant.parts in
-    let is = subst (IsFitting g.F.Family.bytes_of g.F.Family.family c.args.writer.now.budget c.args.row.now) (sym part) fitting in
+    let is = of_next c.args.plan.now.pieces.items c.deref-end-items.result.now c.args.plan.now.ends.items c.loop-end.end-index c.loop-end.start c.deref-end-items.ensures.value c.loop-end-test.true
+    (IsFitting g.F.Family.bytes_of g.F.Family.family c.args.writer.now.budget c.args.row.now) c.loop-end.invariant.parts _ _ c.deref.ensures.value c.pieces_between-part.ensures in
     let bounds = fits_parts g.F.Family.family c.args.writer.now.budget (run_of g.F.Family.bytes_of c.args.row.now c.pieces_between-part.result.now) is.fitting in
     subst (λ (form : List GroupForm). run_size g.F.Family.family (units_of form) ≤ 65000) (sym c.new.ensures) (omega (arith, bounds.0, c.is_writing.ensures.most))
 
 pub loop-end-preserved : goal.loop-end-preserved
 loop-end-preserved g c =
-    let plan = c.args.plan.now in
+    let pieces = c.args.plan.now.pieces.items in
     let end = get_or c.deref-end-items.result.now c.loop-end.end-index 0 in
-    let others = drop (c.loop-end.end-index + 1) plan.ends.items in
-    let next : drop c.loop-end.end-index plan.ends.items ≡ end ∷ others = next_end c.deref-end-items.result.now plan.ends.items c.loop-end.end-index c.deref-end-items.ensures.value c.loop-end-test.true in
-    let at = end_is_next c.loop-end.start (length plan.pieces.items) end (drop c.loop-end.end-index plan.ends.items) others next c.loop-end.invariant.ends in
-    let part : c.pieces_between-part.result.now ≡ between c.loop-end.start end plan.pieces.items = c.pieces_between-part.ensures ∙ ap (between c.loop-end.start end) c.deref.ensures.value in
+    let left = drop c.loop-end.end-index c.args.plan.now.ends.items in
+    let others = drop (c.loop-end.end-index + 1) c.args.plan.now.ends.items in
+    let at = next_part c.args.plan.now.pieces.items c.deref-end-items.result.now c.args.plan.now.ends.items c.loop-end.end-index c.loop-end.start c.deref-end-items.ensures.value c.loop-end-test.true c.loop-end.invariant.ends in
     let family = g.F.Family.family in
     let run = run_of g.F.Family.bytes_of c.args.row.now in
-    let length_is : c.message_length-length.result ≡ run_size family (run (between c.loop-end.start end plan.pieces.items)) =
+    let part : c.pieces_between-part.result.now ≡ between c.loop-end.start end pieces = c.pieces_between-part.ensures ∙ ap (between c.loop-end.start end) c.deref.ensures.value in
+    let length_is : c.message_length-length.result ≡ run_size family (run (between c.loop-end.start end pieces)) =
     c.message_length-length.ensures ∙ ap (λ (form : List GroupForm). run_size family (units_of form)) c.new.ensures ∙ ap (λ (these : List _). run_size family (run these)) part in
     record {
       ends = at.behind;
-      parts = of_others plan.pieces.items c.loop-end.start end (drop c.loop-end.end-index plan.ends.items) others next (IsFitting g.F.Family.bytes_of family c.args.writer.now.budget c.args.row.now) c.loop-end.invariant.parts;
-      counted = one_more_run plan.pieces.items c.loop-end.start end (drop c.loop-end.end-index plan.ends.items) others next family run c.loop-end.total c.message_length-length.result _ _ length_is
+      parts = of_others pieces c.loop-end.start end left others at.next (IsFitting g.F.Family.bytes_of family c.args.writer.now.budget c.args.row.now) c.loop-end.invariant.parts;
+      counted = one_more_run pieces c.loop-end.start end left others at.next family run c.loop-end.total c.message_length-length.result _ _ length_is
           (omega (arith, c.in-Some.ensures)) c.loop-end.invariant.counted;
     }
 
