@@ -20,7 +20,7 @@ mod tests;
 const FEW: u16 = 4;
 
 /// With so few pruned entries each joined one is compared sooner than the joined ones are sorted.
-const FEW_PRUNED: u16 = 6;
+const FEW_PRUNED: u16 = 8;
 
 /// So many fit into the smallest block.
 const SOME: u16 = 128;
