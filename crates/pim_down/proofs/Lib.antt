@@ -5,6 +5,7 @@ pub mod Time
 pub mod Ends
 pub mod Lists
 pub mod Places
+pub mod Halves
 pub mod Firing
 pub mod Jumps
 pub mod Kept

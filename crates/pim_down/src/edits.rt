@@ -4,25 +4,34 @@ ghost use Rattle.std.specs.Prelude.{◌≡◌, ◌+◌, ◌<◌, ◌≤◌, ℕ,
 ghost use Rattle.std.specs.Prelude.{vec_len, vec_capacity};
 ghost use Rattle.pim_down.specs.Records.{IsAscending, machine_at, recorded, changed};
 ghost use Rattle.pim_down.specs.Seen.{key_seen, machine_seen, records_seen};
-ghost use Rattle.pim_down.specs.Places.{IsPlace};
+ghost use Rattle.pim_down.specs.Places.{IsPlace, is_below};
 
 use crate::held::{Held, Timed};
 use crate::key::{Key, compare_keys};
 use pim_addr::Family;
 use std::cmp::Ordering;
 
-/// Where the key's record stands, or else where it would stand.
+/// Whether the key stands before the other one.
+fn is_below<F: Family>(key: &Key<F::Addr>, bound: &Key<F::Addr>) -> bool
+    ensures { result ≡ is_below (key_seen F.bytes_of bound.now) (key_seen F.bytes_of key.now) }
+{
+    compare_keys::<F>(key, bound).is_lt()
+}
+
+/// Where the key's record stands, or else where it would stand: looked for by halves.
 fn find_place<F: Family>(records: &[Held<F::Addr>], key: &Key<F::Addr>) -> Result<usize, usize>
+    requires { IsAscending (records_seen F.bytes_of records.now) }
     ensures { IsPlace (key_seen F.bytes_of key.now) (records_seen F.bytes_of records.now) result }
 {
-    for (place, held) in records.iter().enumerate() {
-        match compare_keys::<F>(key, &held.key) {
-            Ordering::Less => return Err(place),
-            Ordering::Equal => return Ok(place),
-            Ordering::Greater => {}
-        }
+    let place = records.partition_point(|held| is_below::<F>(&held.key, key));
+    if place == records.len() {
+        return Err(place);
     }
-    Err(records.len())
+    match compare_keys::<F>(key, &records[place].key) {
+        Ordering::Less => Err(place),
+        Ordering::Equal => Ok(place),
+        Ordering::Greater => unreachable!(),
+    }
 }
 
 /// Replaces the record at this place: the key has this machine now, or none.
@@ -65,7 +74,8 @@ pub(crate) fn put_machine<F: Family>(
     key: Key<F::Addr>,
     machine: Option<Timed>,
 )
-    requires { length (changed (key_seen F.bytes_of key) (λ _. machine_seen machine)
+    requires ascending { IsAscending (records_seen F.bytes_of records.old.items) }
+    requires room { length (changed (key_seen F.bytes_of key) (λ _. machine_seen machine)
         (records_seen F.bytes_of records.old.items)) ≤ vec_capacity records.old }
     ensures left { records_seen F.bytes_of records.new.items
         ≡ changed (key_seen F.bytes_of key) (λ _. machine_seen machine) (records_seen F.bytes_of records.old.items) }

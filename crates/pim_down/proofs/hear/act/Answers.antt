@@ -16,7 +16,7 @@ put_machine-requires g c =
     let own = changed_into (key_of c.args.port event) change (machine_seen c.on_own.result) seen c.requires.ascending (c.on_own.ensures bytes_of ∙ ap change held) in
     let long = ap length own in
     let whole = length_act c.args.port (start_seen c.args.start) event seen in
-    omega (arith, c.requires.room)
+    record { ascending = c.requires.ascending; room = omega (arith, c.requires.room) }
 
 pub returns-then-is_star_join-clause-records : goal.returns-then-is_star_join-clause-records
 returns-then-is_star_join-clause-records g c =
