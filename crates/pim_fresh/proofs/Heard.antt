@@ -216,9 +216,6 @@ module _ (keys : KeysAreToldApart) (exchange : Exchange) (tells : TellsUnitsOnce
             let order = in_order exchange key (starts exchange).expires_in delivery.moment earlier span before e in
             unit_later exchange key delivery.moment moment span order.first order.last later (shorter key span (span_other exchange key delivery earlier named ∙ e))
 
-    span : (key : Key (List ℕ)) → Span
-    span key = up_to delivery.moment (span_of exchange key earlier)
-
     up_to_last : (now : ℕ) (o : Option Span) → (up_to now o).last ≡ now
     up_to_last now None = refl
     up_to_last now (Some s) = refl

@@ -9,3 +9,4 @@ pub mod Staying
 pub mod Counts
 pub mod Asking
 pub mod OneEnd
+pub mod ItsMessage

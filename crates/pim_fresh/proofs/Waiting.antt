@@ -58,9 +58,6 @@ ends source expiry wait passed several quiet = rw quiet (by (ltb passed wait) re
 -- ---- the machines that are expected
 
 module _ (exchange : Exchange) where
-  expiry : Option ℕ
-  expiry = (starts exchange).expires_in
-
   pub left_later : (now moment : ℕ) (span : Span) → span.last ≤ now → now ≤ moment → expiry_after (moment - now) (time_left exchange now span) ≡ time_left exchange moment span
   left_later now moment span before later = expiry_more (now - span.last) (moment - now) (moment - span.last) (starts exchange).expires_in (omega arith)
 

@@ -13,6 +13,16 @@ last_of message [] = None
 last_of message (delivery ∷ earlier) =
     if delivery.message == message then Some delivery.moment else last_of message earlier
 
+-- the moment at which it came first
+abbrev pub earlier_or : Option ℕ → Option ℕ → Option ℕ
+earlier_or None here = here
+earlier_or (Some first) here = Some first
+
+unfoldable pub first_of : ℕ → List Delivery → Option ℕ
+first_of message [] = None
+first_of message (delivery ∷ earlier) =
+    earlier_or (first_of message earlier) (if delivery.message == message then Some delivery.moment else None)
+
 -- so many milliseconds are less than the expiry timer runs; `None` is without end
 abbrev pub IsShorter : ℕ → Option ℕ → Type 0
 IsShorter passed None = Unit {0}

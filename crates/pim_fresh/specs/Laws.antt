@@ -1,5 +1,5 @@
 -- What a fresh port holds, whatever the order of the deliveries and however often each comes.
-use Rattle.std.specs.Prelude.{◌≡◌, ℕ, ◌-◌, ◌≤◌, List, [], ◌∷◌, Option, length, option_map}
+use Rattle.std.specs.Prelude.{◌≡◌, ℕ, ◌-◌, ◌≤◌, true, List, [], ◌∷◌, Option, length, option_map}
 use Rattle.pim_down.specs.declared.key.Key.{Key}
 use Rattle.pim_down.specs.declared.step.Step.{Step}
 use Rattle.pim_down.specs.declared.step.Step.TheVariants.{Reached}
@@ -7,11 +7,11 @@ use Rattle.pim_down.specs.Records.{machine_at, state_of}
 use Rattle.pim_jp.specs.Message.{Message}
 use Rattle.pim_down.specs.Hearing.{needed, events_of}
 use Rattle.pim_down.specs.Time.{Downstream, machine_after, Runs}
-use Rattle.pim_fresh.specs.Exchange.{Exchange, TellsUnitsOnce, starts, AreUnits}
+use Rattle.pim_fresh.specs.Exchange.{Exchange, TellsUnitsOnce, starts, is_named, AreUnits}
 use Rattle.pim_fresh.specs.Asking.{IsAsking}
-use Rattle.pim_fresh.specs.Deliveries.{Delivery, IsTimely, final_moment}
+use Rattle.pim_fresh.specs.Deliveries.{Delivery, first_of, last_of, IsTimely, final_moment}
 use Rattle.pim_fresh.specs.Hearing.{Leaves, after_message}
-use Rattle.pim_fresh.specs.Expected.{IsAsExpected, IsAsAsked, units_of}
+use Rattle.pim_fresh.specs.Expected.{span_of, IsAsExpected, IsAsAsked, units_of}
 
 -- After timely deliveries exactly the units of the messages that were delivered have machines, each as expected.
 abbrev pub FreshHearing : Type 0
@@ -83,3 +83,10 @@ abbrev pub HearingHasOneEnd : Type 0
 HearingHasOneEnd = (exchange : Exchange) (ports limit : ℕ) (deliveries : List Delivery) (moment : ℕ)
     (one other : Downstream) → Leaves exchange ports limit deliveries moment one →
     Leaves exchange ports limit deliveries moment other → one ≡ other
+
+-- The deliveries that name a machine are those of the message that names it.
+abbrev pub SpanIsOfItsMessage : Type 0
+SpanIsOfItsMessage = (exchange : Exchange) (message : ℕ) (key : Key (List ℕ)) (deliveries : List Delivery) →
+    TellsUnitsOnce exchange → is_named exchange.port key (exchange.messages message) ≡ true →
+    (option_map (λ span. span.first) (span_of exchange key deliveries) ≡ first_of message deliveries)
+    × (option_map (λ span. span.last) (span_of exchange key deliveries) ≡ last_of message deliveries)

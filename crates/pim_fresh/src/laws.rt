@@ -2,6 +2,7 @@
 
 ghost use Rattle.pim_fresh.specs.Laws.{FreshHearing, NoEchoIsTold, EveryHearingReaches, StaysAsAsked};
 ghost use Rattle.pim_fresh.specs.Laws.{HoldsTheUnits, NeedsTheUnits, AskingTellsUnits, HearingHasOneEnd};
+ghost use Rattle.pim_fresh.specs.Laws.{SpanIsOfItsMessage};
 
 /// After timely deliveries, run until nothing is due, exactly the units of the messages that came have machines: (\*,G)
 /// and (S,G) in Join, (S,G,rpt) in Prune-Pending with what is left of the override interval since its message came
@@ -44,6 +45,11 @@ pub fn every_hearing_reaches()
     pim_down::echo_names_a_machine();
     pim_down::every_state_has_a_run();
 }
+
+/// The first and the last delivery that name a machine are those of the one message that names it.
+pub fn span_is_of_its_message()
+    ensures { SpanIsOfItsMessage }
+{}
 
 /// Deliveries leave one state alone.
 pub fn hearing_has_one_end()

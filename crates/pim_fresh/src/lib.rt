@@ -16,5 +16,5 @@ mod tests;
 
 pub use laws::{
     asking_tells_units, every_hearing_reaches, fresh_hearing, hearing_has_one_end, holds_the_units,
-    needs_the_units, no_echo_is_told, stays_as_asked,
+    needs_the_units, no_echo_is_told, span_is_of_its_message, stays_as_asked,
 };
