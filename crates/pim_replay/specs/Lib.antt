@@ -1,0 +1,6 @@
+pub mod Pieces
+pub mod Said
+pub mod Malformed
+pub mod PacketLine
+pub mod EchoLine
+pub mod RecordLine

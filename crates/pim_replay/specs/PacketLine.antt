@@ -1,0 +1,46 @@
+-- The line of a packet: when it came, on which port and from whom, and what became of it.
+use Rattle.std.specs.Prelude.{ℕ, List, [], ◌++◌, codes, decimal}
+use Rattle.pim_addr.specs.declared.family.AddressFamily.{AddressFamily}
+use Rattle.pim_addr.specs.Text.{address_text}
+use Rattle.pim_hello.specs.declared.heard.Heard.{Heard}
+use Rattle.pim_hello.specs.declared.heard.Heard.TheVariants.{New, Same, Restarted, Gone}
+use Rattle.pim_router.specs.declared.verdict.Store.{Store}
+use Rattle.pim_router.specs.declared.verdict.Store.TheVariants.{Neighbours, Records}
+use Rattle.pim_router.specs.declared.verdict.Verdict.{Verdict}
+use Rattle.pim_router.specs.declared.verdict.Verdict.TheVariants as verdict
+use Rattle.pim_replay.specs.Pieces.{line}
+use Rattle.pim_replay.specs.Malformed.{malformed_words}
+
+abbrev pub heard_words : Heard → List ℕ
+heard_words New = codes "hello new"
+heard_words Same = codes "hello same"
+heard_words Restarted = codes "hello restarted"
+heard_words Gone = codes "hello gone"
+
+abbrev pub full_words : Store → List ℕ
+full_words Neighbours = codes "full neighbours"
+full_words (Records needed) = codes "full " ++ decimal needed
+
+-- a malformed message is marked as such
+abbrev pub mark_of : Verdict → List ℕ
+mark_of (verdict.Malformed fault) = codes "malformed "
+mark_of other = []
+
+abbrev pub told_words : Verdict → List ℕ
+told_words verdict.Mine = codes "mine"
+told_words (verdict.Malformed fault) = malformed_words fault
+told_words (verdict.OtherType type) = codes "type " ++ decimal type
+told_words (verdict.HelloTaken heard) = heard_words heard
+told_words verdict.UnknownNeighbour = codes "unknown-neighbour"
+told_words verdict.NotForUs = codes "not-for-us"
+told_words (verdict.Full store) = full_words store
+told_words verdict.Applied = codes "applied"
+
+abbrev pub verdict_words : Verdict → List ℕ
+verdict_words verdict = mark_of verdict ++ told_words verdict
+
+-- the moment in milliseconds, the port, the sender and the verdict
+abbrev pub packet_line : AddressFamily → ℕ → ℕ → List ℕ → Verdict → List ℕ
+packet_line family moment port source told =
+    line (decimal moment ++ codes " port " ++ decimal port ++ codes " from " ++ address_text family source
+    ++ codes " " ++ verdict_words told)

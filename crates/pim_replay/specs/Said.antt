@@ -1,0 +1,7 @@
+-- What is said of something: words, a name, more words, and a number, as far as they are there.
+use Rattle.std.specs.Prelude.{ℕ, List, [], ◌++◌}
+use Rattle.pim_replay.specs.declared.said.Said.{Said}
+use Rattle.pim_replay.specs.Pieces.{number_or}
+
+abbrev pub said_text : Said → List ℕ
+said_text said = said.words.now ++ (said.name.now ++ (said.more.now ++ number_or [] said.number))

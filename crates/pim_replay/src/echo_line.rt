@@ -1,0 +1,102 @@
+//! The line of a PruneEcho.
+
+ghost use Rattle.std.specs.Prelude.{◌≡◌, ◌++◌};
+ghost use Rattle.pim_addr.specs.Text.{address_text};
+ghost use Rattle.pim_device.specs.Device.{AppendsAll, failures_after};
+ghost use Rattle.pim_down.specs.Seen.{what_seen};
+ghost use Rattle.pim_replay.specs.EchoLine.{what_words, source_words, kind_of, echo_line};
+
+use crate::pieces::{Shown, write_pieces};
+use itoa::Buffer;
+use pim_addr::{Drain, Failed, Family};
+use pim_down::What;
+
+/// Which of a group's machines it is, in words, with the source of one that has a source. Contracts see all of it but
+/// the group.
+#[derive(Drop)]
+pub(crate) struct ShownWhat {
+    /// `star`, `source` or `rpt`, and a space.
+    kind: &'static [u8],
+    /// The source, or nothing.
+    source: Shown,
+    /// What parts the source from the group: a space, or nothing.
+    gap: &'static [u8],
+}
+
+impl ShownWhat {
+    /// `star`, `source` or `rpt`, and a space.
+    pub(crate) fn kind(&self) -> &[u8]
+        ensures { result.now ≡ self.now.kind.now }
+    {
+        self.kind
+    }
+
+    /// The source, or nothing.
+    pub(crate) fn source(&self) -> &[u8]
+        ensures { result.now ≡ self.now.source }
+    {
+        self.source.text()
+    }
+
+    /// What parts the source from the group: a space, or nothing.
+    pub(crate) fn gap(&self) -> &[u8]
+        ensures { result.now ≡ self.now.gap.now }
+    {
+        self.gap
+    }
+}
+
+/// Which of a group's machines it is.
+pub(crate) fn show_what<F: Family>(what: What<F::Addr>) -> ShownWhat
+    ensures kind { result.kind.now ≡ kind_of (what_seen F.bytes_of what) }
+    ensures source { result.source ++ result.gap.now ≡ source_words F.family (what_seen F.bytes_of what) }
+{
+    match what {
+        What::Star => ShownWhat {
+            kind: b"star ",
+            source: Shown::maybe::<F>(None),
+            gap: b"",
+        },
+        What::Source(source) => ShownWhat {
+            kind: b"source ",
+            source: Shown::address::<F>(source),
+            gap: b" ",
+        },
+        What::Rpt(source) => ShownWhat {
+            kind: b"rpt ",
+            source: Shown::address::<F>(source),
+            gap: b" ",
+        },
+    }
+}
+
+/// Writes the line of an echo that is told at this moment, in milliseconds, of this port's machine. Where the device
+/// fails, a front of the line went out.
+pub fn write_echo_line<F: Family, W: Drain>(
+    writer: &mut W,
+    moment: u64,
+    port: usize,
+    group: F::Addr,
+    what: What<F::Addr>,
+) -> Result<(), Failed>
+    ensures bytes { AppendsAll (W.contents writer.old) (W.contents writer.new) result
+        (echo_line F.family moment port (F.bytes_of group) (what_seen F.bytes_of what)) }
+    ensures count { W.failures writer.new ≡ failures_after (W.failures writer.old) result }
+{
+    let what = show_what::<F>(what);
+    let group = Shown::address::<F>(group);
+    let mut at = Buffer::new();
+    let mut on = Buffer::new();
+    let pieces = [
+        at.format(moment).as_bytes(),
+        b" port ",
+        on.format(port).as_bytes(),
+        b" echo ",
+        what.kind(),
+        what.source(),
+        what.gap(),
+        group.text(),
+        b"\n",
+    ];
+    write_pieces(writer, &pieces)
+}

@@ -1,0 +1,97 @@
+//! The line of a packet.
+
+ghost use Rattle.std.specs.Prelude.{◌≡◌, codes, []};
+ghost use Rattle.pim_device.specs.Device.{AppendsAll, failures_after};
+ghost use Rattle.pim_replay.specs.Said.{said_text};
+ghost use Rattle.pim_replay.specs.PacketLine.{heard_words, full_words, told_words, mark_of, verdict_words, packet_line};
+
+use crate::malformed::malformed_said;
+use crate::pieces::{Shown, write_pieces};
+use crate::said::Said;
+use itoa::Buffer;
+use pim_addr::{Drain, Failed, Family};
+use pim_hello::Heard;
+use pim_router::{Store, Verdict};
+
+/// What a Hello means for its port.
+fn heard_words(heard: Heard) -> &'static [u8]
+    ensures { result.now ≡ heard_words heard }
+{
+    match heard {
+        Heard::New => b"hello new",
+        Heard::Same => b"hello same",
+        Heard::Restarted => b"hello restarted",
+        Heard::Gone => b"hello gone",
+    }
+}
+
+/// What has no room for more.
+fn full_said(store: Store) -> Said
+    ensures { said_text result ≡ full_words store }
+{
+    match store {
+        Store::Neighbours => Said::plain(b"full neighbours"),
+        Store::Records { needed } => Said::numbered(b"full ", needed as u64),
+    }
+}
+
+/// What became of a packet, but for the word that a malformed one begins with.
+fn verdict_said(verdict: Verdict) -> Said
+    ensures { said_text result ≡ told_words verdict }
+{
+    match verdict {
+        Verdict::Mine => Said::plain(b"mine"),
+        Verdict::Malformed(fault) => malformed_said(fault),
+        Verdict::OtherType(message_type) => Said::numbered(b"type ", u64::from(message_type)),
+        Verdict::HelloTaken(heard) => Said::plain(heard_words(heard)),
+        Verdict::UnknownNeighbour => Said::plain(b"unknown-neighbour"),
+        Verdict::NotForUs => Said::plain(b"not-for-us"),
+        Verdict::Full(store) => full_said(store),
+        Verdict::Applied => Said::plain(b"applied"),
+    }
+}
+
+/// The word that a malformed packet begins with.
+fn mark_of(verdict: &Verdict) -> &[u8]
+    ensures { result.now ≡ mark_of verdict.now }
+{
+    match verdict {
+        Verdict::Malformed(_) => b"malformed ",
+        _ => b"",
+    }
+}
+
+/// Writes the line of a packet that came at this moment, in milliseconds, on this port and from this sender. Where the
+/// device fails, a front of the line went out.
+pub fn write_packet_line<F: Family, W: Drain>(
+    writer: &mut W,
+    moment: u64,
+    port: usize,
+    source: F::Addr,
+    verdict: Verdict,
+) -> Result<(), Failed>
+    ensures bytes { AppendsAll (W.contents writer.old) (W.contents writer.new) result
+        (packet_line F.family moment port (F.bytes_of source) verdict) }
+    ensures count { W.failures writer.new ≡ failures_after (W.failures writer.old) result }
+{
+    let sender = Shown::address::<F>(source);
+    let said = verdict_said(verdict);
+    let mut at = Buffer::new();
+    let mut on = Buffer::new();
+    let mut digits = Buffer::new();
+    let pieces = [
+        at.format(moment).as_bytes(),
+        b" port ",
+        on.format(port).as_bytes(),
+        b" from ",
+        sender.text(),
+        b" ",
+        mark_of(&verdict),
+        said.words(),
+        said.name(),
+        said.more(),
+        said.digits(&mut digits),
+        b"\n",
+    ];
+    write_pieces(writer, &pieces)
+}
