@@ -256,8 +256,8 @@ fn fault<F: Family>(body: &[u8]) -> Option<(JpKind, usize)> {
     Some((fault.kind, fault.at))
 }
 
-/// The first pruned twin, where there is one: behind the counts, which end at byte 22 or 46, and the entries before it, of 8
-/// or 20 bytes each.
+/// The first pruned twin, where there is one: behind the counts, which end at byte 22 or 46, and the entries before it,
+/// of 8 or 20 bytes each.
 fn fault_wanted(counts_end: u8, entry: u8, row: Row) -> Option<(JpKind, usize)> {
     let (place, _) = row.twins?;
     let before = usize::from(row.joined) + usize::from(place);
