@@ -1,6 +1,7 @@
 //! The list: its public calls, and the bound on its blocks.
 
-ghost use Rattle.std.specs.Prelude.{◌≡◌, ◌+◌, ◌-◌, ◌*◌, ◌<◌, ◌≤◌, [], length, drop, slice_index_or, OnOk, IsOk, IsTrue, ◌↔◌};
+ghost use Rattle.std.specs.Prelude.{◌≡◌, ◌+◌, ◌-◌, ◌*◌, ◌<◌, ◌≤◌, [], length, drop, slice_index_or};
+ghost use Rattle.std.specs.Prelude.{OnOk, IsOk, IsTrue, ◌↔◌};
 ghost use Rattle.std.specs.List.{All, insert, remove};
 ghost use Rattle.sorted_blocks.specs.Shape.{items, room, capacity, Shape};
 ghost use Rattle.sorted_blocks.specs.Places.{before, IsPlace, IsItem};

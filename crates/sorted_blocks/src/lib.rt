@@ -1,11 +1,11 @@
 //! A list in order, kept in blocks: an insert or a removal moves the items of one block, not half of the list.
 //!
 //! Proved: contracts see the list of the items. An insert is std's `insert` on it, a removal its `remove`; after
-//! `reserve(n)` n inserts succeed without memory, whatever blocks they split; below the capacity, which no edit changes,
-//! every insert does, however many removals stand between; a look-up by the caller's comparison
-//! answers an item that compares equal, or a gap between a lesser and a greater one; a walk yields the items from a
-//! place on. Neighbouring blocks have more than half a block's items together, so that n items stand in at most
-//! 4 n / B + 1 blocks of up to B.
+//! `reserve(n)` n inserts succeed without memory, whatever blocks they split; below the capacity, which no edit
+//! changes, every insert does, however many removals stand between; a look-up by the caller's comparison answers an
+//! item that compares equal, or a gap between a lesser and a greater one; a walk yields the items from a place on.
+//! Neighbouring blocks have more than half a block's items together, so that n items stand in at most 4 n / B + 1
+//! blocks of up to B.
 //!
 //! A change of n items in blocks of up to B costs about log n comparisons, and moves up to B items and, where it
 //! splits or merges blocks, a record and an item for each block behind. A walk costs a step an item, and takes no
