@@ -1,8 +1,14 @@
 //! Worked examples: the group 239.1.1.1 with the RP 10.9.9.9 and the sources 192.0.2.1 and 192.0.2.2, on the ports
 //! 10.0.0.1 and 10.0.1.1. Each is a table of rows that are played one after the other.
 
+mod asking;
+mod comparing;
+mod lengths;
 mod packets;
+mod refused;
 mod time;
+mod upstreams;
+mod world;
 
 use crate::{Config, PortConfig, Router, Step, Verdict};
 use pim_addr::{Routes, V4};
