@@ -10,7 +10,7 @@ use Rattle.pim_down.specs.declared.machine.Pending.{Pending}
 use Rattle.pim_down.specs.declared.machine.Machine.{Machine}
 use Rattle.pim_down.specs.declared.machine.Record.{Record}
 use Rattle.pim_down.specs.declared.step.Step.{Step}
-use Rattle.pim_down.specs.declared.step.Step.TheVariants.{Reached}
+use Rattle.pim_down.specs.declared.step.Step.TheVariants.{Reached, Echo}
 use Rattle.pim_down.specs.Key.{same_key}
 use Rattle.pim_down.specs.Records.{IsBelow, IsAscending, machine_at, recorded}
 use Rattle.pim_down.specs.Time.{Downstream, expiry_after, pending_after, machine_after, record_after, tick, expiry_due, pending_due, et_due, ppt_due, on_ppt, after_et, after_ppt, echo_of, first_due, with_first, fire_et, fire_ppt, fired, with_records, Runs, settled_at, after_silence}
@@ -205,3 +205,16 @@ silence moment state after a runs =
     (λ s t answer records f more. silent_fire s t answer records f more)
     (λ s port group what records f a e. absurd (no_echo port group what e))
     state after Reached runs a refl).1
+
+-- ---- the order of the records
+
+abbrev Ordered : Downstream → Step (List ℕ) → Downstream → Type 0
+Ordered state answer after = IsAscending state.records → IsAscending after.records
+
+pub order : (moment : ℕ) (state after : Downstream) (answer : Step (List ℕ)) → IsAscending state.records → Runs moment state answer after → IsAscending after.records
+order moment state after answer a runs =
+    by_run moment Ordered (λ s quiet reached a. a)
+    (λ s t answer quiet before more a. more ((kept_later 1 s.records).ascending a))
+    (λ s t answer records f more a. more ((kept_fired s.records records Reached f).ascending a))
+    (λ s port group what records f a. (kept_fired s.records records (Echo port group what) f).ascending a)
+    state after answer runs a

@@ -73,6 +73,11 @@ SilenceActsAtEachKey = (moment : ℕ) (state after : Downstream) → IsAscending
     Runs moment state Reached after →
     ChangesAtEach (after_silence (after.moment - state.moment)) state.records after.records
 
+-- A run leaves the records in key order.
+abbrev pub RunKeepsTheOrder : Type 0
+RunKeepsTheOrder = (moment : ℕ) (state after : Downstream) (answer : Step (List ℕ)) → IsAscending state.records →
+    Runs moment state answer after → IsAscending after.records
+
 -- Every state has a run up to every moment.
 abbrev pub EveryStateHasARun : Type 0
 EveryStateHasARun = (moment : ℕ) (state : Downstream) → HasRun moment state

@@ -5,7 +5,7 @@ ghost use Rattle.pim_down.specs.Laws.{ChangeActsAtItsKey, AMapHasOneList, KeysAr
 ghost use Rattle.pim_down.specs.Laws.{EndActsAtEachKey, EventKeepsTheOrder, HearingKeepsTheOrder, HearingKeepsSound};
 ghost use Rattle.pim_down.specs.Laws.{HearingLeavesOtherPorts, HearingActsAtEachKey, RunGoesOn, RunHasOneEnd};
 ghost use Rattle.pim_down.specs.Laws.{RunKeepsSound, RunKeepsItsBounds, SilenceActsAtEachKey, EveryStateHasARun};
-ghost use Rattle.pim_down.specs.Laws.{EchoNamesAMachine, TimersRunOut};
+ghost use Rattle.pim_down.specs.Laws.{EchoNamesAMachine, RunKeepsTheOrder, TimersRunOut};
 
 /// A change of one machine leaves the others.
 pub fn change_acts_at_its_key()
@@ -60,6 +60,11 @@ pub fn hearing_acts_at_each_key()
 /// A run keeps the ports and the limit, and ends between its start and the moment, or at the later of both.
 pub fn run_keeps_its_bounds()
     ensures { RunKeepsItsBounds }
+{}
+
+/// A run keeps the records in key order.
+pub fn run_keeps_the_order()
+    ensures { RunKeepsTheOrder }
 {}
 
 /// A run that reaches a moment leaves of each machine what the silence until then makes of it.

@@ -32,8 +32,8 @@ pub use laws::{
     a_map_has_one_list, change_acts_at_its_key, echo_names_a_machine, end_acts_at_each_key,
     event_acts_at_each_key, event_keeps_the_order, every_state_has_a_run, hearing_acts_at_each_key,
     hearing_keeps_sound, hearing_keeps_the_order, hearing_leaves_other_ports, keys_are_told_apart,
-    run_goes_on, run_has_one_end, run_keeps_its_bounds, run_keeps_sound, silence_acts_at_each_key,
-    timers_run_out,
+    run_goes_on, run_has_one_end, run_keeps_its_bounds, run_keeps_sound, run_keeps_the_order,
+    silence_acts_at_each_key, timers_run_out,
 };
 pub use machine::{Machine, Pending, Record, State};
 pub use ports::Ports;

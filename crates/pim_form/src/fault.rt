@@ -1,10 +1,10 @@
-//! Why a form isn't packed.
+//! Why demands aren't told.
 
 use pim_addr::{Family, write_text};
 use std::fmt;
 use thiserror::Error;
 
-/// Why a form isn't packed. TooBig is told before Memory.
+/// Why a form isn't packed, or two demands aren't compared.
 #[derive(Debug, Drop, PartialEq, Eq, Error)]
 pub enum FormFault<F: Family> {
     /// The star of this group, with all its exceptions, is too big for a message of the writer's budget. It is the
@@ -12,6 +12,8 @@ pub enum FormFault<F: Family> {
     TooBig(F::Addr),
     /// A growth was refused.
     Memory,
+    /// The route tables of the two demands differ. A form alone never has this fault.
+    Tables,
 }
 
 impl<F: Family> fmt::Display for FormFault<F> {
@@ -24,6 +26,7 @@ impl<F: Family> fmt::Display for FormFault<F> {
                 f.write_str(std::str::from_utf8(&text[..length]).map_err(|_| fmt::Error)?)
             }
             FormFault::Memory => f.write_str("memory"),
+            FormFault::Tables => f.write_str("tables"),
         }
     }
 }

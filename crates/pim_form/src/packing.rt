@@ -1,6 +1,6 @@
 //! The canonical messages of a form.
 
-ghost use Rattle.std.specs.Prelude.{◌≡◌, ◌≤◌, true, None, length, map, option_map, IfOk};
+ghost use Rattle.std.specs.Prelude.{◌≡◌, ◌≢◌, ◌≤◌, true, None, Err, length, map, option_map, IfOk};
 ghost use Rattle.std.specs.List.{AllByRecursion};
 ghost use Rattle.pim_down.specs.Known.{known_in};
 ghost use Rattle.pim_form.specs.Messages.{HaveRps, TellRuns, AreCanonical};
@@ -124,6 +124,7 @@ pub fn pack<F: Family>(
     ensures canonical { IfOk result
         (λ messages. AreCanonical F.family writer.now (known_in F.family routes.now) normal.now messages) }
     ensures too_big { option_map F.bytes_of (told_too_big result) ≡ too_big F.family writer.now.budget normal.now }
+    ensures not_tables { result ≢ Err FormFault.Tables }
 {
     routes.is_sound();
     if let Some(group) = too_big::<F>(normal, writer.budget()) {

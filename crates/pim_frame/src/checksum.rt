@@ -1,7 +1,7 @@
 //! The checksum of PIM messages (RFC 7761, 4.9), over IPv6 with the pseudo-header of RFC 8200, 8.1.
 
 ghost use Rattle.std.specs.Prelude.{◌≡◌, ◌+◌, ◌*◌, ◌%◌, ◌^◌, ◌<◌, ◌≤◌, length};
-ghost use Rattle.pim_frame.specs.Folded.{folded, wide_total};
+ghost use Rattle.pim_frame.specs.Folded.{folded, wide, wide_total};
 ghost use Rattle.pim_frame.specs.Sum.{words_sum, pseudo_header, message_sum, sums_rightly};
 
 use pim_addr::{AddressFamily, Family};
@@ -31,19 +31,20 @@ fn wide_word_of(bytes: &[u8]) -> u32
     ensures { folded result ≡ folded (words_sum bytes.now) }
 {
     match bytes {
-        [a, b, c, d] => wide_word(*a, *b, *c, *d),
-        [a, b, c] => wide_word(*a, *b, *c, 0),
-        [a, b] => wide_word(*a, *b, 0, 0),
-        [a] => wide_word(*a, 0, 0, 0),
+        [a, b, c, d] => wide_word([*a, *b, *c, *d]),
+        [a, b, c] => wide_word([*a, *b, *c, 0]),
+        [a, b] => wide_word([*a, *b, 0, 0]),
+        [a] => wide_word([*a, 0, 0, 0]),
         _ => unreachable!(),
     }
 }
 
-/// The number that four bytes make, big-endian.
-fn wide_word(a: u8, b: u8, c: u8, d: u8) -> u32
-    ensures { result ≡ a * 16777216 + b * 65536 + c * 256 + d }
+/// The number that four bytes make, big-endian. They come as one value and not one by one, so that a compiler loads
+/// them as one word, and sums several words at once.
+fn wide_word(word: [u8; 4]) -> u32
+    ensures { result ≡ wide word }
 {
-    u32::from(a) * 0x100_0000 + u32::from(b) * 0x1_0000 + u32::from(c) * 0x100 + u32::from(d)
+    u32::from_be_bytes(word)
 }
 
 /// The sum of wide words.
@@ -54,7 +55,7 @@ fn words_total(words: &[[u8; 4]]) -> u64
 {
     let mut sum = 0;
     for word in words {
-        sum += u64::from(wide_word(word[0], word[1], word[2], word[3]));
+        sum += u64::from(wide_word(*word));
     }
     sum
 }

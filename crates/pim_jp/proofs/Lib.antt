@@ -12,6 +12,7 @@ pub mod PlainSpelling
 pub mod Walks
 pub mod Judged
 pub mod Parts
+pub mod Parted
 pub mod EntryPlaces
 pub mod EntryLoop
 pub mod EntryPass

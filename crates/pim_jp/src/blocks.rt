@@ -14,6 +14,7 @@ ghost use Rattle.pim_jp.specs.Sources.{is_among, is_listed, one_if, HasAddress};
 
 use crate::entries::{Entries, first_entry};
 use crate::entry::Entry;
+use crate::sorting::sort_numbers;
 use pim_addr::{Family, count_below, numbers_are_in_order, source_length};
 
 /// Where the numbers of a block end: those of (S,G) entries stand before `front`, those of (S,G,rpt) ones from `back`
@@ -167,8 +168,8 @@ pub(crate) fn first_clash_by_blocks<F: Family>(
         let ends = fill::<F>(&mut left, block);
         let (before, rpts) = block.split_at_mut(ends.back);
         let (sources, _) = before.split_at_mut(ends.front);
-        sources.sort_unstable();
-        rpts.sort_unstable();
+        sort_numbers(sources);
+        sort_numbers(rpts);
         end = first_listed::<F>(sources, rpts, end, bytes);
     }
     end

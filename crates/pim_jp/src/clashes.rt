@@ -16,8 +16,11 @@ use std::mem::size_of_val;
 #[cfg(test)]
 mod tests;
 
-/// So few entries are compared one by one sooner than sorted.
+/// So few joined entries are compared one by one sooner than sorted.
 const FEW: u16 = 4;
+
+/// With so few pruned entries each joined one is compared sooner than the joined ones are sorted.
+const FEW_PRUNED: u16 = 6;
 
 /// So many fit into the smallest block.
 const SOME: u16 = 128;
@@ -47,8 +50,8 @@ fn is_among<F: Family>(entry: Entry<F::Addr>, others: Entries<'_, F>) -> bool
     false
 }
 
-/// The place of the first of so many pruned entries whose source is among few joined ones of its type; their
-/// number if there is none. Each pruned entry is compared with each joined one.
+/// The place of the first of so many pruned entries whose source is among the joined ones of its type; their
+/// number if there is none. Each pruned entry is compared with each joined one, so that one of the lists is short.
 fn first_clash_among_few<F: Family>(count: u16, bytes: &[u8], joined: &Entries<'_, F>) -> u16
     requires { count * source_length F.family ≤ length bytes.now }
     ensures bound { result ≤ count }
@@ -101,7 +104,7 @@ pub(crate) fn first_clash<F: Family>(count: u16, bytes: &[u8], joined: &Entries<
     ensures apart { AreApart F.family joined.now result bytes.now }
     ensures clash { result < count → is_in joined.now (entry_at F.family result bytes.now) ≡ true }
 {
-    if joined.count_left() <= FEW {
+    if count <= FEW_PRUNED || joined.count_left() <= FEW {
         return first_clash_among_few::<F>(count, bytes, joined);
     }
     if joined.count_left() <= SOME {

@@ -10,6 +10,7 @@ mod fault;
 mod laws;
 mod reading;
 mod sets;
+mod sorting;
 #[cfg(test)]
 mod tests;
 mod view;

@@ -11,3 +11,4 @@ pub mod Passing
 pub mod RunTo
 pub mod Courses
 pub mod Onward
+pub mod Compared

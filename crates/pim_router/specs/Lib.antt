@@ -7,3 +7,4 @@ pub mod Told
 pub mod Time
 pub mod Course
 pub mod Laws
+pub mod Canonical

@@ -7,6 +7,7 @@
 //! refresh, and between calls no neighbour's time is over.
 #![tactic(auto)]
 
+mod canonical;
 mod config;
 mod laws;
 mod router;
@@ -15,6 +16,7 @@ mod step;
 mod tests;
 mod verdict;
 
+pub use canonical::same_wants;
 pub use config::{Config, ConfigFault, PortConfig};
 pub use laws::{
     course_goes_on, course_has_one_end, every_list_has_a_course, run_goes_on, run_has_one_end,

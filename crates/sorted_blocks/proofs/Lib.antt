@@ -1,3 +1,4 @@
+pub mod Capacity
 pub mod Counted
 pub mod Dense
 pub mod Finding
@@ -10,3 +11,4 @@ pub mod Rooms
 pub mod Seeking
 pub mod Starts
 pub mod Walking
+pub mod Within

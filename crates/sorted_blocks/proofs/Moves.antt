@@ -232,6 +232,10 @@ module _ {A : Type 0} where
   unfolding IsPlace
   same_place s t e p h = (rw e h.0, rw e h.1)
 
+  pub same_item : (s t : Shape A) → t.blocks ≡ s.blocks → (p : Place) → IsItem s p → IsItem t p
+  unfolding IsItem
+  same_item s t e p h = rw e h
+
   pub same_before : (s t : Shape A) → t.blocks ≡ s.blocks → (p : Place) → before t p ≡ before s p
   unfolding before
   same_before s t e p = ap (λ bs. start bs p.block + p.at) e

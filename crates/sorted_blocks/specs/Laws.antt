@@ -34,3 +34,7 @@ RemovalKeepsTheOrder A = (cmp : A → A → Ordering) →
 abbrev pub ItemHasAPlace : Type 0 → Type 0
 ItemHasAPlace A = (shape : Shape A) (place : Place) → IsItem shape place →
     IsPlace shape place × (before shape place < length (items shape))
+
+-- no place stands behind the list's end
+abbrev pub PlaceIsWithin : Type 0 → Type 0
+PlaceIsWithin A = (shape : Shape A) (place : Place) → IsPlace shape place → before shape place ≤ length (items shape)

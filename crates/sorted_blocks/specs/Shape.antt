@@ -1,5 +1,5 @@
 -- A list in blocks, as contracts see it.
-use Rattle.std.specs.Prelude.{ℕ, ◌+◌, ◌-◌, ◌*◌, List, [], ◌∷◌, ◌++◌, length, take, drop, slice_index_or, slice_set}
+use Rattle.std.specs.Prelude.{ℕ, ◌+◌, ◌-◌, ◌*◌, ◌/◌, List, [], ◌∷◌, ◌++◌, length, take, drop, slice_index_or, slice_set}
 use Rattle.std.specs.List.{flat_map, insert, remove}
 
 -- the blocks in use, in order, and how many others stand ready
@@ -60,3 +60,12 @@ module _ {A : Type 0} where
   -- split was full, and is so again only after as many inserts
   unfoldable pub room : ℕ → Shape A → ℕ
   room half shape = shape.spare * half - used_up half shape.blocks
+
+  -- the blocks in use and those that stand ready
+  abbrev pub block_total : Shape A → ℕ
+  block_total shape = length shape.blocks + shape.spare
+
+  -- So many items fit into these blocks, wherever they are put in and whichever are taken out between: where no block
+  -- stands ready, all are in use, and neighbours have more than `half` items together.
+  unfoldable pub capacity : ℕ → Shape A → ℕ
+  capacity half shape = (block_total shape - 1) * (half + 1) / 2

@@ -1,8 +1,8 @@
 //! The list: its public calls, and the bound on its blocks.
 
-ghost use Rattle.std.specs.Prelude.{◌≡◌, ◌+◌, ◌-◌, ◌*◌, ◌<◌, ◌≤◌, [], length, drop, slice_index_or, OnOk, IsTrue, ◌↔◌};
+ghost use Rattle.std.specs.Prelude.{◌≡◌, ◌+◌, ◌-◌, ◌*◌, ◌<◌, ◌≤◌, [], length, drop, slice_index_or, OnOk, IsOk, IsTrue, ◌↔◌};
 ghost use Rattle.std.specs.List.{All, insert, remove};
-ghost use Rattle.sorted_blocks.specs.Shape.{items, room, Shape};
+ghost use Rattle.sorted_blocks.specs.Shape.{items, room, capacity, Shape};
 ghost use Rattle.sorted_blocks.specs.Places.{before, IsPlace, IsItem};
 ghost use Rattle.sorted_blocks.specs.Found.{IsFound};
 ghost use Rattle.sorted_blocks.specs.declared.place.Place.{Place};
@@ -81,6 +81,42 @@ impl<T: Copy, const HALF: usize> Blocks<T, HALF> {
         self.store.reserve(inserts)
     }
 
+    /// How many items fit without memory, wherever they are put in and whichever are taken out between. No edit
+    /// changes it.
+    pub fn capacity(&self) -> usize
+        ensures { result ≡ capacity HALF self.now }
+    {
+        self.store.capacity()
+    }
+
+    /// Takes memory for so many more items: at `Ok` they fit, whatever is taken out between. The blocks in use, and so
+    /// every place, stay, at an `Err` too, and the capacity is never less than it was. Where they fit already it
+    /// takes none.
+    pub fn reserve_capacity(&mut self, additional: usize) -> Result<(), AllocError>
+        ensures ok { OnOk result (length (items self.new) + additional ≤ capacity HALF self.new) }
+        ensures fits { length (items self.old) + additional ≤ capacity HALF self.old → IsOk result }
+        ensures items { items self.new ≡ items self.old }
+        ensures places { (place : Place) → IsPlace self.old place → IsPlace self.new place }
+        ensures is_items { (place : Place) → IsItem self.old place → IsItem self.new place }
+        ensures before { (place : Place) → before self.new place ≡ before self.old place }
+        ensures capacity { capacity HALF self.old ≤ capacity HALF self.new }
+    {
+        self.store.reserve_capacity(additional)
+    }
+
+    /// Puts an item at this place, within the capacity; it moves the items of one block. The answer is where the item
+    /// stands then.
+    pub fn insert_within(&mut self, place: Place, item: T) -> Place
+        requires place { IsPlace self.old place }
+        requires within { length (items self.old) < capacity HALF self.old }
+        ensures items { items self.new ≡ insert (items self.old) (before self.old place) item }
+        ensures capacity { capacity HALF self.new ≡ capacity HALF self.old }
+        ensures place { IsItem self.new result }
+        ensures before { before self.new result ≡ before self.old place }
+    {
+        self.store.insert_reserved(place, item)
+    }
+
     /// Puts an item at this place, within what was reserved; it moves the items of one block. The answer is where the
     /// item stands then.
     pub fn insert_reserved(&mut self, place: Place, item: T) -> Place
@@ -101,6 +137,7 @@ impl<T: Copy, const HALF: usize> Blocks<T, HALF> {
         ensures item { result.0 ≡ slice_index_or (items self.old) (before self.old place) result.0 }
         ensures items { items self.new ≡ remove (items self.old) (before self.old place) }
         ensures room { room HALF self.old ≤ room HALF self.new }
+        ensures capacity { capacity HALF self.new ≡ capacity HALF self.old }
         ensures place { IsPlace self.new result.1 }
         ensures before { before self.new result.1 ≡ before self.old place }
     {

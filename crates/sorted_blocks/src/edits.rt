@@ -2,7 +2,7 @@
 
 ghost use Rattle.std.specs.Prelude.{◌≡◌, ℕ, ◌+◌, ◌-◌, ◌<◌, ◌≤◌, [], ◌∷◌, ◌++◌, length, slice_index_or, IsTrue, ◌↔◌};
 ghost use Rattle.std.specs.List.{insert, remove};
-ghost use Rattle.sorted_blocks.specs.Shape.{items, room, block_at, together};
+ghost use Rattle.sorted_blocks.specs.Shape.{items, room, block_total, block_at, together};
 ghost use Rattle.sorted_blocks.specs.Places.{before, IsPlace, IsItem};
 ghost use Rattle.sorted_blocks.specs.Sound.{IsDense, IsDenseIn};
 
@@ -14,11 +14,12 @@ impl<T: Copy, const HALF: usize> Store<T, HALF> {
     /// item stands then.
     pub(crate) fn insert_reserved(&mut self, place: Place, item: T) -> Place
         requires place { IsPlace self.old place }
-        requires room { 0 < room HALF self.old }
+        requires spare { 0 < self.old.spare }
         ensures items { items self.new ≡ insert (items self.old) (before self.old place) item }
         ensures room { room HALF self.old ≤ room HALF self.new + 1 }
         ensures place { IsItem self.new result }
         ensures before { before self.new result ≡ before self.old place }
+        ensures total { block_total self.new ≡ block_total self.old }
         ensures dense { IsDense HALF self.old.blocks → IsDense HALF self.new.blocks }
     {
         if self.block_count() == 0 {
@@ -34,13 +35,14 @@ impl<T: Copy, const HALF: usize> Store<T, HALF> {
     fn make_way(&mut self, place: Place) -> Place
         requires some { 0 < length self.old.blocks }
         requires place { IsPlace self.old place }
-        requires room { 0 < room HALF self.old }
+        requires spare { 0 < self.old.spare }
         ensures items { items self.new ≡ items self.old }
         ensures room { room HALF self.old ≤ room HALF self.new }
         ensures block { result.block < length self.new.blocks }
         ensures at { result.at ≤ length (block_at self.new.blocks result.block) }
         ensures not_full { length (block_at self.new.blocks result.block) < HALF + HALF }
         ensures before { before self.new result ≡ before self.old place }
+        ensures total { block_total self.new ≡ block_total self.old }
         ensures dense { IsDense HALF self.old.blocks → IsDense HALF self.new.blocks }
     {
         if self.block_len(place.block) < HALF + HALF {
@@ -65,6 +67,7 @@ impl<T: Copy, const HALF: usize> Store<T, HALF> {
         ensures room { room HALF self.old ≤ room HALF self.new }
         ensures place { IsPlace self.new result.1 }
         ensures before { before self.new result.1 ≡ before self.old place }
+        ensures total { block_total self.new ≡ block_total self.old }
         ensures dense { IsDense HALF self.old.blocks → IsDense HALF self.new.blocks }
     {
         if self.block_len(place.block) == 1 {
@@ -108,6 +111,7 @@ impl<T: Copy, const HALF: usize> Store<T, HALF> {
         ensures block { result.block < length self.new.blocks }
         ensures at { result.at ≤ length (block_at self.new.blocks result.block) }
         ensures before { before self.new result ≡ before self.old place }
+        ensures total { block_total self.new ≡ block_total self.old }
         ensures front { IsDenseIn HALF self.old.blocks 0 place.block → IsDenseIn HALF self.new.blocks 0 result.block }
         ensures back { IsDenseIn HALF self.old.blocks (place.block + 1) (length self.old.blocks) →
             IsDenseIn HALF self.new.blocks result.block (length self.new.blocks) }
@@ -127,6 +131,7 @@ impl<T: Copy, const HALF: usize> Store<T, HALF> {
         ensures room { room HALF self.old ≤ room HALF self.new }
         ensures place { IsPlace self.new result }
         ensures before { before self.new result ≡ before self.old place }
+        ensures total { block_total self.new ≡ block_total self.old }
         ensures dense { IsDenseIn HALF self.old.blocks 0 place.block →
             IsDenseIn HALF self.old.blocks place.block (length self.old.blocks) → IsDense HALF self.new.blocks }
     {

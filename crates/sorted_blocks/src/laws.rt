@@ -1,7 +1,7 @@
-//! What an insert in a gap and a removal do to the order of a list, and what an item's place is. Nothing here is to be
-//! called.
+//! What an insert in a gap and a removal do to the order of a list, what an item's place is, and that places
+//! are within the list. Nothing here is to be called.
 
-ghost use Rattle.sorted_blocks.specs.Laws.{GapKeepsTheOrder, RemovalKeepsTheOrder, ItemHasAPlace};
+ghost use Rattle.sorted_blocks.specs.Laws.{GapKeepsTheOrder, RemovalKeepsTheOrder, ItemHasAPlace, PlaceIsWithin};
 
 /// An item that is put into the gap that was found for it keeps the list in order.
 pub fn gap_keeps_the_order<T>()
@@ -17,4 +17,9 @@ pub fn removal_keeps_the_order<T>()
 /// list's end.
 pub fn item_has_a_place<T>()
     ensures { ItemHasAPlace T }
+{}
+
+/// No place stands behind the list's end.
+pub fn place_is_within<T>()
+    ensures { PlaceIsWithin T }
 {}

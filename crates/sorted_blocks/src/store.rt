@@ -3,7 +3,7 @@
 ghost use Rattle.std.specs.Prelude.{◌≡◌, ◌+◌, ◌-◌, ◌<◌, ◌≤◌, [], ◌∷◌, length, slice_index_or, OnOk, OnErr};
 ghost use Rattle.std.specs.List.{remove};
 ghost use Rattle.sorted_blocks.specs.Shape.{Shape, joined, room, block_at, together, put_into, taken_out, split};
-ghost use Rattle.sorted_blocks.specs.Shape.{merged};
+ghost use Rattle.sorted_blocks.specs.Shape.{merged, block_total};
 ghost use Rattle.sorted_blocks.specs.Sound.{AllFilled};
 ghost use Rattle.sorted_blocks.specs.Sought.{IsLead};
 
@@ -80,6 +80,16 @@ impl<T: Copy, const HALF: usize> Store<T, HALF> {
         ensures few { result ≤ 4294967296 }
     {
         self.used.len()
+    }
+
+    /// How many blocks there are, those that stand ready too.
+    pub(crate) fn block_total(&self) -> usize
+        ensures total { result ≡ block_total self.now }
+        ensures few { result ≤ 4294967296 }
+        ensures half { 1 ≤ HALF }
+        ensures small { HALF ≤ 65536 }
+    {
+        self.spare.len() + self.used.len()
     }
 
     /// How many items the block of this number has.
@@ -251,6 +261,7 @@ impl<T: Copy, const HALF: usize> Store<T, HALF> {
         ensures spare { OnOk result (self.new.spare ≡ self.old.spare + 1) }
         ensures unchanged { OnErr result (self.new.spare ≡ self.old.spare) }
         ensures never_less { self.old.spare ≤ self.new.spare }
+        ensures few { OnOk result (block_total self.new ≤ 4294967296) }
     {
         let all = self.used.len() + self.spare.len();
         if all >= MOST_BLOCKS {

@@ -131,3 +131,31 @@ fn reserves_for_many(rt: HostRuntime) -> Result<(), Fail> {
     }
     Ok(())
 }
+
+#[test]
+fn fits_after_removals(rt: HostRuntime) -> Result<(), Fail> {
+    let mut list: Blocks<u32, 2> = Blocks::new(rt.alloc());
+    if list.reserve_capacity(60).is_err() {
+        assert!(rt; holds(&list, &[]));
+        return Ok(());
+    }
+    let capacity = list.capacity();
+    assert!(rt; capacity >= 60);
+    let mut random = 1u64;
+    for _step in 0..4000u32 {
+        random = next_random(random);
+        let number = ((random >> 33) % 60) as u32;
+        match list.find(&Number(number)) {
+            Ok(place) => {
+                let _ = list.remove(place);
+            }
+            Err(place) => {
+                assert!(rt; list.len() < list.capacity());
+                let _ = list.insert_within(place, number);
+            }
+        }
+        assert_eq!(rt; list.capacity(), capacity);
+        assert!(rt; has_few_blocks(&list));
+    }
+    Ok(())
+}

@@ -293,6 +293,9 @@ fn tells_faults_in_words(rt: HostRuntime) -> Result<(), Fail> {
     let fault: FormFault<V6> = FormFault::Memory;
     let text = format!(in rt.alloc(); "{fault}")?;
     assert_eq!(rt; text.as_str(), "memory");
+    let fault: FormFault<V4> = FormFault::Tables;
+    let text = format!(in rt.alloc(); "{fault}")?;
+    assert_eq!(rt; text.as_str(), "tables");
     Ok(())
 }
 

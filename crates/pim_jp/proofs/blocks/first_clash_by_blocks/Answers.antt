@@ -12,15 +12,15 @@ loop-left-preserved g c =
     let cut : c.split_at_mut-sources.result.0.now ≡ take c.fill-ends.result.front filled =
     c.split_at_mut-sources.ensures.front ∙ ap (λ xs. take c.fill-ends.result.front xs) c.split_at_mut-before.ensures.front
     ∙ take-take c.fill-ends.result.front c.fill-ends.result.back filled c.fill-ends.ensures.order in
-    let moved_sources : IsPermutation (take c.fill-ends.result.front filled) c.sort_unstable.new.self = rw cut at c.sort_unstable.ensures.permutation in
-    let moved_rpts : IsPermutation (drop c.fill-ends.result.back filled) c.sort_unstable-in-loop-left.new.self =
-    rw c.split_at_mut-before.ensures.back at c.sort_unstable-in-loop-left.ensures.permutation in
+    let moved_sources : IsPermutation (take c.fill-ends.result.front filled) c.sort_numbers.new.numbers = rw cut at c.sort_numbers.ensures.permutation in
+    let moved_rpts : IsPermutation (drop c.fill-ends.result.back filled) c.sort_numbers-in-loop-left.new.numbers =
+    rw c.split_at_mut-before.ensures.back at c.sort_numbers-in-loop-left.ensures.permutation in
     let are : AreBytes c.args.bytes.now = λ i. omega (arith, c.type_inv.bytes i) in
     record {
       bound = omega (arith, c.first_listed-end.ensures.bound, c.loop-left.invariant.bound);
       apart = λ place below.
           let this = entry_at g.F.Family.family place c.args.bytes.now in
-          in_left g.F.Family.value_of (take c.fill-ends.result.front filled) (drop c.fill-ends.result.back filled) c.sort_unstable.new.self c.sort_unstable-in-loop-left.new.self
+          in_left g.F.Family.value_of (take c.fill-ends.result.front filled) (drop c.fill-ends.result.back filled) c.sort_numbers.new.numbers c.sort_numbers-in-loop-left.new.numbers
           (is_in c.loop-left.left this) (is_in c.fill-ends.new.entries this) (is_in c.args.joined.now this) this moved_sources moved_rpts
           (c.loop-left.invariant.apart place (omega (arith, c.first_listed-end.ensures.bound)))
           (c.fill-ends.ensures.listed this (entry_has_address g.F.Family.family place c.args.count c.args.bytes.now are (omega (arith, c.first_listed-end.ensures.bound, c.loop-left.invariant.bound)) c.requires.long))
@@ -28,7 +28,7 @@ loop-left-preserved g c =
       clash = still_clash (λ (place : ℕ). is_in c.args.joined.now (entry_at g.F.Family.family place c.args.bytes.now)) c.first_listed-end.result c.loop-left.end c.args.count c.first_listed-end.ensures.bound c.loop-left.invariant.clash
           (λ below.
           let this = entry_at g.F.Family.family c.first_listed-end.result c.args.bytes.now in
-          in_block g.F.Family.value_of (take c.fill-ends.result.front filled) (drop c.fill-ends.result.back filled) c.sort_unstable.new.self c.sort_unstable-in-loop-left.new.self
+          in_block g.F.Family.value_of (take c.fill-ends.result.front filled) (drop c.fill-ends.result.back filled) c.sort_numbers.new.numbers c.sort_numbers-in-loop-left.new.numbers
           (is_in c.loop-left.left this) (is_in c.fill-ends.new.entries this) (is_in c.args.joined.now this) this moved_sources moved_rpts
           (c.loop-left.invariant.apart c.first_listed-end.result below)
           (c.fill-ends.ensures.listed this (entry_has_address g.F.Family.family c.first_listed-end.result c.args.count c.args.bytes.now are (omega (arith, below, c.loop-left.invariant.bound)) c.requires.long))

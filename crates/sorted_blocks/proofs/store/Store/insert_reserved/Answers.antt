@@ -3,13 +3,13 @@ use Rattle.std.proofs.lemmas.List.{nil_from_length}
 use Rattle.std.specs.List.{insert}
 use Rattle.sorted_blocks.specs.Shape.{items}
 use Rattle.sorted_blocks.specs.Places.{before}
-use Rattle.sorted_blocks.proofs.Rooms.{spare_some, room_begin}
+use Rattle.sorted_blocks.proofs.Rooms.{room_begin}
 use Rattle.sorted_blocks.proofs.Moves.{is_item, before_is, before_none, put_items, put_room, put_item, set_before}
 use Rattle.sorted_blocks.proofs.Dense.{dense-one, put-dense}
 use Rattle.sorted_blocks.proofs.store.Store.insert_reserved.Goals as goal
 
 pub begin-requires : goal.begin-requires
-begin-requires g c = (lit< tt, (nil_from_length c.args.self.now.blocks (omega (arith, c.block_count.ensures.count, c.if-block_count-eq0.true)), spare_some _ c.args.self.now c.requires.room))
+begin-requires g c = (lit< tt, (nil_from_length c.args.self.now.blocks (omega (arith, c.block_count.ensures.count, c.if-block_count-eq0.true)), c.requires.spare))
 
 pub returns-then-block_count-eq0-clause-room : goal.returns-then-block_count-eq0-clause-room
 returns-then-block_count-eq0-clause-room g c =

@@ -1,5 +1,4 @@
 use Rattle.std.proofs.Common.{arith, lit<}
-use Rattle.sorted_blocks.proofs.Rooms.{spare_some}
 use Rattle.sorted_blocks.proofs.Moves.{in_block, at_most, split_stays, split_moves}
 use Rattle.sorted_blocks.proofs.Dense.{split-dense}
 use Rattle.sorted_blocks.proofs.store.Store.make_way.Goals as goal
@@ -14,7 +13,7 @@ pub split-requires : goal.split-requires
 split-requires g c =
     let least = c.if-block_len.false in
     let most = c.block_len.ensures.most in
-    (lit< tt, (in_block c.args.self.now c.args.place c.requires.place c.requires.some, (omega (arith, c.block_len.ensures.len, least, most), spare_some _ c.args.self.now c.requires.room)))
+    (lit< tt, (in_block c.args.self.now c.args.place c.requires.place c.requires.some, (omega (arith, c.block_len.ensures.len, least, most), c.requires.spare)))
 
 pub returns-then-place-clause-items : goal.returns-then-place-clause-items
 returns-then-place-clause-items g c =

@@ -1,0 +1,11 @@
+pub mod Named
+pub mod Effects
+pub mod Waiting
+pub mod Spans
+pub mod Heard
+pub mod Hearings
+pub mod Echoes
+pub mod Staying
+pub mod Counts
+pub mod Asking
+pub mod OneEnd

@@ -1,0 +1,85 @@
+-- What a fresh port holds, whatever the order of the deliveries and however often each comes.
+use Rattle.std.specs.Prelude.{◌≡◌, ℕ, ◌-◌, ◌≤◌, List, [], ◌∷◌, Option, length, option_map}
+use Rattle.pim_down.specs.declared.key.Key.{Key}
+use Rattle.pim_down.specs.declared.step.Step.{Step}
+use Rattle.pim_down.specs.declared.step.Step.TheVariants.{Reached}
+use Rattle.pim_down.specs.Records.{machine_at, state_of}
+use Rattle.pim_jp.specs.Message.{Message}
+use Rattle.pim_down.specs.Hearing.{needed, events_of}
+use Rattle.pim_down.specs.Time.{Downstream, machine_after, Runs}
+use Rattle.pim_fresh.specs.Exchange.{Exchange, TellsUnitsOnce, starts, AreUnits}
+use Rattle.pim_fresh.specs.Asking.{IsAsking}
+use Rattle.pim_fresh.specs.Deliveries.{Delivery, IsTimely, final_moment}
+use Rattle.pim_fresh.specs.Hearing.{Leaves, after_message}
+use Rattle.pim_fresh.specs.Expected.{IsAsExpected, IsAsAsked, units_of}
+
+-- After timely deliveries exactly the units of the messages that were delivered have machines, each as expected.
+abbrev pub FreshHearing : Type 0
+FreshHearing = (exchange : Exchange) (ports limit : ℕ) (deliveries : List Delivery) (moment : ℕ)
+    (after : Downstream) → TellsUnitsOnce exchange → IsTimely (starts exchange).expires_in moment deliveries →
+    Leaves exchange ports limit deliveries moment after →
+    (after.moment ≡ moment) × IsAsExpected exchange deliveries moment after
+
+-- No run after a delivery tells an echo.
+abbrev pub NoEchoIsTold : Type 0
+NoEchoIsTold = (exchange : Exchange) (ports limit : ℕ) (delivery : Delivery) (earlier : List Delivery) (moment : ℕ)
+    (before after : Downstream) (answer : Step (List ℕ)) → TellsUnitsOnce exchange →
+    IsTimely (starts exchange).expires_in moment (delivery ∷ earlier) →
+    Leaves exchange ports limit earlier delivery.moment before →
+    Runs moment (after_message exchange delivery.message before) answer after → answer ≡ Reached
+
+-- Timely deliveries leave machines.
+pub record HasLeft (exchange : Exchange) (ports limit : ℕ) (deliveries : List Delivery) (moment : ℕ) : Type 0 where
+  pub after : Downstream
+  pub leaves : Leaves exchange ports limit deliveries moment after
+
+abbrev pub EveryHearingReaches : Type 0
+EveryHearingReaches = (exchange : Exchange) (ports limit : ℕ) (deliveries : List Delivery) (moment : ℕ) →
+    TellsUnitsOnce exchange → IsTimely (starts exchange).expires_in moment deliveries →
+    HasLeft exchange ports limit deliveries moment
+
+-- From the final moment on, while no message is missed for its holdtime, a run reaches each moment; each machine there
+-- is as the messages ask, is the one that was held, so much later, and has the state that it had.
+pub record Stays (exchange : Exchange) (deliveries : List Delivery) (moment later : ℕ) (state : Downstream)
+    (answer : Step (List ℕ)) (after : Downstream) : Type 0 where
+  pub reached : answer ≡ Reached
+  pub moment_is : after.moment ≡ later
+  pub asked : IsAsAsked exchange deliveries later after
+  pub waited : (key : Key (List ℕ)) →
+      machine_at key after.records ≡ option_map (machine_after (later - moment)) (machine_at key state.records)
+  pub state_stays : (key : Key (List ℕ)) → state_of key after.records ≡ state_of key state.records
+
+abbrev pub StaysAsAsked : Type 0
+StaysAsAsked = (exchange : Exchange) (ports limit : ℕ) (deliveries : List Delivery) (moment later : ℕ)
+    (state after : Downstream) (answer : Step (List ℕ)) → TellsUnitsOnce exchange →
+    final_moment exchange.timing.override_ms deliveries ≤ moment → moment ≤ later →
+    IsTimely (starts exchange).expires_in later deliveries →
+    Leaves exchange ports limit deliveries moment state → Runs later state answer after →
+    Stays exchange deliveries moment later state answer after
+
+-- The machines that are held are as many as the units of the different messages that were delivered.
+abbrev pub HoldsTheUnits : Type 0
+HoldsTheUnits = (exchange : Exchange) (ports limit : ℕ) (deliveries : List Delivery) (moment : ℕ)
+    (after : Downstream) → TellsUnitsOnce exchange → IsTimely (starts exchange).expires_in moment deliveries →
+    Leaves exchange ports limit deliveries moment after →
+    length after.records ≡ length (units_of exchange deliveries)
+
+-- A delivery needs room for the units of the different messages up to and with it.
+abbrev pub NeedsTheUnits : Type 0
+NeedsTheUnits = (exchange : Exchange) (ports limit : ℕ) (delivery : Delivery) (earlier : List Delivery)
+    (before : Downstream) → TellsUnitsOnce exchange →
+    IsTimely (starts exchange).expires_in delivery.moment earlier →
+    Leaves exchange ports limit earlier delivery.moment before →
+    needed exchange.port before.records (exchange.messages delivery.message)
+    ≡ length (units_of exchange (delivery ∷ earlier))
+
+-- The events of a message that asks for traffic, as canonical ones do, tell units.
+abbrev pub AskingTellsUnits : Type 0
+AskingTellsUnits = (known : List ℕ → Option (List ℕ)) (port : ℕ) (message : Message) → IsAsking known message →
+    AreUnits port [] (events_of known message)
+
+-- Deliveries leave the machines that they leave, and no others.
+abbrev pub HearingHasOneEnd : Type 0
+HearingHasOneEnd = (exchange : Exchange) (ports limit : ℕ) (deliveries : List Delivery) (moment : ℕ)
+    (one other : Downstream) → Leaves exchange ports limit deliveries moment one →
+    Leaves exchange ports limit deliveries moment other → one ≡ other

@@ -1,0 +1,6 @@
+pub mod Exchange
+pub mod Deliveries
+pub mod Hearing
+pub mod Expected
+pub mod Asking
+pub mod Laws

@@ -1,0 +1,2 @@
+pub mod RoutesFile
+pub mod Seen

@@ -1,0 +1,56 @@
+-- What contracts see of the steps.
+use Rattle.std.specs.Prelude.{◌≡◌, ◌⊎◌, ℕ, true, false, ◌<◌, ◌≤◌, ⊤, List, [], length, take, Option, None, Some, Result, Ok, Err}
+use Rattle.std.specs.Borrow.{Bor}
+use Rattle.pim_addr.specs.declared.family.AddressFamily.{AddressFamily}
+use Rattle.pim_addr.specs.declared.route.Route.{Route}
+use Rattle.pim_addr.specs.Routes.{Row, RouteTable}
+use Rattle.pim_addr.specs.RouteRows.{row_seen}
+use Rattle.pim_routes_file.specs.declared.fault.RoutesFault.{RoutesFault}
+use Rattle.pim_routes_file.specs.declared.fault.RoutesFault.TheVariants.{TooLong, Line, Memory}
+use Rattle.pim_routes_file.specs.declared.row.FileRow.{FileRow}
+use Rattle.pim_routes_file.specs.declared.row.FileRow.TheVariants.{Rp, Via}
+use Rattle.pim_routes_file.specs.RoutesFile.{file_limit, lines_of, is_passed_over, IsRow, row_faults}
+use Rattle.pim_routes_file.specs.RoutesFile.{with_file_row, Adds, IsWrong, StopsAt}
+
+-- the lines of what is left of a text
+abbrev pub lines_left : Option (Bor (List ℕ)) → List (List ℕ)
+lines_left None = []
+lines_left (Some text) = lines_of text.now
+
+abbrev pub file_row_seen : {A : Type 0} → (A → List ℕ) → FileRow (Route A) → FileRow Row
+file_row_seen bytes_of (Rp route) = Rp (row_seen bytes_of route)
+file_row_seen bytes_of (Via route) = Via (row_seen bytes_of route)
+
+-- The line says nothing and the table stays, or its row was added.
+abbrev pub AddsLine : AddressFamily → List ℕ → RouteTable → RouteTable → Type 0
+AddsLine family line old new =
+    ((is_passed_over line ≡ true) × (new ≡ old))
+    ⊎ ((row : FileRow Row) × (is_passed_over line ≡ false) × IsRow family line row × (row_faults family row old ≡ [])
+    × (new ≡ with_file_row row old))
+
+-- A line isn't added for this cause.
+abbrev pub IsLineFault : AddressFamily → List ℕ → ℕ → RouteTable → RoutesFault → Type 0
+IsLineFault family line number table Memory = ⊤
+IsLineFault family line number table (Line told) = (told ≡ number) × IsWrong family line table
+IsLineFault family line number table fault = ⊥
+
+-- The lines aren't all added for this cause.
+abbrev pub StopsIn : AddressFamily → List (List ℕ) → RouteTable → RouteTable → RoutesFault → Type 0
+StopsIn family lines old new Memory = (count : ℕ) × Adds family (take count lines) old new
+StopsIn family lines old new (Line number) = StopsAt family lines old new number
+StopsIn family lines old new fault = ⊥
+
+-- The file isn't had for one of these.
+abbrev pub IsFileFault : RoutesFault → Type 0
+IsFileFault (Line number) = ⊥
+IsFileFault fault = ⊤
+
+-- The file, all of whose bytes are these, isn't had for this cause.
+abbrev pub IsFileFaultOf : List ℕ → RoutesFault → Type 0
+IsFileFaultOf file TooLong = file_limit < length file
+IsFileFaultOf file fault = IsFileFault fault
+
+-- all of the bytes, or why not
+abbrev pub GivesFile : {A : Type 0} → (A → List ℕ) → List ℕ → Result A RoutesFault → Type 0
+GivesFile bytes_of file (Ok read) = (file ≡ bytes_of read) × (length file ≤ file_limit)
+GivesFile bytes_of file (Err fault) = IsFileFaultOf file fault

@@ -1,0 +1,70 @@
+//! The lines of a file.
+
+ghost use Rattle.std.specs.Prelude.{◌≡◌, ◌∷◌, ◌==◌};
+ghost use Rattle.std.specs.List.{position};
+ghost use Rattle.std.specs.Iterator.{YieldsFirstBy, item_count};
+ghost use Rattle.pim_routes_file.specs.RoutesFile.{lines_of};
+ghost use Rattle.pim_routes_file.specs.Seen.{lines_left};
+
+use std::marker::Model;
+
+/// The lines that are left, without their line feeds: what stands before, between and behind these. Behind a last line
+/// feed stands an empty line.
+#[derive(Drop)]
+pub(crate) struct Lines<'a> {
+    left: Option<&'a [u8]>,
+}
+
+impl<'a> Model for Lines<'a> {
+    ghost use Rattle.std.specs.Prelude.{List, ℕ};
+    ghost use Rattle.pim_routes_file.specs.Seen.{lines_left};
+
+    ghost Value = { List (List ℕ) };
+
+    ghost view = { λ lines. lines_left lines.left };
+}
+
+/// Where the first line feed stands, if there is one.
+fn first_line_feed(text: &[u8]) -> Option<usize>
+    ensures { result ≡ position (λ byte. byte == 10) text.now }
+{
+    text.iter().position(|byte| *byte == b'\n')
+}
+
+/// The first line, and what stands behind its line feed, if it has one.
+fn cut_line(text: &[u8]) -> (&[u8], Option<&[u8]>)
+    ensures { lines_of text.now ≡ result.0.now ∷ lines_left result.1 }
+{
+    let Some(place) = first_line_feed(text) else {
+        return (text, None);
+    };
+    let (line, behind) = text.split_at(place);
+    match behind.split_first() {
+        Some((_, left)) => (line, Some(left)),
+        None => unreachable!(),
+    }
+}
+
+impl<'a> Lines<'a> {
+    /// The lines of this text.
+    pub(crate) fn new(text: &'a [u8]) -> Self
+        ensures { result ≡ lines_of text.now }
+    {
+        Lines { left: Some(text) }
+    }
+}
+
+impl<'a> Iterator for Lines<'a> {
+    type Item = &'a [u8];
+
+    ghost next_gives = { YieldsFirstBy (λ line. line.now) (λ lines. lines) };
+
+    ghost remaining = { item_count (λ lines. lines) };
+
+    fn next(&mut self) -> Option<&'a [u8]> {
+        let text = self.left?;
+        let (line, left) = cut_line(text);
+        self.left = left;
+        Some(line)
+    }
+}

@@ -1,0 +1,205 @@
+//! The list: its calls.
+
+ghost use Rattle.std.specs.Prelude.{◌≡◌, ℕ, ◌+◌, ◌<◌, ◌≤◌, [], length, take, drop, slice_index_or, slice_set, OnOk, IsOk, IsTrue, ◌↔◌};
+ghost use Rattle.std.specs.List.{All, insert, remove};
+ghost use Rattle.sorted_blocks.specs.declared.place.Place.{Place};
+ghost use Rattle.sorted_slab.specs.Listed.{at, numbers, IsPlace, IsItem, IsFound};
+
+use crate::probe::ByNumber;
+use crate::walk::Walk;
+use slab::Slab;
+use sorted_blocks::{Blocks, Place, Probe, item_has_a_place, place_is_within};
+use std::alloc::{AllocError, Global};
+use std::marker::Model;
+
+/// A list of items in order. The items stand in a slab, each under a number; their numbers stand in the list's order,
+/// in blocks of up to twice `HALF`.
+#[derive(Drop)]
+pub struct SortedSlab<T: Copy, const HALF: usize> {
+    index: Blocks<usize, HALF>,
+    slab: Slab<T>,
+}
+
+impl<T: Copy, const HALF: usize> Model for SortedSlab<T, HALF> {
+    ghost use Rattle.sorted_slab.specs.Listed.{Listed, listed};
+
+    ghost Value = { Listed T };
+
+    ghost use Rattle.sorted_blocks.specs.Shape.{items};
+    ghost use Rattle.sorted_slab.specs.Sound.{IsSound};
+
+    ghost view = { λ s. listed s.index s.slab HALF };
+
+    ghost invariant = { λ s. IsSound s.slab (items s.index) };
+}
+
+impl<T: Copy, const HALF: usize> SortedSlab<T, HALF> {
+    /// A list with no item, its numbers in blocks of up to twice `HALF`; it takes no memory.
+    pub fn new(alloc: Global) -> Self
+        requires some { 1 ≤ HALF }
+        requires small { HALF ≤ 65536 }
+        ensures { result.items ≡ [] }
+    {
+        SortedSlab {
+            index: Blocks::new(alloc),
+            slab: Slab::new(alloc),
+        }
+    }
+
+    /// How many items there are.
+    pub fn len(&self) -> usize
+        ensures items { result ≡ length self.now.items }
+        ensures numbers { result ≡ length (numbers self.now) }
+    {
+        self.index.len()
+    }
+
+    /// How many items fit without memory. No edit changes it.
+    pub fn capacity(&self) -> usize
+        ensures { result ≡ self.now.capacity }
+    {
+        self.slab.capacity().min(self.index.capacity())
+    }
+
+    /// Takes memory for so many more items: at `Ok` they fit, whatever is taken out between. The items, and every
+    /// place, stay, at an `Err` too, and the capacity is never less than it was. Where they fit already it takes none.
+    pub fn reserve(&mut self, additional: usize) -> Result<(), AllocError>
+        ensures ok { OnOk result (length self.new.items + additional ≤ self.new.capacity) }
+        ensures fits { length self.old.items + additional ≤ self.old.capacity → IsOk result }
+        ensures items { self.new.items ≡ self.old.items }
+        ensures numbers { numbers self.new ≡ numbers self.old }
+        ensures places { (place : Place) → IsPlace self.old place → IsPlace self.new place }
+        ensures is_items { (place : Place) → IsItem self.old place → IsItem self.new place }
+        ensures at { (place : Place) → at self.new place ≡ at self.old place }
+        ensures capacity { self.old.capacity ≤ self.new.capacity }
+    {
+        self.slab.reserve(additional)?;
+        self.index.reserve_capacity(additional)
+    }
+
+    /// Puts an item at this place, within the capacity. The answer is where it stands then.
+    pub fn insert_within(&mut self, place: Place, item: T) -> Place
+        requires place { IsPlace self.old place }
+        requires within { length self.old.items < self.old.capacity }
+        ensures items { self.new.items ≡ insert self.old.items (at self.old place) item }
+        ensures capacity { self.new.capacity ≡ self.old.capacity }
+        ensures place { IsItem self.new result }
+        ensures at { at self.new result ≡ at self.old place }
+    {
+        place_is_within::<usize>();
+        item_has_a_place::<usize>();
+        let number = self.slab.insert_reserved(item);
+        self.index.insert_within(place, number)
+    }
+
+    /// Takes out the item at this place. Beside it stands the place of the item that came next.
+    pub fn remove(&mut self, place: Place) -> (T, Place)
+        requires { IsItem self.old place }
+        ensures item { result.0 ≡ slice_index_or self.old.items (at self.old place) result.0 }
+        ensures items { self.new.items ≡ remove self.old.items (at self.old place) }
+        ensures capacity { self.new.capacity ≡ self.old.capacity }
+        ensures place { IsPlace self.new result.1 }
+        ensures at { at self.new result.1 ≡ at self.old place }
+    {
+        let (number, behind) = self.index.remove(place);
+        let item = self.slab.remove(number);
+        (item, behind)
+    }
+
+    /// Puts this item in the place of the one that stands there.
+    pub fn set(&mut self, place: Place, item: T)
+        requires { IsItem self.old place }
+        ensures items { self.new.items ≡ slice_set self.old.items (at self.old place) item }
+        ensures index { self.new.index ≡ self.old.index }
+        ensures capacity { self.new.capacity ≡ self.old.capacity }
+    {
+        let number = *self.index.get(place);
+        self.slab[number] = item;
+    }
+
+    /// The item at this place.
+    pub fn get(&self, place: Place) -> &T
+        requires { IsItem self.now place }
+        ensures { result.now ≡ slice_index_or self.now.items (at self.now place) result.now }
+    {
+        let number = *self.index.get(place);
+        &self.slab[number]
+    }
+
+    /// Whether an item stands at this place.
+    pub fn is_item(&self, place: Place) -> bool
+        ensures { IsTrue result ↔ IsItem self.now place }
+    {
+        item_has_a_place::<usize>();
+        self.index.is_item(place)
+    }
+
+    /// The place before all items: the first one's, where there is any.
+    pub fn first(&self) -> Place
+        ensures place { IsPlace self.now result }
+        ensures at { at self.now result ≡ 0 }
+        ensures item { 0 < length self.now.items → IsItem self.now result }
+    {
+        self.index.first()
+    }
+
+    /// The place behind this item: the next one's, where there is any.
+    pub fn next(&self, place: Place) -> Place
+        requires { IsItem self.now place }
+        ensures place { IsPlace self.now result }
+        ensures at { at self.now result ≡ at self.now place + 1 }
+        ensures item { at self.now place + 1 < length self.now.items → IsItem self.now result }
+    {
+        self.index.next(place)
+    }
+
+    /// The same place, before the item behind it where that begins the next block.
+    pub fn settled(&self, place: Place) -> Place
+        requires { IsPlace self.now place }
+        ensures place { IsPlace self.now result }
+        ensures at { at self.now result ≡ at self.now place }
+        ensures item { at self.now place < length self.now.items → IsItem self.now result }
+    {
+        self.index.settled(place)
+    }
+
+    /// So many items from this place on, in order, or those that there are.
+    pub fn walk(&self, place: Place, count: usize) -> Walk<'_, T, HALF>
+        requires { IsPlace self.now place }
+        ensures { result ≡ take count (drop (at self.now place) self.now.items) }
+    {
+        Walk {
+            numbers: self.index.iter_from(place),
+            slab: &self.slab,
+            left: count,
+        }
+    }
+
+    /// Where an item stands that compares equal, or else a gap: the item before it is less than what is sought, and
+    /// the one behind it is greater.
+    pub fn find<P: Probe<T>>(&self, probe: &P) -> Result<Place, Place>
+        requires { All (P.can_compare probe.now) self.now.items }
+        ensures { IsFound (P.order probe.now) self.now result }
+    {
+        place_is_within::<usize>();
+        self.index.find(&ByNumber {
+            slab: &self.slab,
+            probe,
+        })
+    }
+
+    /// The same, beginning at a place near which it may stand; whatever place that is, the answer is right.
+    pub fn find_near<P: Probe<T>>(&self, near: Place, probe: &P) -> Result<Place, Place>
+        requires { All (P.can_compare probe.now) self.now.items }
+        ensures { IsFound (P.order probe.now) self.now result }
+    {
+        place_is_within::<usize>();
+        self.index.find_near(
+            near,
+            &ByNumber {
+                slab: &self.slab,
+                probe,
+            },
+        )
+    }
+}

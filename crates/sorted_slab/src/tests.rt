@@ -1,0 +1,130 @@
+//! A list in blocks of four numbers beside a plain vector, over some thousands of steps.
+
+ghost use Rattle.std.specs.Ordering.{nat_cmp};
+
+use crate::{SortedSlab, Walk};
+use sorted_blocks::{Place, Probe};
+use std::cmp::Ordering;
+use std::test::Fail;
+
+/// The number that is sought.
+#[derive(Drop)]
+struct Number(u32);
+
+impl Probe<u32> for Number {
+    ghost can_compare = { λ _ _. Unit {0} };
+
+    ghost order = { λ number item. nat_cmp item number.0 };
+
+    fn compare(&self, item: &u32) -> Ordering {
+        item.cmp(&self.0)
+    }
+}
+
+/// Whether these are the items that are left of the walk.
+fn are_left(walk: Walk<'_, u32, 2>, plain: &[u32]) -> bool {
+    let mut left = plain;
+    for item in walk {
+        match left.split_first() {
+            Some((first, rest)) if *first == *item => left = rest,
+            _ => return false,
+        }
+    }
+    left.is_empty()
+}
+
+/// Whether the list holds just these, by its places and by its walk.
+fn holds(list: &SortedSlab<u32, 2>, plain: &[u32]) -> bool {
+    if list.len() != plain.len() {
+        return false;
+    }
+    let mut place = list.first();
+    for wanted in plain {
+        if !list.is_item(place) || list.get(place) != wanted {
+            return false;
+        }
+        place = list.next(place);
+    }
+    !list.is_item(place) && are_left(list.walk(list.first(), plain.len()), plain)
+}
+
+/// Puts the number in, or takes it out where it is there; answers whether it could.
+fn turn(list: &mut SortedSlab<u32, 2>, plain: &mut Vec<u32>, near: Place, number: u32) -> bool {
+    match (
+        list.find_near(near, &Number(number)),
+        plain.binary_search(&number),
+    ) {
+        (Ok(place), Ok(index)) if index < plain.len() => {
+            let (item, _next) = list.remove(place);
+            item == plain.remove(index)
+        }
+        (Err(place), Err(index)) if index <= plain.len() && list.len() < list.capacity() => {
+            let stands = list.insert_within(place, number);
+            list.is_item(stands)
+                && *list.get(stands) == number
+                && plain.insert(index, number).is_ok()
+        }
+        _ => false,
+    }
+}
+
+/// The next number of a plain sequence.
+fn next_number(number: u32) -> u32 {
+    number.wrapping_mul(1_664_525).wrapping_add(1_013_904_223)
+}
+
+#[test]
+fn turns_beside_a_vector(rt: HostRuntime) -> Result<(), Fail> {
+    let mut list: SortedSlab<u32, 2> = SortedSlab::new(rt.alloc());
+    let mut plain: Vec<u32> = Vec::new(rt.alloc());
+    if list.reserve(300).is_err() {
+        assert!(rt; list.len() == 0);
+        return Ok(());
+    }
+    let capacity = list.capacity();
+    let mut number = 7u32;
+    let mut near = list.first();
+    for step in 0..3_000u32 {
+        number = next_number(number);
+        assert!(rt; turn(&mut list, &mut plain, near, (number >> 16) % 300));
+        near = list.first();
+        if step % 100 == 0 {
+            assert!(rt; holds(&list, plain.as_slice()));
+        }
+    }
+    assert!(rt; holds(&list, plain.as_slice()));
+    // No edit changed it, and no memory is wanted for what is left of it.
+    assert_eq!(rt; list.capacity(), capacity);
+    assert!(rt; list.reserve(0).is_ok());
+    Ok(())
+}
+
+#[test]
+fn changes_in_place(rt: HostRuntime) -> Result<(), Fail> {
+    let mut list: SortedSlab<u32, 2> = SortedSlab::new(rt.alloc());
+    if list.reserve(9).is_err() {
+        assert!(rt; list.len() == 0);
+        return Ok(());
+    }
+    for number in [50, 10, 30, 20, 40u32] {
+        let Err(place) = list.find(&Number(number)) else {
+            return Ok(());
+        };
+        if list.len() < list.capacity() {
+            let _stands = list.insert_within(place, number);
+        }
+    }
+    assert!(rt; holds(&list, &[10, 20, 30, 40, 50]));
+    let Ok(place) = list.find(&Number(30)) else {
+        assert!(rt; false);
+        return Ok(());
+    };
+    list.set(place, 35);
+    let Err(before) = list.find(&Number(34)) else {
+        assert!(rt; false);
+        return Ok(());
+    };
+    assert!(rt; are_left(list.walk(before, 2), &[35, 40]));
+    assert!(rt; holds(&list, &[10, 20, 35, 40, 50]));
+    Ok(())
+}
