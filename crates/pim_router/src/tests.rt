@@ -1,6 +1,9 @@
 //! Worked examples: the group 239.1.1.1 with the RP 10.9.9.9 and the sources 192.0.2.1 and 192.0.2.2, on the ports
 //! 10.0.0.1 and 10.0.1.1. Each is a table of rows that are played one after the other.
 
+mod crowds;
+mod jumps;
+mod memory;
 mod packets;
 mod time;
 
@@ -79,6 +82,8 @@ enum Row<'a> {
     Now(u64),
     /// The state of one of the group's machines on the first port.
     State(What<[u8; 4]>, Option<State>),
+    /// The time that is left to one of the group's machines on the first port, in milliseconds.
+    Left(What<[u8; 4]>, u64),
 }
 
 /// A message to the first port's address with the holdtime 210.
@@ -166,6 +171,13 @@ fn receive_body(
     receive(router, 0, from, &bytes)
 }
 
+/// Whether one of the group's machines on the first port has this time left.
+fn has_left(router: &Router<'_, V4>, what: What<[u8; 4]>, left: u64) -> bool {
+    router.ports().records_on(0).any(|held| {
+        held.key.group == GROUP && held.key.what == what && held.machine.expires_in == Some(left)
+    })
+}
+
 /// Plays a row: whether it goes as it says.
 fn goes(alloc: Global, router: &mut Router<'_, V4>, row: Row<'_>) -> Result<bool, AllocError> {
     match row {
@@ -186,6 +198,7 @@ fn goes(alloc: Global, router: &mut Router<'_, V4>, row: Row<'_>) -> Result<bool
         }
         Row::Now(moment) => Ok(router.now() == moment),
         Row::State(what, state) => Ok(router.ports().state_of(0, GROUP, what) == state),
+        Row::Left(what, left) => Ok(has_left(router, what, left)),
     }
 }
 
