@@ -178,6 +178,14 @@ fn has_left(router: &Router<'_, V4>, what: What<[u8; 4]>, left: u64) -> bool {
     })
 }
 
+/// How many neighbours a port has; none where it isn't there.
+fn neighbour_count(router: &Router<'_, V4>, port: usize) -> usize {
+    if port >= router.port_count() {
+        return 0;
+    }
+    router.neighbours(port).count()
+}
+
 /// Plays a row: whether it goes as it says.
 fn goes(alloc: Global, router: &mut Router<'_, V4>, row: Row<'_>) -> Result<bool, AllocError> {
     match row {

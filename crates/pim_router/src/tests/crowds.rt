@@ -1,6 +1,6 @@
 //! Many neighbours and many records: up to the limits, and past them.
 
-use super::{ANNE, FOR_EVER, Lists, PORTS, Row, from, goes, play, receive_body};
+use super::{ANNE, FOR_EVER, Lists, PORTS, Row, from, goes, neighbour_count, play, receive_body};
 use crate::{Config, Router, Store, Verdict};
 use pim_addr::{Routes, V4};
 use pim_frame::MessageType;
@@ -45,7 +45,7 @@ fn full_of_neighbours(rt: HostRuntime) -> Result<(), Fail> {
     };
     let mut router = Router::new(rt.alloc(), &config)?;
     assert!(rt; crowd_comes(rt.alloc(), &mut router)?);
-    assert_eq!(rt; router.neighbours(0).count(), 1024);
+    assert_eq!(rt; neighbour_count(&router, 0), 1024);
     let rows = [
         Row::Hello(ONE_MORE, &FOR_EVER, Verdict::Full(Store::Neighbours)),
         Row::Hello(ONE_MORE, &GOODBYE, GONE),
@@ -56,8 +56,8 @@ fn full_of_neighbours(rt: HostRuntime) -> Result<(), Fail> {
     for row in rows {
         assert!(rt; goes(rt.alloc(), &mut router, row)?);
     }
-    assert_eq!(rt; router.neighbours(0).count(), 1024);
-    assert_eq!(rt; router.neighbours(1).count(), 0);
+    assert_eq!(rt; neighbour_count(&router, 0), 1024);
+    assert_eq!(rt; neighbour_count(&router, 1), 0);
     Ok(())
 }
 
