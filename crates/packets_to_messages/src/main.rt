@@ -5,6 +5,7 @@
 ghost use Rattle.std.specs.Prelude.{◌≡◌, ◌≤◌, ◌^◌, max, OnOk};
 
 use pim_addr::{Routes, V4};
+use pim_form::Writer;
 use pim_frame::all_routers;
 use pim_router::{Config, PortConfig, Router, Step};
 use std::io;
@@ -18,6 +19,11 @@ const PORTS: [PortConfig<[u8; 4]>; 1] = [PortConfig {
 
 /// A router on the link of the only port.
 const SENDER: [u8; 4] = [10, 0, 0, 9];
+
+/// The neighbour by which all sources and RPs are reached, and the daemon's own address on that link.
+const UPSTREAM: [u8; 4] = [10, 0, 1, 1];
+
+const OWN: [u8; 4] = [10, 0, 1, 2];
 
 /// A Hello of holdtime 57,340 s.
 const HELLO: [u8; 10] = [0x20, 0, 0, 0, 0, 1, 0, 2, 0xdf, 0xfc];
@@ -37,6 +43,24 @@ const JOIN_AND_PRUNE: [u8; 42] = [
 /// Packets of the first port, each with the moment at which it came, in milliseconds since the start.
 const PACKETS: [(u64, &[u8]); 3] = [(0, &HELLO), (5, &JOIN), (61_000, &JOIN_AND_PRUNE)];
 
+/// Writes the messages that ask the upstream neighbour for what the router's ports want: to be sent at each Refresh.
+fn ask_upstream(rt: &HostRuntime, router: &Router<'_, V4>) -> io::Result<()> {
+    let writer = match Writer::<V4>::new(UPSTREAM, OWN, 210, 1_460) {
+        Ok(writer) => writer,
+        Err(fault) => return println!(rt; "{fault}"),
+    };
+    let Ok(messages) = router.canonical(rt.alloc(), &writer) else {
+        return println!(rt; "a star too big for one message, or no memory");
+    };
+    for index in 0..messages.count() {
+        for byte in messages.get(index).unwrap_or(&[]) {
+            print!(rt; "{byte:02x}")?;
+        }
+        println!(rt; "")?;
+    }
+    Ok(())
+}
+
 /// Lets time pass up to this moment: before each packet, and whenever the daemon wakes up.
 fn pass_time(rt: &HostRuntime, router: &mut Router<'_, V4>, moment: u64) -> io::Result<()>
     requires { moment ≤ 10 ^ 15 }
@@ -48,15 +72,18 @@ fn pass_time(rt: &HostRuntime, router: &mut Router<'_, V4>, moment: u64) -> io::
             Step::Echo { port, group, .. } => println!(rt;
                 "send a PruneEcho of {group:?} on port {port}"
             )?,
-            Step::Refresh => println!(rt; "send the upstream neighbour all messages again")?,
+            Step::Refresh => ask_upstream(rt, router)?,
         }
     }
 }
 
 fn main(rt: HostRuntime) -> io::Result<()> {
-    // what the daemon was configured with: the RP of all groups, and a limit of records for each port
+    // what the daemon was configured with: the RP of all groups, the way to it, and a limit of records for each port
     let mut routes = Routes::<V4>::new(rt.alloc());
     if let Err(fault) = routes.add_rp([224, 0, 0, 0], 4, [10, 9, 9, 9]) {
+        return println!(rt; "{fault}");
+    }
+    if let Err(fault) = routes.add_via([0; 4], 0, UPSTREAM) {
         return println!(rt; "{fault}");
     }
     let config = Config {
@@ -83,5 +110,5 @@ fn main(rt: HostRuntime) -> io::Result<()> {
     for held in router.ports().records() {
         println!(rt; "{:?} {:?}", held.key.what, held.machine.state)?;
     }
-    Ok(())
+    ask_upstream(&rt, &router)
 }

@@ -4,6 +4,9 @@
 mod asking;
 mod comparing;
 mod lengths;
+mod crowds;
+mod jumps;
+mod memory;
 mod packets;
 mod refused;
 mod time;
@@ -85,6 +88,8 @@ enum Row<'a> {
     Now(u64),
     /// The state of one of the group's machines on the first port.
     State(What<[u8; 4]>, Option<State>),
+    /// The time that is left to one of the group's machines on the first port, in milliseconds.
+    Left(What<[u8; 4]>, u64),
 }
 
 /// A message to the first port's address with the holdtime 210.
@@ -172,6 +177,21 @@ fn receive_body(
     receive(router, 0, from, &bytes)
 }
 
+/// Whether one of the group's machines on the first port has this time left.
+fn has_left(router: &Router<'_, V4>, what: What<[u8; 4]>, left: u64) -> bool {
+    router.ports().records_on(0).any(|held| {
+        held.key.group == GROUP && held.key.what == what && held.machine.expires_in == Some(left)
+    })
+}
+
+/// How many neighbours a port has; none where it isn't there.
+fn neighbour_count(router: &Router<'_, V4>, port: usize) -> usize {
+    if port >= router.port_count() {
+        return 0;
+    }
+    router.neighbours(port).count()
+}
+
 /// Plays a row: whether it goes as it says.
 fn goes(alloc: Global, router: &mut Router<'_, V4>, row: Row<'_>) -> Result<bool, AllocError> {
     match row {
@@ -192,6 +212,7 @@ fn goes(alloc: Global, router: &mut Router<'_, V4>, row: Row<'_>) -> Result<bool
         }
         Row::Now(moment) => Ok(router.now() == moment),
         Row::State(what, state) => Ok(router.ports().state_of(0, GROUP, what) == state),
+        Row::Left(what, left) => Ok(has_left(router, what, left)),
     }
 }
 
