@@ -10,9 +10,23 @@ use Rattle.pim_hello.specs.declared.fault.HelloFault.{HelloFault}
 use Rattle.pim_jp.specs.declared.fault.JpKind.{JpKind}
 use Rattle.pim_jp.specs.declared.fault.JpKind.TheVariants as kind
 use Rattle.pim_jp.specs.declared.fault.JpFault.{JpFault}
+use Rattle.pim_addr.specs.declared.family.AddressFamily.TheVariants.{Ipv4, Ipv6}
+use Rattle.pim_addr.specs.Text.{address_text}
+use Rattle.pim_routes_file.specs.declared.fault.RoutesFault.{RoutesFault}
+use Rattle.pim_routes_file.specs.declared.fault.RoutesFault.TheVariants as routes
+use Rattle.pimtree.specs.declared.addresses.Address.{Address as Either}
+use Rattle.pimtree.specs.declared.addresses.Address.TheVariants as either
+use Rattle.pimtree.specs.declared.causes.Side.{Side}
+use Rattle.pimtree.specs.declared.causes.Side.TheVariants as side
+use Rattle.pimtree.specs.declared.causes.CaptureCause.{CaptureCause}
+use Rattle.pimtree.specs.declared.causes.CaptureCause.TheVariants as capture
+use Rattle.pimtree.specs.declared.causes.ConfigCause.{ConfigCause}
+use Rattle.pimtree.specs.declared.causes.ConfigCause.TheVariants as config
 use Rattle.pimtree.specs.declared.fault.Fault.{Fault}
-use Rattle.pimtree.specs.declared.fault.Fault.TheVariants.{Clap, Address, Family, Frame, Hello, JoinPrune, InputTooLong}
-use Rattle.pimtree.specs.declared.fault.Fault.TheVariants.{InputRead, Output, Memory}
+use Rattle.pimtree.specs.declared.fault.Fault.TheVariants.{Clap, Address, Word, Family, NoPort, WriterAddress, Config}
+use Rattle.pimtree.specs.declared.fault.Fault.TheVariants.{File, RoutesTooLong, RoutesRead, RoutesLine, Capture, Frame}
+use Rattle.pimtree.specs.declared.fault.Fault.TheVariants.{Hello, JoinPrune, TooBig, InputTooLong, InputRead, Output}
+use Rattle.pimtree.specs.declared.fault.Fault.TheVariants.{Memory}
 use Rattle.pimtree.specs.Text.{line}
 
 abbrev pub frame_words : FrameFault → List ℕ
@@ -48,13 +62,51 @@ join_prune_words fault = codes "join/prune " ++ kind_name fault.kind ++ codes " 
 abbrev pub refusal_words : ErrorKind → List ℕ
 refusal_words kind = unwrap_or (kind_text kind) (codes "help")
 
+abbrev pub no_port_words : Side → List ℕ
+no_port_words side.A = codes "no port for a"
+no_port_words side.B = codes "no port for b"
+
+abbrev pub config_words : ConfigCause → List ℕ
+config_words config.Ports = codes "config ports"
+config_words config.Address = codes "config address"
+config_words config.Rp = codes "config rp"
+
+abbrev pub capture_words : CaptureCause → List ℕ
+capture_words capture.Magic = codes "capture magic"
+capture_words capture.LinkType = codes "capture link-type"
+capture_words capture.Truncated = codes "capture truncated"
+capture_words capture.TooLong = codes "capture too-long"
+capture_words capture.Read = codes "capture read"
+
+-- the text of an address of either family
+abbrev pub address_words : Either → List ℕ
+address_words (either.V4 address) = address_text Ipv4 address
+address_words (either.V6 address) = address_text Ipv6 address
+
+-- the fault of a routes file
+abbrev pub routes_fault : RoutesFault → Fault
+routes_fault routes.TooLong = RoutesTooLong
+routes_fault routes.Read = RoutesRead
+routes_fault (routes.Line number) = RoutesLine number
+routes_fault routes.Memory = Memory
+
 abbrev pub fault_words : Fault → List ℕ
 fault_words (Clap refusal) = refusal_words refusal.kind
 fault_words (Address word) = codes "address " ++ word.now
+fault_words (Word word) = codes "word " ++ word.now
 fault_words Family = codes "family"
+fault_words (NoPort side) = no_port_words side
+fault_words WriterAddress = codes "writer address"
+fault_words (Config cause) = config_words cause
+fault_words (File word) = codes "file " ++ word.now
+fault_words RoutesTooLong = codes "routes too-long"
+fault_words RoutesRead = codes "routes read"
+fault_words (RoutesLine number) = codes "routes line " ++ decimal number
+fault_words (Capture cause) = capture_words cause
 fault_words (Frame fault) = frame_words fault
 fault_words (Hello fault) = hello_words fault
 fault_words (JoinPrune fault) = join_prune_words fault
+fault_words (TooBig group) = codes "too big " ++ address_words group
 fault_words InputTooLong = codes "input too-long"
 fault_words InputRead = codes "input read"
 fault_words Output = codes "output"

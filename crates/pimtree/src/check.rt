@@ -64,7 +64,10 @@ fn report_hello<F: Family>(alloc: Global, body: &[u8]) -> Result<Vec<u8>, Fault<
     ensures { GivesReport (λ v. v.items) (hello_report F.family body.now) result }
 {
     match Hello::<F>::read(body) {
-        Ok(hello) => hello_text(alloc, &hello).map_err(|_| Fault::Memory),
+        Ok(hello) => match hello_text(alloc, &hello) {
+            Ok(text) => Ok(text),
+            Err(_) => Err(Fault::Memory),
+        },
         Err(fault) => Err(Fault::Hello(fault)),
     }
 }

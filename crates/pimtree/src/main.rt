@@ -3,6 +3,7 @@
 #![tactic(auto)]
 
 mod addresses;
+mod causes;
 mod check;
 mod fault;
 mod hello_text;

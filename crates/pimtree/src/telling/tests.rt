@@ -1,9 +1,12 @@
 //! What is told of a fault, on which device, and the status, also where a device fails.
 
 use super::tell_into;
+use crate::addresses::Address;
+use crate::causes::{CaptureCause, ConfigCause, Side};
 use crate::fault::{Fault, Refusal};
 use clap::error::ErrorKind;
 use pim_addr::ScriptedDrain;
+use pim_routes_file::RoutesFault;
 use std::alloc::{AllocError, Global};
 use std::process::Abort;
 use std::test::Fail;
@@ -54,7 +57,52 @@ fn faults_are_lines_on_errors(rt: HostRuntime) {
     let alloc = rt.alloc();
     for (fault, text) in [
         (Fault::Address("1.2.3"), "pimtree: address 1.2.3\n"),
+        (Fault::Word("10.0.0.2"), "pimtree: word 10.0.0.2\n"),
         (Fault::Family, "pimtree: family\n"),
+        (Fault::NoPort(Side::A), "pimtree: no port for a\n"),
+        (Fault::NoPort(Side::B), "pimtree: no port for b\n"),
+        (Fault::WriterAddress, "pimtree: writer address\n"),
+        (Fault::Config(ConfigCause::Ports), "pimtree: config ports\n"),
+        (
+            Fault::Config(ConfigCause::Address),
+            "pimtree: config address\n",
+        ),
+        (Fault::Config(ConfigCause::Rp), "pimtree: config rp\n"),
+        (Fault::File("10.0.0.2@"), "pimtree: file 10.0.0.2@\n"),
+        (
+            Fault::from(RoutesFault::TooLong),
+            "pimtree: routes too-long\n",
+        ),
+        (Fault::from(RoutesFault::Read), "pimtree: routes read\n"),
+        (
+            Fault::from(RoutesFault::Line(12)),
+            "pimtree: routes line 12\n",
+        ),
+        (Fault::from(RoutesFault::Memory), "pimtree: memory\n"),
+        (
+            Fault::Capture(CaptureCause::Magic),
+            "pimtree: capture magic\n",
+        ),
+        (
+            Fault::Capture(CaptureCause::LinkType),
+            "pimtree: capture link-type\n",
+        ),
+        (
+            Fault::Capture(CaptureCause::Truncated),
+            "pimtree: capture truncated\n",
+        ),
+        (
+            Fault::Capture(CaptureCause::TooLong),
+            "pimtree: capture too-long\n",
+        ),
+        (
+            Fault::Capture(CaptureCause::Read),
+            "pimtree: capture read\n",
+        ),
+        (
+            Fault::TooBig(Address::V4([239, 1, 1, 1])),
+            "pimtree: too big 239.1.1.1\n",
+        ),
         (Fault::InputTooLong, "pimtree: input too-long\n"),
         (Fault::InputRead, "pimtree: input read\n"),
         (Fault::Output, "pimtree: output\n"),
