@@ -3,9 +3,9 @@
 
 mod asking;
 mod comparing;
-mod lengths;
 mod crowds;
 mod jumps;
+mod lengths;
 mod memory;
 mod packets;
 mod refused;
