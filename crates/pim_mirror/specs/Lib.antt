@@ -1,0 +1,5 @@
+pub mod CanonicalParts
+pub mod CanonicalUnits
+pub mod CanonicalExchange
+pub mod CanonicalMirror
+pub mod Laws
