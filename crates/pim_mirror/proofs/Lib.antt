@@ -11,3 +11,4 @@ pub mod ReadBack
 pub mod FormMeaning
 pub mod TableStars
 pub mod Mirrored
+pub mod Packets

@@ -1,5 +1,5 @@
 -- The words of the laws in `src/laws.rt`.
-use Rattle.std.specs.Prelude.{ℕ, ◌≤◌, List, length, map}
+use Rattle.std.specs.Prelude.{ℕ, ◌<◌, ◌≤◌, List, length, map}
 use Rattle.pim_addr.specs.declared.family.AddressFamily.{AddressFamily}
 use Rattle.pim_addr.specs.Routes.{RouteTable, IsRouteTable}
 use Rattle.pim_down.specs.declared.event.Timing.{Timing}
@@ -14,9 +14,11 @@ use Rattle.pim_fresh.specs.Asking.{IsAsking}
 use Rattle.pim_fresh.specs.Deliveries.{Delivery, IsTimely, final_moment}
 use Rattle.pim_fresh.specs.Hearing.{Leaves}
 use Rattle.pim_fresh.specs.Laws.{Stays}
+use Rattle.pim_router.specs.State.{RouterState}
 use Rattle.pim_mirror.specs.CanonicalParts.{IsInOrder, AreParts}
 use Rattle.pim_mirror.specs.CanonicalExchange.{exchange_of, exchange_in, TellsForm, AreReadAs}
 use Rattle.pim_mirror.specs.CanonicalMirror.{AllCame, AsksAgain}
+use Rattle.pim_mirror.specs.CanonicalPackets.{packet_of, HearsWriter, heard_exchange, IsHeard}
 
 -- The message of a part in strictly ascending order, whose stars have RPs, asks for traffic.
 abbrev pub PartIsAsking : Type 0
@@ -72,3 +74,13 @@ HeardMessagesAreAskedAgain = (family : AddressFamily) (table : RouteTable) (writ
     Runs later state answer after →
     Stays (exchange_in family (known_in family table) writing 0 timing messages) deliveries moment later state answer
     after × AsksAgain family table writing form messages after
+
+-- The packet of a canonical message is heard by the router to which it is written, as the exchange says.
+abbrev pub CanonicalPacketIsHeard : Type 0
+CanonicalPacketIsHeard = (family : AddressFamily) (writing : Writing) (form : List GroupForm)
+    (messages : List (List ℕ)) (i port : ℕ) (timing : Timing) (state : RouterState) → IsWriting family writing →
+    IsNormal family form → HaveRps family (known_in family state.routes) form →
+    AreCanonical family writing (known_in family state.routes) form messages → i < length messages →
+    HearsWriter writing port timing state →
+    IsHeard family (heard_exchange family writing port timing messages state) i
+    (packet_of family writing port messages i) state

@@ -2,6 +2,7 @@
 
 ghost use Rattle.pim_mirror.specs.Laws.{PartIsAsking, CanonicalMessagesTellParts, PartsTellUnitsOnce, MessagesAreRead};
 ghost use Rattle.pim_mirror.specs.Laws.{CanonicalMessagesTellForm, AskedStarsHaveRps, HeardMessagesAreAskedAgain};
+ghost use Rattle.pim_mirror.specs.Laws.{CanonicalPacketIsHeard};
 
 /// The message of a part of a form whose groups, sources and exceptions are each in strictly ascending order, and whose
 /// stars have RPs, asks for traffic: so it tells units (RFC 7761, 4.9.5).
@@ -60,4 +61,14 @@ pub fn heard_messages_are_asked_again()
     pim_down::run_keeps_its_bounds();
     pim_form::one_normal_form();
     pim_form::one_list_of_messages();
+}
+
+/// The packet of a canonical message, sent by the writer to ALL-PIM-ROUTERS, is heard by a router that knows the writer
+/// and is the neighbour to which it is written. It is applied as the definition of the exchange says where there is
+/// room for its records, and is else Full, with the number that is needed. No other cause refuses it.
+pub fn canonical_packet_is_heard()
+    ensures { CanonicalPacketIsHeard }
+{
+    canonical_messages_tell_parts();
+    messages_are_read();
 }

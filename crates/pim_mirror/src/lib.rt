@@ -8,8 +8,11 @@
 #![tactic(auto)]
 
 mod laws;
+#[cfg(test)]
+mod tests;
 
 pub use laws::{
     asked_stars_have_rps, canonical_messages_tell_form, canonical_messages_tell_parts,
-    heard_messages_are_asked_again, messages_are_read, part_asks, parts_tell_units_once,
+    canonical_packet_is_heard, heard_messages_are_asked_again, messages_are_read, part_asks,
+    parts_tell_units_once,
 };
