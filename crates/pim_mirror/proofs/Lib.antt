@@ -12,3 +12,5 @@ pub mod FormMeaning
 pub mod TableStars
 pub mod Mirrored
 pub mod Packets
+pub mod RouterRuns
+pub mod Course
