@@ -14,3 +14,4 @@ pub mod Mirrored
 pub mod Packets
 pub mod RouterRuns
 pub mod Course
+pub mod StaysHeard

@@ -1,10 +1,11 @@
 -- A router that hears deliveries of canonical messages: its runs between them, and their packets.
-use Rattle.std.specs.Prelude.{◌≡◌, ◌<◌, ◌≤◌, ℕ, List, [], ◌∷◌, length}
+use Rattle.std.specs.Prelude.{◌≡◌, ◌<◌, ◌≤◌, ◌-◌, ℕ, List, [], ◌∷◌, length}
 use Rattle.std.specs.List.{AllByRecursion}
 use Rattle.pim_addr.specs.declared.family.AddressFamily.{AddressFamily}
 use Rattle.pim_down.specs.declared.event.Timing.{Timing}
 use Rattle.pim_form.specs.Messages.{Writing}
-use Rattle.pim_fresh.specs.Deliveries.{Delivery}
+use Rattle.pim_hello.specs.Neighbours.{Neighbour, Table}
+use Rattle.pim_fresh.specs.Deliveries.{Delivery, IsShorter}
 use Rattle.pim_fresh.specs.Expected.{units_of}
 use Rattle.pim_fresh.specs.Exchange.{Exchange}
 use Rattle.pim_fresh.specs.Hearing.{fresh, after_message}
@@ -52,3 +53,11 @@ AreOf count deliveries = AllByRecursion (λ delivery. delivery.message < count) 
 -- A router of one port that holds no records, at the moment 0, with room for so many: it may have heard Hellos.
 abbrev pub HoldsNothing : ℕ → RouterState → Type 0
 HoldsNothing limit state = state.machines ≡ fresh 1 limit
+
+-- At this later moment none of the neighbours' times is over: all tables stand at the moment of the machines, and what
+-- is left of each time is longer than it is to that moment.
+pub record Lasts (last : ℕ) (state : RouterState) : Type 0 where
+  pub by_then : state.machines.moment ≤ last
+  pub now : AllByRecursion (λ (table : Table). table.moment ≡ state.machines.moment) state.tables
+  pub left : AllByRecursion (λ (table : Table). AllByRecursion
+      (λ (entry : List ℕ × Neighbour). IsShorter (last - state.machines.moment) entry.1.left) table.entries) state.tables

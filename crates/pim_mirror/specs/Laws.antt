@@ -15,11 +15,12 @@ use Rattle.pim_fresh.specs.Deliveries.{Delivery, IsTimely, final_moment}
 use Rattle.pim_fresh.specs.Expected.{units_of}
 use Rattle.pim_fresh.specs.Hearing.{Leaves}
 use Rattle.pim_fresh.specs.Laws.{Stays}
+use Rattle.pim_router.specs.Course.{Telling, Reaches}
 use Rattle.pim_router.specs.State.{RouterState}
 use Rattle.pim_mirror.specs.CanonicalParts.{IsInOrder, AreParts}
 use Rattle.pim_mirror.specs.CanonicalExchange.{exchange_of, exchange_in, TellsForm, AreReadAs}
 use Rattle.pim_mirror.specs.CanonicalMirror.{AllCame, AsksAgain}
-use Rattle.pim_mirror.specs.CanonicalCourse.{HearsAll, IsTaken, AreOf, HoldsNothing}
+use Rattle.pim_mirror.specs.CanonicalCourse.{HearsAll, IsTaken, AreOf, HoldsNothing, Lasts}
 use Rattle.pim_mirror.specs.CanonicalPackets.{packet_of, HearsWriter, heard_exchange, IsHeard}
 
 -- The message of a part in strictly ascending order, whose stars have RPs, asks for traffic.
@@ -115,3 +116,9 @@ DeliveryIsTaken = (family : AddressFamily) (writing : Writing) (form : List Grou
     HearsWriter writing 0 timing before →
     IsTaken family (heard_exchange family writing 0 timing messages start) limit delivery earlier
     (packet_of family writing 0 messages delivery.message) before
+
+-- Who hears the writer hears it still behind runs to a moment by which none of its neighbours' times is over.
+abbrev pub WriterStaysHeard : Type 0
+WriterStaysHeard = (writing : Writing) (port : ℕ) (timing : Timing) (moment last : ℕ) (told : List Telling)
+    (state after : RouterState) → moment ≤ last → Lasts last state → HearsWriter writing port timing state →
+    Reaches moment told state after → Lasts last after × HearsWriter writing port timing after

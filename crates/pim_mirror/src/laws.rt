@@ -3,6 +3,7 @@
 ghost use Rattle.pim_mirror.specs.Laws.{PartIsAsking, CanonicalMessagesTellParts, PartsTellUnitsOnce, MessagesAreRead};
 ghost use Rattle.pim_mirror.specs.Laws.{CanonicalMessagesTellForm, AskedStarsHaveRps, HeardMessagesAreAskedAgain};
 ghost use Rattle.pim_mirror.specs.Laws.{CanonicalPacketIsHeard, RouterLeavesItsPort, DeliveryIsTaken};
+ghost use Rattle.pim_mirror.specs.Laws.{WriterStaysHeard};
 
 /// The message of a part of a form whose groups, sources and exceptions are each in strictly ascending order, and whose
 /// stars have RPs, asks for traffic: so it tells units (RFC 7761, 4.9.5).
@@ -99,3 +100,9 @@ pub fn delivery_is_taken()
     pim_fresh::needs_the_units();
     pim_down::run_keeps_its_bounds();
 }
+
+/// A router that knows the writer, as its upstream neighbour, knows it still behind runs to a moment by which none of its
+/// neighbours' times is over, with the same override interval, and as many neighbours.
+pub fn writer_stays_heard()
+    ensures { WriterStaysHeard }
+{}
