@@ -35,13 +35,13 @@ leaves_limit bounds exchange ports limit (delivery ∷ earlier) moment after lea
     ∙ leaves_limit bounds exchange ports limit earlier delivery.moment leaves.before leaves.was
 
 -- earlier deliveries have no more units
-fewer_units : (exchange : Exchange) (limit : ℕ) (delivery : Delivery) (earlier : List Delivery) → length (units_of exchange (delivery ∷ earlier)) ≤ limit → length (units_of exchange earlier) ≤ limit
+pub fewer_units : (exchange : Exchange) (limit : ℕ) (delivery : Delivery) (earlier : List Delivery) → length (units_of exchange (delivery ∷ earlier)) ≤ limit → length (units_of exchange earlier) ≤ limit
 unfolding units_of
 fewer_units exchange limit delivery earlier few =
     let new : List Event = if is_delivered delivery.message earlier then [] else exchange.messages delivery.message in
     omega (arith, few, length-append new (units_of exchange earlier))
 
-timely_before : (expiry : Option ℕ) (delivery : Delivery) (earlier : List Delivery) (moment : ℕ) → IsTimely expiry moment (delivery ∷ earlier) → IsTimely expiry delivery.moment earlier
+pub timely_before : (expiry : Option ℕ) (delivery : Delivery) (earlier : List Delivery) (moment : ℕ) → IsTimely expiry moment (delivery ∷ earlier) → IsTimely expiry delivery.moment earlier
 unfolding IsTimely
 timely_before expiry delivery earlier moment timely = timely.2
 

@@ -15,3 +15,4 @@ pub mod Packets
 pub mod RouterRuns
 pub mod Course
 pub mod StaysHeard
+pub mod CourseSteps

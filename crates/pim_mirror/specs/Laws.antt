@@ -1,5 +1,5 @@
 -- The words of the laws in `src/laws.rt`.
-use Rattle.std.specs.Prelude.{◌≡◌, ℕ, ◌<◌, ◌≤◌, List, ◌∷◌, length, map}
+use Rattle.std.specs.Prelude.{◌≡◌, ℕ, ◌<◌, ◌≤◌, List, [], ◌∷◌, ◌++◌, length, map}
 use Rattle.pim_addr.specs.declared.family.AddressFamily.{AddressFamily}
 use Rattle.pim_addr.specs.Routes.{RouteTable, IsRouteTable}
 use Rattle.pim_down.specs.declared.event.Timing.{Timing}
@@ -15,12 +15,12 @@ use Rattle.pim_fresh.specs.Deliveries.{Delivery, IsTimely, final_moment}
 use Rattle.pim_fresh.specs.Expected.{units_of}
 use Rattle.pim_fresh.specs.Hearing.{Leaves}
 use Rattle.pim_fresh.specs.Laws.{Stays}
-use Rattle.pim_router.specs.Course.{Telling, Reaches}
+use Rattle.pim_router.specs.Course.{runs_to, Telling, Reaches, IsCourse}
 use Rattle.pim_router.specs.State.{RouterState}
 use Rattle.pim_mirror.specs.CanonicalParts.{IsInOrder, AreParts}
 use Rattle.pim_mirror.specs.CanonicalExchange.{exchange_of, exchange_in, TellsForm, AreReadAs}
 use Rattle.pim_mirror.specs.CanonicalMirror.{AllCame, AsksAgain}
-use Rattle.pim_mirror.specs.CanonicalCourse.{HearsAll, IsTaken, AreOf, HoldsNothing, Lasts}
+use Rattle.pim_mirror.specs.CanonicalCourse.{HearsAll, IsTaken, AreOf, HoldsNothing, Lasts, inputs_of}
 use Rattle.pim_mirror.specs.CanonicalPackets.{packet_of, HearsWriter, heard_exchange, IsHeard}
 
 -- The message of a part in strictly ascending order, whose stars have RPs, asks for traffic.
@@ -122,3 +122,18 @@ abbrev pub WriterStaysHeard : Type 0
 WriterStaysHeard = (writing : Writing) (port : ℕ) (timing : Timing) (moment last : ℕ) (told : List Telling)
     (state after : RouterState) → moment ≤ last → Lasts last state → HearsWriter writing port timing state →
     Reaches moment told state after → Lasts last after × HearsWriter writing port timing after
+
+-- The course of a router over deliveries, and then to a moment, is a hearing of all of them, where it knows the writer
+-- at first and none of its neighbours' times is over by the last moment.
+abbrev pub CourseHearsAll : Type 0
+CourseHearsAll = (family : AddressFamily) (writing : Writing) (form : List GroupForm) (messages : List (List ℕ))
+    (timing : Timing) (limit last : ℕ) (start : RouterState) (deliveries : List Delivery) (moment : ℕ)
+    (told : List Telling) (after : RouterState) → IsWriting family writing → IsNormal family form →
+    HaveRps family (known_in family start.routes) form →
+    AreCanonical family writing (known_in family start.routes) form messages → HoldsNothing limit start →
+    AreOf (length messages) deliveries → IsTimely (start_of writing.holdtime timing).expires_in moment deliveries →
+    length (units_of (heard_exchange family writing 0 timing messages start) deliveries) ≤ limit → moment ≤ last →
+    Lasts last start → HearsWriter writing 0 timing start →
+    IsCourse family (inputs_of family writing 0 messages deliveries ++ runs_to moment ∷ []) told start after →
+    HearsAll family writing 0 timing messages start deliveries moment after × Lasts last after
+    × HearsWriter writing 0 timing after

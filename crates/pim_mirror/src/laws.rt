@@ -3,7 +3,7 @@
 ghost use Rattle.pim_mirror.specs.Laws.{PartIsAsking, CanonicalMessagesTellParts, PartsTellUnitsOnce, MessagesAreRead};
 ghost use Rattle.pim_mirror.specs.Laws.{CanonicalMessagesTellForm, AskedStarsHaveRps, HeardMessagesAreAskedAgain};
 ghost use Rattle.pim_mirror.specs.Laws.{CanonicalPacketIsHeard, RouterLeavesItsPort, DeliveryIsTaken};
-ghost use Rattle.pim_mirror.specs.Laws.{WriterStaysHeard};
+ghost use Rattle.pim_mirror.specs.Laws.{WriterStaysHeard, CourseHearsAll};
 
 /// The message of a part of a form whose groups, sources and exceptions are each in strictly ascending order, and whose
 /// stars have RPs, asks for traffic: so it tells units (RFC 7761, 4.9.5).
@@ -101,8 +101,18 @@ pub fn delivery_is_taken()
     pim_down::run_keeps_its_bounds();
 }
 
-/// A router that knows the writer, as its upstream neighbour, knows it still behind runs to a moment by which none of its
-/// neighbours' times is over, with the same override interval, and as many neighbours.
+/// A router that knows the writer, as its upstream neighbour, knows it still behind runs to a moment by which none of
+/// its neighbours' times is over, with the same override interval, and as many neighbours.
 pub fn writer_stays_heard()
     ensures { WriterStaysHeard }
 {}
+
+/// The course of a router that is given the moments and the packets of deliveries, the oldest first, and then a moment, is
+/// a hearing of all of them: it knows the writer at each, as it does at first, since none of its neighbours' times is
+/// over by the last moment, and each packet is applied.
+pub fn course_hears_all()
+    ensures { CourseHearsAll }
+{
+    delivery_is_taken();
+    writer_stays_heard();
+}
