@@ -1,8 +1,8 @@
 -- The course of a router over deliveries is a hearing of all of them.
-use Rattle.std.proofs.Common.{◌≡◌, ◌∙◌, ℕ, ◌+◌, ◌<◌, ◌≤◌, List, [], ◌∷◌, ◌++◌, Option, if◌then◌else◌, length, refl, sym, ap, subst, arith, length-append}
+use Rattle.std.proofs.Common.{◌≡◌, ◌∙◌, ℕ, ◌≤◌, List, [], ◌∷◌, ◌++◌, Option, length, refl, sym, subst, arith}
 use Rattle.pim_addr.specs.declared.family.AddressFamily.{AddressFamily}
 use Rattle.pim_down.specs.declared.event.Timing.{Timing}
-use Rattle.pim_down.specs.Hearing.{Event, start_of}
+use Rattle.pim_down.specs.Hearing.{start_of}
 use Rattle.pim_down.specs.Known.{known_in}
 use Rattle.pim_down.specs.Time.{Downstream}
 use Rattle.pim_form.specs.NormalForm.{GroupForm, IsNormal}
@@ -11,7 +11,7 @@ use Rattle.pim_fresh.specs.Exchange.{Exchange}
 use Rattle.pim_fresh.specs.Deliveries.{Delivery, IsTimely}
 use Rattle.pim_fresh.specs.Expected.{units_of}
 use Rattle.pim_fresh.specs.Hearing.{after_message}
-use Rattle.pim_router.specs.Course.{Input, runs_to, takes, Telling, Reaches, Gives, IsCourse}
+use Rattle.pim_router.specs.Course.{Input, runs_to, takes, Telling, Reaches, IsCourse}
 use Rattle.pim_router.specs.Packets.{received}
 use Rattle.pim_router.specs.State.{RouterState, with_machines}
 use Rattle.pim_router.specs.declared.verdict.Verdict.{Verdict}

@@ -16,3 +16,4 @@ pub mod RouterRuns
 pub mod Course
 pub mod StaysHeard
 pub mod CourseSteps
+pub mod AsksAgain

@@ -137,3 +137,22 @@ CourseHearsAll = (family : AddressFamily) (writing : Writing) (form : List Group
     IsCourse family (inputs_of family writing 0 messages deliveries ++ runs_to moment ∷ []) told start after →
     HearsAll family writing 0 timing messages start deliveries moment after × Lasts last after
     × HearsWriter writing 0 timing after
+
+-- A router of one port, which begins without records and knows the writer, is given the packets of all canonical
+-- messages of what is asked of it under its route table, in any order and however often, and no others, and then a
+-- moment from the final one of these deliveries on. Then it asks again for what the form asks for, by the same
+-- messages: where it has room for their units, no message is missed for its holdtime by then, and none of its
+-- neighbours' times is over.
+abbrev pub RouterAsksAgain : Type 0
+RouterAsksAgain = (family : AddressFamily) (writing : Writing) (sender : Downstream) (form : List GroupForm)
+    (messages : List (List ℕ)) (timing : Timing) (limit last : ℕ) (start : RouterState) (deliveries : List Delivery)
+    (moment : ℕ) (told : List Telling) (after : RouterState) → IsRouteTable family start.routes →
+    IsWriting family writing → IsFormOf family (asked_of family start.routes writing.upstream sender) form →
+    AreCanonical family writing (known_in family start.routes) form messages → HoldsNothing limit start →
+    AreOf (length messages) deliveries → AllCame (length messages) deliveries →
+    final_moment timing.override_ms deliveries ≤ moment →
+    IsTimely (start_of writing.holdtime timing).expires_in moment deliveries →
+    length (units_of (heard_exchange family writing 0 timing messages start) deliveries) ≤ limit → moment ≤ last →
+    Lasts last start → HearsWriter writing 0 timing start →
+    IsCourse family (inputs_of family writing 0 messages deliveries ++ runs_to moment ∷ []) told start after →
+    AsksAgain family start.routes writing form messages after.machines

@@ -3,7 +3,7 @@
 ghost use Rattle.pim_mirror.specs.Laws.{PartIsAsking, CanonicalMessagesTellParts, PartsTellUnitsOnce, MessagesAreRead};
 ghost use Rattle.pim_mirror.specs.Laws.{CanonicalMessagesTellForm, AskedStarsHaveRps, HeardMessagesAreAskedAgain};
 ghost use Rattle.pim_mirror.specs.Laws.{CanonicalPacketIsHeard, RouterLeavesItsPort, DeliveryIsTaken};
-ghost use Rattle.pim_mirror.specs.Laws.{WriterStaysHeard, CourseHearsAll};
+ghost use Rattle.pim_mirror.specs.Laws.{WriterStaysHeard, CourseHearsAll, RouterAsksAgain};
 
 /// The message of a part of a form whose groups, sources and exceptions are each in strictly ascending order, and whose
 /// stars have RPs, asks for traffic: so it tells units (RFC 7761, 4.9.5).
@@ -107,12 +107,27 @@ pub fn writer_stays_heard()
     ensures { WriterStaysHeard }
 {}
 
-/// The course of a router that is given the moments and the packets of deliveries, the oldest first, and then a moment, is
-/// a hearing of all of them: it knows the writer at each, as it does at first, since none of its neighbours' times is
-/// over by the last moment, and each packet is applied.
+/// The course of a router that is given the moments and the packets of deliveries, the oldest first, and then a moment,
+/// is a hearing of all of them: it knows the writer at each, as it does at first, since none of its neighbours' times
+/// is over by the last moment, and each packet is applied.
 pub fn course_hears_all()
     ensures { CourseHearsAll }
 {
     delivery_is_taken();
     writer_stays_heard();
+}
+
+/// A router of one port that knows the writer, holds no records, and hears the packets of its canonical messages alone,
+/// each at least once, in any order and however often, asks again for exactly what they ask for, by the same messages,
+/// at every moment from the final one of the deliveries on, while no message is missed for its holdtime.
+pub fn router_asks_again()
+    ensures { RouterAsksAgain }
+{
+    course_hears_all();
+    router_leaves_its_port();
+    asked_stars_have_rps();
+    heard_messages_are_asked_again();
+    pim_down::every_state_has_a_run();
+    pim_down::run_goes_on();
+    pim_down::run_has_one_end();
 }
