@@ -66,5 +66,6 @@ HoldsNothing limit state = state.machines ≡ fresh 1 limit
 pub record Lasts (last : ℕ) (state : RouterState) : Type 0 where
   pub by_then : state.machines.moment ≤ last
   pub now : AllByRecursion (λ (table : Table). table.moment ≡ state.machines.moment) state.tables
-  pub left : AllByRecursion (λ (table : Table). AllByRecursion
-      (λ (entry : List ℕ × Neighbour). IsShorter (last - state.machines.moment) entry.1.left) table.entries) state.tables
+  pub left : AllByRecursion (λ (table : Table).
+      AllByRecursion (λ (entry : List ℕ × Neighbour). IsShorter (last - state.machines.moment) entry.1.left)
+      table.entries) state.tables
