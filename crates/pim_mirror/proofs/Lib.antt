@@ -1,0 +1,14 @@
+pub mod ListParts
+pub mod SameAddresses
+pub mod Asks
+pub mod UnitOrder
+pub mod Parts
+pub mod Named
+pub mod UnitNames
+pub mod Once
+pub mod Spellable
+pub mod ReadBack
+pub mod FormMeaning
+pub mod TableStars
+pub mod Mirrored
+pub mod Packets

@@ -1,0 +1,6 @@
+pub mod CanonicalParts
+pub mod CanonicalUnits
+pub mod CanonicalExchange
+pub mod CanonicalMirror
+pub mod CanonicalPackets
+pub mod Laws

@@ -1,0 +1,18 @@
+//! The mirror: a fresh router that hears canonical messages alone.
+//!
+//! Proved, over the definitions of the crates below: the canonical messages of a normal form tell parts of it, each a
+//! normal form that fits its message. They are read back as these parts, tell units, and name each machine of the form
+//! once and no other. A fresh port that heard them all, in any order and however often, asks its upstream neighbour
+//! again for exactly what the form asks for, by the same messages, from the final moment of the deliveries on and while
+//! no message is missed for its holdtime.
+#![tactic(auto)]
+
+mod laws;
+#[cfg(test)]
+mod tests;
+
+pub use laws::{
+    asked_stars_have_rps, canonical_messages_tell_form, canonical_messages_tell_parts,
+    canonical_packet_is_heard, heard_messages_are_asked_again, messages_are_read, part_asks,
+    parts_tell_units_once,
+};
