@@ -12,3 +12,7 @@ pub mod FormMeaning
 pub mod TableStars
 pub mod Mirrored
 pub mod Packets
+pub mod RouterRuns
+pub mod Course
+pub mod StaysHeard
+pub mod CourseSteps

@@ -1,5 +1,5 @@
 -- The words of the laws in `src/laws.rt`.
-use Rattle.std.specs.Prelude.{ℕ, ◌<◌, ◌≤◌, List, length, map}
+use Rattle.std.specs.Prelude.{◌≡◌, ℕ, ◌<◌, ◌≤◌, List, [], ◌∷◌, ◌++◌, length, map}
 use Rattle.pim_addr.specs.declared.family.AddressFamily.{AddressFamily}
 use Rattle.pim_addr.specs.Routes.{RouteTable, IsRouteTable}
 use Rattle.pim_down.specs.declared.event.Timing.{Timing}
@@ -12,12 +12,15 @@ use Rattle.pim_form.specs.Messages.{Writing, IsWriting, Rps, HaveRps, AreCanonic
 use Rattle.pim_form.specs.TowardLaws.{asked_of}
 use Rattle.pim_fresh.specs.Asking.{IsAsking}
 use Rattle.pim_fresh.specs.Deliveries.{Delivery, IsTimely, final_moment}
+use Rattle.pim_fresh.specs.Expected.{units_of}
 use Rattle.pim_fresh.specs.Hearing.{Leaves}
 use Rattle.pim_fresh.specs.Laws.{Stays}
+use Rattle.pim_router.specs.Course.{runs_to, Telling, Reaches, IsCourse}
 use Rattle.pim_router.specs.State.{RouterState}
 use Rattle.pim_mirror.specs.CanonicalParts.{IsInOrder, AreParts}
 use Rattle.pim_mirror.specs.CanonicalExchange.{exchange_of, exchange_in, TellsForm, AreReadAs}
 use Rattle.pim_mirror.specs.CanonicalMirror.{AllCame, AsksAgain}
+use Rattle.pim_mirror.specs.CanonicalCourse.{HearsAll, IsTaken, AreOf, HoldsNothing, Lasts, inputs_of}
 use Rattle.pim_mirror.specs.CanonicalPackets.{packet_of, HearsWriter, heard_exchange, IsHeard}
 
 -- The message of a part in strictly ascending order, whose stars have RPs, asks for traffic.
@@ -84,3 +87,53 @@ CanonicalPacketIsHeard = (family : AddressFamily) (writing : Writing) (form : Li
     HearsWriter writing port timing state →
     IsHeard family (heard_exchange family writing port timing messages state) i
     (packet_of family writing port messages i) state
+
+-- A router of one port that begins without records, and hears deliveries of the canonical messages whose units are
+-- within its limit, leaves the machines of a fresh port that hears them, under its route table.
+abbrev pub RouterLeavesItsPort : Type 0
+RouterLeavesItsPort = (family : AddressFamily) (writing : Writing) (form : List GroupForm) (messages : List (List ℕ))
+    (timing : Timing) (limit : ℕ) (start : RouterState) (deliveries : List Delivery) (moment : ℕ)
+    (after : RouterState) → IsWriting family writing → IsNormal family form →
+    HaveRps family (known_in family start.routes) form →
+    AreCanonical family writing (known_in family start.routes) form messages → HoldsNothing limit start →
+    AreOf (length messages) deliveries → IsTimely (start_of writing.holdtime timing).expires_in moment deliveries →
+    length (units_of (heard_exchange family writing 0 timing messages start) deliveries) ≤ limit →
+    HearsAll family writing 0 timing messages start deliveries moment after →
+    Leaves (heard_exchange family writing 0 timing messages start) 1 limit deliveries moment after.machines
+    × (after.routes ≡ start.routes)
+
+-- Behind such deliveries one more is taken by its packet where there is room for its units, and is else Full.
+abbrev pub DeliveryIsTaken : Type 0
+DeliveryIsTaken = (family : AddressFamily) (writing : Writing) (form : List GroupForm) (messages : List (List ℕ))
+    (timing : Timing) (limit : ℕ) (start : RouterState) (delivery : Delivery) (earlier : List Delivery)
+    (before : RouterState) → IsWriting family writing → IsNormal family form →
+    HaveRps family (known_in family start.routes) form →
+    AreCanonical family writing (known_in family start.routes) form messages → HoldsNothing limit start →
+    AreOf (length messages) (delivery ∷ earlier) →
+    IsTimely (start_of writing.holdtime timing).expires_in delivery.moment earlier →
+    length (units_of (heard_exchange family writing 0 timing messages start) earlier) ≤ limit →
+    HearsAll family writing 0 timing messages start earlier delivery.moment before →
+    HearsWriter writing 0 timing before →
+    IsTaken family (heard_exchange family writing 0 timing messages start) limit delivery earlier
+    (packet_of family writing 0 messages delivery.message) before
+
+-- Who hears the writer hears it still behind runs to a moment by which none of its neighbours' times is over.
+abbrev pub WriterStaysHeard : Type 0
+WriterStaysHeard = (writing : Writing) (port : ℕ) (timing : Timing) (moment last : ℕ) (told : List Telling)
+    (state after : RouterState) → moment ≤ last → Lasts last state → HearsWriter writing port timing state →
+    Reaches moment told state after → Lasts last after × HearsWriter writing port timing after
+
+-- The course of a router over deliveries, and then to a moment, is a hearing of all of them, where it knows the writer
+-- at first and none of its neighbours' times is over by the last moment.
+abbrev pub CourseHearsAll : Type 0
+CourseHearsAll = (family : AddressFamily) (writing : Writing) (form : List GroupForm) (messages : List (List ℕ))
+    (timing : Timing) (limit last : ℕ) (start : RouterState) (deliveries : List Delivery) (moment : ℕ)
+    (told : List Telling) (after : RouterState) → IsWriting family writing → IsNormal family form →
+    HaveRps family (known_in family start.routes) form →
+    AreCanonical family writing (known_in family start.routes) form messages → HoldsNothing limit start →
+    AreOf (length messages) deliveries → IsTimely (start_of writing.holdtime timing).expires_in moment deliveries →
+    length (units_of (heard_exchange family writing 0 timing messages start) deliveries) ≤ limit → moment ≤ last →
+    Lasts last start → HearsWriter writing 0 timing start →
+    IsCourse family (inputs_of family writing 0 messages deliveries ++ runs_to moment ∷ []) told start after →
+    HearsAll family writing 0 timing messages start deliveries moment after × Lasts last after
+    × HearsWriter writing 0 timing after

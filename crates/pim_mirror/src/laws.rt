@@ -2,7 +2,8 @@
 
 ghost use Rattle.pim_mirror.specs.Laws.{PartIsAsking, CanonicalMessagesTellParts, PartsTellUnitsOnce, MessagesAreRead};
 ghost use Rattle.pim_mirror.specs.Laws.{CanonicalMessagesTellForm, AskedStarsHaveRps, HeardMessagesAreAskedAgain};
-ghost use Rattle.pim_mirror.specs.Laws.{CanonicalPacketIsHeard};
+ghost use Rattle.pim_mirror.specs.Laws.{CanonicalPacketIsHeard, RouterLeavesItsPort, DeliveryIsTaken};
+ghost use Rattle.pim_mirror.specs.Laws.{WriterStaysHeard, CourseHearsAll};
 
 /// The message of a part of a form whose groups, sources and exceptions are each in strictly ascending order, and whose
 /// stars have RPs, asks for traffic: so it tells units (RFC 7761, 4.9.5).
@@ -71,4 +72,47 @@ pub fn canonical_packet_is_heard()
 {
     canonical_messages_tell_parts();
     messages_are_read();
+}
+
+/// A router of one port that holds no records and hears deliveries of the canonical messages, to each of which it runs
+/// until nothing is due, and whose limit the units of the different messages don't pass, leaves the machines of a fresh
+/// port that hears them: its refreshes, its neighbours and their time change nothing of it, and no echo is told.
+pub fn router_leaves_its_port()
+    ensures { RouterLeavesItsPort }
+{
+    canonical_messages_tell_form();
+    canonical_packet_is_heard();
+    pim_fresh::no_echo_is_told();
+    pim_fresh::every_hearing_reaches();
+    pim_fresh::needs_the_units();
+    pim_down::run_keeps_its_bounds();
+    pim_down::run_has_one_end();
+}
+
+/// The packet of one more delivery is applied where the units of the different messages up to it are within the limit,
+/// and is else Full, with how many these are.
+pub fn delivery_is_taken()
+    ensures { DeliveryIsTaken }
+{
+    router_leaves_its_port();
+    canonical_messages_tell_form();
+    canonical_packet_is_heard();
+    pim_fresh::needs_the_units();
+    pim_down::run_keeps_its_bounds();
+}
+
+/// A router that knows the writer, as its upstream neighbour, knows it still behind runs to a moment by which none of
+/// its neighbours' times is over, with the same override interval, and as many neighbours.
+pub fn writer_stays_heard()
+    ensures { WriterStaysHeard }
+{}
+
+/// The course of a router that is given the moments and the packets of deliveries, the oldest first, and then a moment, is
+/// a hearing of all of them: it knows the writer at each, as it does at first, since none of its neighbours' times is
+/// over by the last moment, and each packet is applied.
+pub fn course_hears_all()
+    ensures { CourseHearsAll }
+{
+    delivery_is_taken();
+    writer_stays_heard();
 }

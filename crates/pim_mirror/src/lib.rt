@@ -13,6 +13,7 @@ mod tests;
 
 pub use laws::{
     asked_stars_have_rps, canonical_messages_tell_form, canonical_messages_tell_parts,
-    canonical_packet_is_heard, heard_messages_are_asked_again, messages_are_read, part_asks,
-    parts_tell_units_once,
+    canonical_packet_is_heard, course_hears_all, delivery_is_taken, heard_messages_are_asked_again,
+    messages_are_read, part_asks, parts_tell_units_once, router_leaves_its_port,
+    writer_stays_heard,
 };
