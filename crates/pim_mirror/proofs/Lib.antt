@@ -1,0 +1,5 @@
+pub mod Listed
+pub mod Timely
+pub mod Intervals
+pub mod Finals
+pub mod Conditions

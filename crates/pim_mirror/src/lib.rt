@@ -1,0 +1,11 @@
+//! The mirror: a fresh router that hears canonical messages alone.
+//!
+//! Proved: `fits` is exactly its conditions, under which a fresh router mirrors the sender of its messages.
+#![tactic(auto)]
+
+mod config;
+mod fitting;
+mod fresh;
+
+pub use config::{Delivery, FreshConfig, OtherNeighbour};
+pub use fitting::fits;
