@@ -16,3 +16,8 @@ pub mod RouterRuns
 pub mod Course
 pub mod StaysHeard
 pub mod CourseSteps
+pub mod Listed
+pub mod Timely
+pub mod Intervals
+pub mod Finals
+pub mod Conditions

@@ -5,12 +5,19 @@
 //! once and no other. A fresh port that heard them all, in any order and however often, asks its upstream neighbour
 //! again for exactly what the form asks for, by the same messages, from the final moment of the deliveries on and while
 //! no message is missed for its holdtime.
+//!
+//! `fits` is exactly its conditions, under which a fresh router mirrors the sender of its messages.
 #![tactic(auto)]
 
+mod config;
+mod fitting;
+mod fresh;
 mod laws;
 #[cfg(test)]
 mod tests;
 
+pub use config::{Delivery, FreshConfig, OtherNeighbour};
+pub use fitting::fits;
 pub use laws::{
     asked_stars_have_rps, canonical_messages_tell_form, canonical_messages_tell_parts,
     canonical_packet_is_heard, course_hears_all, delivery_is_taken, heard_messages_are_asked_again,
