@@ -17,3 +17,8 @@ pub mod Course
 pub mod StaysHeard
 pub mod CourseSteps
 pub mod AsksAgain
+pub mod Listed
+pub mod Timely
+pub mod Intervals
+pub mod Finals
+pub mod Conditions

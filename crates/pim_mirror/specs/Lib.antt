@@ -1,3 +1,6 @@
+pub mod Config
+pub mod Fits
+pub mod Tests
 pub mod CanonicalParts
 pub mod CanonicalUnits
 pub mod CanonicalExchange

@@ -1,2 +1,4 @@
+pub mod Demands
+pub mod States
 pub mod Texts
 pub mod Written

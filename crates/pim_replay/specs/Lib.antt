@@ -4,3 +4,5 @@ pub mod Malformed
 pub mod PacketLine
 pub mod EchoLine
 pub mod RecordLine
+pub mod DemandText
+pub mod StateText
