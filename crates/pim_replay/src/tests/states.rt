@@ -320,8 +320,8 @@ fn failed_states_leave_a_front(rt: HostRuntime) {
     }
 }
 
-// With each allocation refused in turn (`rt try --test --fail-alloc 1..`): nothing went out where the form can't be made,
-// and a front where the device has no room; told again, the state is whole.
+// With each allocation refused in turn (`rt try --test --fail-alloc 1..`): nothing went out where the form can't be
+// made, and a front where the device has no room; told again, the state is whole.
 #[test]
 fn refusals_leave_a_front(rt: HostRuntime) {
     let whole = SIX_ROWS_TEXT.as_bytes();
