@@ -1,2 +1,3 @@
+pub mod OnTheWay
 pub mod Texts
 pub mod Written

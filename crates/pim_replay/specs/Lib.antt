@@ -4,3 +4,4 @@ pub mod Malformed
 pub mod PacketLine
 pub mod EchoLine
 pub mod RecordLine
+pub mod Passing

@@ -7,6 +7,7 @@
 mod echo_line;
 mod malformed;
 mod packet_line;
+mod passing;
 mod pieces;
 mod record_line;
 mod said;
@@ -16,4 +17,5 @@ mod tests;
 pub use echo_line::write_echo_line;
 pub use malformed::write_malformed_words;
 pub use packet_line::write_packet_line;
+pub use passing::pass_time;
 pub use record_line::write_record_line;
