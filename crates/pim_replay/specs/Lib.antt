@@ -6,3 +6,4 @@ pub mod EchoLine
 pub mod RecordLine
 pub mod DemandText
 pub mod StateText
+pub mod Passing
