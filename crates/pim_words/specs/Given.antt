@@ -27,6 +27,10 @@ pub record IsNumber (low high : ℕ) (text : Text) (number : ℕ) : Type 0 where
   pub least : low ≤ number
   pub most : number ≤ high
 
+-- The text spells no number between these two.
+abbrev pub IsNoNumber : ℕ → ℕ → Text → Type 0
+IsNoNumber low high text = (number : ℕ) → IsNumber low high text number → ⊥
+
 -- ---- commands
 
 abbrev pub kind_name : Kind → Text
