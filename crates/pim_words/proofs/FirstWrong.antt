@@ -1,5 +1,5 @@
 -- The ports of words, read one by one.
-use Rattle.std.proofs.Common.{◌≡◌, ◌∙◌, sym, ap, subst, refl, inl, inr, ℕ, ◌+◌, ◌<◌, ◌≤◌, Bool, List, [], ◌∷◌, ◌++◌, length, drop, get_or, map, arith, append_assoc, append-nil, Result, Ok, Err, false}
+use Rattle.std.proofs.Common.{◌≡◌, sym, ap, subst, inr, ℕ, ◌+◌, ◌<◌, ◌≤◌, Bool, List, [], ◌∷◌, ◌++◌, length, drop, get_or, map, append_assoc, append-nil, Result, Ok, Err, false}
 use Rattle.std.specs.Prelude.{is_ok, is_err, if◌then◌else◌}
 use Rattle.std.specs.List.{AllZip}
 use Rattle.std.specs.Borrow.{Bor}
@@ -8,7 +8,7 @@ use Rattle.clap.specs.Words.{Text}
 use Rattle.pim_words.specs.declared.addresses.Address.{Address}
 use Rattle.pim_words.specs.declared.fault.Fault.{Fault}
 use Rattle.pim_words.specs.declared.task.Port.{Port}
-use Rattle.pim_words.specs.Ports.{IsPort, IsWrongWord, IsFirstWrongOf}
+use Rattle.pim_words.specs.Ports.{IsPort, IsFirstWrongOf}
 
 abbrev pub texts : List (Bor Text) → List Text
 texts words = map (λ w. w.now) words

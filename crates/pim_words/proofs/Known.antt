@@ -1,6 +1,6 @@
 -- What the answer of `clap` says of the words.
-use Rattle.std.proofs.Common.{◌≡◌, Bool, true, false, cond, List, [], ◌∷◌, Option, None, Some, codes, refl, sym, ap, subst, ◌∙◌, option_map}
-use Rattle.std.specs.Prelude.{IsSomeAnd, find}
+use Rattle.std.proofs.Common.{◌≡◌, Bool, true, false, cond, List, [], ◌∷◌, Option, None, Some, refl, ap, subst, option_map}
+use Rattle.std.specs.Prelude.{find}
 use Rattle.std.specs.List.{AllByRecursion}
 use Rattle.clap.specs.Words.{Row, Text, built, is_simple, is_simple_and_free, subcommand_of}
 use Rattle.clap.specs.Walk.{answers_to, stop_after}

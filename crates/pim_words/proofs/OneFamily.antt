@@ -1,8 +1,7 @@
 -- Ports that are all of one family, looked at one by one.
-use Rattle.std.proofs.Common.{◌≡◌, ◌∙◌, sym, ap, subst, refl, ℕ, ◌+◌, ◌<◌, ◌≤◌, Bool, true, false, List, [], ◌∷◌, ◌++◌, length, drop, get_or, map, arith, append_assoc, append-nil, ◌&&◌}
+use Rattle.std.proofs.Common.{◌≡◌, sym, subst, ℕ, Bool, true, List, ◌++◌, map, ◌&&◌}
 use Rattle.std.specs.List.{list_all}
 use Rattle.std.specs.Option.{option_map_or}
-use Rattle.std.proofs.lemmas.List.{drop_all, drop_more, map-append}
 use Rattle.pim_addr.specs.declared.family.AddressFamily.{AddressFamily}
 use Rattle.pim_words.specs.declared.addresses.Address.{Address}
 use Rattle.pim_words.specs.declared.task.Captures.{Captures}

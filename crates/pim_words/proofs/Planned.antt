@@ -1,5 +1,5 @@
 -- From what is read of the words to the plan, or to the cause why there is none.
-use Rattle.std.proofs.Common.{◌≡◌, inl, inr, sym, refl, List, [], Option, None, Some, option_map, MatchResult, Result, Ok, Err}
+use Rattle.std.proofs.Common.{◌≡◌, inl, inr, refl, List, [], Option, None, Some, option_map, MatchResult, Result, Ok, Err}
 use Rattle.std.specs.Prelude.{IsSomeAnd}
 use Rattle.clap.specs.Words.{Row, Text, fault_of, subcommand_of}
 use Rattle.pim_words.specs.declared.addresses.Address.{Address}

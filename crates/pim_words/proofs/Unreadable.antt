@@ -1,5 +1,5 @@
 -- Words that aren't read, behind options that are.
-use Rattle.std.proofs.Common.{◌≡◌, inr, List}
+use Rattle.std.proofs.Common.{inr, List}
 use Rattle.clap.specs.Words.{Row}
 use Rattle.pim_words.specs.declared.fault.Fault.{Fault}
 use Rattle.pim_words.specs.declared.fault.Fault.TheVariants.{Memory}

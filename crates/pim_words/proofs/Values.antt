@@ -1,5 +1,5 @@
 -- The values of options.
-use Rattle.std.proofs.Common.{◌≡◌, ◌∙◌, sym, refl, List, [], Option, None, Some, option_map, map, codes}
+use Rattle.std.proofs.Common.{◌≡◌, refl, List, [], Option, None, Some, option_map, map, codes}
 use Rattle.std.specs.Prelude.{unwrap_or}
 use Rattle.std.specs.Borrow.{Bor}
 use Rattle.clap.specs.Words.{Row, Text, all_of, first_of}

@@ -1,5 +1,5 @@
 -- The command line: the commands that `clap` reads the words by.
-use Rattle.std.specs.Prelude.{ℕ, List, [], ◌∷◌, Some, true, codes}
+use Rattle.std.specs.Prelude.{ℕ, [], ◌∷◌, Some, true, codes}
 use Rattle.clap.specs.Words.{App, Rule, Shape, Text, new_app, new_rule, with_rule, with_subcommand}
 use Rattle.clap.specs.Simple.{new_shape}
 use Rattle.clap.specs.declared.builder.action.ArgAction.TheVariants.{Append}

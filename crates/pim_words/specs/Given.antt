@@ -27,6 +27,10 @@ pub record IsNumber (low high : ℕ) (text : Text) (number : ℕ) : Type 0 where
   pub least : low ≤ number
   pub most : number ≤ high
 
+-- The text spells no number between these two.
+abbrev pub IsNoNumber : ℕ → ℕ → Text → Type 0
+IsNoNumber low high text = (number : ℕ) → IsNumber low high text number → ⊥
+
 -- ---- commands
 
 abbrev pub kind_name : Kind → Text
@@ -53,7 +57,8 @@ rp_text kind rows = Some (required (codes "rp") rows)
 -- the texts of the options that are addresses, in order, each where it is given
 abbrev pub address_texts : Kind → List Row → List (Option Text)
 address_texts Check rows =
-    Some (option_or (codes "0.0.0.0") (codes "src") rows) ∷ Some (option_or (codes "224.0.0.13") (codes "dst") rows) ∷ []
+    Some (option_or (codes "0.0.0.0") (codes "src") rows)
+    ∷ Some (option_or (codes "224.0.0.13") (codes "dst") rows) ∷ []
 address_texts Replay rows = rp_text Replay rows ∷ []
 address_texts kind rows =
     rp_text kind rows ∷ Some (required (codes "upstream") rows) ∷ Some (required (codes "own") rows) ∷ []

@@ -50,10 +50,11 @@ IsWrongTask task fault = IsFirstOf (task_faults task) fault
 abbrev pub Plans : List Text → Plan → Type 0
 Plans words plan =
     (fault_of pimtree words ≡ [])
-    × IsSomeAnd (subcommand_of pimtree words) (λ met. (task : Task Address) × IsTaskOf met task × IsPlanOfTask task plan)
+    × IsSomeAnd (subcommand_of pimtree words) (λ met.
+    (task : Task Address) × IsTaskOf met task × IsPlanOfTask task plan)
 
--- `clap` finds nothing wrong with the words, but this is told of what they ask for: of the texts that can't be read, and
--- where all are read, of the task.
+-- `clap` finds nothing wrong with the words, but this is told of what they ask for: of the texts that can't be read,
+-- and where all are read, of the task.
 abbrev pub HasWrong : List Text → Fault → Type 0
 HasWrong words fault =
     (fault_of pimtree words ≡ [])

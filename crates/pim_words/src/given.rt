@@ -1,8 +1,8 @@
 //! The values that `clap` finds for the options of a command.
 
-ghost use Rattle.std.specs.Prelude.{◌≡◌, ◌≤◌, IfOk, IfErr, IfSome, option_map};
+ghost use Rattle.std.specs.Prelude.{◌≡◌, ◌≤◌, IfOk, IfErr, MatchOption, option_map};
 ghost use Rattle.clap.specs.Words.{rows_of, found_of, first_of};
-ghost use Rattle.pim_words.specs.Given.{option_or, IsNumber};
+ghost use Rattle.pim_words.specs.Given.{option_or, IsNumber, IsNoNumber};
 
 use crate::fault::Fault;
 use clap::ArgMatches;
@@ -23,7 +23,7 @@ pub(crate) fn option_or<'a>(options: &ArgMatches<'a>, name: &str, default: &'a s
 
 /// The number that a text spells, if it lies between these two.
 fn number_between(text: &str, low: u64, high: u64) -> Option<u64>
-    ensures { IfSome result (IsNumber low high text.now) }
+    ensures { MatchOption result (IsNoNumber low high text.now) (IsNumber low high text.now) }
 {
     match text.parse::<u64>() {
         Ok(number) if low <= number && number <= high => Some(number),
@@ -43,6 +43,8 @@ pub(crate) fn number_of<'a>(
     ensures number { IfOk result (IsNumber low high
         (option_or default.entry.now name.now (rows_of (found_of options.now)))) }
     ensures memory { IfErr result (λ fault. fault ≡ Fault.Memory) }
+    ensures none { IfErr result (λ fault. IsNoNumber low high
+        (option_or default.entry.now name.now (rows_of (found_of options.now)))) }
 {
     match number_between(option_or(options, name, default), low, high) {
         Some(number) => Ok(number),

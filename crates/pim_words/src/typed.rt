@@ -126,7 +126,8 @@ fn check_in_family<'a, F: Family>(
     dst: Address,
 ) -> Result<Task<'a, F::Addr>, Fault<'static>>
     ensures { MatchResult result
-        (λ typed. (are_in F.family (Task.Check src dst) ≡ true) × SameTask F.family F.bytes_of typed (Task.Check src dst))
+        (λ typed. (are_in F.family (Task.Check src dst) ≡ true)
+        × SameTask F.family F.bytes_of typed (Task.Check src dst))
         (IsForeign (are_in F.family (Task.Check src dst))) }
 {
     let src = in_family::<F>(src)?;
