@@ -6,14 +6,14 @@ ghost use Rattle.pim_down.specs.Time.{Runs};
 ghost use Rattle.pim_down.specs.Seen.{step_seen};
 ghost use Rattle.pim_down.specs.Running.{downstream_at};
 
-use crate::held::Held;
 use crate::step::Step;
+use crate::store::Store;
 use crate::timers::{end_by, fire_first};
 use pim_addr::Family;
 
 /// Runs from this moment to a later one, or to the first echo: what is told, and the moment then.
 pub(crate) fn run<F: Family>(
-    records: &mut Vec<Held<F::Addr>>,
+    records: &mut Store<F::Addr>,
     now: u64,
     moment: u64,
 ) -> (Step<F::Addr>, u64)
