@@ -1,0 +1,13 @@
+use Rattle.std.proofs.Common.{◌≡◌, map, length}
+use Rattle.pim_mirror.specs.Tests.{are_different}
+use Rattle.pim_mirror.specs.declared.config.OtherNeighbour.{OtherNeighbour}
+use Rattle.pim_mirror.proofs.fitting.are_different.Given as goal
+
+-- all are different exactly if those that are left are
+abbrev pub invariant-loop-other : goal.invariant-loop-other
+invariant-loop-other g l =
+    are_different (map (λ (other : OtherNeighbour _). g.F.Family.bytes_of other.address) l.left)
+    ≡ are_different (map (λ (other : OtherNeighbour _). g.F.Family.bytes_of other.address) l.others)
+
+abbrev pub decreases-loop-other : goal.decreases-loop-other
+decreases-loop-other g l = length l.left
