@@ -23,7 +23,7 @@ use Rattle.pim_down.specs.Seen.{record_seen, records_seen}
 use Rattle.pim_down.proofs.Order.{equal_keys}
 use Rattle.pim_down.proofs.Each.{end_filter, seen_filter}
 use Rattle.pim_down.proofs.Real.{all_append, all_flat}
-use Rattle.pim_down.proofs.Rpts.{itself, same_default, AreBehind, AreOthers}
+use Rattle.pim_down.proofs.Rpts.{itself, AreBehind, AreOthers}
 use Rattle.pim_down.proofs.Looking.{NoneBefore, none_more}
 
 -- ---- lists

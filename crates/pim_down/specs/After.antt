@@ -1,5 +1,5 @@
 -- What comes next on a port: its groups one after the other, and the machines of a group.
-use Rattle.std.specs.Prelude.{ℕ, Bool, true, false, not, ◌&&◌, ◌==◌, List, Option, None, Some, option_map}
+use Rattle.std.specs.Prelude.{ℕ, Bool, true, false, ◌&&◌, ◌==◌, List, Option, None, Some, option_map}
 use Rattle.std.specs.List.{find}
 use Rattle.std.specs.Ordering.{ordering_then, is_eq, is_lt, is_le, nat_cmp}
 use Rattle.pim_down.specs.declared.key.What.{What}

@@ -1,5 +1,5 @@
-use Rattle.std.proofs.Common.{◌≡◌, ◌≤◌, length, drop, option_map, eqb, refl, false, arith}
-use Rattle.std.proofs.lemmas.Bool.{eq-eqb, ne_eqb, ltb-false}
+use Rattle.std.proofs.Common.{drop, option_map, eqb, refl}
+use Rattle.std.proofs.lemmas.Bool.{eq-eqb, ne_eqb}
 use Rattle.sorted_slab.specs.Listed.{at}
 use Rattle.pim_down.specs.After.{is_before_groups, is_of_group_after}
 use Rattle.pim_down.proofs.Searched.{parted, found_none, found_some, found_other, groups_fall, groups_apart, groups_near, group_first}

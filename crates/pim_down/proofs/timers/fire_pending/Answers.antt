@@ -1,4 +1,4 @@
-use Rattle.std.proofs.Common.{◌≡◌, ◌+◌, ◌++◌, take, drop, get_or, ap, ◌∙◌}
+use Rattle.std.proofs.Common.{◌+◌, ◌++◌, take, drop, get_or, ap, ◌∙◌}
 use Rattle.sorted_slab.specs.Listed.{at}
 use Rattle.pim_down.specs.Records.{recorded}
 use Rattle.pim_down.specs.Time.{echo_of, on_ppt}
