@@ -38,7 +38,7 @@ fn refuses_past_the_limit(rt: HostRuntime) -> Result<(), Fail> {
 fn shows_what_is_held(rt: HostRuntime) -> Result<(), Fail> {
     let mut ports: Ports<V4> = Ports::new(rt.alloc(), 1, 2);
     let text = format!(in rt.alloc(); "{ports:?}")?;
-    assert!(rt; text.starts_with("Ports { ports: 1, limit: 2, moment: 0, records: []"));
+    assert!(rt; text.starts_with("Ports { ports: 1, limit: 2, moment: 0, quiet_until: 0, records: []"));
     let rows = [hear(0, &[(&[JOIN_STAR], &[])])];
     assert_eq!(rt; play(rt.alloc(), &mut ports, &rows)?, None);
     let text = format!(in rt.alloc(); "{ports:?}")?;
