@@ -3,3 +3,4 @@ pub mod Timely
 pub mod Intervals
 pub mod Finals
 pub mod Conditions
+pub mod Ways

@@ -1,3 +1,4 @@
 pub mod Config
 pub mod Fits
 pub mod Tests
+pub mod Mirror

@@ -6,6 +6,8 @@
 mod config;
 mod fitting;
 mod fresh;
+mod mirroring;
 
 pub use config::{Delivery, FreshConfig, OtherNeighbour};
 pub use fitting::fits;
+pub use mirroring::{MirrorFault, mirror};

@@ -1,0 +1,116 @@
+-- What a fresh router goes through that hears one sender: the Hellos of its neighbours at the moment 0, each delivery at
+-- its moment, and the way to the final moment.
+use Rattle.std.specs.Prelude.{◌≡◌, ℕ, List, [], ◌∷◌, ◌++◌, map, flat_map, slice_index_or, Option, None, Some}
+use Rattle.std.specs.Prelude.{Result, Ok, Err}
+use Rattle.pim_addr.specs.declared.family.AddressFamily.{AddressFamily}
+use Rattle.pim_frame.specs.Frame.{all_routers}
+use Rattle.pim_frame.specs.Seal.{IsSealed}
+use Rattle.pim_frame.specs.declared.frame.MessageType.TheVariants.{Hello}
+use Rattle.pim_hello.specs.Spelling.{spelling_of}
+use Rattle.pim_router.specs.Course.{Input, runs_to, takes, Telling, verdict, Reaches, IsCourse}
+use Rattle.pim_router.specs.Packets.{Packet}
+use Rattle.pim_router.specs.State.{RouterState, new_router}
+use Rattle.pim_router.specs.declared.verdict.Verdict.{Verdict}
+use Rattle.pim_router.specs.declared.verdict.Verdict.TheVariants.{Full}
+use Rattle.pim_router.specs.declared.verdict.Store.TheVariants.{Records}
+use Rattle.pim_fresh.specs.Deliveries.{Delivery}
+use Rattle.pim_mirror.specs.Config.{Neighbour, Fresh, neighbours, setup_of, end_of}
+use Rattle.pim_mirror.specs.declared.mirroring.MirrorFault.{MirrorFault}
+use Rattle.pim_mirror.specs.declared.mirroring.MirrorFault.TheVariants as fault
+
+-- ---- what it is given
+
+-- The Hello of a neighbour, without an Address List, comes to the only port.
+pub record IsHelloOf (family : AddressFamily) (neighbour : Neighbour) (packet : Packet) : Type 0 where
+  pub port : packet.port ≡ 0
+  pub source : packet.source ≡ neighbour.address
+  pub destination : packet.destination ≡ all_routers family
+  pub sealed : IsSealed family neighbour.address (all_routers family) Hello
+      (spelling_of family (record { parameters = neighbour.hello; addresses = [] })) packet.bytes
+
+-- one of each neighbour, in order
+unfoldable pub AreHellosOf : AddressFamily → List Neighbour → List Packet → Type 0
+AreHellosOf family [] [] = Unit {0}
+AreHellosOf family [] (packet ∷ packets) = ⊥
+AreHellosOf family (neighbour ∷ neighbours) [] = ⊥
+AreHellosOf family (neighbour ∷ neighbours) (packet ∷ packets) =
+    IsHelloOf family neighbour packet × AreHellosOf family neighbours packets
+
+-- A delivery is its moment, and then the packet of its message.
+abbrev pub delivery_inputs : AddressFamily → List (List ℕ) → List ℕ → Delivery → List Input
+delivery_inputs family messages sender delivery = runs_to delivery.moment ∷ takes (record {
+  port = 0;
+  source = sender;
+  destination = all_routers family;
+  bytes = slice_index_or messages delivery.message [];
+}) ∷ []
+
+abbrev pub inputs_of : AddressFamily → List (List ℕ) → Fresh → List Packet → List Input
+inputs_of family messages fresh hellos =
+    map (λ packet. takes packet) hellos
+    ++ (flat_map (delivery_inputs family messages fresh.sender) fresh.deliveries ++ runs_to (end_of fresh) ∷ [])
+
+-- ---- what it tells
+
+abbrev pub needed_by : Verdict → Option ℕ
+needed_by (Full (Records needed)) = Some needed
+needed_by other = None
+
+abbrev pub needed_of : Telling → Option ℕ
+needed_of (verdict of_packet) = needed_by of_packet
+needed_of other = None
+
+abbrev pub or_later : Option ℕ → Option ℕ → Option ℕ
+or_later None later = later
+or_later (Some needed) later = Some needed
+
+-- how many records the first Join/Prune needed for which there was no room
+unfoldable pub first_needed : List Telling → Option ℕ
+first_needed [] = None
+first_needed (told ∷ more) = or_later (needed_of told) (first_needed more)
+
+-- ---- the mirror
+
+-- Ok is the state behind the course, where each message had room; Full tells what the first needed that had none.
+abbrev pub IsAnswer : List Telling → RouterState → Result RouterState MirrorFault → Type 0
+IsAnswer told after (Ok router) = (first_needed told ≡ None) × (router ≡ after)
+IsAnswer told after (Err (fault.Full needed)) = first_needed told ≡ Some needed
+IsAnswer told after (Err fault.Memory) = Unit {0}
+
+-- A call answers what the course of the router over these inputs tells and leaves.
+pub record Mirrors (family : AddressFamily) (messages : List (List ℕ)) (fresh : Fresh)
+    (result : Result RouterState MirrorFault) : Type 0 where
+  pub hellos : List Packet
+  pub are_hellos : AreHellosOf family (neighbours fresh) hellos
+  pub told : List Telling
+  pub after : RouterState
+  pub course : IsCourse family (inputs_of family messages fresh hellos) told (new_router (setup_of fresh)) after
+  pub answer : IsAnswer told after result
+
+-- ---- what the private steps answer and leave
+
+-- the same of inputs on the way: Ok leaves the state behind them
+abbrev pub IsPassed : List Telling → RouterState → RouterState → Result (Unit {0}) MirrorFault → Type 0
+IsPassed told after now (Ok done) = (first_needed told ≡ None) × (now ≡ after)
+IsPassed told after now (Err (fault.Full needed)) = first_needed told ≡ Some needed
+IsPassed told after now (Err fault.Memory) = Unit {0}
+
+pub record Passes (family : AddressFamily) (inputs : List Input) (old : RouterState)
+    (result : Result (Unit {0}) MirrorFault) (now : RouterState) : Type 0 where
+  pub told : List Telling
+  pub after : RouterState
+  pub course : IsCourse family inputs told old after
+  pub passed : IsPassed told after now result
+
+-- the Hellos of some neighbours, taken in order
+pub record PassesHellos (family : AddressFamily) (of : List Neighbour) (old : RouterState)
+    (result : Result (Unit {0}) MirrorFault) (now : RouterState) : Type 0 where
+  pub hellos : List Packet
+  pub are_hellos : AreHellosOf family of hellos
+  pub passes : Passes family (map (λ packet. takes packet) hellos) old result now
+
+-- runs to the moment until nothing is due, none of which tells of a message
+pub record HasReached (moment : ℕ) (old now : RouterState) : Type 0 where
+  pub told : List Telling
+  pub reaches : Reaches moment told old now
+  pub none_needed : first_needed told ≡ None
