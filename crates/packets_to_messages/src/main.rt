@@ -1,5 +1,5 @@
-//! A routing daemon in small: packets come in, each has a verdict, and what is asked for goes to the upstream neighbour.
-//! Three packets stand for a socket, and a printed line for each thing that a daemon sends.
+//! A routing daemon in small: packets come in, each has a verdict, and what is asked for goes to the upstream
+//! neighbour. Three packets stand for a socket, and a printed line for each thing that a daemon sends.
 #![tactic(auto)]
 
 ghost use Rattle.std.specs.Prelude.{◌≡◌, ◌≤◌, ◌^◌, max, OnOk};
@@ -44,12 +44,8 @@ const JOIN_AND_PRUNE: [u8; 42] = [
 const PACKETS: [(u64, &[u8]); 3] = [(0, &HELLO), (5, &JOIN), (61_000, &JOIN_AND_PRUNE)];
 
 /// Writes the messages that ask the upstream neighbour for what the router's ports want: to be sent at each Refresh.
-fn ask_upstream(rt: &HostRuntime, router: &Router<'_, V4>) -> io::Result<()> {
-    let writer = match Writer::<V4>::new(UPSTREAM, OWN, 210, 1_460) {
-        Ok(writer) => writer,
-        Err(fault) => return println!(rt; "{fault}"),
-    };
-    let Ok(messages) = router.canonical(rt.alloc(), &writer) else {
+fn ask_upstream(rt: &HostRuntime, router: &Router<'_, V4>, writer: &Writer<V4>) -> io::Result<()> {
+    let Ok(messages) = router.canonical(rt.alloc(), writer) else {
         return println!(rt; "a star too big for one message, or no memory");
     };
     for index in 0..messages.count() {
@@ -62,7 +58,12 @@ fn ask_upstream(rt: &HostRuntime, router: &Router<'_, V4>) -> io::Result<()> {
 }
 
 /// Lets time pass up to this moment: before each packet, and whenever the daemon wakes up.
-fn pass_time(rt: &HostRuntime, router: &mut Router<'_, V4>, moment: u64) -> io::Result<()>
+fn pass_time(
+    rt: &HostRuntime,
+    router: &mut Router<'_, V4>,
+    writer: &Writer<V4>,
+    moment: u64,
+) -> io::Result<()>
     requires { moment ≤ 10 ^ 15 }
     ensures { OnOk result (router.new.machines.moment ≡ max router.old.machines.moment moment) }
 {
@@ -72,7 +73,7 @@ fn pass_time(rt: &HostRuntime, router: &mut Router<'_, V4>, moment: u64) -> io::
             Step::Echo { port, group, .. } => println!(rt;
                 "send a PruneEcho of {group:?} on port {port}"
             )?,
-            Step::Refresh => ask_upstream(rt, router)?,
+            Step::Refresh => ask_upstream(rt, router, writer)?,
         }
     }
 }
@@ -80,23 +81,20 @@ fn pass_time(rt: &HostRuntime, router: &mut Router<'_, V4>, moment: u64) -> io::
 fn main(rt: HostRuntime) -> io::Result<()> {
     // what the daemon was configured with: the RP of all groups, the way to it, and a limit of records for each port
     let mut routes = Routes::<V4>::new(rt.alloc());
-    if let Err(fault) = routes.add_rp([224, 0, 0, 0], 4, [10, 9, 9, 9]) {
-        return println!(rt; "{fault}");
-    }
-    if let Err(fault) = routes.add_via([0; 4], 0, UPSTREAM) {
-        return println!(rt; "{fault}");
-    }
+    let rp = routes.add_rp([224, 0, 0, 0], 4, [10, 9, 9, 9]);
+    let via = routes.add_via([0; 4], 0, UPSTREAM);
     let config = Config {
         ports: &PORTS,
         routes: &routes,
         limit: 1_000,
     };
-    let mut router = match Router::<V4>::new(rt.alloc(), &config) {
-        Ok(router) => router,
-        Err(fault) => return println!(rt; "{fault}"),
+    let writer = Writer::<V4>::new(UPSTREAM, OWN, 210, 1_460);
+    let router = Router::<V4>::new(rt.alloc(), &config);
+    let (Ok(()), Ok(()), Ok(writer), Ok(mut router)) = (rp, via, writer, router) else {
+        return println!(rt; "a fault in the configuration, or no memory");
     };
     for (moment, packet) in PACKETS {
-        pass_time(&rt, &mut router, moment)?;
+        pass_time(&rt, &mut router, &writer, moment)?;
         if router.port_count() == 0 || packet.len() > 65_535 {
             break;
         }
@@ -106,9 +104,10 @@ fn main(rt: HostRuntime) -> io::Result<()> {
             Err(_) => println!(rt; "{moment} no memory")?,
         }
     }
-    pass_time(&rt, &mut router, 61_000)?;
+    // a prune of the only neighbour counts at once
+    pass_time(&rt, &mut router, &writer, 61_000)?;
     for held in router.ports().records() {
         println!(rt; "{:?} {:?}", held.key.what, held.machine.state)?;
     }
-    ask_upstream(&rt, &router)
+    ask_upstream(&rt, &router, &writer)
 }

@@ -1,9 +1,9 @@
 -- When the first timer of some records ends.
-use Rattle.std.proofs.Common.{◌≡◌, ℕ, ◌+◌, ◌-◌, ◌<◌, ◌≤◌, List, ◌∷◌, Option, Some, None, length, drop, get_or, leb, eqb, min, refl, sym, ap, ◌∙◌, arith}
+use Rattle.std.proofs.Common.{◌≡◌, ℕ, ◌+◌, ◌-◌, ◌<◌, ◌≤◌, List, ◌∷◌, Option, Some, None, length, drop, get_or, leb, eqb, false, min, refl, sym, ap, ◌∙◌, arith}
 use Rattle.std.proofs.lemmas.Bool.Decides.{nat_tests}
 use Rattle.std.proofs.lemmas.List.{drop_more, drop_all}
 use Rattle.pim_down.specs.declared.held.Held.{Held}
-use Rattle.pim_down.specs.Ends.{sooner, pending_end, first_end}
+use Rattle.pim_down.specs.Ends.{sooner, pending_end, first_end, ends_by, IsQuietUntil}
 use Rattle.pim_down.specs.Seen.{waiting_seen, records_seen}
 
 pub due_from_end : (ends now : ℕ) → eqb (ends - now) 0 ≡ leb ends now
@@ -21,6 +21,16 @@ sooner_assoc (Some a) (Some b) (Some c) = ap (λ n. Some n) (min_assoc a b c)
 pub sooner_none : (a : Option ℕ) → sooner a None ≡ a
 sooner_none None = refl
 sooner_none (Some a) = refl
+
+-- ---- quiet times
+
+pub quiet_at_first : (end : Option ℕ) → IsQuietUntil 0 end
+quiet_at_first None = tt
+quiet_at_first (Some ends) = omega arith
+
+pub still_quiet : (last until : ℕ) (end : Option ℕ) → last < until → IsQuietUntil until end → ends_by last end ≡ false
+still_quiet last until None before quiet = refl
+still_quiet last until (Some ends) before quiet = grind (arith, nat_tests)
 
 module _ {A : Type 0} (bytes_of : A → List ℕ) where
   -- one record more

@@ -3,6 +3,8 @@
 use Rattle.std.specs.Prelude.{◌≡◌, ◌≤◌, ℕ, ◌+◌, Bool, false, List, [], ◌∷◌, Option, None, Some, min, nat_le}
 use Rattle.pim_down.specs.declared.machine.Pending.{Pending}
 use Rattle.pim_down.specs.declared.machine.Record.{Record}
+use Rattle.pim_down.specs.declared.timers.NextEnd.{NextEnd}
+use Rattle.pim_down.specs.declared.timers.NextEnd.TheVariants.{Ends, Quiet}
 
 -- the lesser of two times, of which `None` is never
 abbrev pub sooner : Option ℕ → Option ℕ → Option ℕ
@@ -32,7 +34,12 @@ unfoldable pub weight : List (Record (List ℕ)) → ℕ
 weight [] = 0
 weight (held ∷ records) = 1 + pending_weight held.machine.pending + weight records
 
--- the end, where it is no later than this moment
-abbrev pub IsEndBy : ℕ → Option ℕ → Option ℕ → Type 0
-IsEndBy last end None = ends_by last end ≡ false
-IsEndBy last end (Some ends) = (end ≡ Some ends) × (ends ≤ last)
+-- nothing ends before this moment
+abbrev pub IsQuietUntil : ℕ → Option ℕ → Type 0
+IsQuietUntil moment None = Unit {0}
+IsQuietUntil moment (Some ends) = moment ≤ ends
+
+-- the end, where it is no later than this moment, else a moment behind it before which nothing ends
+abbrev pub IsEndBy : ℕ → Option ℕ → NextEnd → Type 0
+IsEndBy last end (Quiet moment) = (ends_by last end ≡ false) × IsQuietUntil moment end
+IsEndBy last end (Ends ends) = (end ≡ Some ends) × (ends ≤ last)

@@ -20,7 +20,7 @@ use crate::held::Held;
 use crate::key::{Key, What};
 use crate::machine::{Record, State};
 use crate::message::hear_message;
-use crate::run::run;
+use crate::run::{Stop, run};
 use crate::step::Step;
 use crate::timers::next_end;
 use crate::walk::{Records, count_on, on_port, record_after};
@@ -35,6 +35,8 @@ pub struct Ports<F: Family> {
     ports: usize,
     limit: usize,
     moment: u64,
+    /// No timer ends before this moment.
+    quiet_until: u64,
     /// In key order.
     records: Vec<Held<F::Addr>>,
     family: PhantomData<F>,
@@ -46,11 +48,14 @@ impl<F: Family> Model for Ports<F> {
     ghost Value = { Downstream };
 
     ghost use Rattle.pim_down.specs.Running.{downstream_at};
+    ghost use Rattle.pim_down.specs.Ends.{first_end, IsQuietUntil};
+    ghost use Rattle.pim_down.specs.Seen.{records_seen};
     ghost use Rattle.pim_down.specs.Sound.{IsSound};
 
     ghost view = { λ p. downstream_at F.bytes_of p.ports p.limit p.moment p.records.items };
 
-    ghost invariant = { λ p. IsSound F.family (downstream_at F.bytes_of p.ports p.limit p.moment p.records.items) };
+    ghost invariant = { λ p. IsSound F.family (downstream_at F.bytes_of p.ports p.limit p.moment p.records.items)
+        × IsQuietUntil p.quiet_until (first_end (records_seen F.bytes_of p.records.items)) };
 }
 
 impl<F: Family> Ports<F> {
@@ -66,6 +71,7 @@ impl<F: Family> Ports<F> {
             ports,
             limit,
             moment: 0,
+            quiet_until: 0,
             records: Vec::new(alloc),
             family: PhantomData,
         }
@@ -198,11 +204,15 @@ impl<F: Family> Ports<F> {
     {
         message.is_legal();
         let start = start_at(message.holdtime(), timing, self.moment);
+        self.quiet_until = 0;
         hear_message::<F>(&mut self.records, self.limit, port, start, routes, message)
     }
 
     /// Runs to this moment, in milliseconds, at most 10^15, or to the first echo; an earlier moment counts as now. What
     /// is still due after an echo stays due, and the next call goes on.
+    ///
+    /// It walks through all records once for each timer that fires, and once more; where a call before has reached its
+    /// moment, nothing was heard since and no timer ends by this moment, through none.
     pub fn run_to(&mut self, moment: u64) -> Step<F::Addr>
         requires { moment ≤ 1000000000000000 }
         ensures run { Runs moment self.old (step_seen F.bytes_of result) self.new }
@@ -212,8 +222,14 @@ impl<F: Family> Ports<F> {
         ensures moment { self.new.moment ≤ max self.old.moment moment }
         ensures reached { result ≡ Reached → self.new.moment ≡ max self.old.moment moment }
     {
-        let (step, now) = run::<F>(&mut self.records, self.moment, moment);
+        let stop = run::<F>(&mut self.records, self.moment, moment, self.quiet_until);
+        let Stop {
+            step,
+            now,
+            quiet_until,
+        } = stop;
         self.moment = now;
+        self.quiet_until = quiet_until;
         step
     }
 }

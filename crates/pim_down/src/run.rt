@@ -3,40 +3,71 @@
 ghost use Rattle.std.specs.Prelude.{◌≡◌, ◌≤◌, ℕ, max};
 ghost use Rattle.pim_down.specs.declared.step.Step.TheVariants.{Reached};
 ghost use Rattle.pim_down.specs.Time.{Runs};
-ghost use Rattle.pim_down.specs.Seen.{step_seen};
+ghost use Rattle.pim_down.specs.Ends.{first_end, IsQuietUntil};
+ghost use Rattle.pim_down.specs.Seen.{step_seen, records_seen};
 ghost use Rattle.pim_down.specs.Running.{downstream_at};
 
 use crate::held::Held;
 use crate::step::Step;
-use crate::timers::{end_by, fire_first};
+use crate::timers::{NextEnd, end_by, fire_first};
 use pim_addr::Family;
 
-/// Runs from this moment to a later one, or to the first echo: what is told, and the moment then.
+/// Where a run stops.
+pub(crate) struct Stop<A> {
+    pub(crate) step: Step<A>,
+    /// The moment then.
+    pub(crate) now: u64,
+    /// No timer ends before this moment.
+    pub(crate) quiet_until: u64,
+}
+
+/// Runs from this moment to a later one, or to the first echo, where no timer ends before `quiet_until`.
 pub(crate) fn run<F: Family>(
     records: &mut Vec<Held<F::Addr>>,
     now: u64,
     moment: u64,
-) -> (Step<F::Addr>, u64)
+    quiet_until: u64,
+) -> Stop<F::Addr>
+    requires { IsQuietUntil quiet_until (first_end (records_seen F.bytes_of records.old.items)) }
     ensures runs { (ports limit : ℕ) →
         Runs moment (downstream_at F.bytes_of ports limit now records.old.items)
-        (step_seen F.bytes_of result.0) (downstream_at F.bytes_of ports limit result.1 records.new.items) }
-    ensures later { now ≤ result.1 }
-    ensures moment { result.1 ≤ max now moment }
-    ensures reached { result.0 ≡ Reached → result.1 ≡ max now moment }
+        (step_seen F.bytes_of result.step) (downstream_at F.bytes_of ports limit result.now records.new.items) }
+    ensures later { now ≤ result.now }
+    ensures moment { result.now ≤ max now moment }
+    ensures reached { result.step ≡ Reached → result.now ≡ max now moment }
+    ensures quiet { IsQuietUntil result.quiet_until (first_end (records_seen F.bytes_of records.new.items)) }
 {
     let last = now.max(moment);
+    if last < quiet_until {
+        return Stop {
+            step: Step::Reached,
+            now: last,
+            quiet_until,
+        };
+    }
     let mut now = now;
     loop {
         match end_by::<F>(records, last) {
-            None => return (Step::Reached, last),
-            Some(ends) => {
+            NextEnd::Ends(ends) => {
                 now = now.max(ends);
                 match fire_first::<F>(records, now) {
                     Step::Reached => {}
                     Step::Echo { port, group, what } => {
-                        return (Step::Echo { port, group, what }, now);
+                        let step = Step::Echo { port, group, what };
+                        return Stop {
+                            step,
+                            now,
+                            quiet_until: 0,
+                        };
                     }
                 }
+            }
+            NextEnd::Quiet(quiet_until) => {
+                return Stop {
+                    step: Step::Reached,
+                    now: last,
+                    quiet_until,
+                };
             }
         }
     }

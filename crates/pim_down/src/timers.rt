@@ -48,13 +48,22 @@ pub(crate) fn next_end<F: Family>(records: &[Held<F::Addr>]) -> Option<u64>
     end
 }
 
+/// What is known of the first end of all.
+pub(crate) enum NextEnd {
+    /// It is at this moment.
+    Ends(u64),
+    /// It isn't before this moment.
+    Quiet(u64),
+}
+
 /// When the first timer of all ends, where that is no later than this.
-pub(crate) fn end_by<F: Family>(records: &[Held<F::Addr>], last: u64) -> Option<u64>
+pub(crate) fn end_by<F: Family>(records: &[Held<F::Addr>], last: u64) -> NextEnd
     ensures { IsEndBy last (first_end (records_seen F.bytes_of records.now)) result }
 {
     match next_end::<F>(records) {
-        Some(ends) if ends <= last => Some(ends),
-        _ => None,
+        None => NextEnd::Quiet(u64::MAX),
+        Some(ends) if ends <= last => NextEnd::Ends(ends),
+        Some(ends) => NextEnd::Quiet(ends),
     }
 }
 

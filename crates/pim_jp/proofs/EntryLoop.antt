@@ -36,7 +36,7 @@ or_or true b c = refl
 or_or false b c = refl
 
 -- whether a kind is among the entries, with one more
-any_more : (family : AddressFamily) (is : Entry (List ℕ) → Bool) (done : ℕ) (bytes : List ℕ)
+pub any_more : (family : AddressFamily) (is : Entry (List ℕ) → Bool) (done : ℕ) (bytes : List ℕ)
     → list_any is (entries_of family (done + 1) bytes) ≡ (list_any is (entries_of family done bytes) || is (entry_at family done bytes))
 any_more family is done bytes =
     let one : done + 1 ≡ suc done = omega arith in

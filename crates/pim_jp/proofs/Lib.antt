@@ -19,3 +19,4 @@ pub mod EntryPass
 pub mod Lengths
 pub mod SortedSources
 pub mod SetLoop
+pub mod Guesses

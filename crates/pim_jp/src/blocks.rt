@@ -10,12 +10,16 @@ ghost use Rattle.pim_jp.specs.declared.entry.Entry.{Entry};
 ghost use Rattle.pim_jp.specs.Seen.{entry_seen};
 ghost use Rattle.pim_jp.specs.Spelling.{same_source};
 ghost use Rattle.pim_jp.specs.Reading.{is_in, entry_at, is_source_entry, is_rpt_entry, AreApart};
-ghost use Rattle.pim_jp.specs.Sources.{is_among, is_listed, one_if, HasAddress};
+ghost use Rattle.pim_jp.specs.Sources.{is_listed, one_if, HasAddress};
 
 use crate::entries::{Entries, first_entry};
 use crate::entry::Entry;
+use crate::pairs::{are_missing, holds};
 use crate::sorting::sort_numbers;
-use pim_addr::{Family, count_below, numbers_are_in_order, source_length};
+use pim_addr::{Family, numbers_are_in_order, source_length};
+
+/// So many pruned entries are looked for together.
+pub(crate) const TOGETHER: u16 = 64;
 
 /// Where the numbers of a block end: those of (S,G) entries stand before `front`, those of (S,G,rpt) ones from `back`
 /// on, and what is between is free.
@@ -64,20 +68,6 @@ fn is_rpt<F: Family>(entry: Entry<F::Addr>) -> bool
     matches!(entry, Entry::Rpt(_))
 }
 
-/// Whether the number is one of these, which are in order. Neither the search nor the test behind it has a branch that
-/// goes by what is found.
-fn holds<F: Family>(sorted: &[F::Number], number: F::Number) -> bool
-    requires { IsSorted F.Number.cmp sorted.now }
-    ensures { result ≡ is_among F.value_of sorted.now (F.value_of number) }
-{
-    if sorted.is_empty() {
-        return false;
-    }
-    let below = count_below(sorted, number);
-    let next = below - usize::from(below == sorted.len());
-    sorted[next] == number
-}
-
 /// Whether the number of the entry's source is one of those of its type. Both lists are in order.
 fn is_listed<F: Family>(sources: &[F::Number], rpts: &[F::Number], entry: Entry<F::Addr>) -> bool
     requires sources { IsSorted F.Number.cmp sources.now }
@@ -93,7 +83,7 @@ fn is_listed<F: Family>(sources: &[F::Number], rpts: &[F::Number], entry: Entry<
 
 /// The place of the first of so many entries whose number is one of those of its type; their number if there is none.
 /// Both lists are in order.
-fn first_listed<F: Family>(
+fn first_listed_of_few<F: Family>(
     sources: &[F::Number],
     rpts: &[F::Number],
     count: u16,
@@ -128,6 +118,7 @@ fn fill<F: Family>(entries: &mut Entries<'_, F>, block: &mut [F::Number]) -> End
     ensures bound { result.back ≤ length block.new }
     ensures room { length block.new ≡ length block.old }
     ensures fewer { 0 < length entries.old → length entries.new < length entries.old }
+    ensures all { length entries.old ≤ length block.old → length entries.new ≡ 0 }
     ensures listed { (this : Entry (List ℕ)) → HasAddress F.family this → is_in entries.old this
         ≡ (is_listed F.value_of (take result.front block.new) (drop result.back block.new) this
         || is_in entries.new this) }
@@ -147,6 +138,92 @@ fn fill<F: Family>(entries: &mut Entries<'_, F>, block: &mut [F::Number]) -> End
     Ends { front, back }
 }
 
+/// Whether it is plain that none of so many entries is listed. The numbers of their sources are put into the block, and
+/// those of a type are looked for two at a time. Both lists are in order.
+fn are_unlisted<F: Family>(
+    sources: &[F::Number],
+    rpts: &[F::Number],
+    count: u16,
+    bytes: &[u8],
+    block: &mut [F::Number],
+) -> bool
+    requires room { (0 < length block.old) × (count ≤ length block.old) }
+    requires long { count * source_length F.family ≤ length bytes.now }
+    requires sources { IsSorted F.Number.cmp sources.now }
+    requires rpts { IsSorted F.Number.cmp rpts.now }
+    ensures room { length block.new ≡ length block.old }
+    ensures unlisted { result ≡ true → (place : ℕ) → place < count
+        → is_listed F.value_of sources.now rpts.now (entry_at F.family place bytes.now) ≡ false }
+{
+    let mut entries = Entries::<F>::new(count, bytes);
+    let ends = fill::<F>(&mut entries, block);
+    let (before, these_rpts) = block.split_at(ends.back);
+    let (these_sources, _) = before.split_at(ends.front);
+    let sources_are_missing = are_missing::<F>(sources, these_sources);
+    let rpts_are_missing = are_missing::<F>(rpts, these_rpts);
+    sources_are_missing & rpts_are_missing
+}
+
+/// The same as `first_listed_of_few`, sooner where none is listed.
+fn first_listed_together<F: Family>(
+    sources: &[F::Number],
+    rpts: &[F::Number],
+    count: u16,
+    bytes: &[u8],
+    block: &mut [F::Number],
+) -> u16
+    requires room { (0 < length block.old) × (count ≤ length block.old) }
+    requires long { count * source_length F.family ≤ length bytes.now }
+    requires sources { IsSorted F.Number.cmp sources.now }
+    requires rpts { IsSorted F.Number.cmp rpts.now }
+    ensures room { length block.new ≡ length block.old }
+    ensures bound { result ≤ count }
+    ensures before { (place : ℕ) → place < result
+        → is_listed F.value_of sources.now rpts.now (entry_at F.family place bytes.now) ≡ false }
+    ensures at { result < count
+        → is_listed F.value_of sources.now rpts.now (entry_at F.family result bytes.now) ≡ true }
+{
+    if are_unlisted::<F>(sources, rpts, count, bytes, block) {
+        return count;
+    }
+    first_listed_of_few::<F>(sources, rpts, count, bytes)
+}
+
+/// The place of the first of so many entries whose number is one of those of its type; their number if there is none.
+/// Both lists are in order.
+fn first_listed<F: Family>(
+    sources: &[F::Number],
+    rpts: &[F::Number],
+    count: u16,
+    bytes: &[u8],
+    block: &mut [F::Number],
+) -> u16
+    requires room { 64 ≤ length block.old }
+    requires long { count * source_length F.family ≤ length bytes.now }
+    requires sources { IsSorted F.Number.cmp sources.now }
+    requires rpts { IsSorted F.Number.cmp rpts.now }
+    ensures room { length block.new ≡ length block.old }
+    ensures bound { result ≤ count }
+    ensures before { (place : ℕ) → place < result
+        → is_listed F.value_of sources.now rpts.now (entry_at F.family place bytes.now) ≡ false }
+    ensures at { result < count
+        → is_listed F.value_of sources.now rpts.now (entry_at F.family result bytes.now) ≡ true }
+{
+    let mut rest = bytes;
+    let mut place = 0;
+    while place < count {
+        let many = (count - place).min(TOGETHER);
+        let passed = first_listed_together::<F>(sources, rpts, many, rest, block);
+        if passed < many {
+            return place + passed;
+        }
+        let (_, others) = rest.split_at(usize::from(many) * source_length::<F>());
+        rest = others;
+        place += many;
+    }
+    count
+}
+
 /// The place of the first of so many entries whose source is among the joined ones of its type; their number if there
 /// is none.
 pub(crate) fn first_clash_by_blocks<F: Family>(
@@ -154,8 +231,10 @@ pub(crate) fn first_clash_by_blocks<F: Family>(
     bytes: &[u8],
     joined: &Entries<'_, F>,
     block: &mut [F::Number],
+    together: &mut [F::Number],
 ) -> u16
     requires room { 0 < length block.old }
+    requires together { 64 ≤ length together.old }
     requires long { count * source_length F.family ≤ length bytes.now }
     ensures room { length block.new ≡ length block.old }
     ensures bound { result ≤ count }
@@ -170,7 +249,7 @@ pub(crate) fn first_clash_by_blocks<F: Family>(
         let (sources, _) = before.split_at_mut(ends.front);
         sort_numbers(sources);
         sort_numbers(rpts);
-        end = first_listed::<F>(sources, rpts, end, bytes);
+        end = first_listed::<F>(sources, rpts, end, bytes, together);
     }
     end
 }

@@ -7,7 +7,7 @@ ghost use Rattle.pim_jp.specs.Spelling.{same_source};
 ghost use Rattle.pim_jp.specs.Seen.{entry_seen};
 ghost use Rattle.pim_jp.specs.Reading.{is_in, entry_at, AreApart};
 
-use crate::blocks::first_clash_by_blocks;
+use crate::blocks::{TOGETHER, first_clash_by_blocks};
 use crate::entries::{Entries, first_entry};
 use crate::entry::Entry;
 use pim_addr::{Family, source_length};
@@ -91,7 +91,8 @@ fn first_clash_among_many<F: Family, const N: usize>(
         return first_clash_among_few::<F>(count, bytes, joined);
     }
     let mut block = [number; N];
-    first_clash_by_blocks::<F>(count, bytes, joined, &mut block)
+    let mut together = [number; TOGETHER as usize];
+    first_clash_by_blocks::<F>(count, bytes, joined, &mut block, &mut together)
 }
 
 /// The place of the first of so many pruned entries whose source is among the joined ones of its type; their

@@ -2,3 +2,10 @@ pub mod Config
 pub mod Fits
 pub mod Tests
 pub mod Mirror
+pub mod CanonicalParts
+pub mod CanonicalUnits
+pub mod CanonicalExchange
+pub mod CanonicalMirror
+pub mod CanonicalPackets
+pub mod CanonicalCourse
+pub mod Laws

@@ -1,13 +1,28 @@
 //! The mirror: a fresh router that hears canonical messages alone.
 //!
-//! Proved: `fits` is exactly its conditions, under which a fresh router mirrors the sender of its messages.
+//! Proved, over the definitions of the crates below: the canonical messages of a normal form tell parts of it, each a
+//! normal form that fits its message. They are read back as these parts, tell units, and name each machine of the form
+//! once and no other. A router of one port that knows the writer, holds no records and hears all their packets, in any
+//! order and however often, applies each where there is room, and asks again for exactly what the form asks for, by the
+//! same messages, from the final moment of the deliveries on and while no message is missed for its holdtime.
+//!
+//! `fits` is exactly its conditions, under which a fresh router mirrors the sender of its messages.
 #![tactic(auto)]
 
 mod config;
 mod fitting;
 mod fresh;
+mod laws;
 mod mirroring;
+#[cfg(test)]
+mod tests;
 
 pub use config::{Delivery, FreshConfig, OtherNeighbour};
 pub use fitting::fits;
+pub use laws::{
+    asked_stars_have_rps, canonical_messages_tell_form, canonical_messages_tell_parts,
+    canonical_packet_is_heard, course_hears_all, delivery_is_taken, heard_messages_are_asked_again,
+    messages_are_read, part_asks, parts_tell_units_once, router_asks_again, router_leaves_its_port,
+    writer_stays_heard,
+};
 pub use mirroring::{MirrorFault, mirror};

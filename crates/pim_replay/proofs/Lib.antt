@@ -1,2 +1,5 @@
+pub mod Demands
+pub mod States
+pub mod OnTheWay
 pub mod Texts
 pub mod Written

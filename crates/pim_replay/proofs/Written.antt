@@ -1,6 +1,7 @@
 -- A text that is written piece by piece.
-use Rattle.std.proofs.Common.{◌≡◌, ℕ, ◌+◌, ◌≤◌, List, [], ◌∷◌, ◌++◌, length, take, Option, None, Some, Result, Ok, Err, IsErr, get_or, drop, ◌<◌, refl, sym, ap, subst, ◌∙◌, arith, append_assoc, append-nil, length-append}
+use Rattle.std.proofs.Common.{◌≡◌, ℕ, ◌+◌, ◌≤◌, List, [], ◌∷◌, ◌++◌, length, take, Option, None, Some, Result, Ok, Err, IsErr, get_or, drop, ◌<◌, map, refl, sym, ap, subst, ◌∙◌, arith, append_assoc, append-nil, length-append}
 use Rattle.std.proofs.lemmas.List.{take-append-le, length-take, drop_more, drop_all}
+use Rattle.std.proofs.lemmas.List.Folds.{flat_map-map}
 use Rattle.std.specs.List.{flat_map}
 use Rattle.std.proofs.KnownBytes.{Appends-nil, Appends-trans}
 use Rattle.std.specs.Io.KnownBytes.{Appends}
@@ -66,6 +67,19 @@ module _ {X : Type 0} (f : X → List ℕ) (xs : List X) (i : ℕ) (d : X) where
   item_stopped old now new all below w p =
       left_stopped old now new (f (get_or xs i d)) (flat_map f (drop (i + 1) xs)) all (subst (λ l. IsLeft old now l all) (split_here below) w) p
 
+  -- the same of an item that is known to stand there
+  pub this_written : (old now new : Option (List ℕ)) (all : List ℕ) → i < length xs → d ≡ get_or xs i d → IsLeft old now (flat_map f (drop i xs)) all → Appends now new (f d)
+      → IsLeft old new (flat_map f (drop (i + 1) xs)) all
+  this_written old now new all below is w p = item_written old now new all below w (subst (λ x. Appends now new (f x)) is p)
+
+  pub this_stopped : (old now new : Option (List ℕ)) (all : List ℕ) → i < length xs → d ≡ get_or xs i d → IsLeft old now (flat_map f (drop i xs)) all → AppendsFront now new (f d)
+      → AppendsFront old new all
+  this_stopped old now new all below is w p = item_stopped old now new all below w (subst (λ x. AppendsFront now new (f x)) is p)
+
+-- the texts of what is seen of the items
+pub seen_all : {X : Type 0} (seen : X → List ℕ) (f : List ℕ → List ℕ) (xs : List X) (old : Option (List ℕ)) → IsLeft old old (flat_map (λ x. f (seen x)) xs) (flat_map f (map seen xs))
+seen_all seen f xs old = subst (λ l. IsLeft old old l (flat_map f (map seen xs))) (flat_map-map f seen xs) (left_all old (flat_map f (map seen xs)))
+
 pub items_written : {X : Type 0} (f : X → List ℕ) (xs : List X) (i : ℕ) (old now : Option (List ℕ)) (all : List ℕ) → length xs ≤ i → IsLeft old now (flat_map f (drop i xs)) all
     → Appends old now all
 items_written f xs i old now all over w =
@@ -85,3 +99,12 @@ module _ {X : Type 0} (f : X → List ℕ) (left more : List X) (first : X) (old
 
 pub none_left : {X : Type 0} (f : X → List ℕ) (left : List X) (old now : Option (List ℕ)) (all : List ℕ) → left ≡ [] → IsLeft old now (flat_map f left) all → Appends old now all
 none_left f left old now all steps w = left_none old now all (subst (λ l. IsLeft old now (flat_map f l) all) steps w)
+
+-- ---- two texts, one after the other
+
+pub both : {A E : Type 0} (old now new : Option (List ℕ)) (r : Result A E) (first second : List ℕ) → Appends old now first → AppendsAll now new r second → AppendsAll old new r (first ++ second)
+both old now new (Ok x) first second p q = Appends-trans old now new first second p q
+both old now new (Err x) first second p q = front-more old now new first second p q
+
+pub stopped_first : {A E : Type 0} (old new : Option (List ℕ)) (r : Result A E) (first second : List ℕ) → IsErr r → AppendsFront old new first → AppendsAll old new r (first ++ second)
+stopped_first old new r first second e p = stopped old new r (first ++ second) e (front-longer old new first second p)

@@ -4,3 +4,6 @@ pub mod Malformed
 pub mod PacketLine
 pub mod EchoLine
 pub mod RecordLine
+pub mod DemandText
+pub mod StateText
+pub mod Passing

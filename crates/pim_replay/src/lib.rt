@@ -1,19 +1,25 @@
 //! The lines of a replay's report: what became of each packet of a router's captures, the echoes that were to be sent,
-//! and the records that the router held at the end.
+//! and the state that the router held at the end.
 //!
-//! Proved: each line is written as `specs` spell it, whole or, where the device fails, a front of it.
+//! Proved: each line is written as `specs` spell it, whole or, where the device fails, a front of it. The state is told
+//! by its moment, its records in key order, the groups of the one normal form of what they want, and two counts.
 #![tactic(auto)]
 
+mod demand_text;
 mod echo_line;
 mod malformed;
 mod packet_line;
+mod passing;
 mod pieces;
 mod record_line;
 mod said;
+mod state_text;
 #[cfg(test)]
 mod tests;
 
 pub use echo_line::write_echo_line;
 pub use malformed::write_malformed_words;
 pub use packet_line::write_packet_line;
+pub use passing::pass_time;
 pub use record_line::write_record_line;
+pub use state_text::{Counts, TextFault, write_state};

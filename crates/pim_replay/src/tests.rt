@@ -1,5 +1,8 @@
 //! The lines of a report, each as its table has it, over devices that move few bytes and fail.
 
+mod states;
+mod world;
+
 use crate::{write_echo_line, write_packet_line};
 use pim_addr::{Family, ScriptedDrain, V4, V6};
 use pim_down::What;

@@ -7,7 +7,7 @@ use Rattle.pim_down.proofs.Origin.{count_on_later}
 use Rattle.pim_down.proofs.ports.Ports.count_on.Goals as goal
 
 pub count_on-requires : goal.count_on-requires
-count_on-requires g c = rw c.deref.ensures.value (ascending_back c.self.inside.moment (records_seen g.F.Family.bytes_of c.self.inside.records.items) c.self.invariant.ascending)
+count_on-requires g c = rw c.deref.ensures.value (ascending_back c.self.inside.moment (records_seen g.F.Family.bytes_of c.self.inside.records.items) c.self.invariant.0.ascending)
 
 pub returns : goal.returns
 returns g c =

@@ -5,7 +5,9 @@ use Rattle.pim_down.specs.Records.{machine_at}
 use Rattle.pim_down.specs.Time.{Downstream}
 use Rattle.pim_down.specs.Running.{downstream_at}
 use Rattle.pim_down.specs.Known.{known_in}
+use Rattle.pim_down.specs.Ends.{first_end}
 use Rattle.pim_down.specs.Seen.{start_seen, records_seen}
+use Rattle.pim_down.proofs.Ends.{quiet_at_first}
 use Rattle.pim_down.proofs.Kept.{ascending_back}
 use Rattle.pim_down.proofs.Origin.{count_on_later}
 use Rattle.pim_down.proofs.Hears.{heard_is, within_is, others_are, memory_is, sound_is, on_err}
@@ -14,14 +16,14 @@ use Rattle.pim_down.proofs.ports.Ports.hear.Goals as goal
 pub hear_message-requires-clause-ascending : goal.hear_message-requires-clause-ascending
 hear_message-requires-clause-ascending g c =
     let p = c.self.inside in
-    ascending_back p.moment (records_seen g.F.Family.bytes_of p.records.items) c.self.invariant.ascending
+    ascending_back p.moment (records_seen g.F.Family.bytes_of p.records.items) c.self.invariant.0.ascending
 
 pub hear_message-requires-clause-within : goal.hear_message-requires-clause-within
 hear_message-requires-clause-within g c =
     let p = c.self.inside in
     let same = count_on_later p.moment c.args.port (records_seen g.F.Family.bytes_of p.records.items) in
-    let within = c.self.invariant.within c.args.port in
-    omega (arith, c.self.invariant.limit)
+    let within = c.self.invariant.0.within c.args.port in
+    omega (arith, c.self.invariant.0.limit)
 
 pub invariant_of-self : goal.invariant_of-self
 invariant_of-self g c =
@@ -35,7 +37,7 @@ invariant_of-self g c =
     let ok = on_ok_weaker c.hear_message.result (heard_is bytes_of p.ports p.limit p.moment c.args.port message known c.args.timing (start_seen c.start_at-start.result) p.records.items c.hear_message.new.records.items old starts refl) c.hear_message.ensures.ok in
     let err = on_err c.hear_message.result (ap (downstream_at bytes_of p.ports p.limit p.moment)) c.hear_message.ensures.err in
     let within = within_is bytes_of p.ports p.limit p.moment c.args.port message known c.args.timing c.hear_message.result p.records.items old refl c.hear_message.ensures.room in
-    sound_is bytes_of p.ports p.limit p.moment c.args.port message known c.args.timing g.F.Family.family c.hear_message.result old new c.self.invariant (subst (λ (s : Downstream). c.args.port < s.ports) (sym c.self.view_is) c.requires.port) c.is_legal.ensures ok err within
+    (sound_is bytes_of p.ports p.limit p.moment c.args.port message known c.args.timing g.F.Family.family c.hear_message.result old new c.self.invariant.0 (subst (λ (s : Downstream). c.args.port < s.ports) (sym c.self.view_is) c.requires.port) c.is_legal.ensures ok err within, quiet_at_first (first_end (records_seen bytes_of c.hear_message.new.records.items)))
 
 pub returns-clause-ok : goal.returns-clause-ok
 returns-clause-ok g c =
@@ -67,5 +69,5 @@ returns-clause-others g c =
     let new = downstream_at bytes_of p.ports p.limit p.moment c.hear_message.new.records.items in
     let ok = on_ok_weaker c.hear_message.result (heard_is bytes_of p.ports p.limit p.moment c.args.port message known c.args.timing (start_seen c.start_at-start.result) p.records.items c.hear_message.new.records.items old starts refl) c.hear_message.ensures.ok in
     let err = on_err c.hear_message.result (ap (downstream_at bytes_of p.ports p.limit p.moment)) c.hear_message.ensures.err in
-    let all = others_are bytes_of p.ports p.limit p.moment c.args.port message known c.args.timing c.hear_message.result old new c.self.invariant.ascending ok err in
+    let all = others_are bytes_of p.ports p.limit p.moment c.args.port message known c.args.timing c.hear_message.result old new c.self.invariant.0.ascending ok err in
     subst (λ (s : Downstream). (key : Key (List ℕ)) → key.port ≢ c.args.port → machine_at key new.records ≡ machine_at key s.records) c.self.view_is all

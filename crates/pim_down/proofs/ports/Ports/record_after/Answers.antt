@@ -6,7 +6,7 @@ use Rattle.pim_down.proofs.Searched.{next_told}
 use Rattle.pim_down.proofs.ports.Ports.record_after.Goals as goal
 
 pub first_machine_after-requires : goal.first_machine_after-requires
-first_machine_after-requires g c = rw c.deref.ensures.value (ascending_back c.self.inside.moment (records_seen g.F.Family.bytes_of c.self.inside.records.items) c.self.invariant.ascending)
+first_machine_after-requires g c = rw c.deref.ensures.value (ascending_back c.self.inside.moment (records_seen g.F.Family.bytes_of c.self.inside.records.items) c.self.invariant.0.ascending)
 
 pub returns-in-Some : goal.returns-in-Some
 returns-in-Some g c =

@@ -6,7 +6,7 @@ use Rattle.pim_down.proofs.OnPort.{shown_later}
 use Rattle.pim_down.proofs.ports.Ports.records_on.Goals as goal
 
 pub on_port-requires : goal.on_port-requires
-on_port-requires g c = rw c.deref.ensures.value (ascending_back c.self.inside.moment (records_seen g.F.Family.bytes_of c.self.inside.records.items) c.self.invariant.ascending)
+on_port-requires g c = rw c.deref.ensures.value (ascending_back c.self.inside.moment (records_seen g.F.Family.bytes_of c.self.inside.records.items) c.self.invariant.0.ascending)
 
 pub returns : goal.returns
 returns g c =

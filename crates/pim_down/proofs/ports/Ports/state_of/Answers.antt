@@ -8,7 +8,7 @@ use Rattle.pim_down.proofs.Real.{none_on}
 use Rattle.pim_down.proofs.ports.Ports.state_of.Goals as goal
 
 pub machine_at-requires : goal.machine_at-requires
-machine_at-requires g c = rw c.deref.ensures.value (ascending_back c.self.inside.moment (records_seen g.F.Family.bytes_of c.self.inside.records.items) c.self.invariant.ascending)
+machine_at-requires g c = rw c.deref.ensures.value (ascending_back c.self.inside.moment (records_seen g.F.Family.bytes_of c.self.inside.records.items) c.self.invariant.0.ascending)
 
 pub returns-in-None-clause-state : goal.returns-in-None-clause-state
 returns-in-None-clause-state g c =
@@ -23,5 +23,5 @@ returns-in-Some-clause-state g c =
 pub returns-in-Some-clause-absent : goal.returns-in-Some-clause-absent
 returns-in-Some-clause-absent g c past =
     let key = key_seen g.F.Family.bytes_of (record { port = c.args.port; group = c.args.group; what = c.args.what }) in
-    let sound = subst (IsSound g.F.Family.family) c.self.view_is c.self.invariant in
+    let sound = subst (IsSound g.F.Family.family) c.self.view_is c.self.invariant.0 in
     returns-in-Some-clause-state g c ∙ ap state_of_machine (none_on g.F.Family.family c.args.self.now.ports key past c.args.self.now.records sound.real)

@@ -1,6 +1,6 @@
 use Rattle.std.proofs.Common.{◌<◌, length, rules}
 use Rattle.pim_jp.proofs.SortedSources.{next_place, found_or_missed}
-use Rattle.pim_jp.proofs.blocks.holds.Goals as goal
+use Rattle.pim_jp.proofs.pairs.holds.Goals as goal
 
 pub returns : goal.returns
 returns g c =

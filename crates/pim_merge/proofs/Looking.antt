@@ -1,0 +1,75 @@
+-- Reading the heads of captures, one after the other.
+use Rattle.std.proofs.Common.{◌≡◌, ◌<◌, ◌≤◌, ◌+◌, ◌∙◌, ◌∷◌, ◌++◌, [], ℕ, zero, suc, List, Option, None, Some, Ok, Err, length, get_or, set, take, drop, map, is_some, refl, sym, ap, subst, arith, add-one, add-zero}
+use Rattle.std.specs.List.{AllByRecursion}
+use Rattle.std.specs.Option.{option_map}
+use Rattle.std.proofs.lemmas.List.{map-set, set-get_or, get_or-map, length-map, take_more_set, take_all, take-set, drop-set-lt, drop-drop}
+use Rattle.pim_capture.specs.declared.fault.CaptureFault.{CaptureFault}
+use Rattle.pim_capture.specs.Capture.{Told, packet, skipped, ended, Answer}
+use Rattle.pim_capture.specs.Next.{in_front}
+use Rattle.pim_merge.specs.Merge.{head_of, or_fault, fault_from, turn_or, turn, fails}
+use Rattle.pim_merge.specs.Lane.{LaneState, coming_on, IsComing, IsLooked, lane_left, records_to_come, lane_at, no_lane, failures_of, with_head}
+use Rattle.pim_merge.specs.Looks.{StillComes}
+
+-- ---- lists of captures
+
+-- one capture of those that come
+pub one_comes : (lanes : List LaneState) (captures : List (List Answer)) (i : ℕ) (d : LaneState) (e : List Answer) → i < length lanes → IsComing lanes captures
+    → coming_on (get_or lanes i d) ≡ Some (get_or captures i e)
+one_comes [] captures i d e below coming = absurd (omega (arith, below))
+one_comes (lane ∷ lanes) [] i d e below coming = absurd cc
+one_comes (lane ∷ lanes) (capture ∷ captures) zero d e below coming = ap (λ l. get_or l 0 None) coming
+one_comes (lane ∷ lanes) (capture ∷ captures) (suc i) d e below coming = one_comes lanes captures i d e (omega (arith, below)) (ap (drop 1) coming)
+
+-- another capture comes in its place
+pub set_comes : (lanes : List LaneState) (captures : List (List Answer)) (i : ℕ) (lane : LaneState) (capture : List Answer) → IsComing lanes captures → coming_on lane ≡ Some capture
+    → IsComing (set lanes i lane) (set captures i capture)
+set_comes lanes captures i lane capture coming comes =
+    map-set coming_on lanes i lane ∙ (ap (λ l. set l i (coming_on lane)) coming ∙ (ap (set (map Some captures) i) comes ∙ sym (map-set Some captures i capture)))
+
+-- the same capture comes in its place
+pub same_comes : (lanes : List LaneState) (captures : List (List Answer)) (i : ℕ) (lane d : LaneState) → i < length lanes → IsComing lanes captures → StillComes (get_or lanes i d) lane
+    → IsComing (set lanes i lane) captures
+same_comes lanes captures i lane d below coming still =
+    subst (λ l. IsComing (set lanes i lane) l) (set-get_or captures i []) (set_comes lanes captures i lane (get_or captures i []) coming (still _ (one_comes lanes captures i d [] below coming)))
+
+-- ---- how many records are to come
+
+pub total_with : (lanes : List LaneState) (i : ℕ) (lane d : LaneState) → i < length lanes → records_to_come (set lanes i lane) + lane_left (get_or lanes i d) ≡ records_to_come lanes + lane_left lane
+unfolding records_to_come
+total_with [] i lane d below = absurd (omega (arith, below))
+total_with (first ∷ lanes) zero lane d below = omega arith
+total_with (first ∷ lanes) (suc i) lane d below = let more = total_with lanes i lane d (omega (arith, below)) in omega (arith, more)
+
+-- ---- all up to one
+
+pub all_push : {A : Type 0} (P : A → Type 0) (xs : List A) (y : A) → AllByRecursion P xs → P y → AllByRecursion P (xs ++ y ∷ [])
+all_push P [] y all holds = (holds, tt)
+all_push P (x ∷ xs) y all holds = (all.0, all_push P xs y all.1 holds)
+
+-- The heads of the captures before this one were read, and nothing else was done.
+pub record IsLookedUpTo (number : ℕ) (old now : List LaneState) : Type 0 where
+  pub coming : (captures : List (List Answer)) → IsComing old captures → IsComing now captures
+  pub looked : AllByRecursion IsLooked (take number now)
+  pub rest : drop number now ≡ drop number old
+  pub lighter : records_to_come now ≤ records_to_come old
+  pub reads : failures_of now ≡ failures_of old
+
+pub begin_looking : (lanes : List LaneState) → IsLookedUpTo 0 lanes lanes
+begin_looking lanes = record { coming = λ captures coming. coming; looked = tt; rest = refl; lighter = omega arith; reads = refl }
+
+pub look_more : (number : ℕ) (old now : List LaneState) (lane d : LaneState) → number < length now → IsLookedUpTo number old now
+    → StillComes (get_or now number d) lane → IsLooked lane → lane_left lane ≤ lane_left (get_or now number d) → lane.failures ≡ (get_or now number d).failures
+    → IsLookedUpTo (number + 1) old (set now number lane)
+look_more number old now lane d below w still looked lighter reads = record {
+  coming = λ captures coming. same_comes now captures number lane d below (w.coming captures coming) still;
+  looked = rw (take_more_set now number lane below) (all_push IsLooked (take number now) lane w.looked looked);
+  rest = rest_more;
+  lighter = let total = total_with now number lane d below in omega (arith, total, w.lighter, lighter);
+  reads = map-set (λ (l : LaneState). l.failures) now number lane ∙ (ap (set (failures_of now) number) reads ∙ (same_failures ∙ w.reads));
+}
+  where
+    rest_more : drop (number + 1) (set now number lane) ≡ drop (number + 1) old
+    rest_more = drop-set-lt (number + 1) now number lane (omega arith) ∙ sym (drop-drop 1 number now) ∙ (ap (drop 1) w.rest ∙ drop-drop 1 number old)
+
+    same_failures : set (failures_of now) number (get_or now number d).failures ≡ failures_of now
+    same_failures = ap (set (failures_of now) number) (sym (get_or-map (λ (l : LaneState). l.failures) now number d 0 below)) ∙ set-get_or (failures_of now) number 0

@@ -1,0 +1,45 @@
+-- Where the head of a capture can't be read.
+use Rattle.std.proofs.Common.{◌≡◌, ◌<◌, ◌≤◌, ◌+◌, ◌∙◌, ◌∷◌, [], ℕ, List, Some, Err, length, get_or, set, drop, map, refl, sym, ap, subst, arith, add-zero, ◌⊎◌, inl, inr}
+use Rattle.std.specs.Bool.{⊤}
+use Rattle.std.proofs.lemmas.List.{map-set, set-get_or, get_or-drop, get_or_default, get_or-set_same}
+use Rattle.pim_capture.specs.declared.fault.CaptureFault.{CaptureFault}
+use Rattle.pim_capture.specs.Capture.{Answer}
+use Rattle.pim_capture.specs.Next.{IsRefusal, CountsReads}
+use Rattle.pim_merge.specs.Merge.{turn, fails}
+use Rattle.pim_merge.specs.Lane.{LaneState, coming_on, IsComing, lane_left, records_to_come, lane_at, no_lane, failures_of}
+use Rattle.pim_merge.specs.Looks.{IsToldOrRefused}
+use Rattle.pim_merge.specs.Next.{with_fault, IsCause, CountsFailures}
+use Rattle.pim_merge.proofs.Looking.{one_comes, total_with, IsLookedUpTo}
+use Rattle.pim_merge.proofs.Turning.{turns_to_fault}
+
+-- two lists that are the same from a place on have the same there
+at_front : {A : Type 0} (xs ys : List A) (n : ℕ) (d : A) → drop n xs ≡ drop n ys → get_or xs n d ≡ get_or ys n d
+at_front xs ys n d same =
+    ap (λ k. get_or xs k d) (sym (add-zero n)) ∙ (sym (get_or-drop n xs 0 d) ∙ (ap (λ l. get_or l 0 d) same ∙ (get_or-drop n ys 0 d ∙ ap (λ k. get_or ys k d) (add-zero n))))
+
+module _ (number : ℕ) (old now : List LaneState) (lane d : LaneState) (fault : CaptureFault) (below : number < length now) (w : IsLookedUpTo number old now) where
+  as_before : get_or now number d ≡ lane_at number old
+  as_before = get_or_default now number d no_lane below ∙ at_front now old number no_lane w.rest
+
+  is_new : lane ≡ lane_at number (set now number lane)
+  is_new = sym (get_or-set_same now number lane no_lane below)
+
+  pub stopped_turn : (captures : List (List Answer)) → IsComing old captures → turn (set captures number (Err fault ∷ [])) ≡ fails number fault
+  stopped_turn captures coming = turns_to_fault number now captures fault below w.looked (w.coming captures coming)
+
+  pub stopped_left : lane_left lane ≤ lane_left (get_or now number d) → records_to_come (set now number lane) ≤ records_to_come old
+  stopped_left lighter = let total = total_with now number lane d below in omega (arith, total, w.lighter, lighter)
+
+  pub stopped_cause : IsToldOrRefused (get_or now number d) lane fault → IsCause old (set now number lane) (record { capture = number; fault = fault })
+  stopped_cause (inl refused) = inl (subst (λ (l : LaneState). IsRefusal {A = ⊤} (lane_at number old).failures l.failures (Err fault)) is_new
+      (subst (λ (l : LaneState). IsRefusal {A = ⊤} l.failures lane.failures (Err fault)) as_before refused))
+  stopped_cause (inr told) = inr (λ captures coming.
+      ap (set captures number) (sym (told (get_or captures number []) (one_comes now captures number d [] below (w.coming captures coming)))) ∙ set-get_or captures number [])
+
+  pub stopped_reads : CountsReads {A = ⊤} ((get_or now number d).left ≡ 0) (get_or now number d).failures lane.failures (Err fault)
+      → CountsFailures {A = ⊤} old (Err (record { capture = number; fault = fault })) (set now number lane)
+  stopped_reads reads = (
+    map-set (λ (l : LaneState). l.failures) now number lane ∙ (ap (λ l. set l number lane.failures) w.reads ∙ ap (λ (l : LaneState). set (failures_of old) number l.failures) is_new),
+    subst (λ (l : LaneState). CountsReads {A = ⊤} ((lane_at number old).left ≡ 0) (lane_at number old).failures l.failures (Err fault)) is_new
+        (subst (λ (l : LaneState). CountsReads {A = ⊤} (l.left ≡ 0) l.failures lane.failures (Err fault)) as_before reads),
+  )

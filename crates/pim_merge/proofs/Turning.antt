@@ -1,0 +1,120 @@
+-- What the turn of a merge is, by what was read of its captures.
+use Rattle.std.proofs.Common.{◌≡◌, ◌<◌, ◌≤◌, ◌+◌, ◌∙◌, ◌∷◌, [], ℕ, zero, suc, List, Option, None, Some, Ok, Err, Bool, true, false, length, get_or, set, take, drop, map, is_some, nat_lt, if◌then◌else◌, refl, sym, ap, subst, arith, ◌⊎◌, inl, inr}
+use Rattle.std.specs.List.{AllByRecursion}
+use Rattle.std.specs.Option.{option_map}
+use Rattle.pim_capture.specs.declared.fault.CaptureFault.{CaptureFault}
+use Rattle.pim_capture.specs.Capture.{Told, packet, skipped, ended, Answer}
+use Rattle.pim_capture.specs.Next.{in_front}
+use Rattle.pim_merge.specs.Merge.{head_of, behind_head, time_told, time_of, or_fault, fault_from, sooner, numbered, earliest_from, turn_at, turn_or, turn, fails, takes, ends, after_turn}
+use Rattle.pim_merge.specs.Lane.{LaneState, coming_on, IsComing, IsLooked, time_at, head_time, with_head, without_head}
+use Rattle.pim_merge.proofs.Looking.{one_comes, set_comes}
+
+-- ---- the head that was read is the head of what comes
+
+abbrev pub some_list : Option (List Answer) → List Answer
+some_list None = []
+some_list (Some answers) = answers
+
+pub told_comes : (told : Told) (behind : Option (List Answer)) (capture : List Answer) → option_map (in_front (Ok told)) behind ≡ Some capture → head_of capture ≡ Ok told
+told_comes told None capture comes = absurd cc
+told_comes (packet millis frame datagram) (Some later) capture comes = subst (λ c. head_of c ≡ Ok (packet millis frame datagram)) (ap some_list comes) refl
+told_comes (skipped millis why) (Some later) capture comes = subst (λ c. head_of c ≡ Ok (skipped millis why)) (ap some_list comes) refl
+told_comes ended (Some later) capture comes = subst (λ c. head_of c ≡ Ok ended) (ap some_list comes) refl
+
+-- no fault is told where a head was read
+reads_no_fault : (lane : LaneState) (capture : List Answer) (number : ℕ) (later : Option (ℕ × CaptureFault)) → IsLooked lane → coming_on lane ≡ Some capture → or_fault number (head_of capture) later ≡ later
+reads_no_fault lane capture number later looked comes = by lane.head lane.behind looked comes
+  where
+    by : (head : Option Told) (behind : Option (List Answer)) → is_some head ≡ true → with_head head behind ≡ Some capture → or_fault number (head_of capture) later ≡ later
+    by None behind looked comes = absurd cc
+    by (Some told) behind looked comes = rw (told_comes told behind capture comes) refl
+
+same_time : (lane : LaneState) (capture : List Answer) → IsLooked lane → coming_on lane ≡ Some capture → time_of (head_of capture) ≡ head_time lane
+same_time lane capture looked comes = by lane.head lane.behind looked comes
+  where
+    by : (head : Option Told) (behind : Option (List Answer)) → is_some head ≡ true → with_head head behind ≡ Some capture → time_of (head_of capture) ≡ time_at head
+    by None behind looked comes = absurd cc
+    by (Some told) behind looked comes = rw (told_comes told behind capture comes) refl
+
+-- ---- a fault
+
+-- the first fault is that of the capture before which all heads were read
+first_fault : (start i number : ℕ) (lanes : List LaneState) (captures : List (List Answer)) (fault : CaptureFault) → number ≡ start + i → i < length lanes → AllByRecursion IsLooked (take i lanes)
+    → IsComing lanes captures → fault_from start (map head_of (set captures i (Err fault ∷ []))) ≡ Some (number, fault)
+unfolding fault_from
+first_fault start i number [] captures fault at below looked coming = absurd (omega (arith, below))
+first_fault start i number (lane ∷ lanes) [] fault at below looked coming = absurd cc
+first_fault start zero number (lane ∷ lanes) (capture ∷ captures) fault at below looked coming = let same : start ≡ number = omega (arith, at) in ap (λ n. Some (n, fault)) same
+first_fault start (suc i) number (lane ∷ lanes) (capture ∷ captures) fault at below looked coming =
+    reads_no_fault lane capture start _ looked.0 (ap (λ l. get_or l 0 None) coming)
+    ∙ first_fault (suc start) i number lanes captures fault (omega (arith, at)) (omega (arith, below)) looked.1 (ap (drop 1) coming)
+
+pub turns_to_fault : (number : ℕ) (lanes : List LaneState) (captures : List (List Answer)) (fault : CaptureFault) → number < length lanes → AllByRecursion IsLooked (take number lanes)
+    → IsComing lanes captures → turn (set captures number (Err fault ∷ [])) ≡ fails number fault
+unfolding turn
+turns_to_fault number lanes captures fault below looked coming = rw (first_fault 0 number number lanes captures fault (omega arith) below looked coming) refl
+
+-- ---- no fault
+
+no_fault : (start : ℕ) (lanes : List LaneState) (captures : List (List Answer)) → AllByRecursion IsLooked lanes → IsComing lanes captures → fault_from start (map head_of captures) ≡ None
+unfolding fault_from
+no_fault start [] [] looked coming = refl
+no_fault start [] (capture ∷ captures) looked coming = absurd cc
+no_fault start (lane ∷ lanes) [] looked coming = absurd cc
+no_fault start (lane ∷ lanes) (capture ∷ captures) looked coming =
+    reads_no_fault lane capture start _ looked.0 (ap (λ l. get_or l 0 None) coming) ∙ no_fault (suc start) lanes captures looked.1 (ap (drop 1) coming)
+
+same_times : (lanes : List LaneState) (captures : List (List Answer)) → AllByRecursion IsLooked lanes → IsComing lanes captures → map (λ capture. time_of (head_of capture)) captures ≡ map head_time lanes
+same_times [] [] looked coming = refl
+same_times [] (capture ∷ captures) looked coming = absurd cc
+same_times (lane ∷ lanes) [] looked coming = absurd cc
+same_times (lane ∷ lanes) (capture ∷ captures) looked coming =
+    let first = same_time lane capture looked.0 (ap (λ l. get_or l 0 None) coming) in
+    let more = same_times lanes captures looked.1 (ap (drop 1) coming) in
+    rw (first, more) refl
+
+-- where all heads were read, the turn goes by their times
+pub turns_by_times : (lanes : List LaneState) (captures : List (List Answer)) (found : Option (ℕ × ℕ)) → AllByRecursion IsLooked lanes → IsComing lanes captures
+    → found ≡ earliest_from 0 (map head_time lanes) → turn captures ≡ turn_at captures found
+unfolding turn
+turns_by_times lanes captures found looked coming is = rw (no_fault 0 lanes captures looked coming, same_times lanes captures looked coming, sym is) refl
+
+-- ---- the head that is taken
+
+-- the one that was found is a head, and this is its time
+pub record Stands (start : ℕ) (lanes : List LaneState) (found : ℕ × ℕ) : Type 0 where
+  pub place : ℕ
+  pub is : found.0 ≡ start + place
+  pub within : place < length lanes
+  pub there : (d : LaneState) → head_time (get_or lanes place d) ≡ Some found.1
+
+one_of_both : (one other : Option (ℕ × ℕ)) (found : ℕ × ℕ) → sooner one other ≡ Some found → (one ≡ Some found) ⊎ (other ≡ Some found)
+one_of_both None other found is = inr is
+one_of_both (Some one) None found is = inl is
+one_of_both (Some one) (Some other) found is = by (nat_lt other.1 one.1) is
+  where
+    by : (b : Bool) → (if b then Some other else Some one) ≡ Some found → (Some one ≡ Some found) ⊎ (Some other ≡ Some found)
+    by true is = inr is
+    by false is = inl is
+
+abbrev some_pair : Option (ℕ × ℕ) → ℕ × ℕ
+some_pair None = (0, 0)
+some_pair (Some found) = found
+
+first_stands : (start : ℕ) (time : Option ℕ) (lane : LaneState) (lanes : List LaneState) (found : ℕ × ℕ) → head_time lane ≡ time → numbered start time ≡ Some found → Stands start (lane ∷ lanes) found
+first_stands start None lane lanes found timed is = absurd cc
+first_stands start (Some time) lane lanes found timed is =
+    let same : (start, time) ≡ found = ap some_pair is in
+    record { place = 0; is = let n : start ≡ found.0 = ap (λ p. p.0) same in omega (arith, n); within = omega arith; there = λ d. timed ∙ ap (λ (p : ℕ × ℕ). Some p.1) same }
+
+either_stands : (start : ℕ) (lane : LaneState) (lanes : List LaneState) (found : ℕ × ℕ) → (numbered start (head_time lane) ≡ Some found) ⊎ (earliest_from (suc start) (map head_time lanes) ≡ Some found)
+    → (earliest_from (suc start) (map head_time lanes) ≡ Some found → Stands (suc start) lanes found) → Stands start (lane ∷ lanes) found
+either_stands start lane lanes found (inl here) stands = first_stands start (head_time lane) lane lanes found refl here
+either_stands start lane lanes found (inr there) stands =
+    let s = stands there in
+    record { place = suc s.place; is = omega (arith, s.is); within = omega (arith, s.within); there = s.there }
+
+pub found_stands : (start : ℕ) (lanes : List LaneState) (found : ℕ × ℕ) → earliest_from start (map head_time lanes) ≡ Some found → Stands start lanes found
+unfolding earliest_from
+found_stands start [] found is = absurd cc
+found_stands start (lane ∷ lanes) found is = either_stands start lane lanes found (one_of_both (numbered start (head_time lane)) (earliest_from (suc start) (map head_time lanes)) found is) (found_stands (suc start) lanes found)

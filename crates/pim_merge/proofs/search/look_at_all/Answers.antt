@@ -1,0 +1,30 @@
+use Rattle.pim_merge.proofs.Looking.{begin_looking, look_more}
+use Rattle.pim_merge.proofs.Stopped.{stopped_turn, stopped_left, stopped_cause, stopped_reads}
+use Rattle.pim_merge.proofs.search.look_at_all.Goals as goal
+
+pub loop-capture-init : goal.loop-capture-init
+loop-capture-init g c = begin_looking _
+
+pub loop-capture-preserved : goal.loop-capture-preserved
+loop-capture-preserved g c =
+    look_more c.loop-capture.capture _ c.loop-capture.lanes c.look.new.self c.index-lanes-capture.result (rw c.loop-capture.auto.lanes c.loop-capture-test.true) c.loop-capture.invariant
+    c.in_default.ensures.coming c.in_default.ensures.looked c.look.ensures.left c.in_default.ensures.reads
+
+pub returns-in-Err-clause-fault : goal.returns-in-Err-clause-fault
+returns-in-Err-clause-fault g c =
+    stopped_turn c.loop-capture.capture _ c.loop-capture.lanes c.look.new.self c.index-lanes-capture.result c.in-Err.fault (rw c.loop-capture.auto.lanes c.loop-capture-test.true) c.loop-capture.invariant
+
+pub returns-in-Err-clause-cause : goal.returns-in-Err-clause-cause
+returns-in-Err-clause-cause g c =
+    stopped_cause c.loop-capture.capture _ c.loop-capture.lanes c.look.new.self c.index-lanes-capture.result c.in-Err.fault (rw c.loop-capture.auto.lanes c.loop-capture-test.true) c.loop-capture.invariant
+    c.in-Err.ensures.fault
+
+pub returns-in-Err-clause-left : goal.returns-in-Err-clause-left
+returns-in-Err-clause-left g c =
+    stopped_left c.loop-capture.capture _ c.loop-capture.lanes c.look.new.self c.index-lanes-capture.result c.in-Err.fault (rw c.loop-capture.auto.lanes c.loop-capture-test.true) c.loop-capture.invariant
+    c.look.ensures.left
+
+pub returns-in-Err-clause-reads : goal.returns-in-Err-clause-reads
+returns-in-Err-clause-reads g c =
+    stopped_reads c.loop-capture.capture _ c.loop-capture.lanes c.look.new.self c.index-lanes-capture.result c.in-Err.fault (rw c.loop-capture.auto.lanes c.loop-capture-test.true) c.loop-capture.invariant
+    c.in-Err.ensures.reads

@@ -1,0 +1,5 @@
+pub mod Merge
+pub mod Lane
+pub mod Looks
+pub mod Next
+pub mod Laws

@@ -1,0 +1,103 @@
+//! A capture that is being merged, with its head.
+
+ghost use Rattle.std.specs.Prelude.{◌≡◌, ◌≤◌, ◌⊎◌, ℕ, List, length, None, Some, Err, IfOk, IfErr, IsSome};
+ghost use Rattle.std.specs.Option.{option_map, IfSome};
+ghost use Rattle.pim_capture.specs.Capture.{answers, most_captured, most_records, Answer};
+ghost use Rattle.pim_capture.specs.Next.{event_seen, PayloadLiesIn, IsBy, latest_moment, IsRefusal, CountsReads};
+ghost use Rattle.pim_merge.specs.Lane.{coming_on, without_head, IsLooked, head_time, lane_left};
+ghost use Rattle.pim_merge.specs.Looks.{StillComes, IsToldOrRefused};
+
+use pim_addr::Feed;
+use pim_capture::{Capture, CaptureFault, Event};
+use std::alloc::Global;
+use std::marker::Model;
+
+/// A capture with its head, the record that is taken next. Contracts see what it still answers.
+#[derive(Drop)]
+pub(crate) struct Lane<R: Feed + Drop> {
+    capture: Capture<R>,
+    /// The head, where it was read already.
+    head: Option<Event>,
+    /// The bytes of the record that was read last.
+    buffer: Vec<u8>,
+}
+
+impl<R: Feed + Drop> Model for Lane<R> {
+    ghost use Rattle.pim_merge.specs.Lane.{LaneState, lane_seen};
+
+    ghost Value = { LaneState };
+
+    ghost view = { λ lane. lane_seen R.remaining R.failures lane.capture lane.head lane.buffer.items };
+
+    ghost use Rattle.std.specs.Prelude.{◌≤◌, vec_len};
+    ghost use Rattle.std.specs.Option.{IfSome};
+    ghost use Rattle.pim_capture.specs.Capture.{most_captured};
+    ghost use Rattle.pim_capture.specs.Next.{PayloadLiesIn, IsBy, latest_moment};
+
+    ghost invariant = { λ lane. (vec_len lane.buffer ≤ most_captured)
+        × IfSome lane.head (PayloadLiesIn lane.buffer.items) × IfSome lane.head (IsBy latest_moment) };
+}
+
+impl<R: Feed + Drop> Lane<R> {
+    /// The capture that a reader gives, of which nothing was read yet.
+    pub(crate) fn new(alloc: Global, reader: R) -> Self
+        ensures head { result.head ≡ None }
+        ensures coming { result.behind ≡ option_map answers (R.remaining reader) }
+        ensures failures { result.failures ≡ R.failures reader }
+        ensures left { result.left ≡ most_records }
+    {
+        Lane {
+            capture: Capture::new(reader),
+            head: None,
+            buffer: Vec::new(alloc),
+        }
+    }
+
+    /// Reads the head, unless it was read already.
+    ///
+    /// # Errors
+    /// The fault that the capture answers in its place. Then there is no head.
+    pub(crate) fn look(&mut self) -> Result<(), CaptureFault>
+        ensures coming { IfOk result (λ _. StillComes self.old self.new) }
+        ensures looked { IfOk result (λ _. IsLooked self.new) }
+        ensures fault { IfErr result (IsToldOrRefused self.old self.new) }
+        ensures left { lane_left self.new ≤ lane_left self.old }
+        ensures reads { CountsReads (self.old.left ≡ 0) self.old.failures self.new.failures result }
+    {
+        if self.head.is_some() {
+            return Ok(());
+        }
+        let event = self.capture.next(&mut self.buffer)?;
+        self.head = Some(event);
+        Ok(())
+    }
+
+    /// When the head was captured, in milliseconds since 1970; `None` at the end, and where no head was read.
+    pub(crate) fn time(&self) -> Option<u64>
+        ensures { result ≡ head_time self.now }
+    {
+        match &self.head {
+            Some(Event::Packet { millis, .. }) => Some(*millis),
+            Some(Event::Skipped { millis, .. }) => Some(*millis),
+            _ => None,
+        }
+    }
+
+    /// Takes the head, if it was read.
+    pub(crate) fn take(&mut self) -> Option<Event>
+        ensures head { option_map (event_seen self.new.bytes) result ≡ self.old.head }
+        ensures rest { self.new ≡ without_head self.old }
+        ensures payload { IfSome result (PayloadLiesIn self.new.bytes) }
+        ensures moment { IfSome result (IsBy latest_moment) }
+    {
+        self.head.take()
+    }
+
+    /// The bytes of the record that was read last.
+    pub(crate) fn bytes(&self) -> &[u8]
+        ensures bytes { result.now ≡ self.now.bytes }
+        ensures length { length result.now ≤ most_captured }
+    {
+        self.buffer.as_slice()
+    }
+}

@@ -1,0 +1,196 @@
+//! The merge of captures.
+
+ghost use Rattle.std.specs.Prelude.{◌≡◌, ◌<◌, ◌≤◌, [], ◌∷◌, ◌++◌, List, length, map, None, Some, IfOk, IfErr, OnErr};
+ghost use Rattle.std.specs.Prelude.{slice_set};
+ghost use Rattle.std.specs.Option.{option_map, IfSome};
+ghost use Rattle.std.specs.List.{AllByRecursion};
+ghost use Rattle.pim_capture.specs.Capture.{answers, most_captured, most_records, Answer};
+ghost use Rattle.pim_capture.specs.Next.{latest_moment, event_seen, PayloadLiesIn, IsBy};
+ghost use Rattle.pim_merge.specs.Merge.{turn, fails, earliest_from, clock_by};
+ghost use Rattle.pim_merge.specs.Lane.{IsComing, IsLooked, coming_on, failures_of, records_to_come, head_time, lane_at};
+ghost use Rattle.pim_merge.specs.Lane.{without_head};
+ghost use Rattle.pim_merge.specs.Next.{TellsTurn, IsCause, CountsFailures, KeepsTime, IfTaken, HoldsRecord, turns_left};
+ghost use Rattle.pim_merge.specs.Next.{bytes_at, with_fault};
+
+use crate::clock::Clock;
+use crate::lane::Lane;
+use crate::search::{earliest, look_at_all};
+use pim_addr::Feed;
+use pim_capture::{CaptureFault, Event};
+use std::alloc::{AllocError, Global};
+use std::marker::Model;
+use thiserror::Error;
+
+/// The fault that ends a merge.
+#[derive(Clone, Copy, Debug, PartialEq, Eq, Error)]
+#[error("{fault} in capture {capture}")]
+pub struct MergeFault {
+    /// The number of the capture, from 0.
+    pub capture: usize,
+    /// What it answers in place of its head.
+    pub fault: CaptureFault,
+}
+
+/// A record that is taken.
+#[derive(Clone, Debug, PartialEq, Eq, Drop)]
+pub struct Turn {
+    /// The number of its capture, from 0.
+    pub capture: usize,
+    /// Its moment, in milliseconds since the first record that was taken.
+    pub moment: u64,
+    /// What it holds; never `End`. Its bytes are those of its capture, until the next turn.
+    pub event: Event,
+}
+
+/// Captures that are merged by the times of their records. Contracts see what each still answers, and the clock.
+#[derive(Drop)]
+pub struct Merge<R: Feed + Drop> {
+    lanes: Vec<Lane<R>>,
+    /// That of the records that were taken; `None` before the first.
+    clock: Option<Clock>,
+}
+
+impl<R: Feed + Drop> Model for Merge<R> {
+    ghost use Rattle.pim_merge.specs.Next.{MergeState};
+
+    ghost Value = { MergeState };
+
+    ghost view = { λ merge. record { lanes = merge.lanes.items; clock = merge.clock } };
+
+    ghost use Rattle.std.specs.Prelude.{◌≤◌};
+    ghost use Rattle.pim_capture.specs.Next.{latest_moment};
+    ghost use Rattle.pim_merge.specs.Merge.{moment_of};
+
+    ghost invariant = { λ merge. moment_of merge.clock ≤ latest_moment };
+}
+
+impl<R: Feed + Drop> Merge<R> {
+    /// The merge of no captures.
+    pub fn new(alloc: Global) -> Self
+        ensures lanes { result.lanes ≡ [] }
+        ensures clock { result.clock ≡ None }
+    {
+        Merge {
+            lanes: Vec::new(alloc),
+            clock: None,
+        }
+    }
+
+    /// Adds the capture that a reader gives behind the others. Nothing of it is read yet.
+    ///
+    /// # Errors
+    /// Where memory is refused. Then nothing has changed.
+    pub fn add(&mut self, alloc: Global, reader: R) -> Result<(), AllocError>
+        ensures coming { IfOk result (λ _. map coming_on self.new.lanes ≡
+            map coming_on self.old.lanes ++ option_map answers (R.remaining reader) ∷ []) }
+        ensures failures { IfOk result (λ _. failures_of self.new.lanes ≡
+            failures_of self.old.lanes ++ R.failures reader ∷ []) }
+        ensures clock { self.new.clock ≡ self.old.clock }
+        ensures unchanged { OnErr result (self.new ≡ self.old) }
+    {
+        self.lanes.push(Lane::new(alloc, reader))?;
+        Ok(())
+    }
+
+    /// How many captures there are.
+    pub fn count(&self) -> usize
+        ensures { result ≡ length self.now.lanes }
+    {
+        self.lanes.len()
+    }
+
+    /// Reads the heads that weren't read yet, in the order of the captures, up to the first fault.
+    fn look(&mut self) -> Result<(), MergeFault>
+        ensures coming { IfOk result (λ _. (captures : List (List Answer)) →
+            IsComing self.old.lanes captures → IsComing self.new.lanes captures) }
+        ensures looked { IfOk result (λ _. AllByRecursion IsLooked self.new.lanes) }
+        ensures fault { IfErr result (λ told. (captures : List (List Answer)) → IsComing self.old.lanes captures →
+            turn (with_fault told captures) ≡ fails told.capture told.fault) }
+        ensures cause { IfErr result (IsCause self.old.lanes self.new.lanes) }
+        ensures left { records_to_come self.new.lanes ≤ records_to_come self.old.lanes }
+        ensures reads { CountsFailures self.old.lanes result self.new.lanes }
+        ensures length { length self.new.lanes ≡ length self.old.lanes }
+        ensures clock { self.new.clock ≡ self.old.clock }
+    {
+        look_at_all(&mut self.lanes)
+    }
+
+    /// The first of the heads that have the least time, with that time.
+    fn earliest(&self) -> Option<(usize, u64)>
+        ensures { result ≡ earliest_from 0 (map head_time self.now.lanes) }
+    {
+        earliest(&self.lanes)
+    }
+
+    /// Takes the head of a capture, if it was read.
+    fn take(&mut self, capture: usize) -> Option<Event>
+        requires { capture < length self.old.lanes }
+        ensures head { option_map (event_seen (lane_at capture self.old.lanes).bytes) result ≡
+            (lane_at capture self.old.lanes).head }
+        ensures lanes { self.new.lanes ≡
+            slice_set self.old.lanes capture (without_head (lane_at capture self.old.lanes)) }
+        ensures clock { self.new.clock ≡ self.old.clock }
+        ensures payload { IfSome result (PayloadLiesIn (bytes_at capture self.old)) }
+        ensures moment { IfSome result (IsBy latest_moment) }
+        ensures bytes { length (bytes_at capture self.old) ≤ most_captured }
+    {
+        let _bytes = self.lanes[capture].bytes();
+        self.lanes[capture].take()
+    }
+
+    /// Lets the clock go on with a record of this time, and answers its moment.
+    fn tick(&mut self, time: u64) -> u64
+        requires { time ≤ latest_moment }
+        ensures clock { self.new.clock ≡ Some (clock_by self.old.clock time) }
+        ensures lanes { self.new.lanes ≡ self.old.lanes }
+        ensures moment { result ≡ (clock_by self.old.clock time).moment }
+        ensures bound { result ≤ latest_moment }
+    {
+        let clock = Clock::by(self.clock, time);
+        self.clock = Some(clock);
+        clock.moment
+    }
+
+    /// The next turn: the first of the records that have the least time among the heads of the captures; `None` where
+    /// all captures are at their ends. It reads the head of each capture that has none, and so one record a call behind
+    /// the first call.
+    ///
+    /// # Errors
+    /// A head that is a fault, before any record; of several that of the first capture.
+    pub fn next(&mut self) -> Result<Option<Turn>, MergeFault>
+        ensures turn { (captures : List (List Answer)) → IsComing self.old.lanes captures →
+            TellsTurn captures result self.new }
+        ensures cause { IfErr result (IsCause self.old.lanes self.new.lanes) }
+        ensures reads { CountsFailures self.old.lanes result self.new.lanes }
+        ensures clock { KeepsTime self.old.clock result self.new }
+        ensures moment { IfTaken result (λ next. next.moment ≤ latest_moment) }
+        ensures bytes { IfTaken result (HoldsRecord self.new) }
+        ensures capture { IfTaken result (λ next. next.capture < length self.new.lanes) }
+        ensures lanes { length self.new.lanes ≡ length self.old.lanes }
+        ensures nearer { IfTaken result (λ _. turns_left self.new < turns_left self.old) }
+        ensures left { turns_left self.new ≤ turns_left self.old }
+    {
+        self.look()?;
+        let Some((capture, time)) = self.earliest() else {
+            return Ok(None);
+        };
+        let Some(event) = self.take(capture) else {
+            unreachable!();
+        };
+        let moment = self.tick(time);
+        Ok(Some(Turn {
+            capture,
+            moment,
+            event,
+        }))
+    }
+
+    /// The bytes of the record of this capture that was read last: those of a turn, until the next one.
+    pub fn bytes(&self, capture: usize) -> &[u8]
+        requires { capture < length self.now.lanes }
+        ensures bytes { result.now ≡ bytes_at capture self.now }
+        ensures length { length result.now ≤ most_captured }
+    {
+        self.lanes[capture].bytes()
+    }
+}

@@ -1,0 +1,70 @@
+//! The heads of captures: reading them all, and finding the one that is taken next.
+
+ghost use Rattle.std.specs.Prelude.{◌≡◌, ◌<◌, ◌≤◌, List, map, length, Some, IfOk, IfErr};
+ghost use Rattle.std.specs.Option.{IfSome};
+ghost use Rattle.std.specs.List.{AllByRecursion};
+ghost use Rattle.pim_capture.specs.Capture.{Answer};
+ghost use Rattle.pim_merge.specs.Merge.{turn, fails, sooner, numbered, earliest_from};
+ghost use Rattle.pim_merge.specs.Lane.{IsComing, IsLooked, head_time, lane_at, records_to_come};
+ghost use Rattle.pim_merge.specs.Next.{with_fault, IsCause, CountsFailures};
+
+use crate::lane::Lane;
+use crate::merge::MergeFault;
+use pim_addr::Feed;
+
+/// Reads the heads that weren't read yet, in the order of the captures.
+///
+/// # Errors
+/// The first fault that a capture answers in place of its head.
+pub(crate) fn look_at_all<R: Feed + Drop>(lanes: &mut [Lane<R>]) -> Result<(), MergeFault>
+    ensures coming { IfOk result (λ _. (captures : List (List Answer)) →
+        IsComing lanes.old captures → IsComing lanes.new captures) }
+    ensures looked { IfOk result (λ _. AllByRecursion IsLooked lanes.new) }
+    ensures fault { IfErr result (λ told. (captures : List (List Answer)) → IsComing lanes.old captures →
+        turn (with_fault told captures) ≡ fails told.capture told.fault) }
+    ensures cause { IfErr result (IsCause lanes.old lanes.new) }
+    ensures left { records_to_come lanes.new ≤ records_to_come lanes.old }
+    ensures reads { CountsFailures lanes.old result lanes.new }
+{
+    for (capture, lane) in lanes.iter_mut().enumerate() {
+        if let Err(fault) = lane.look() {
+            return Err(MergeFault { capture, fault });
+        }
+    }
+    Ok(())
+}
+
+/// A time with the number of its capture.
+fn numbered(number: usize, time: Option<u64>) -> Option<(usize, u64)>
+    ensures { result ≡ numbered number time }
+{
+    match time {
+        Some(time) => Some((number, time)),
+        None => None,
+    }
+}
+
+/// Of two heads the one of less time, and of one time the first.
+fn sooner(one: Option<(usize, u64)>, other: Option<(usize, u64)>) -> Option<(usize, u64)>
+    ensures { result ≡ sooner one other }
+{
+    let Some((number, time)) = one else {
+        return other;
+    };
+    match other {
+        Some((later, least)) if least < time => Some((later, least)),
+        _ => Some((number, time)),
+    }
+}
+
+#[tactic(auto, using(crate::proofs::Sooner::one_head_more, crate::proofs::Sooner::no_head_more))]
+/// The first of the heads that have the least time, with that time; `None` where all captures are at their ends.
+pub(crate) fn earliest<R: Feed + Drop>(lanes: &[Lane<R>]) -> Option<(usize, u64)>
+    ensures { result ≡ earliest_from 0 (map head_time lanes.now) }
+{
+    let mut found = None;
+    for (number, lane) in lanes.iter().enumerate() {
+        found = sooner(found, numbered(number, lane.time()));
+    }
+    found
+}

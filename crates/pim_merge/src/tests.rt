@@ -1,0 +1,207 @@
+//! Merges of small captures, by readers that give few bytes, end early or fail.
+
+use crate::{Merge, MergeFault, Turn};
+use pim_addr::{Feed, ScriptedFeed};
+use pim_capture::CaptureFault;
+use std::alloc::{AllocError, Global};
+use std::process::Abort;
+use std::test::Fail;
+
+const NEVER: usize = usize::MAX;
+
+/// The header of a capture of raw IP packets, the lowest byte first, with microseconds.
+const HEADER: [u8; 24] = [
+    0xd4, 0xc3, 0xb2, 0xa1, 2, 0, 4, 0, 0, 0, 0, 0, 0, 0, 0, 0, 0, 0, 4, 0, 101, 0, 0, 0,
+];
+
+/// A record of a Hello at 100 s, and one of a Join/Prune 5 ms later.
+const RECORDS: [u8; 116] = [
+    0x64, 0, 0, 0, 0, 0, 0, 0, 0x1e, 0, 0, 0, 0x1e, 0, 0, 0, 0x45, 0, 0, 0x1e, 0, 0, 0, 0, 1, 0x67,
+    0, 0, 10, 0, 0, 9, 224, 0, 0, 13, 0x20, 0, 0, 0, 0, 1, 0, 2, 0xdf, 0xfc, 0x64, 0, 0, 0, 0x88,
+    0x13, 0, 0, 0x36, 0, 0, 0, 0x36, 0, 0, 0, 0x45, 0, 0, 0x36, 0, 0, 0, 0, 1, 0x67, 0, 0, 10, 0,
+    0, 9, 224, 0, 0, 13, 0x23, 0, 0xc4, 0xd4, 1, 0, 10, 0, 0, 2, 0, 1, 0, 210, 1, 0, 0, 32, 239, 1,
+    1, 1, 0, 1, 0, 0, 1, 0, 7, 32, 10, 9, 9, 9,
+];
+
+/// The capture of both.
+fn both(alloc: Global) -> Result<Vec<u8>, AllocError> {
+    let mut bytes = Vec::from_slice(alloc, &HEADER)?;
+    bytes.extend_from_slice(&RECORDS)?;
+    Ok(bytes)
+}
+
+/// A capture of empty records at these times, in milliseconds.
+fn capture_of(alloc: Global, times: &[u32]) -> Result<Vec<u8>, AllocError> {
+    let mut bytes = Vec::from_slice(alloc, &HEADER)?;
+    for time in times {
+        bytes.extend_from_slice(&(*time / 1_000).to_le_bytes())?;
+        bytes.extend_from_slice(&(*time % 1_000 * 1_000).to_le_bytes())?;
+        bytes.extend_from_slice(&[0; 8])?;
+    }
+    Ok(bytes)
+}
+
+/// The capture and the moment of a turn.
+fn place(told: Result<Option<Turn>, MergeFault>) -> Result<Option<(usize, u64)>, MergeFault> {
+    match told {
+        Ok(Some(turn)) => Ok(Some((turn.capture, turn.moment))),
+        Ok(None) => Ok(None),
+        Err(fault) => Err(fault),
+    }
+}
+
+/// The next turns are of these captures at these moments, and then it ends so.
+fn expect<R: Feed + Drop>(
+    rt: &impl Abort,
+    merge: &mut Merge<R>,
+    turns: &[(usize, u64)],
+    end: Result<Option<(usize, u64)>, MergeFault>,
+) {
+    for turn in turns {
+        assert_eq!(rt; place(merge.next()), Ok(Some(*turn)));
+    }
+    assert_eq!(rt; place(merge.next()), end);
+    let after = match end {
+        Ok(_) => Ok(None),
+        Err(fault) => Err(MergeFault {
+            capture: fault.capture,
+            fault: CaptureFault::Failed,
+        }),
+    };
+    assert_eq!(rt; place(merge.next()), after);
+}
+
+/// Two captures of empty records at these times are merged into these turns.
+fn merges(
+    rt: &impl Abort,
+    alloc: Global,
+    first: &[u32],
+    second: &[u32],
+    turns: &[(usize, u64)],
+) -> Result<(), AllocError> {
+    let one = capture_of(alloc, first)?;
+    let other = capture_of(alloc, second)?;
+    let mut merge = Merge::new(alloc);
+    merge.add(alloc, ScriptedFeed::new(one.as_slice(), 1, NEVER))?;
+    merge.add(alloc, ScriptedFeed::new(other.as_slice(), 7, NEVER))?;
+    expect(rt, &mut merge, turns, Ok(None));
+    Ok(())
+}
+
+#[test]
+fn records_come_by_time(rt: HostRuntime) -> Result<(), Fail> {
+    let alloc = rt.alloc();
+    merges(&rt, alloc, &[], &[], &[])?;
+    merges(&rt, alloc, &[100, 105], &[], &[(0, 0), (0, 5)])?;
+    merges(&rt, alloc, &[], &[1, 2], &[(1, 0), (1, 1)])?;
+    merges(&rt, alloc, &[9], &[1], &[(1, 0), (0, 8)])?;
+    let turns = [(1, 0), (0, 4), (1, 5), (0, 6)];
+    merges(&rt, alloc, &[7, 9], &[3, 8], &turns)?;
+    let ties = [(0, 0), (0, 0), (1, 0), (1, 1_000)];
+    merges(&rt, alloc, &[5, 5], &[5, 1_005], &ties)?;
+    Ok(())
+}
+
+#[test]
+fn times_that_run_back_count_as_now(rt: HostRuntime) -> Result<(), Fail> {
+    let alloc = rt.alloc();
+    merges(&rt, alloc, &[10, 4, 12], &[], &[(0, 0), (0, 0), (0, 2)])?;
+    let turns = [(0, 0), (1, 1), (1, 1), (0, 10)];
+    merges(&rt, alloc, &[10, 20], &[11, 3], &turns)?;
+    Ok(())
+}
+
+#[test]
+fn the_first_fault_ends_it(rt: HostRuntime) -> Result<(), Fail> {
+    let alloc = rt.alloc();
+    let good = capture_of(alloc, &[1])?;
+    let mut merge = Merge::new(alloc);
+    merge.add(alloc, ScriptedFeed::new(good.as_slice(), 64, NEVER))?;
+    merge.add(alloc, ScriptedFeed::new(&RECORDS, 64, NEVER))?;
+    merge.add(alloc, ScriptedFeed::new(&[], 64, NEVER))?;
+    assert_eq!(&rt; merge.count(), 3);
+    let fault = MergeFault {
+        capture: 1,
+        fault: CaptureFault::Magic,
+    };
+    expect(&rt, &mut merge, &[], Err(fault));
+    Ok(())
+}
+
+/// The turns of two such captures, of which the first ends or fails at this byte inside a record.
+fn turns_before(length: usize) -> &'static [(usize, u64)] {
+    match length {
+        0..70 => &[],
+        70..140 => &[(0, 0)],
+        _ => &[(0, 0), (1, 0), (0, 5)],
+    }
+}
+
+#[test]
+fn cut_anywhere(rt: HostRuntime) -> Result<(), Fail> {
+    let alloc = rt.alloc();
+    let whole = both(alloc)?;
+    for length in 0..=whole.len() {
+        let (front, _) = whole.as_slice().split_at(length);
+        let mut merge = Merge::new(alloc);
+        merge.add(alloc, ScriptedFeed::new(front, 7, NEVER))?;
+        merge.add(alloc, ScriptedFeed::new(whole.as_slice(), 64, NEVER))?;
+        let truncated = Err(MergeFault {
+            capture: 0,
+            fault: CaptureFault::Truncated,
+        });
+        match length {
+            24 => expect(&rt, &mut merge, &[(1, 0), (1, 5)], Ok(None)),
+            70 => expect(&rt, &mut merge, &[(0, 0), (1, 0), (1, 5)], Ok(None)),
+            140 => {
+                let turns = [(0, 0), (1, 0), (0, 5), (1, 5)];
+                expect(&rt, &mut merge, &turns, Ok(None));
+            }
+            _ => expect(&rt, &mut merge, turns_before(length), truncated),
+        }
+    }
+    Ok(())
+}
+
+/// The merge of two such captures, of which reads of the first fail from this byte on.
+fn fails_from(
+    rt: &impl Abort,
+    alloc: Global,
+    whole: &[u8],
+    length: usize,
+) -> Result<(), AllocError> {
+    let mut merge = Merge::new(alloc);
+    merge.add(alloc, ScriptedFeed::new(whole, 7, length))?;
+    merge.add(alloc, ScriptedFeed::new(whole, 64, NEVER))?;
+    let failed = MergeFault {
+        capture: 0,
+        fault: CaptureFault::Read,
+    };
+    expect(rt, &mut merge, turns_before(length), Err(failed));
+    Ok(())
+}
+
+#[test]
+fn reads_that_fail(rt: HostRuntime) -> Result<(), Fail> {
+    let alloc = rt.alloc();
+    let whole = both(alloc)?;
+    for length in 0..=whole.len() {
+        fails_from(&rt, alloc, whole.as_slice(), length)?;
+    }
+    Ok(())
+}
+
+#[test]
+fn bytes_are_those_of_the_turn(rt: HostRuntime) -> Result<(), Fail> {
+    let alloc = rt.alloc();
+    let whole = both(alloc)?;
+    let mut merge = Merge::new(alloc);
+    merge.add(alloc, ScriptedFeed::new(whole.as_slice(), 64, NEVER))?;
+    for (start, end) in [(16, 46), (62, 116)] {
+        let Ok(Some(turn)) = merge.next() else {
+            return Err(Fail::from("a turn"));
+        };
+        assert_eq!(&rt; Some(merge.bytes(turn.capture)), RECORDS.get(start..end));
+    }
+    Ok(())
+}

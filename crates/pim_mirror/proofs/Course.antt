@@ -1,0 +1,106 @@
+-- A router that hears deliveries leaves the machines of a port that hears them.
+use Rattle.std.proofs.Common.{◌≡◌, ◌∙◌, ℕ, ◌<◌, ◌≤◌, List, [], ◌∷◌, if◌then◌else◌, Option, length, refl, ap, subst, arith, length-append}
+use Rattle.pim_addr.specs.declared.family.AddressFamily.{AddressFamily}
+use Rattle.pim_addr.specs.Routes.{RouteTable}
+use Rattle.pim_down.specs.declared.event.Timing.{Timing}
+use Rattle.pim_down.specs.declared.step.Step.{Step}
+use Rattle.pim_down.specs.declared.step.Step.TheVariants.{Reached}
+use Rattle.pim_down.specs.Hearing.{Event, start_of, needed}
+use Rattle.pim_down.specs.Known.{known_in}
+use Rattle.pim_down.specs.Time.{Downstream, Runs}
+use Rattle.pim_down.specs.Laws.{RunKeepsItsBounds, RunHasOneEnd}
+use Rattle.pim_form.specs.NormalForm.{GroupForm, IsNormal}
+use Rattle.pim_form.specs.Messages.{Writing, IsWriting, HaveRps, AreCanonical}
+use Rattle.pim_fresh.specs.Exchange.{Exchange}
+use Rattle.pim_fresh.specs.Deliveries.{Delivery, is_delivered, IsTimely}
+use Rattle.pim_fresh.specs.Expected.{units_of}
+use Rattle.pim_fresh.specs.Hearing.{fresh, after_message, Leaves}
+use Rattle.pim_fresh.specs.Laws.{NoEchoIsTold, EveryHearingReaches, NeedsTheUnits}
+use Rattle.pim_router.specs.Course.{Reaches}
+use Rattle.pim_router.specs.State.{RouterState, with_machines}
+use Rattle.pim_router.specs.declared.verdict.Verdict.{Verdict}
+use Rattle.pim_router.specs.declared.verdict.Verdict.TheVariants.{Full}
+use Rattle.pim_router.specs.declared.verdict.Store.TheVariants.{Records}
+use Rattle.pim_mirror.specs.CanonicalCourse.{HearsAll, IsTaken, AreOf, HoldsNothing}
+use Rattle.pim_mirror.specs.CanonicalExchange.{exchange_in}
+use Rattle.pim_mirror.specs.CanonicalPackets.{packet_of, HearsWriter, IsHeard}
+use Rattle.pim_mirror.specs.Laws.{CanonicalMessagesTellForm, CanonicalPacketIsHeard, RouterLeavesItsPort, DeliveryIsTaken}
+use Rattle.pim_mirror.proofs.RouterRuns.{reaches_as}
+
+leaves_limit : RunKeepsItsBounds → (exchange : Exchange) (ports limit : ℕ) (deliveries : List Delivery) (moment : ℕ) (after : Downstream) → Leaves exchange ports limit deliveries moment after → after.limit ≡ limit
+unfolding Leaves
+leaves_limit bounds exchange ports limit [] moment after leaves = (bounds moment (fresh ports limit) after Reached leaves).1
+leaves_limit bounds exchange ports limit (delivery ∷ earlier) moment after leaves =
+    (bounds moment (after_message exchange delivery.message leaves.before) after Reached leaves.runs).1
+    ∙ leaves_limit bounds exchange ports limit earlier delivery.moment leaves.before leaves.was
+
+-- earlier deliveries have no more units
+pub fewer_units : (exchange : Exchange) (limit : ℕ) (delivery : Delivery) (earlier : List Delivery) → length (units_of exchange (delivery ∷ earlier)) ≤ limit → length (units_of exchange earlier) ≤ limit
+unfolding units_of
+fewer_units exchange limit delivery earlier few =
+    let new : List Event = if is_delivered delivery.message earlier then [] else exchange.messages delivery.message in
+    omega (arith, few, length-append new (units_of exchange earlier))
+
+pub timely_before : (expiry : Option ℕ) (delivery : Delivery) (earlier : List Delivery) (moment : ℕ) → IsTimely expiry moment (delivery ∷ earlier) → IsTimely expiry delivery.moment earlier
+unfolding IsTimely
+timely_before expiry delivery earlier moment timely = timely.2
+
+module _ (tells : CanonicalMessagesTellForm) (heard : CanonicalPacketIsHeard) (needs : NeedsTheUnits) (bounds : RunKeepsItsBounds)
+    (family : AddressFamily) (writing : Writing) (form : List GroupForm) (messages : List (List ℕ)) (timing : Timing) (limit : ℕ) (routes : RouteTable)
+    (is_writing : IsWriting family writing) (is : IsNormal family form) (have : HaveRps family (known_in family routes) form) (are : AreCanonical family writing (known_in family routes) form messages) where
+  abbrev exchange : Exchange
+  exchange = exchange_in family (known_in family routes) writing 0 timing messages
+
+  -- under the route table with which the router began
+  packet_heard : (i : ℕ) (before : RouterState) → before.routes ≡ routes → i < length messages → HearsWriter writing 0 timing before → IsHeard family exchange i (packet_of family writing 0 messages i) before
+  packet_heard i before same within hears =
+      subst (λ (table : RouteTable). HaveRps family (known_in family table) form → AreCanonical family writing (known_in family table) form messages
+      → IsHeard family (exchange_in family (known_in family table) writing 0 timing messages) i (packet_of family writing 0 messages i) before) same
+      (λ have_here are_here. heard family writing form messages i 0 timing before is_writing is have_here are_here within hears) have are
+
+  taken : (delivery : Delivery) (earlier : List Delivery) (before : RouterState) → before.routes ≡ routes → delivery.message < length messages → HearsWriter writing 0 timing before
+      → IsTimely (start_of writing.holdtime timing).expires_in delivery.moment earlier → Leaves exchange 1 limit earlier delivery.moment before.machines
+      → IsTaken family exchange limit delivery earlier (packet_of family writing 0 messages delivery.message) before
+  taken delivery earlier before same within hears timely leaves =
+      let here = packet_heard delivery.message before same within hears in
+      let count : needed 0 before.machines.records (exchange.messages delivery.message) ≡ length (units_of exchange (delivery ∷ earlier)) =
+      needs exchange 1 limit delivery earlier before.machines (tells family writing (known_in family routes) form messages 0 timing is_writing is have are).once timely leaves in
+      let room : before.machines.limit ≡ limit = leaves_limit bounds exchange 1 limit earlier delivery.moment before.machines leaves in
+      record {
+        applied = λ few. here.applied (omega (arith, count, room, few));
+        full = λ many. here.full (omega (arith, count, room, many)) ∙ ap (λ (n : ℕ). (Full (Records n), before)) count;
+      }
+
+  module _ (quiet : NoEchoIsTold) (reaching : EveryHearingReaches) (one_end : RunHasOneEnd) (start : RouterState) (begins : start.routes ≡ routes) (nothing : HoldsNothing limit start) where
+    -- no run of fresh machines tells an echo
+    fresh_quiet : (moment : ℕ) (answer : Step (List ℕ)) (end : Downstream) → Runs moment start.machines answer end → answer ≡ Reached
+    unfolding Leaves IsTimely
+    fresh_quiet moment answer end runs =
+        let left = reaching exchange 1 limit [] moment (tells family writing (known_in family routes) form messages 0 timing is_writing is have are).once tt in
+        (one_end moment (fresh 1 limit) end left.after answer Reached (subst (λ (machines : Downstream). Runs moment machines answer end) nothing runs) left.leaves).0
+
+    hears_leaves : (deliveries : List Delivery) (moment : ℕ) (after : RouterState) → AreOf (length messages) deliveries → IsTimely (start_of writing.holdtime timing).expires_in moment deliveries
+        → length (units_of exchange deliveries) ≤ limit → HearsAll family writing 0 timing messages start deliveries moment after
+        → Leaves exchange 1 limit deliveries moment after.machines × (after.routes ≡ routes)
+    unfolding HearsAll Leaves
+    hears_leaves [] moment after of timely few all =
+        let ends = reaches_as moment all.0 start after (fresh_quiet moment) all.1 in
+        (subst (λ (machines : Downstream). Runs moment machines Reached after.machines) nothing ends.0, ends.1 ∙ begins)
+    hears_leaves (delivery ∷ earlier) moment after of timely few all =
+        let before = hears_leaves earlier delivery.moment all.before of.1 (timely_before (start_of writing.holdtime timing).expires_in delivery earlier moment timely) (fewer_units exchange limit delivery earlier few) all.was in
+        let applied = (taken delivery earlier all.before before.1 of.0 all.hears (timely_before (start_of writing.holdtime timing).expires_in delivery earlier moment timely) before.0).applied few in
+        let reaches : Reaches moment all.told (with_machines all.before (after_message exchange delivery.message all.before.machines)) after =
+        subst (λ (end : Verdict × RouterState). Reaches moment all.told end.1 after) applied all.reaches in
+        let ends = reaches_as moment all.told (with_machines all.before (after_message exchange delivery.message all.before.machines)) after
+        (λ answer end runs. quiet exchange 1 limit delivery earlier moment all.before.machines end answer
+        (tells family writing (known_in family routes) form messages 0 timing is_writing is have are).once timely before.0 runs) reaches in
+        (record { before = all.before.machines; was = before.0; runs = ends.0 }, ends.1 ∙ before.1)
+
+pub leaves_its_port : CanonicalMessagesTellForm → CanonicalPacketIsHeard → NoEchoIsTold → EveryHearingReaches → NeedsTheUnits → RunKeepsItsBounds → RunHasOneEnd → RouterLeavesItsPort
+leaves_its_port tells heard quiet reaching needs bounds one_end family writing form messages timing limit start deliveries moment after is_writing is have are nothing of timely few all =
+    hears_leaves tells heard needs bounds family writing form messages timing limit start.routes is_writing is have are quiet reaching one_end start refl nothing deliveries moment after of timely few all
+
+pub one_more_taken : RouterLeavesItsPort → CanonicalMessagesTellForm → CanonicalPacketIsHeard → NeedsTheUnits → RunKeepsItsBounds → DeliveryIsTaken
+one_more_taken leaves tells heard needs bounds family writing form messages timing limit start delivery earlier before is_writing is have are nothing of timely few all hears =
+    let behind = leaves family writing form messages timing limit start earlier delivery.moment before is_writing is have are nothing of.1 timely few all in
+    taken tells heard needs bounds family writing form messages timing limit start.routes is_writing is have are delivery earlier before behind.1 of.0 hears timely behind.0

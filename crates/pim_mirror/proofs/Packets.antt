@@ -1,0 +1,150 @@
+-- The packet of a canonical message is heard.
+use Rattle.std.proofs.Common.{◌≡◌, ◌∙◌, ℕ, zero, suc, ◌<◌, Bool, true, false, not, nat_lt, List, [], ◌∷◌, ◌++◌, map, get_or, length, refl, sym, ap, subst, arith}
+use Rattle.std.proofs.lemmas.Bool.{lt-ltb, le-ltb}
+use Rattle.pim_addr.specs.Faults.{fault_if}
+use Rattle.pim_addr.specs.declared.family.AddressFamily.{AddressFamily}
+use Rattle.pim_frame.specs.Frame.{content, frame_faults, all_routers}
+use Rattle.pim_frame.specs.declared.frame.FrameFault.{FrameFault}
+use Rattle.pim_jp.specs.declared.fault.JpFault.{JpFault}
+use Rattle.pim_jp.specs.Message.{Message, message_of}
+use Rattle.pim_down.specs.declared.event.Timing.{Timing}
+use Rattle.pim_down.specs.Hearing.{Event, events_of, start_of, hearing, needed}
+use Rattle.pim_down.specs.Known.{known_in}
+use Rattle.pim_down.specs.Time.{with_records}
+use Rattle.pim_form.specs.NormalForm.{GroupForm, same_address}
+use Rattle.pim_form.specs.Messages.{Writing, IsWriting, Rps, told_message}
+use Rattle.pim_form.specs.Laws.{IsReadAs}
+use Rattle.pim_fresh.specs.Exchange.{Exchange}
+use Rattle.pim_fresh.specs.Hearing.{after_message}
+use Rattle.pim_router.specs.declared.verdict.Verdict.{Verdict}
+use Rattle.pim_router.specs.declared.verdict.Verdict.TheVariants as verdict
+use Rattle.pim_router.specs.declared.verdict.Malformed.TheVariants as malformed
+use Rattle.pim_router.specs.declared.verdict.Store.TheVariants as store
+use Rattle.pim_router.specs.Packets.{causes, received, own_address, knows, unless, body_causes, message_causes, room_causes, body_taken, message_taken}
+use Rattle.pim_router.specs.State.{RouterState, with_machines}
+use Rattle.pim_mirror.specs.CanonicalExchange.{message_in, events_at, AreReadAs}
+use Rattle.pim_mirror.specs.CanonicalPackets.{packet_of, HearsWriter, heard_exchange, needed_records, IsHeard}
+use Rattle.pim_mirror.specs.Laws.{CanonicalMessagesTellParts, MessagesAreRead, CanonicalPacketIsHeard}
+use Rattle.pim_mirror.proofs.SameAddresses.{same_itself, same_is}
+use Rattle.pim_mirror.proofs.ReadBack.{read_message}
+
+-- ---- the message of a number
+
+record IsMessageOf (family : AddressFamily) (writing : Writing) (rps : Rps) (messages : List (List ℕ)) (i : ℕ) : Type 0 where
+  part : List GroupForm
+  read : IsReadAs family writing.own (get_or messages i []) (told_message writing rps part)
+  events : events_at rps (map (message_in family) messages) i ≡ events_of rps (told_message writing rps part)
+
+message_at : (family : AddressFamily) (writing : Writing) (rps : Rps) (messages : List (List ℕ)) (parts : List (List GroupForm)) (i : ℕ) → AreReadAs family writing.own messages (map (told_message writing rps) parts)
+    → i < length messages → IsMessageOf family writing rps messages i
+unfolding AreReadAs
+message_at family writing rps [] parts i are within = absurd (omega (arith, within))
+message_at family writing rps (bytes ∷ messages) [] i are within = absurd are
+message_at family writing rps (bytes ∷ messages) (part ∷ parts) zero are within = record {
+  part = part;
+  read = are.0;
+  events = ap (events_of rps) (read_message family writing.own bytes (told_message writing rps part) are.0);
+}
+message_at family writing rps (bytes ∷ messages) (part ∷ parts) (suc i) are within =
+    let later = message_at family writing rps messages parts i are.1 (omega (arith, within)) in
+    record { part = later.part; read = later.read; events = later.events }
+
+-- ---- why a packet is refused
+
+apart : (a b : List ℕ) → (a ≡ b → ⊥) → same_address a b ≡ false
+apart a b differ = by (same_address a b) refl
+  where
+    by : (t : Bool) → same_address a b ≡ t → t ≡ false
+    by false e = refl
+    by true e = absurd (differ (same_is a b e))
+
+module _ (family : AddressFamily) (port : ℕ) (source : List ℕ) (state : RouterState) (said : Message) where
+  abbrev room : List Verdict
+  room = room_causes family port state said
+
+  known_causes : knows port source state ≡ true → same_address said.upstream (own_address port state) ≡ true → message_causes family port source state said ≡ room
+  known_causes knows_it for_us =
+      ap (λ k. (fault_if (not k) verdict.UnknownNeighbour ++ fault_if (not (same_address said.upstream (own_address port state))) verdict.NotForUs) ++ room) knows_it
+      ∙ ap (λ k. fault_if (not k) verdict.NotForUs ++ room) for_us
+
+  body_is : (bytes : List ℕ) (is : IsReadAs family source bytes said) → knows port source state ≡ true → same_address said.upstream (own_address port state) ≡ true
+      → body_causes family port source state (content bytes) ≡ room
+  body_is bytes is knows_it for_us =
+      ap (body_causes family port source state) is.holds
+      ∙ ap (λ (fs : List JpFault). map (λ fault. verdict.Malformed (malformed.JoinPrune fault)) fs ++ message_causes family port source state (message_of family is.body)) is.legal
+      ∙ ap (message_causes family port source state) is.reads
+      ∙ known_causes knows_it for_us
+
+  causes_are : (bytes : List ℕ) (is : IsReadAs family source bytes said) → same_address source (own_address port state) ≡ false → knows port source state ≡ true → same_address said.upstream (own_address port state) ≡ true
+      → causes family (record { port = port; source = source; destination = all_routers family; bytes = bytes }) state ≡ room
+  causes_are bytes is not_mine knows_it for_us =
+      ap (λ m. (fault_if m verdict.Mine ++ map (λ fault. verdict.Malformed (malformed.Frame fault)) (frame_faults family source (all_routers family) bytes)) ++ body_causes family port source state (content bytes)) not_mine
+      ∙ ap (λ (fs : List FrameFault). map (λ fault. verdict.Malformed (malformed.Frame fault)) fs ++ body_causes family port source state (content bytes)) is.opened
+      ∙ body_is bytes is knows_it for_us
+
+  taken_is : (bytes : List ℕ) (is : IsReadAs family source bytes said) → body_taken family port source state (content bytes) ≡ message_taken family port state said
+  taken_is bytes is = ap (body_taken family port source state) is.holds ∙ ap (message_taken family port state) is.reads
+
+  received_is : (bytes : List ℕ) (is : IsReadAs family source bytes said) → same_address source (own_address port state) ≡ false → knows port source state ≡ true → same_address said.upstream (own_address port state) ≡ true
+      → received family (record { port = port; source = source; destination = all_routers family; bytes = bytes }) state ≡ unless room state (message_taken family port state said)
+  received_is bytes is not_mine knows_it for_us =
+      ap (λ (cs : List Verdict). unless cs state (body_taken family port source state (content bytes))) (causes_are bytes is not_mine knows_it for_us)
+      ∙ ap (unless room state) (taken_is bytes is)
+
+-- ---- what becomes of it
+
+module _ (family : AddressFamily) (writing : Writing) (messages : List (List ℕ)) (i port : ℕ) (timing : Timing) (state : RouterState) (is_writing : IsWriting family writing) (hears : HearsWriter writing port timing state)
+    (this : IsMessageOf family writing (known_in family state.routes) messages i) where
+  abbrev rps : Rps
+  rps = known_in family state.routes
+
+  abbrev said : Message
+  said = told_message writing rps this.part
+
+  abbrev exchange : Exchange
+  exchange = heard_exchange family writing port timing messages state
+
+  abbrev count : ℕ
+  count = needed_records exchange i state
+
+  abbrev bytes : List ℕ
+  bytes = get_or messages i []
+
+  not_mine : same_address writing.own (own_address port state) ≡ false
+  not_mine = apart writing.own (own_address port state) (λ e. is_writing.apart (e ∙ hears.own))
+
+  for_us : same_address writing.upstream (own_address port state) ≡ true
+  for_us = ap (same_address writing.upstream) hears.own ∙ same_itself writing.upstream
+
+  room_is : room_causes family port state said ≡ fault_if (nat_lt state.machines.limit count) (verdict.Full (store.Records count))
+  room_is = ap (λ (events : List Event). fault_if (nat_lt state.machines.limit (needed port state.machines.records events)) (verdict.Full (store.Records (needed port state.machines.records events)))) (sym this.events)
+
+  applied_is : message_taken family port state said ≡ (verdict.Applied, with_machines state (after_message exchange i state.machines))
+  applied_is =
+      ap (λ (t : Timing). (verdict.Applied, with_machines state (with_records state.machines (hearing port (start_of writing.holdtime t) (events_of rps said) state.machines.records)))) (sym hears.timing_is)
+      ∙ ap (λ (events : List Event). (verdict.Applied, with_machines state (with_records state.machines (hearing port (start_of writing.holdtime timing) events state.machines.records)))) (sym this.events)
+
+  ends_as : received family (packet_of family writing port messages i) state
+      ≡ unless (fault_if (nat_lt state.machines.limit count) (verdict.Full (store.Records count))) state (verdict.Applied, with_machines state (after_message exchange i state.machines))
+  ends_as =
+      received_is family port writing.own state said bytes this.read not_mine hears.known for_us
+      ∙ ap (λ (cs : List Verdict). unless cs state (message_taken family port state said)) room_is
+      ∙ ap (unless (fault_if (nat_lt state.machines.limit count) (verdict.Full (store.Records count))) state) applied_is
+
+  abbrev Ends : Bool → Type 0
+  Ends full = received family (packet_of family writing port messages i) state
+      ≡ unless (fault_if full (verdict.Full (store.Records count))) state (verdict.Applied, with_machines state (after_message exchange i state.machines))
+
+  heard : IsHeard family exchange i (packet_of family writing port messages i) state
+  heard = record {
+    only_room = causes_are family port writing.own state said bytes this.read not_mine hears.known for_us ∙ room_is;
+    applied = λ room. subst Ends (le-ltb state.machines.limit count room) ends_as;
+    full = λ little. subst Ends (lt-ltb state.machines.limit count little) ends_as;
+  }
+
+pub packet_heard : CanonicalMessagesTellParts → MessagesAreRead → CanonicalPacketIsHeard
+packet_heard parts_of read family writing form messages i port timing state is_writing is have are within hears =
+    let known = known_in family state.routes in
+    let found = parts_of family writing known form messages is have are in
+    let these = read family writing known form messages found.0 is_writing found.1 in
+    heard family writing messages i port timing state is_writing hears (message_at family writing known messages found.0 i these within)

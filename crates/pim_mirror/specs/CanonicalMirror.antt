@@ -1,0 +1,28 @@
+-- What a port asks for that heard the canonical messages of a form.
+use Rattle.std.specs.Prelude.{◌≡◌, ℕ, ◌<◌, true, List}
+use Rattle.pim_addr.specs.declared.family.AddressFamily.{AddressFamily}
+use Rattle.pim_addr.specs.Routes.{RouteTable}
+use Rattle.pim_down.specs.Known.{known_in}
+use Rattle.pim_down.specs.Time.{Downstream}
+use Rattle.pim_form.specs.declared.tree.Tree.{Tree}
+use Rattle.pim_form.specs.NormalForm.{GroupForm, form_wants, IsFormOf}
+use Rattle.pim_form.specs.Messages.{Writing, AreCanonical}
+use Rattle.pim_form.specs.TowardLaws.{asked_of}
+use Rattle.pim_form.specs.Wants.{wants}
+use Rattle.pim_fresh.specs.Deliveries.{Delivery, is_delivered}
+
+-- each of so many messages was delivered
+abbrev pub AllCame : ℕ → List Delivery → Type 0
+AllCame count deliveries = (message : ℕ) → message < count → is_delivered message deliveries ≡ true
+
+-- The machines want exactly what the form wants, of every source and group. The form is the one normal form of what
+-- they ask of the writer's upstream neighbour, and its canonical messages are these and no others.
+pub record AsksAgain (family : AddressFamily) (table : RouteTable) (writing : Writing) (form : List GroupForm)
+    (messages : List (List ℕ)) (state : Downstream) : Type 0 where
+  pub wanted : (source group : List ℕ) (tree : Tree) → wants state source group tree ≡ form_wants form source group tree
+  pub is_form : IsFormOf family (asked_of family table writing.upstream state) form
+  pub one_form : (other : List GroupForm) → IsFormOf family (asked_of family table writing.upstream state) other →
+      other ≡ form
+  pub same_messages : (other : List GroupForm) (others : List (List ℕ)) →
+      IsFormOf family (asked_of family table writing.upstream state) other →
+      AreCanonical family writing (known_in family table) other others → others ≡ messages

@@ -1,0 +1,51 @@
+-- The packets that hold canonical messages, at the router to which they are written.
+use Rattle.std.specs.Prelude.{◌≡◌, ℕ, ◌<◌, ◌≤◌, nat_lt, true, List, [], slice_index_or}
+use Rattle.pim_addr.specs.Faults.{fault_if}
+use Rattle.pim_addr.specs.declared.family.AddressFamily.{AddressFamily}
+use Rattle.pim_frame.specs.Frame.{all_routers}
+use Rattle.pim_down.specs.declared.event.Timing.{Timing}
+use Rattle.pim_down.specs.Hearing.{needed}
+use Rattle.pim_down.specs.Known.{known_in}
+use Rattle.pim_form.specs.Messages.{Writing}
+use Rattle.pim_fresh.specs.Exchange.{Exchange}
+use Rattle.pim_fresh.specs.Hearing.{after_message}
+use Rattle.pim_router.specs.declared.verdict.Verdict.TheVariants.{Applied, Full}
+use Rattle.pim_router.specs.declared.verdict.Store.TheVariants.{Records}
+use Rattle.pim_router.specs.Packets.{Packet, causes, received, own_address, knows, timing_on}
+use Rattle.pim_router.specs.State.{RouterState, with_machines}
+use Rattle.pim_mirror.specs.CanonicalExchange.{exchange_in}
+
+-- the message of this number, as the writer sends it to ALL-PIM-ROUTERS and it comes on a port
+abbrev pub packet_of : AddressFamily → Writing → ℕ → List (List ℕ) → ℕ → Packet
+packet_of family writing port messages i = record {
+  port = port;
+  source = writing.own;
+  destination = all_routers family;
+  bytes = slice_index_or messages i [];
+}
+
+-- The port is the neighbour to which the writer writes, it knows the writer as a neighbour, and this is its timing.
+pub record HearsWriter (writing : Writing) (port : ℕ) (timing : Timing) (state : RouterState) : Type 0 where
+  pub own : own_address port state ≡ writing.upstream
+  pub known : knows port writing.own state ≡ true
+  pub timing_is : timing ≡ timing_on port state
+
+-- what the port hears of these messages under the router's route table
+abbrev pub heard_exchange : AddressFamily → Writing → ℕ → Timing → List (List ℕ) → RouterState → Exchange
+heard_exchange family writing port timing messages state =
+    exchange_in family (known_in family state.routes) writing port timing messages
+
+-- how many records the port needs for the message of this number
+abbrev pub needed_records : Exchange → ℕ → RouterState → ℕ
+needed_records exchange i state = needed exchange.port state.machines.records (exchange.messages i)
+
+-- Only room may be wanting for a packet: where there is room, the message is applied as the exchange says, and nothing
+-- else changes; where there is none, the packet is told as Full, with what is needed, and changes nothing.
+pub record IsHeard (family : AddressFamily) (exchange : Exchange) (i : ℕ) (packet : Packet) (state : RouterState)
+    : Type 0 where
+  pub only_room : causes family packet state ≡ fault_if
+      (nat_lt state.machines.limit (needed_records exchange i state)) (Full (Records (needed_records exchange i state)))
+  pub applied : needed_records exchange i state ≤ state.machines.limit →
+      received family packet state ≡ (Applied, with_machines state (after_message exchange i state.machines))
+  pub full : state.machines.limit < needed_records exchange i state →
+      received family packet state ≡ (Full (Records (needed_records exchange i state)), state)

@@ -1,0 +1,46 @@
+-- The parts of a normal form that its canonical messages tell.
+use Rattle.std.specs.Prelude.{◌≡◌, ℕ, true, List, [], ◌∷◌}
+use Rattle.std.specs.List.{AllByRecursion, flat_map}
+use Rattle.pim_addr.specs.declared.family.AddressFamily.{AddressFamily}
+use Rattle.pim_frame.specs.Frame.{all_routers}
+use Rattle.pim_frame.specs.Seal.{IsSealed}
+use Rattle.pim_frame.specs.declared.frame.MessageType.TheVariants.{JoinPrune}
+use Rattle.pim_jp.specs.Canonical.{canonical}
+use Rattle.pim_form.specs.NormalForm.{GroupForm, AreAscending, groups_of, IsNormal}
+use Rattle.pim_form.specs.Rows.{exceptions_of}
+use Rattle.pim_form.specs.Units.{units_of}
+use Rattle.pim_form.specs.Packing.{fits}
+use Rattle.pim_form.specs.Messages.{Writing, Rps, HaveRps, told_message}
+
+-- the exceptions and the sources of a group are in strictly ascending order
+pub record HasListsInOrder (this : GroupForm) : Type 0 where
+  pub exceptions : AreAscending (exceptions_of this.star)
+  pub sources : AreAscending this.sources
+
+-- so are the groups, and the lists of each
+pub record IsInOrder (part : List GroupForm) : Type 0 where
+  pub groups : AreAscending (groups_of part)
+  pub lists : AllByRecursion HasListsInOrder part
+
+-- These bytes are the message that tells a part, written canonically and sealed for ALL-PIM-ROUTERS.
+abbrev pub TellsPart : AddressFamily → Writing → Rps → List GroupForm → List ℕ → Type 0
+TellsPart family writing rps part bytes =
+    IsSealed family writing.own (all_routers family) JoinPrune (canonical family (told_message writing rps part)) bytes
+
+-- one message for each part, in order
+unfoldable pub TellParts : AddressFamily → Writing → Rps → List (List GroupForm) → List (List ℕ) → Type 0
+TellParts family writing rps [] [] = Unit {0}
+TellParts family writing rps [] (bytes ∷ messages) = ⊥
+TellParts family writing rps (part ∷ parts) [] = ⊥
+TellParts family writing rps (part ∷ parts) (bytes ∷ messages) =
+    TellsPart family writing rps part bytes × TellParts family writing rps parts messages
+
+-- Each message tells a part, which is a normal form that fits it and whose stars have RPs; the units of the parts, one
+-- part after the other, are those of the form.
+pub record AreParts (family : AddressFamily) (writing : Writing) (rps : Rps) (form : List GroupForm)
+    (messages : List (List ℕ)) (parts : List (List GroupForm)) : Type 0 where
+  pub normal : AllByRecursion (IsNormal family) parts
+  pub have : AllByRecursion (HaveRps family rps) parts
+  pub fitting : AllByRecursion (λ part. fits family writing.budget (units_of part) ≡ true) parts
+  pub whole : flat_map units_of parts ≡ units_of form
+  pub told : TellParts family writing rps parts messages

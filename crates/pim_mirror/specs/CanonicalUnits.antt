@@ -1,0 +1,17 @@
+-- Which machines a form names: those that its units make at a router that hears them (RFC 7761, 4.5).
+use Rattle.std.specs.Prelude.{ℕ, Bool, ◌&&◌, List}
+use Rattle.std.specs.Option.{is_some}
+use Rattle.std.specs.List.{list_any}
+use Rattle.pim_down.specs.declared.key.What.{What}
+use Rattle.pim_down.specs.declared.key.What.TheVariants.{Star, Source, Rpt}
+use Rattle.pim_form.specs.NormalForm.{GroupForm, same_address, is_listed}
+use Rattle.pim_form.specs.Rows.{exceptions_of}
+
+-- (*,G) where the group has a star, (S,G) of each source, (S,G,rpt) of each exception
+abbrev pub group_names : GroupForm → What (List ℕ) → Bool
+group_names this Star = is_some this.star
+group_names this (Source source) = is_listed source this.sources
+group_names this (Rpt source) = is_listed source (exceptions_of this.star)
+
+abbrev pub form_names : List GroupForm → List ℕ → What (List ℕ) → Bool
+form_names form group what = list_any (λ this. same_address group this.group && group_names this what) form

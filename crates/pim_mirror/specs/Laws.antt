@@ -1,0 +1,158 @@
+-- The words of the laws in `src/laws.rt`.
+use Rattle.std.specs.Prelude.{◌≡◌, ℕ, ◌<◌, ◌≤◌, List, [], ◌∷◌, ◌++◌, length, map}
+use Rattle.pim_addr.specs.declared.family.AddressFamily.{AddressFamily}
+use Rattle.pim_addr.specs.Routes.{RouteTable, IsRouteTable}
+use Rattle.pim_down.specs.declared.event.Timing.{Timing}
+use Rattle.pim_down.specs.declared.step.Step.{Step}
+use Rattle.pim_down.specs.Hearing.{start_of}
+use Rattle.pim_down.specs.Known.{known_in}
+use Rattle.pim_down.specs.Time.{Downstream, Runs}
+use Rattle.pim_form.specs.NormalForm.{GroupForm, IsNormal, IsFormOf}
+use Rattle.pim_form.specs.Messages.{Writing, IsWriting, Rps, HaveRps, AreCanonical, told_message}
+use Rattle.pim_form.specs.TowardLaws.{asked_of}
+use Rattle.pim_fresh.specs.Asking.{IsAsking}
+use Rattle.pim_fresh.specs.Deliveries.{Delivery, IsTimely, final_moment}
+use Rattle.pim_fresh.specs.Expected.{units_of}
+use Rattle.pim_fresh.specs.Hearing.{Leaves}
+use Rattle.pim_fresh.specs.Laws.{Stays}
+use Rattle.pim_router.specs.Course.{runs_to, Telling, Reaches, IsCourse}
+use Rattle.pim_router.specs.State.{RouterState}
+use Rattle.pim_mirror.specs.CanonicalParts.{IsInOrder, AreParts}
+use Rattle.pim_mirror.specs.CanonicalExchange.{exchange_of, exchange_in, TellsForm, AreReadAs}
+use Rattle.pim_mirror.specs.CanonicalMirror.{AllCame, AsksAgain}
+use Rattle.pim_mirror.specs.CanonicalCourse.{HearsAll, IsTaken, AreOf, HoldsNothing, Lasts, inputs_of}
+use Rattle.pim_mirror.specs.CanonicalPackets.{packet_of, HearsWriter, heard_exchange, IsHeard}
+
+-- The message of a part in strictly ascending order, whose stars have RPs, asks for traffic.
+abbrev pub PartIsAsking : Type 0
+PartIsAsking = (family : AddressFamily) (writing : Writing) (rps : Rps) (part : List GroupForm) →
+    IsInOrder part → HaveRps family rps part → IsAsking rps (told_message writing rps part)
+
+-- The canonical messages of a normal form tell parts of it.
+abbrev pub CanonicalMessagesTellParts : Type 0
+CanonicalMessagesTellParts = (family : AddressFamily) (writing : Writing) (rps : Rps) (form : List GroupForm)
+    (messages : List (List ℕ)) → IsNormal family form → HaveRps family rps form →
+    AreCanonical family writing rps form messages →
+    (parts : List (List GroupForm)) × AreParts family writing rps form messages parts
+
+-- The messages of these parts tell the form.
+abbrev pub PartsTellUnitsOnce : Type 0
+PartsTellUnitsOnce = (family : AddressFamily) (writing : Writing) (rps : Rps) (form : List GroupForm)
+    (messages : List (List ℕ)) (parts : List (List GroupForm)) (port : ℕ) (timing : Timing) → IsNormal family form →
+    AreParts family writing rps form messages parts →
+    TellsForm (exchange_of rps writing.holdtime port timing (map (told_message writing rps) parts)) (length parts) form
+
+-- Their bytes are read back as these messages.
+abbrev pub MessagesAreRead : Type 0
+MessagesAreRead = (family : AddressFamily) (writing : Writing) (rps : Rps) (form : List GroupForm)
+    (messages : List (List ℕ)) (parts : List (List GroupForm)) → IsWriting family writing →
+    AreParts family writing rps form messages parts →
+    AreReadAs family writing.own messages (map (told_message writing rps) parts)
+
+-- So the bytes of the canonical messages tell the form.
+abbrev pub CanonicalMessagesTellForm : Type 0
+CanonicalMessagesTellForm = (family : AddressFamily) (writing : Writing) (rps : Rps) (form : List GroupForm)
+    (messages : List (List ℕ)) (port : ℕ) (timing : Timing) → IsWriting family writing → IsNormal family form →
+    HaveRps family rps form → AreCanonical family writing rps form messages →
+    TellsForm (exchange_in family rps writing port timing messages) (length messages) form
+
+-- In the normal form of what is asked of a neighbour under a route table each star has an RP.
+abbrev pub AskedStarsHaveRps : Type 0
+AskedStarsHaveRps = (family : AddressFamily) (table : RouteTable) (neighbour : List ℕ) (state : Downstream)
+    (form : List GroupForm) → IsRouteTable family table → IsFormOf family (asked_of family table neighbour state) form →
+    HaveRps family (known_in family table) form
+
+-- A fresh port that heard all the messages of a form, run from the final moment of the deliveries on while none is
+-- missed for its holdtime, asks again for what the form asks for.
+abbrev pub HeardMessagesAreAskedAgain : Type 0
+HeardMessagesAreAskedAgain = (family : AddressFamily) (table : RouteTable) (writing : Writing) (sender : Downstream)
+    (form : List GroupForm) (messages : List (List ℕ)) (timing : Timing) (limit : ℕ) (deliveries : List Delivery)
+    (moment later : ℕ) (state after : Downstream) (answer : Step (List ℕ)) →
+    IsRouteTable family table → IsWriting family writing →
+    IsFormOf family (asked_of family table writing.upstream sender) form →
+    AreCanonical family writing (known_in family table) form messages →
+    AllCame (length messages) deliveries → final_moment timing.override_ms deliveries ≤ moment → moment ≤ later →
+    IsTimely (start_of writing.holdtime timing).expires_in later deliveries →
+    Leaves (exchange_in family (known_in family table) writing 0 timing messages) 1 limit deliveries moment state →
+    Runs later state answer after →
+    Stays (exchange_in family (known_in family table) writing 0 timing messages) deliveries moment later state answer
+    after × AsksAgain family table writing form messages after
+
+-- The packet of a canonical message is heard by the router to which it is written, as the exchange says.
+abbrev pub CanonicalPacketIsHeard : Type 0
+CanonicalPacketIsHeard = (family : AddressFamily) (writing : Writing) (form : List GroupForm)
+    (messages : List (List ℕ)) (i port : ℕ) (timing : Timing) (state : RouterState) → IsWriting family writing →
+    IsNormal family form → HaveRps family (known_in family state.routes) form →
+    AreCanonical family writing (known_in family state.routes) form messages → i < length messages →
+    HearsWriter writing port timing state →
+    IsHeard family (heard_exchange family writing port timing messages state) i
+    (packet_of family writing port messages i) state
+
+-- A router of one port that begins without records, and hears deliveries of the canonical messages whose units are
+-- within its limit, leaves the machines of a fresh port that hears them, under its route table.
+abbrev pub RouterLeavesItsPort : Type 0
+RouterLeavesItsPort = (family : AddressFamily) (writing : Writing) (form : List GroupForm) (messages : List (List ℕ))
+    (timing : Timing) (limit : ℕ) (start : RouterState) (deliveries : List Delivery) (moment : ℕ)
+    (after : RouterState) → IsWriting family writing → IsNormal family form →
+    HaveRps family (known_in family start.routes) form →
+    AreCanonical family writing (known_in family start.routes) form messages → HoldsNothing limit start →
+    AreOf (length messages) deliveries → IsTimely (start_of writing.holdtime timing).expires_in moment deliveries →
+    length (units_of (heard_exchange family writing 0 timing messages start) deliveries) ≤ limit →
+    HearsAll family writing 0 timing messages start deliveries moment after →
+    Leaves (heard_exchange family writing 0 timing messages start) 1 limit deliveries moment after.machines
+    × (after.routes ≡ start.routes)
+
+-- Behind such deliveries one more is taken by its packet where there is room for its units, and is else Full.
+abbrev pub DeliveryIsTaken : Type 0
+DeliveryIsTaken = (family : AddressFamily) (writing : Writing) (form : List GroupForm) (messages : List (List ℕ))
+    (timing : Timing) (limit : ℕ) (start : RouterState) (delivery : Delivery) (earlier : List Delivery)
+    (before : RouterState) → IsWriting family writing → IsNormal family form →
+    HaveRps family (known_in family start.routes) form →
+    AreCanonical family writing (known_in family start.routes) form messages → HoldsNothing limit start →
+    AreOf (length messages) (delivery ∷ earlier) →
+    IsTimely (start_of writing.holdtime timing).expires_in delivery.moment earlier →
+    length (units_of (heard_exchange family writing 0 timing messages start) earlier) ≤ limit →
+    HearsAll family writing 0 timing messages start earlier delivery.moment before →
+    HearsWriter writing 0 timing before →
+    IsTaken family (heard_exchange family writing 0 timing messages start) limit delivery earlier
+    (packet_of family writing 0 messages delivery.message) before
+
+-- Who hears the writer hears it still behind runs to a moment by which none of its neighbours' times is over.
+abbrev pub WriterStaysHeard : Type 0
+WriterStaysHeard = (writing : Writing) (port : ℕ) (timing : Timing) (moment last : ℕ) (told : List Telling)
+    (state after : RouterState) → moment ≤ last → Lasts last state → HearsWriter writing port timing state →
+    Reaches moment told state after → Lasts last after × HearsWriter writing port timing after
+
+-- The course of a router over deliveries, and then to a moment, is a hearing of all of them, where it knows the writer
+-- at first and none of its neighbours' times is over by the last moment.
+abbrev pub CourseHearsAll : Type 0
+CourseHearsAll = (family : AddressFamily) (writing : Writing) (form : List GroupForm) (messages : List (List ℕ))
+    (timing : Timing) (limit last : ℕ) (start : RouterState) (deliveries : List Delivery) (moment : ℕ)
+    (told : List Telling) (after : RouterState) → IsWriting family writing → IsNormal family form →
+    HaveRps family (known_in family start.routes) form →
+    AreCanonical family writing (known_in family start.routes) form messages → HoldsNothing limit start →
+    AreOf (length messages) deliveries → IsTimely (start_of writing.holdtime timing).expires_in moment deliveries →
+    length (units_of (heard_exchange family writing 0 timing messages start) deliveries) ≤ limit → moment ≤ last →
+    Lasts last start → HearsWriter writing 0 timing start →
+    IsCourse family (inputs_of family writing 0 messages deliveries ++ runs_to moment ∷ []) told start after →
+    HearsAll family writing 0 timing messages start deliveries moment after × Lasts last after
+    × HearsWriter writing 0 timing after
+
+-- A router of one port, which begins without records and knows the writer, is given the packets of all canonical
+-- messages of what is asked of it under its route table, in any order and however often, and no others, and then a
+-- moment from the final one of these deliveries on. Then it asks again for what the form asks for, by the same
+-- messages: where it has room for their units, no message is missed for its holdtime by then, and none of its
+-- neighbours' times is over.
+abbrev pub RouterAsksAgain : Type 0
+RouterAsksAgain = (family : AddressFamily) (writing : Writing) (sender : Downstream) (form : List GroupForm)
+    (messages : List (List ℕ)) (timing : Timing) (limit last : ℕ) (start : RouterState) (deliveries : List Delivery)
+    (moment : ℕ) (told : List Telling) (after : RouterState) → IsRouteTable family start.routes →
+    IsWriting family writing → IsFormOf family (asked_of family start.routes writing.upstream sender) form →
+    AreCanonical family writing (known_in family start.routes) form messages → HoldsNothing limit start →
+    AreOf (length messages) deliveries → AllCame (length messages) deliveries →
+    final_moment timing.override_ms deliveries ≤ moment →
+    IsTimely (start_of writing.holdtime timing).expires_in moment deliveries →
+    length (units_of (heard_exchange family writing 0 timing messages start) deliveries) ≤ limit → moment ≤ last →
+    Lasts last start → HearsWriter writing 0 timing start →
+    IsCourse family (inputs_of family writing 0 messages deliveries ++ runs_to moment ∷ []) told start after →
+    AsksAgain family start.routes writing form messages after.machines

@@ -1,0 +1,168 @@
+//! What a router is asked for, and what one asks for again that heard it by canonical messages alone.
+
+use pim_addr::{Routes, V4};
+use pim_form::{Messages, Writer};
+use pim_frame::{MessageType, all_routers, seal};
+use pim_router::{Config, PortConfig, Router, Step, Verdict};
+use std::alloc::Global;
+use std::test::Fail;
+
+/// The writer, and on the same link its upstream neighbour and another router.
+const WRITER: [u8; 4] = [10, 0, 0, 1];
+
+const UPSTREAM: [u8; 4] = [10, 0, 0, 2];
+
+const OTHER: [u8; 4] = [10, 0, 0, 9];
+
+/// The writer's own downstream neighbour.
+const BELOW: [u8; 4] = [10, 1, 0, 9];
+
+/// The port of the writer towards it.
+const DOWN: [PortConfig<[u8; 4]>; 1] = [PortConfig {
+    address: [10, 1, 0, 1],
+    propagation: 500,
+    override_ms: 2500,
+}];
+
+/// The port of the upstream neighbour, whose override interval is 3,000 ms.
+const UP: [PortConfig<[u8; 4]>; 1] = [PortConfig {
+    address: UPSTREAM,
+    propagation: 500,
+    override_ms: 2500,
+}];
+
+/// To 10.1.0.1, with holdtime 210: the star of 239.1.1.1 except 192.0.2.1, two sources of 239.1.2.1, and the star of
+/// 239.1.3.1. Two messages of 70 bytes tell it.
+const ASKED: [u8; 90] = [
+    0, 0, 0, 0, 1, 0, 10, 1, 0, 1, 0, 3, 0, 210, 1, 0, 0, 32, 239, 1, 1, 1, 0, 1, 0, 1, 1, 0, 7,
+    32, 10, 9, 9, 9, 1, 0, 5, 32, 192, 0, 2, 1, 1, 0, 0, 32, 239, 1, 2, 1, 0, 2, 0, 0, 1, 0, 4, 32,
+    192, 0, 2, 1, 1, 0, 4, 32, 192, 0, 2, 2, 1, 0, 0, 32, 239, 1, 3, 1, 0, 1, 0, 0, 1, 0, 7, 32,
+    10, 9, 9, 9,
+];
+
+/// One RP for all groups, and one neighbour for all addresses; `None` where memory is wanting.
+fn table(alloc: Global) -> Option<Routes<V4>> {
+    let mut routes: Routes<V4> = Routes::new(alloc);
+    routes.add_rp([224, 0, 0, 0], 4, [10, 9, 9, 9]).ok()?;
+    routes.add_via([0, 0, 0, 0], 0, UPSTREAM).ok()?;
+    Some(routes)
+}
+
+/// Lets the first port take a message from this neighbour; `None` where there is no port or memory is wanting.
+fn take(
+    router: &mut Router<'_, V4>,
+    from: [u8; 4],
+    message_type: MessageType,
+    bytes: &mut [u8],
+) -> Option<Verdict> {
+    if bytes.len() < 4 || bytes.len() >= 65_536 {
+        return None;
+    }
+    seal::<V4>(from, all_routers::<V4>(), message_type, bytes);
+    deliver(router, from, bytes)
+}
+
+/// The same of a message that is sealed.
+fn deliver(router: &mut Router<'_, V4>, from: [u8; 4], bytes: &[u8]) -> Option<Verdict> {
+    if router.port_count() == 0 || bytes.len() >= 65_536 {
+        return None;
+    }
+    router.take_packet(0, from, all_routers::<V4>(), bytes).ok()
+}
+
+/// A router with this port that knows these neighbours for ever.
+fn started<'a>(
+    alloc: Global,
+    ports: &'a [PortConfig<[u8; 4]>],
+    routes: &'a Routes<V4>,
+    neighbours: &[[u8; 4]],
+) -> Option<Router<'a, V4>> {
+    let config = Config {
+        ports,
+        routes,
+        limit: 1000,
+    };
+    let mut router = Router::new(alloc, &config).ok()?;
+    for &neighbour in neighbours {
+        let mut hello = [0, 0, 0, 0, 0, 1, 0, 2, 255, 255];
+        take(&mut router, neighbour, MessageType::Hello, &mut hello)?;
+    }
+    Some(router)
+}
+
+/// Runs to a moment through its refreshes: whether no echo is told.
+fn reach(router: &mut Router<'_, V4>, moment: u64) -> bool {
+    if moment > 1_000_000 {
+        return false;
+    }
+    for _ in 0..20 {
+        match router.run_to(moment) {
+            Step::Reached => return true,
+            Step::Refresh => {}
+            Step::Echo { .. } => return false,
+        }
+    }
+    false
+}
+
+/// The messages by which the writer asks its upstream neighbour for what it was asked for.
+fn asked(alloc: Global, writer: &Writer<V4>) -> Option<Messages> {
+    let routes = table(alloc)?;
+    let mut router = started(alloc, &DOWN, &routes, &[BELOW])?;
+    let mut bytes = ASKED;
+    if take(&mut router, BELOW, MessageType::JoinPrune, &mut bytes)? != Verdict::Applied {
+        return None;
+    }
+    if !reach(&mut router, 0) {
+        return None;
+    }
+    router.canonical(alloc, writer).ok()
+}
+
+/// Whether the upstream neighbour asks for the same again at this moment, after these deliveries of the two messages.
+fn asks_again(alloc: Global, deliveries: &[(usize, u64)], moment: u64) -> Option<bool> {
+    let writer = Writer::<V4>::new(UPSTREAM, WRITER, 210, 70).ok()?;
+    let messages = asked(alloc, &writer)?;
+    if messages.count() != 2 {
+        return None;
+    }
+    let routes = table(alloc)?;
+    let mut router = started(alloc, &UP, &routes, &[WRITER, OTHER])?;
+    for &(index, at) in deliveries {
+        let bytes = messages.get(index)?;
+        if !reach(&mut router, at) {
+            return None;
+        }
+        if deliver(&mut router, WRITER, bytes)? != Verdict::Applied {
+            return None;
+        }
+    }
+    if !reach(&mut router, moment) {
+        return None;
+    }
+    let again = router.canonical(alloc, &writer).ok()?;
+    Some(messages.same_bytes(&again))
+}
+
+/// The second message comes first, and once more.
+const DELIVERIES: [(usize, u64); 3] = [(1, 0), (0, 1_000), (1, 2_000)];
+
+#[test]
+fn same_is_asked_from_the_final_moment_on(rt: HostRuntime) -> Result<(), Fail> {
+    assert_eq!(rt; asks_again(rt.alloc(), &DELIVERIES, 3_999), Some(false));
+    assert_eq!(rt; asks_again(rt.alloc(), &DELIVERIES, 4_000), Some(true));
+    Ok(())
+}
+
+#[test]
+fn same_is_asked_up_to_the_first_expiry(rt: HostRuntime) -> Result<(), Fail> {
+    assert_eq!(rt; asks_again(rt.alloc(), &DELIVERIES, 210_999), Some(true));
+    assert_eq!(rt; asks_again(rt.alloc(), &DELIVERIES, 211_000), Some(false));
+    Ok(())
+}
+
+#[test]
+fn one_message_of_two_asks_for_less(rt: HostRuntime) -> Result<(), Fail> {
+    assert_eq!(rt; asks_again(rt.alloc(), &[(1, 0)], 4_000), Some(false));
+    Ok(())
+}

@@ -1,0 +1,41 @@
+//! Time that passes between the records of captures: the lines of echoes, and the count of Refreshes.
+
+ghost use Rattle.std.specs.Prelude.{◌≡◌, ◌≤◌, ◌^◌, max, IfOk, OnOk, OnErr};
+ghost use Rattle.pim_device.specs.Device.{failures_after};
+ghost use Rattle.pim_replay.specs.Passing.{HasPassed, HasStopped};
+
+use crate::echo_line::write_echo_line;
+use pim_addr::{Drain, Failed, Family};
+use pim_router::{Router, Step, every_list_has_a_course};
+
+/// Lets a router run to this moment, in milliseconds. Each echo is a line, written where it falls. The answer is the
+/// count of Refreshes, these and those before, which stops at 2^64 - 1.
+///
+/// # Errors
+/// Where the device fails: a front of the lines went out.
+pub fn pass_time<F: Family, W: Drain>(
+    writer: &mut W,
+    router: &mut Router<'_, F>,
+    moment: u64,
+    refreshes: u64,
+) -> Result<u64, Failed>
+    requires { moment ≤ 10 ^ 15 }
+    ensures passed { IfOk result (λ count. HasPassed F.family moment router.old router.new
+        (W.contents writer.old) (W.contents writer.new) refreshes count) }
+    ensures stopped { OnErr result (HasStopped F.family moment router.old
+        (W.contents writer.old) (W.contents writer.new)) }
+    ensures count { W.failures writer.new ≡ failures_after (W.failures writer.old) result }
+    ensures reached { OnOk result (router.new.machines.moment ≡ max router.old.machines.moment moment) }
+{
+    every_list_has_a_course();
+    let mut count = refreshes;
+    loop {
+        match router.run_to(moment) {
+            Step::Echo { port, group, what } => {
+                write_echo_line::<F, W>(writer, router.now(), port, group, what)?;
+            }
+            Step::Refresh => count = count.saturating_add(1),
+            Step::Reached => return Ok(count),
+        }
+    }
+}

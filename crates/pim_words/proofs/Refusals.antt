@@ -1,0 +1,26 @@
+-- What `clap` refuses, told as a fault.
+use Rattle.std.proofs.Common.{◌≡◌, inl, inr, true, sym, subst, ◌∙◌}
+use Rattle.std.specs.Prelude.{List, Result, Ok, Err}
+use Rattle.std.specs.declared.alloc.AllocError.{AllocError}
+use Rattle.std.specs.declared.alloc.Global.{Global}
+use Rattle.std.specs.declared.string.String.{String}
+use Rattle.clap.specs.declared.error.Error.{Error}
+use Rattle.clap.specs.declared.error.kind.ErrorKind.{ErrorKind}
+use Rattle.clap.specs.declared.error.kind.ErrorKind.TheVariants.{OutOfMemory}
+use Rattle.clap.specs.Words.{Text, Kinds, HasKind, IsAmong, fault_of, takes, kind_of}
+use Rattle.pim_words.specs.CommandLine.{pimtree}
+use Rattle.pim_words.specs.Plan.{HasCause, refusal_fault}
+
+-- an error of a kind that isn't memory
+among : (kinds : Kinds) (error : Error) (kind : ErrorKind) → kind_of error ≡ kind → (kind ≡ OutOfMemory → ⊥) → HasKind kinds error → IsAmong kind kinds
+among kinds error kind same other (inl memory) = absurd (other (sym same ∙ memory))
+among kinds error kind same other (inr found) = let P : ErrorKind → Type 0 = λ k. IsAmong k kinds in subst P same found
+
+-- the fault of an error whose text is this one
+pub caused : (words : List Text) (error : Error) (kind : ErrorKind) (text : Result (String Global) AllocError) → kind_of error ≡ kind
+    → HasKind (fault_of pimtree words) error → (takes pimtree words ≡ true → kind_of error ≡ OutOfMemory) → HasCause words (refusal_fault kind text)
+caused words error OutOfMemory text same has taken = tt
+caused words error kind (Err e) same has taken = tt
+caused words error kind (Ok shown) same has taken =
+    let other : kind ≡ OutOfMemory → ⊥ = λ memory. absurd cc in
+    inl ((λ takes. other (sym same ∙ taken takes)), among (fault_of pimtree words) error kind same other has)

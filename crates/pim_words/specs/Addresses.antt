@@ -1,0 +1,24 @@
+-- The address that a word names, of either family.
+use Rattle.std.specs.Prelude.{ℕ, List, Bool, true, false}
+use Rattle.pim_addr.specs.declared.family.AddressFamily.TheVariants.{Ipv4, Ipv6}
+use Rattle.pim_addr.specs.TextForms.{IsText}
+use Rattle.pim_words.specs.declared.addresses.Address.{Address}
+use Rattle.pim_words.specs.declared.addresses.Address.TheVariants.{V4, V6}
+
+-- A text names an address.
+abbrev pub Names : List ℕ → Address → Type 0
+Names text (V4 address) = IsText Ipv4 text address
+Names text (V6 address) = IsText Ipv6 text address
+
+-- A text names some address, or none.
+abbrev pub IsRead : List ℕ → Type 0
+IsRead text = (address : Address) × Names text address
+
+abbrev pub IsUnread : List ℕ → Type 0
+IsUnread text = (address : Address) → Names text address → ⊥
+
+abbrev pub same_family : Address → Address → Bool
+same_family (V4 a) (V4 b) = true
+same_family (V4 a) (V6 b) = false
+same_family (V6 a) (V4 b) = false
+same_family (V6 a) (V6 b) = true

@@ -1,0 +1,59 @@
+-- What a command was given: the values of its options, as texts, and its words.
+use Rattle.std.specs.Prelude.{◌≡◌, ◌≤◌, ℕ, Bool, true, false, List, [], ◌∷◌, Option, Some, None, codes, unwrap_or}
+use Rattle.std.specs.Str.Parse.{IsNumeral, digits_value, without_leading_plus}
+use Rattle.clap.specs.Words.{Row, Text, first_of, all_of}
+use Rattle.pim_words.specs.declared.task.Kind.{Kind}
+use Rattle.pim_words.specs.declared.task.Kind.TheVariants.{Check, Replay, Same, Mirror}
+
+-- the value of an option, or its default where the words have none
+abbrev pub option_or : Text → Text → List Row → Text
+option_or default name rows = unwrap_or (first_of name rows) default
+
+-- the value of an option that has to be given: `clap` takes no words that lack it
+abbrev pub required : Text → List Row → Text
+required name rows = option_or [] name rows
+
+-- the words that are no options
+abbrev pub words_of : List Row → List Text
+words_of rows = unwrap_or (all_of (codes "words") rows) []
+
+-- ---- numbers
+
+-- The text spells the number, in decimal digits behind which nothing stands and before which a plus may, and it lies
+-- between these two.
+pub record IsNumber (low high : ℕ) (text : Text) (number : ℕ) : Type 0 where
+  pub digits : IsNumeral 10 (without_leading_plus text)
+  pub value : digits_value 10 (without_leading_plus text) ≡ number
+  pub least : low ≤ number
+  pub most : number ≤ high
+
+-- ---- commands
+
+abbrev pub kind_name : Kind → Text
+kind_name Check = codes "check"
+kind_name Replay = codes "replay"
+kind_name Same = codes "same"
+kind_name Mirror = codes "mirror"
+
+-- a name that a command has
+abbrev pub IsKnown : Text → Type 0
+IsKnown name = (kind : Kind) × (name ≡ kind_name kind)
+
+-- The command compares two routers, so that each word is marked with its own.
+abbrev pub is_sided : Kind → Bool
+is_sided Same = true
+is_sided other = false
+
+-- the text of the RP, where one is given
+abbrev pub rp_text : Kind → List Row → Option Text
+rp_text Check rows = None
+rp_text Replay rows = first_of (codes "rp") rows
+rp_text kind rows = Some (required (codes "rp") rows)
+
+-- the texts of the options that are addresses, in order, each where it is given
+abbrev pub address_texts : Kind → List Row → List (Option Text)
+address_texts Check rows =
+    Some (option_or (codes "0.0.0.0") (codes "src") rows) ∷ Some (option_or (codes "224.0.0.13") (codes "dst") rows) ∷ []
+address_texts Replay rows = rp_text Replay rows ∷ []
+address_texts kind rows =
+    rp_text kind rows ∷ Some (required (codes "upstream") rows) ∷ Some (required (codes "own") rows) ∷ []

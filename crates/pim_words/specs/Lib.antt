@@ -1,0 +1,9 @@
+pub mod CommandLine
+pub mod Addresses
+pub mod Faults
+pub mod Given
+pub mod Ports
+pub mod Reading
+pub mod Seen
+pub mod Typed
+pub mod Plan

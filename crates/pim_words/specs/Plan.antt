@@ -1,0 +1,84 @@
+-- What is to be done, by the words.
+use Rattle.std.specs.Prelude.{◌≡◌, ◌⊎◌, List, [], ◌∷◌, ⊤, true, IsSomeAnd, Result, Ok, Err}
+use Rattle.std.specs.declared.alloc.AllocError.{AllocError}
+use Rattle.std.specs.declared.alloc.Global.{Global}
+use Rattle.std.specs.declared.string.String.{String}
+use Rattle.clap.specs.declared.error.kind.ErrorKind.{ErrorKind}
+use Rattle.clap.specs.declared.error.kind.ErrorKind.TheVariants.{OutOfMemory}
+use Rattle.clap.specs.Words.{IsAmong, Row, Text, fault_of, subcommand_of, takes}
+use Rattle.pim_words.specs.declared.addresses.Address.{Address}
+use Rattle.pim_words.specs.declared.fault.Fault.{Fault}
+use Rattle.pim_words.specs.declared.fault.Fault.TheVariants as cause
+use Rattle.pim_words.specs.declared.task.Kind.{Kind}
+use Rattle.pim_words.specs.declared.task.Plan.{Plan}
+use Rattle.pim_words.specs.declared.task.Task.{Task}
+use Rattle.pim_words.specs.CommandLine.{pimtree}
+use Rattle.pim_words.specs.Faults.{task_faults}
+use Rattle.pim_words.specs.Given.{kind_name}
+use Rattle.pim_words.specs.Reading.{IsTask, IsUnreadable}
+use Rattle.pim_words.specs.Typed.{IsPlanFor}
+
+-- ---- what a command that was met asks for: its name, and what was found for its options and words
+
+-- It was given this task.
+abbrev pub IsTaskOf : Text × List Row → Task Address → Type 0
+IsTaskOf met task = (kind : Kind) × (met.0 ≡ kind_name kind) × IsTask kind met.1 task
+
+-- This is told of the texts that it was given, where one can't be read.
+abbrev pub IsUnreadableOf : Text × List Row → Fault → Type 0
+IsUnreadableOf met fault = (kind : Kind) × (met.0 ≡ kind_name kind) × IsUnreadable kind met.1 fault
+
+-- ---- the plan of a task
+
+-- Nothing is wrong with the task, and this is its plan.
+abbrev pub IsPlanOfTask : Task Address → Plan → Type 0
+IsPlanOfTask task plan = (task_faults task ≡ []) × IsPlanFor plan task
+
+abbrev pub IsFirstOf : List Fault → Fault → Type 0
+IsFirstOf [] fault = ⊥
+IsFirstOf (first ∷ others) fault = fault ≡ first
+
+-- The first thing that is wrong with the task; memory may run out at any time.
+abbrev pub IsWrongTask : Task Address → Fault → Type 0
+IsWrongTask task cause.Memory = ⊤
+IsWrongTask task fault = IsFirstOf (task_faults task) fault
+
+-- ---- the plan of words, the first of which is the program's name
+
+-- `clap` finds nothing wrong with the words, the command that it meets in them was given a task, with which nothing is
+-- wrong either, and this is its plan.
+abbrev pub Plans : List Text → Plan → Type 0
+Plans words plan =
+    (fault_of pimtree words ≡ [])
+    × IsSomeAnd (subcommand_of pimtree words) (λ met. (task : Task Address) × IsTaskOf met task × IsPlanOfTask task plan)
+
+-- `clap` finds nothing wrong with the words, but this is told of what they ask for: of the texts that can't be read, and
+-- where all are read, of the task.
+abbrev pub HasWrong : List Text → Fault → Type 0
+HasWrong words fault =
+    (fault_of pimtree words ≡ [])
+    × IsSomeAnd (subcommand_of pimtree words) (λ met.
+    IsUnreadableOf met fault ⊎ ((task : Task Address) × IsTaskOf met task × IsWrongTask task fault))
+
+-- `clap` doesn't take the words, and this is a kind of error that it finds in them.
+abbrev pub IsRefusedBy : List Text → ErrorKind → Type 0
+IsRefusedBy words kind = (takes pimtree words ≡ true → ⊥) × IsAmong kind (fault_of pimtree words)
+
+-- `clap`'s refusal
+abbrev pub IsRefusal : List Text → Fault → Type 0
+IsRefusal words (cause.Clap refusal) = IsRefusedBy words refusal.kind
+IsRefusal words fault = ⊥
+
+-- Why there is no plan.
+abbrev pub HasCause : List Text → Fault → Type 0
+HasCause words cause.Memory = ⊤
+HasCause words fault = IsRefusal words fault ⊎ HasWrong words fault
+
+-- ---- refusals
+
+-- A refusal of this kind, with `clap`'s text of it: want of memory, where that is its kind or where there was none for
+-- the text, and else the refusal itself.
+abbrev pub refusal_fault : ErrorKind → Result (String Global) AllocError → Fault
+refusal_fault OutOfMemory text = cause.Memory
+refusal_fault kind (Ok text) = cause.Clap (record { kind = kind; text = text })
+refusal_fault kind (Err error) = cause.Memory

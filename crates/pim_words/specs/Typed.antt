@@ -1,0 +1,52 @@
+-- A task whose addresses are of one family, beside the same with addresses of either.
+use Rattle.std.specs.Prelude.{◌≡◌, ℕ, List, option_map, map}
+use Rattle.pim_addr.specs.declared.family.AddressFamily.{AddressFamily}
+use Rattle.pim_addr.specs.declared.family.AddressFamily.TheVariants.{Ipv4, Ipv6}
+use Rattle.pim_words.specs.declared.addresses.Address.{Address}
+use Rattle.pim_words.specs.declared.addresses.Address.TheVariants as either
+use Rattle.pim_words.specs.declared.task.Captures.{Captures}
+use Rattle.pim_words.specs.declared.task.Port.{Port}
+use Rattle.pim_words.specs.declared.task.Writing.{Writing}
+use Rattle.pim_words.specs.declared.task.Plan.{Plan}
+use Rattle.pim_words.specs.declared.task.Plan.TheVariants.{V4, V6}
+use Rattle.pim_words.specs.declared.task.Task.{Task}
+use Rattle.pim_words.specs.declared.task.Task.TheVariants.{Check, Replay, Same, Mirror}
+
+-- the address of this family that has these bytes
+abbrev pub address_in : AddressFamily → List ℕ → Address
+address_in Ipv4 bytes = either.V4 bytes
+address_in Ipv6 bytes = either.V6 bytes
+
+module _ {A : Type 0} (family : AddressFamily) (bytes_of : A → List ℕ) where
+  abbrev pub address_seen : A → Address
+  address_seen address = address_in family (bytes_of address)
+
+  abbrev pub port_seen : Port A → Port Address
+  port_seen port = record { side = port.side; address = address_seen port.address; file = port.file; word = port.word }
+
+  pub record SameCaptures (typed : Captures A) (captures : Captures Address) : Type 0 where
+    pub rp : option_map address_seen typed.rp ≡ captures.rp
+    pub routes : typed.routes ≡ captures.routes
+    pub limit : typed.limit ≡ captures.limit
+    pub after : typed.after_ms ≡ captures.after_ms
+    pub ports : map port_seen typed.ports.items ≡ captures.ports.items
+
+  pub record SameWriting (typed : Writing A) (writing : Writing Address) : Type 0 where
+    pub upstream : address_seen typed.upstream ≡ writing.upstream
+    pub own : address_seen typed.own ≡ writing.own
+    pub holdtime : typed.holdtime ≡ writing.holdtime
+    pub budget : typed.budget ≡ writing.budget
+
+  -- the same task
+  abbrev pub SameTask : Task A → Task Address → Type 0
+  SameTask (Check source destination) (Check from to) =
+      (address_seen source ≡ from) × (address_seen destination ≡ to)
+  SameTask (Replay typed) (Replay captures) = SameCaptures typed captures
+  SameTask (Same typed how) (Same captures writing) = SameCaptures typed captures × SameWriting how writing
+  SameTask (Mirror typed how) (Mirror captures writing) = SameCaptures typed captures × SameWriting how writing
+  SameTask typed task = ⊥
+
+-- The plan is this task, with all its addresses of one family.
+abbrev pub IsPlanFor : Plan → Task Address → Type 0
+IsPlanFor (V4 typed) task = SameTask Ipv4 (λ address. address) typed task
+IsPlanFor (V6 typed) task = SameTask Ipv6 (λ address. address) typed task

@@ -1,0 +1,51 @@
+//! The values that `clap` finds for the options of a command.
+
+ghost use Rattle.std.specs.Prelude.{◌≡◌, ◌≤◌, IfOk, IfErr, IfSome, option_map};
+ghost use Rattle.clap.specs.Words.{rows_of, found_of, first_of};
+ghost use Rattle.pim_words.specs.Given.{option_or, IsNumber};
+
+use crate::fault::Fault;
+use clap::ArgMatches;
+
+/// The value of an option, if the words have one.
+pub(crate) fn option_of<'a>(options: &ArgMatches<'a>, name: &str) -> Option<&'a str>
+    ensures { option_map (λ s. s.now) result ≡ first_of name.now (rows_of (found_of options.now)) }
+{
+    options.get_str(name)
+}
+
+/// The value of an option, or its default where the words have none.
+pub(crate) fn option_or<'a>(options: &ArgMatches<'a>, name: &str, default: &'a str) -> &'a str
+    ensures { result.now ≡ option_or default.entry.now name.now (rows_of (found_of options.now)) }
+{
+    option_of(options, name).unwrap_or(default)
+}
+
+/// The number that a text spells, if it lies between these two.
+fn number_between(text: &str, low: u64, high: u64) -> Option<u64>
+    ensures { IfSome result (IsNumber low high text.now) }
+{
+    match text.parse::<u64>() {
+        Ok(number) if low <= number && number <= high => Some(number),
+        _ => None,
+    }
+}
+
+/// The number that is the value of an option, or its default where the words have none. `clap` lets no other number
+/// pass than one between these two.
+pub(crate) fn number_of<'a>(
+    options: &ArgMatches<'a>,
+    name: &str,
+    default: &'a str,
+    low: u64,
+    high: u64,
+) -> Result<u64, Fault<'static>>
+    ensures number { IfOk result (IsNumber low high
+        (option_or default.entry.now name.now (rows_of (found_of options.now)))) }
+    ensures memory { IfErr result (λ fault. fault ≡ Fault.Memory) }
+{
+    match number_between(option_or(options, name, default), low, high) {
+        Some(number) => Ok(number),
+        None => Err(Fault::Memory),
+    }
+}

@@ -1,0 +1,178 @@
+//! What is wrong with a task whose texts were all read.
+
+ghost use Rattle.std.specs.Prelude.{◌≡◌, ◌++◌, ◌&&◌, ◌||◌, not, false};
+ghost use Rattle.std.specs.List.{list_any};
+ghost use Rattle.std.specs.Option.{option_map_or};
+ghost use Rattle.pim_addr.specs.Faults.{judged};
+ghost use Rattle.pim_words.specs.Faults.{is_valid, is_same, is_of, port_count, no_port_faults, writer_faults};
+ghost use Rattle.pim_words.specs.Faults.{router_faults, setting_faults};
+
+use crate::addresses::Address;
+use crate::fault::{ConfigCause, Fault, Side};
+use crate::task::{Captures, Port, Task, Writing};
+use pim_addr::{Family, V4, V6};
+
+/// The most ports that a router has.
+const MOST_PORTS: usize = 64;
+
+/// Whether an address is a valid source.
+fn is_valid(address: Address) -> bool
+    ensures { result ≡ is_valid address }
+{
+    match address {
+        Address::V4(address) => V4::is_source(address),
+        Address::V6(address) => V6::is_source(address),
+    }
+}
+
+/// Whether two addresses are the same.
+fn is_same(this: Address, that: Address) -> bool
+    ensures { result ≡ is_same this that }
+{
+    match (this, that) {
+        (Address::V4(this), Address::V4(that)) => this == that,
+        (Address::V6(this), Address::V6(that)) => this == that,
+        _ => false,
+    }
+}
+
+/// Whether a port is one of this router.
+fn is_of(side: Side, port: &Port<'_, Address>) -> bool
+    ensures { result ≡ is_of side port.now }
+{
+    match (side, port.side) {
+        (Side::A, Side::A) | (Side::B, Side::B) => true,
+        _ => false,
+    }
+}
+
+/// How many ports a router has.
+fn port_count(side: Side, captures: &Captures<'_, Address>) -> usize
+    ensures { result ≡ port_count side captures.now }
+{
+    captures
+        .ports
+        .iter()
+        .filter(|port| is_of(side, port))
+        .count()
+}
+
+/// Whether it is a port of this router whose address isn't a valid source.
+fn is_bad_port(side: Side, port: &Port<'_, Address>) -> bool
+    ensures { result ≡ (is_of side port.now && not (is_valid port.now.address)) }
+{
+    if is_of(side, port) {
+        !is_valid(port.address)
+    } else {
+        false
+    }
+}
+
+/// Whether the address of a port of this router isn't a valid source.
+fn has_bad_port(side: Side, captures: &Captures<'_, Address>) -> bool
+    ensures { result ≡ list_any (λ port. is_of side port && not (is_valid port.address)) captures.now.ports.items }
+{
+    captures.ports.iter().any(|port| is_bad_port(side, port))
+}
+
+/// Whether the RP is given and isn't a valid source.
+fn is_bad_rp(rp: Option<Address>) -> bool
+    ensures { result ≡ option_map_or (λ rp. not (is_valid rp)) rp false }
+{
+    match rp {
+        Some(rp) => !is_valid(rp),
+        None => false,
+    }
+}
+
+/// Whether the addresses that are written with aren't two different valid sources.
+fn is_bad_writing(writing: Writing<Address>) -> bool
+    ensures { result ≡ (not (is_valid writing.upstream) || not (is_valid writing.own)
+        || is_same writing.own writing.upstream) }
+{
+    !is_valid(writing.upstream) || !is_valid(writing.own) || is_same(writing.own, writing.upstream)
+}
+
+/// Looks for a router without a port, of two.
+fn judge_ports(captures: &Captures<'_, Address>) -> Result<(), Fault<'static>>
+    ensures { result ≡ judged (no_port_faults captures.now) tt }
+{
+    if port_count(Side::A, captures) == 0 {
+        return Err(Fault::NoPort(Side::A));
+    }
+    if port_count(Side::B, captures) == 0 {
+        return Err(Fault::NoPort(Side::B));
+    }
+    Ok(())
+}
+
+/// Looks at the addresses that are written with.
+fn judge_writer(writing: Writing<Address>) -> Result<(), Fault<'static>>
+    ensures { result ≡ judged (writer_faults writing) tt }
+{
+    if is_bad_writing(writing) {
+        return Err(Fault::WriterAddress);
+    }
+    Ok(())
+}
+
+/// Looks at the configuration of a router.
+fn judge_router(side: Side, captures: &Captures<'_, Address>) -> Result<(), Fault<'static>>
+    ensures { result ≡ judged (router_faults side captures.now) tt }
+{
+    let count = port_count(side, captures);
+    if count == 0 || MOST_PORTS < count {
+        return Err(Fault::Config(ConfigCause::Ports));
+    }
+    if has_bad_port(side, captures) {
+        return Err(Fault::Config(ConfigCause::Address));
+    }
+    if is_bad_rp(captures.rp) {
+        return Err(Fault::Config(ConfigCause::Rp));
+    }
+    Ok(())
+}
+
+/// Looks at the configurations of two routers.
+fn judge_routers(captures: &Captures<'_, Address>) -> Result<(), Fault<'static>>
+    ensures { result ≡ judged (router_faults Side.A captures.now ++ router_faults Side.B captures.now) tt }
+{
+    judge_router(Side::A, captures)?;
+    judge_router(Side::B, captures)
+}
+
+/// Looks at two routers and at how they write.
+fn judge_same(
+    captures: &Captures<'_, Address>,
+    writing: Writing<Address>,
+) -> Result<(), Fault<'static>>
+    ensures { result ≡ judged (no_port_faults captures.now ++ (writer_faults writing
+        ++ (router_faults Side.A captures.now ++ router_faults Side.B captures.now))) tt }
+{
+    judge_ports(captures)?;
+    judge_writer(writing)?;
+    judge_routers(captures)
+}
+
+/// Looks at a router and at how it writes.
+fn judge_mirror(
+    captures: &Captures<'_, Address>,
+    writing: Writing<Address>,
+) -> Result<(), Fault<'static>>
+    ensures { result ≡ judged (writer_faults writing ++ router_faults Side.A captures.now) tt }
+{
+    judge_writer(writing)?;
+    judge_router(Side::A, captures)
+}
+
+/// Looks at the routers of a task and at how they write. The first thing that is wrong is told.
+pub(crate) fn judge(task: &Task<'_, Address>) -> Result<(), Fault<'static>>
+    ensures { result ≡ judged (setting_faults task.now) tt }
+{
+    match task {
+        Task::Check { .. } => Ok(()),
+        Task::Replay(captures) => judge_router(Side::A, captures),
+        Task::Same(captures, writing) => judge_same(captures, *writing),
+        Task::Mirror(captures, writing) => judge_mirror(captures, *writing),
+    }
+}

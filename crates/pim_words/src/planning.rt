@@ -1,0 +1,118 @@
+//! What the program is to do, by its words.
+
+ghost use Rattle.std.specs.Prelude.{◌≡◌, MatchOption, MatchResult, IfOk, IfErr, IsSomeAnd, true, false, map, codes};
+ghost use Rattle.clap.specs.Words.{found_of, rows_of, subcommand_rows_of, subcommand_of, takes, fault_of, FailsBy};
+ghost use Rattle.clap.specs.Words.{kind_of};
+ghost use Rattle.pim_addr.specs.declared.family.AddressFamily.TheVariants.{Ipv4};
+ghost use Rattle.pim_words.specs.CommandLine.{pimtree};
+ghost use Rattle.pim_words.specs.Faults.{are_in};
+ghost use Rattle.pim_words.specs.Given.{IsKnown, kind_name};
+ghost use Rattle.pim_words.specs.Plan.{IsTaskOf, IsUnreadableOf, IsPlanOfTask, IsWrongTask, Plans, HasCause};
+
+use crate::addresses::Address;
+use crate::commands::command;
+use crate::fault::{Fault, refusal_fault};
+use crate::judging::judge;
+use crate::reading::read_task;
+use crate::task::{Kind, Plan, Task};
+use crate::typed::task_in_family;
+use clap::error::ErrorKind;
+use clap::{ArgMatches, Error};
+use pim_addr::{V4, V6};
+use std::alloc::Global;
+use std::convert::AsStr;
+
+/// What `clap` finds in the words.
+fn matches_of<'a, S: AsStr>(alloc: Global, words: &'a [S]) -> Result<ArgMatches<'a>, Error>
+    ensures met { IfOk result (λ m. subcommand_rows_of m ≡ subcommand_of pimtree (map S.text words.entry.now)) }
+    ensures known { IfOk result (λ m. IsSomeAnd (subcommand_rows_of m) (λ met. IsKnown met.0)) }
+    ensures refused { FailsBy (fault_of pimtree (map S.text words.entry.now)) result }
+    ensures taken { IfErr result (λ e. takes pimtree (map S.text words.entry.now) ≡ true
+        → kind_of e ≡ ErrorKind.OutOfMemory) }
+{
+    let matches = command(alloc)?.try_get_matches_from(words)?;
+    let Some(_) = matches.subcommand() else {
+        unreachable!()
+    };
+    Ok(matches)
+}
+
+/// The command of this name.
+fn kind_named(name: &str) -> Option<Kind>
+    ensures { MatchOption result (IsKnown name.now → ⊥) (λ kind. name.now ≡ kind_name kind) }
+{
+    if name == "check" {
+        return Some(Kind::Check);
+    }
+    if name == "replay" {
+        return Some(Kind::Replay);
+    }
+    if name == "same" {
+        return Some(Kind::Same);
+    }
+    if name == "mirror" {
+        return Some(Kind::Mirror);
+    }
+    None
+}
+
+/// What the command that `clap` met was given.
+fn read_met<'a>(alloc: Global, matches: &ArgMatches<'a>) -> Result<Task<'a, Address>, Fault<'a>>
+    requires { IsSomeAnd (subcommand_rows_of matches.now) (λ met. IsKnown met.0) }
+    ensures { MatchResult result
+        (λ task. IsSomeAnd (subcommand_rows_of matches.now) (λ met. IsTaskOf met task))
+        (λ fault. IsSomeAnd (subcommand_rows_of matches.now) (λ met. IsUnreadableOf met fault)) }
+{
+    let Some((name, options)) = matches.subcommand() else {
+        unreachable!()
+    };
+    let Some(kind) = kind_named(name) else {
+        unreachable!()
+    };
+    read_task(alloc, kind, options)
+}
+
+/// The plan of a task not all of whose addresses are IPv4.
+fn plan_v6<'a>(alloc: Global, task: &Task<'a, Address>) -> Result<Plan<'a>, Fault<'a>>
+    requires { are_in Ipv4 task.now ≡ false }
+    ensures { MatchResult result (IsPlanOfTask task.now) (IsWrongTask task.now) }
+{
+    match task_in_family::<V6>(alloc, task) {
+        Ok(typed) => match judge(task) {
+            Ok(()) => Ok(Plan::V6(typed)),
+            Err(fault) => Err(fault),
+        },
+        Err(fault) => Err(fault),
+    }
+}
+
+/// The plan of a task.
+fn plan_task<'a>(alloc: Global, task: &Task<'a, Address>) -> Result<Plan<'a>, Fault<'a>>
+    ensures { MatchResult result (IsPlanOfTask task.now) (IsWrongTask task.now) }
+{
+    match task_in_family::<V4>(alloc, task) {
+        Ok(typed) => match judge(task) {
+            Ok(()) => Ok(Plan::V4(typed)),
+            Err(fault) => Err(fault),
+        },
+        Err(Fault::Family) => plan_v6(alloc, task),
+        Err(fault) => Err(fault),
+    }
+}
+
+/// What the words ask for, of which the first is the program's name. It opens nothing.
+///
+/// # Errors
+/// `Memory` at any time; else the first of: `Clap` (what `clap` refuses, and a request for help or the version);
+/// `Address` of the options, in the order in which help tells them; `Word` and `Address` of the words, in order;
+/// `Family`; `NoPort` of a, then of b; `WriterAddress`; `Config` of a, then of b: `Ports`, `Address`, `Rp`.
+pub fn plan<'a, S: AsStr>(alloc: Global, words: &'a [S]) -> Result<Plan<'a>, Fault<'a>>
+    ensures { MatchResult result (Plans (map S.text words.entry.now)) (HasCause (map S.text words.entry.now)) }
+{
+    let matches = match matches_of(alloc, words) {
+        Ok(matches) => matches,
+        Err(error) => return Err(refusal_fault(error.kind(), format!(in alloc; "{error}"))),
+    };
+    let task = read_met(alloc, &matches)?;
+    plan_task(alloc, &task)
+}

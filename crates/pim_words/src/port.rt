@@ -1,0 +1,99 @@
+//! The ports that words name.
+
+ghost use Rattle.std.specs.Prelude.{◌≡◌, MatchOption, MatchResult, map, true};
+ghost use Rattle.std.specs.List.{AllZip};
+ghost use Rattle.pim_words.specs.Ports.{LacksAtSign, IsCutWord, IsUncutWord, IsPort, IsWrongWord};
+ghost use Rattle.pim_words.specs.Ports.{IsFirstWrongOf};
+ghost use Rattle.pim_words.specs.Seen.{IsCutFor, IsCutOf, OrMemory};
+
+use crate::addresses::{Address, read_address};
+use crate::fault::{Fault, Side};
+use crate::task::Port;
+use std::alloc::Global;
+
+/// A word, cut.
+#[derive(Clone, Copy, Debug, PartialEq, Eq)]
+struct Cut<'a> {
+    /// The router that it is for.
+    side: Side,
+    /// The text of the address.
+    address: &'a str,
+    /// The name of the file.
+    file: &'a str,
+}
+
+/// `ADDRESS@FILE`, cut at its first `@`.
+fn cut_text<'a>(side: Side, text: &'a str) -> Option<Cut<'a>>
+    ensures { MatchOption result (LacksAtSign text.now) (IsCutFor side text.now) }
+{
+    match text.split_once('@') {
+        Some((address, file)) => Some(Cut {
+            side,
+            address,
+            file,
+        }),
+        None => None,
+    }
+}
+
+/// `a=ADDRESS@FILE` or `b=ADDRESS@FILE`, cut at its first `@`.
+fn cut_sided<'a>(word: &'a str) -> Option<Cut<'a>>
+    ensures { MatchOption result (IsUncutWord true word.now) (IsCutOf true word.now) }
+{
+    if let Some(text) = word.strip_prefix("a=") {
+        return cut_text(Side::A, text);
+    }
+    match word.strip_prefix("b=") {
+        Some(text) => cut_text(Side::B, text),
+        None => None,
+    }
+}
+
+/// A word, cut.
+fn cut_word<'a>(is_sided: bool, word: &'a str) -> Option<Cut<'a>>
+    ensures { MatchOption result (IsUncutWord is_sided word.now) (IsCutOf is_sided word.now) }
+{
+    if is_sided {
+        cut_sided(word)
+    } else {
+        cut_text(Side::A, word)
+    }
+}
+
+/// The port that a word names.
+fn read_port<'a>(is_sided: bool, word: &'a str) -> Result<Port<'a, Address>, Fault<'a>>
+    ensures { MatchResult result (IsPort is_sided word.now) (IsWrongWord is_sided word.now) }
+{
+    let Some(cut) = cut_word(is_sided, word) else {
+        return Err(Fault::Word(word));
+    };
+    let Some(address) = read_address(cut.address) else {
+        return Err(Fault::Address(word));
+    };
+    Ok(Port {
+        side: cut.side,
+        address,
+        file: cut.file,
+        word,
+    })
+}
+
+/// The ports that the words name, in order.
+pub(crate) fn read_ports<'a>(
+    alloc: Global,
+    is_sided: bool,
+    words: &[&'a str],
+) -> Result<Vec<Port<'a, Address>>, Fault<'a>>
+    ensures { MatchResult result
+        (λ ports. AllZip (IsPort is_sided) (map (λ w. w.now) words.now) ports.items)
+        (OrMemory (IsFirstWrongOf is_sided (map (λ w. w.now) words.now))) }
+{
+    let mut ports = Vec::new(alloc);
+    for word in words {
+        let port = read_port(is_sided, word)?;
+        if ports.push(port).is_err() {
+            return Err(Fault::Memory);
+        }
+    }
+    Ok(ports)
+}

@@ -1,0 +1,182 @@
+//! The task that a command's options and words give, with addresses of either family.
+
+ghost use Rattle.std.specs.Prelude.{◌≡◌, MatchResult, IfOk, IfErr, true, false, Some, option_map, codes, map};
+ghost use Rattle.std.specs.List.{AllZip};
+ghost use Rattle.clap.specs.Words.{rows_of, found_of};
+ghost use Rattle.pim_words.specs.Addresses.{Names};
+ghost use Rattle.pim_words.specs.Given.{words_of, required, address_texts, is_sided};
+ghost use Rattle.pim_words.specs.Ports.{IsPort, IsFirstWrongOf};
+ghost use Rattle.pim_words.specs.Reading.{IsNamed, IsUnreadText, IsUnreadValue, IsFirstUnread, AreCaptures, IsWriting};
+ghost use Rattle.pim_words.specs.Reading.{IsTask, IsUnreadable};
+ghost use Rattle.pim_words.specs.Seen.{OrMemory, AreWritten};
+
+use crate::addresses::{Address, read_address};
+use crate::fault::Fault;
+use crate::given::{number_of, option_of, option_or};
+use crate::port::read_ports;
+use crate::task::{Captures, Kind, Port, Task, Writing};
+use clap::ArgMatches;
+use std::alloc::Global;
+
+/// The address that is the value of an option.
+fn read_option<'a>(text: &'a str) -> Result<Address, Fault<'a>>
+    ensures { MatchResult result (Names text.now) (IsUnreadText text.now) }
+{
+    match read_address(text) {
+        Some(address) => Ok(address),
+        None => Err(Fault::Address(text)),
+    }
+}
+
+/// The address that is the value of an option, where it is given.
+fn read_given<'a>(text: Option<&'a str>) -> Result<Option<Address>, Fault<'a>>
+    ensures { MatchResult result (IsNamed (option_map (λ s. s.now) text.entry))
+        (IsUnreadValue (option_map (λ s. s.now) text.entry)) }
+{
+    let Some(text) = text else {
+        return Ok(None);
+    };
+    match read_option(text) {
+        Ok(address) => Ok(Some(address)),
+        Err(fault) => Err(fault),
+    }
+}
+
+/// The ports that the words of a command name.
+fn read_words<'a>(
+    alloc: Global,
+    is_sided: bool,
+    options: &ArgMatches<'a>,
+) -> Result<Vec<Port<'a, Address>>, Fault<'a>>
+    ensures { MatchResult result
+        (λ ports. AllZip (IsPort is_sided) (words_of (rows_of (found_of options.now))) ports.items)
+        (OrMemory (IsFirstWrongOf is_sided (words_of (rows_of (found_of options.now))))) }
+{
+    match options.get_raw("words") {
+        Some(words) => read_ports(alloc, is_sided, words),
+        None => Ok(Vec::new(alloc)),
+    }
+}
+
+/// The captures of a command that has this RP.
+fn read_captures<'a>(
+    alloc: Global,
+    is_sided: bool,
+    rp: Option<Address>,
+    options: &ArgMatches<'a>,
+) -> Result<Captures<'a, Address>, Fault<'a>>
+    ensures rp { IfOk result (λ captures. captures.rp ≡ rp) }
+    ensures captures { IfOk result (AreCaptures is_sided (rows_of (found_of options.now))) }
+    ensures told { IfErr result (OrMemory (IsFirstWrongOf is_sided (words_of (rows_of (found_of options.now))))) }
+{
+    let ports = read_words(alloc, is_sided, options)?;
+    let limit = number_of(options, "limit", "100000", 1, 100_000)?;
+    let after_ms = number_of(options, "after", "0", 0, 1_000_000_000)?;
+    Ok(Captures {
+        rp,
+        routes: option_of(options, "routes"),
+        limit: limit as usize,
+        after_ms,
+        ports,
+    })
+}
+
+/// What `check` was given.
+fn read_check<'a>(options: &ArgMatches<'a>) -> Result<Task<'a, Address>, Fault<'a>>
+    ensures { MatchResult result (IsTask Kind.Check (rows_of (found_of options.now)))
+        (IsUnreadable Kind.Check (rows_of (found_of options.now))) }
+{
+    let src = read_option(option_or(options, "src", "0.0.0.0"))?;
+    let dst = read_option(option_or(options, "dst", "224.0.0.13"))?;
+    Ok(Task::Check { src, dst })
+}
+
+/// What `replay` was given.
+fn read_replay<'a>(alloc: Global, options: &ArgMatches<'a>) -> Result<Task<'a, Address>, Fault<'a>>
+    ensures { MatchResult result (IsTask Kind.Replay (rows_of (found_of options.now)))
+        (IsUnreadable Kind.Replay (rows_of (found_of options.now))) }
+{
+    let rp = read_given(option_of(options, "rp"))?;
+    let captures = read_captures(alloc, false, rp, options)?;
+    Ok(Task::Replay(captures))
+}
+
+/// The addresses that a command that writes messages was given.
+#[derive(Clone, Copy, Debug, PartialEq, Eq)]
+struct Addresses {
+    /// The RP.
+    rp: Address,
+    /// The upstream neighbour.
+    upstream: Address,
+    /// The address that messages come from.
+    own: Address,
+}
+
+/// The addresses that a command that writes messages was given.
+fn read_addresses<'a>(options: &ArgMatches<'a>) -> Result<Addresses, Fault<'a>>
+    ensures { MatchResult result (AreWritten (rows_of (found_of options.now)))
+        (IsFirstUnread (address_texts Kind.Same (rows_of (found_of options.now)))) }
+{
+    let rp = read_option(option_or(options, "rp", ""))?;
+    let upstream = read_option(option_or(options, "upstream", ""))?;
+    let own = read_option(option_or(options, "own", ""))?;
+    Ok(Addresses { rp, upstream, own })
+}
+
+/// How a command writes messages, between these addresses.
+fn read_writing(
+    addresses: Addresses,
+    options: &ArgMatches<'_>,
+) -> Result<Writing<Address>, Fault<'static>>
+    requires { AreWritten (rows_of (found_of options.now)) addresses }
+    ensures writing { IfOk result (IsWriting (rows_of (found_of options.now))) }
+    ensures memory { IfErr result (λ fault. fault ≡ Fault.Memory) }
+{
+    let holdtime = number_of(options, "holdtime", "210", 99, 65_535)?;
+    let budget = number_of(options, "budget", "1460", 70, 65_000)?;
+    Ok(Writing {
+        upstream: addresses.upstream,
+        own: addresses.own,
+        holdtime: holdtime as u16,
+        budget: budget as usize,
+    })
+}
+
+/// What `same` was given.
+fn read_same<'a>(alloc: Global, options: &ArgMatches<'a>) -> Result<Task<'a, Address>, Fault<'a>>
+    ensures { MatchResult result (IsTask Kind.Same (rows_of (found_of options.now)))
+        (IsUnreadable Kind.Same (rows_of (found_of options.now))) }
+{
+    let addresses = read_addresses(options)?;
+    let captures = read_captures(alloc, true, Some(addresses.rp), options)?;
+    let writing = read_writing(addresses, options)?;
+    Ok(Task::Same(captures, writing))
+}
+
+/// What `mirror` was given.
+fn read_mirror<'a>(alloc: Global, options: &ArgMatches<'a>) -> Result<Task<'a, Address>, Fault<'a>>
+    ensures { MatchResult result (IsTask Kind.Mirror (rows_of (found_of options.now)))
+        (IsUnreadable Kind.Mirror (rows_of (found_of options.now))) }
+{
+    let addresses = read_addresses(options)?;
+    let captures = read_captures(alloc, false, Some(addresses.rp), options)?;
+    let writing = read_writing(addresses, options)?;
+    Ok(Task::Mirror(captures, writing))
+}
+
+/// What a command was given.
+pub(crate) fn read_task<'a>(
+    alloc: Global,
+    kind: Kind,
+    options: &ArgMatches<'a>,
+) -> Result<Task<'a, Address>, Fault<'a>>
+    ensures { MatchResult result (IsTask kind (rows_of (found_of options.now)))
+        (IsUnreadable kind (rows_of (found_of options.now))) }
+{
+    match kind {
+        Kind::Check => read_check(options),
+        Kind::Replay => read_replay(alloc, options),
+        Kind::Same => read_same(alloc, options),
+        Kind::Mirror => read_mirror(alloc, options),
+    }
+}

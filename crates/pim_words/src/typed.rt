@@ -1,0 +1,163 @@
+//! A task whose addresses are all of one family.
+
+ghost use Rattle.std.specs.Prelude.{◌≡◌, MatchResult, true, map, option_map};
+ghost use Rattle.std.specs.List.{list_all};
+ghost use Rattle.std.specs.Option.{option_map_or};
+ghost use Rattle.pim_words.specs.Faults.{is_in, are_captures_in, is_writing_in, are_in};
+ghost use Rattle.pim_words.specs.Typed.{address_in, port_seen, SameCaptures, SameWriting, SameTask};
+ghost use Rattle.pim_words.specs.Seen.{IsForeign};
+
+use crate::addresses::Address;
+use crate::fault::Fault;
+use crate::task::{Captures, Port, Task, Writing};
+use pim_addr::{AddressFamily, Family};
+use std::alloc::Global;
+
+/// The address, if it is one of this family.
+fn in_family<F: Family>(address: Address) -> Result<F::Addr, Fault<'static>>
+    ensures { MatchResult result
+        (λ a. (is_in F.family address ≡ true) × (address_in F.family (F.bytes_of a) ≡ address))
+        (IsForeign (is_in F.family address)) }
+{
+    match (F::family(), address) {
+        (AddressFamily::Ipv4, Address::V4(bytes)) => Ok(F::take(&bytes)),
+        (AddressFamily::Ipv6, Address::V6(bytes)) => Ok(F::take(&bytes)),
+        _ => Err(Fault::Family),
+    }
+}
+
+/// The RP, if it is one of this family.
+fn rp_in_family<F: Family>(rp: Option<Address>) -> Result<Option<F::Addr>, Fault<'static>>
+    ensures { MatchResult result
+        (λ r. (option_map_or (is_in F.family) rp true ≡ true)
+        × (option_map (λ a. address_in F.family (F.bytes_of a)) r ≡ rp))
+        (IsForeign (option_map_or (is_in F.family) rp true)) }
+{
+    let Some(rp) = rp else {
+        return Ok(None);
+    };
+    match in_family::<F>(rp) {
+        Ok(rp) => Ok(Some(rp)),
+        Err(fault) => Err(fault),
+    }
+}
+
+/// The port, if its address is one of this family.
+fn port_in_family<'a, F: Family>(
+    port: &Port<'a, Address>,
+) -> Result<Port<'a, F::Addr>, Fault<'static>>
+    ensures { MatchResult result
+        (λ p. (is_in F.family port.now.address ≡ true) × (port_seen F.family F.bytes_of p ≡ port.now))
+        (IsForeign (is_in F.family port.now.address)) }
+{
+    let port = *port;
+    match in_family::<F>(port.address) {
+        Ok(address) => Ok(Port {
+            side: port.side,
+            address,
+            file: port.file,
+            word: port.word,
+        }),
+        Err(fault) => Err(fault),
+    }
+}
+
+/// The ports, if all their addresses are of this family.
+fn ports_in_family<'a, F: Family>(
+    alloc: Global,
+    ports: &[Port<'a, Address>],
+) -> Result<Vec<Port<'a, F::Addr>>, Fault<'static>>
+    ensures { MatchResult result
+        (λ typed. (list_all (λ port. is_in F.family port.address) ports.now ≡ true)
+        × (map (port_seen F.family F.bytes_of) typed.items ≡ ports.now))
+        (IsForeign (list_all (λ port. is_in F.family port.address) ports.now)) }
+{
+    let mut typed = Vec::new(alloc);
+    for port in ports {
+        let port = port_in_family::<F>(port)?;
+        if typed.push(port).is_err() {
+            return Err(Fault::Memory);
+        }
+    }
+    Ok(typed)
+}
+
+/// The captures, if all their addresses are of this family.
+fn captures_in_family<'a, F: Family>(
+    alloc: Global,
+    captures: &Captures<'a, Address>,
+) -> Result<Captures<'a, F::Addr>, Fault<'static>>
+    ensures { MatchResult result
+        (λ typed. (are_captures_in F.family captures.now ≡ true) × SameCaptures F.family F.bytes_of typed captures.now)
+        (IsForeign (are_captures_in F.family captures.now)) }
+{
+    let rp = rp_in_family::<F>(captures.rp)?;
+    let ports = ports_in_family::<F>(alloc, &captures.ports)?;
+    Ok(Captures {
+        rp,
+        routes: captures.routes,
+        limit: captures.limit,
+        after_ms: captures.after_ms,
+        ports,
+    })
+}
+
+/// How messages are written, if both addresses are of this family.
+fn writing_in_family<F: Family>(
+    writing: Writing<Address>,
+) -> Result<Writing<F::Addr>, Fault<'static>>
+    ensures { MatchResult result
+        (λ typed. (is_writing_in F.family writing ≡ true) × SameWriting F.family F.bytes_of typed writing)
+        (IsForeign (is_writing_in F.family writing)) }
+{
+    let upstream = in_family::<F>(writing.upstream)?;
+    let own = in_family::<F>(writing.own)?;
+    Ok(Writing {
+        upstream,
+        own,
+        holdtime: writing.holdtime,
+        budget: writing.budget,
+    })
+}
+
+/// The two ends of a message, if both are of this family.
+fn check_in_family<'a, F: Family>(
+    src: Address,
+    dst: Address,
+) -> Result<Task<'a, F::Addr>, Fault<'static>>
+    ensures { MatchResult result
+        (λ typed. (are_in F.family (Task.Check src dst) ≡ true) × SameTask F.family F.bytes_of typed (Task.Check src dst))
+        (IsForeign (are_in F.family (Task.Check src dst))) }
+{
+    let src = in_family::<F>(src)?;
+    let dst = in_family::<F>(dst)?;
+    Ok(Task::Check { src, dst })
+}
+
+/// What is asked for, if all its addresses are of this family.
+pub(crate) fn task_in_family<'a, F: Family>(
+    alloc: Global,
+    task: &Task<'a, Address>,
+) -> Result<Task<'a, F::Addr>, Fault<'static>>
+    ensures { MatchResult result
+        (λ typed. (are_in F.family task.now ≡ true) × SameTask F.family F.bytes_of typed task.now)
+        (IsForeign (are_in F.family task.now)) }
+{
+    match task {
+        Task::Check { src, dst } => check_in_family::<F>(*src, *dst),
+        Task::Replay(captures) => match captures_in_family::<F>(alloc, captures) {
+            Ok(captures) => Ok(Task::Replay(captures)),
+            Err(fault) => Err(fault),
+        },
+        Task::Same(captures, writing) => {
+            let captures = captures_in_family::<F>(alloc, captures)?;
+            let writing = writing_in_family::<F>(*writing)?;
+            Ok(Task::Same(captures, writing))
+        }
+        Task::Mirror(captures, writing) => {
+            let captures = captures_in_family::<F>(alloc, captures)?;
+            let writing = writing_in_family::<F>(*writing)?;
+            Ok(Task::Mirror(captures, writing))
+        }
+    }
+}
