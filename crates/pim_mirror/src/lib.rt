@@ -25,4 +25,4 @@ pub use laws::{
     messages_are_read, part_asks, parts_tell_units_once, router_asks_again, router_leaves_its_port,
     writer_stays_heard,
 };
-pub use mirroring::{MirrorFault, mirror};
+pub use mirroring::MirrorFault;
