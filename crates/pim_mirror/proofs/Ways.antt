@@ -1,9 +1,10 @@
 -- The way of a router over packets and moments: its ports stay, and what it tells on the way is joined.
-use Rattle.std.proofs.Common.{◌≡◌, ◌∙◌, ℕ, zero, suc, Bool, true, false, ◌==◌, List, [], ◌∷◌, ◌++◌, Option, None, Some, Result, Ok, Err, nat_lt, refl, sym, ap, subst}
+use Rattle.std.proofs.Common.{◌≡◌, ◌≢◌, ◌∙◌, ℕ, zero, suc, Bool, true, false, ◌==◌, List, [], ◌∷◌, ◌++◌, Option, None, Some, Result, Ok, Err, slice_index_or, nat_lt, refl, sym, ap, subst}
 use Rattle.std.proofs.lemmas.List.{append-nil}
 use Rattle.std.specs.List.{list_any}
 use Rattle.pim_addr.specs.declared.family.AddressFamily.{AddressFamily}
-use Rattle.pim_frame.specs.Frame.{Content, hello, join_prune, other, content}
+use Rattle.pim_frame.specs.Frame.{Content, hello, join_prune, other, content, all_routers}
+use Rattle.pim_down.specs.Seen.{what_seen}
 use Rattle.pim_down.specs.declared.key.What.{What}
 use Rattle.pim_down.specs.declared.machine.Record.{Record}
 use Rattle.pim_down.specs.declared.step.Step.{Step as Fires}
@@ -12,14 +13,16 @@ use Rattle.pim_down.specs.Time.{fired}
 use Rattle.pim_router.specs.declared.step.Step.{Step}
 use Rattle.pim_router.specs.declared.step.Step.TheVariants.{Echo, Refresh, Reached}
 use Rattle.pim_router.specs.declared.verdict.Verdict.{Verdict}
-use Rattle.pim_router.specs.Course.{Input, runs_to, Telling, echo, refresh, Reaches, IsCourse, Follows}
+use Rattle.pim_router.specs.Course.{Input, runs_to, takes, Telling, echo, refresh, verdict, Reaches, IsCourse, Follows}
+use Rattle.pim_fresh.specs.Deliveries.{Delivery}
 use Rattle.pim_router.specs.Laws.{CourseGoesOn, EveryListHasACourse}
-use Rattle.pim_router.specs.Packets.{Packet, causes, body_taken, unless, received}
+use Rattle.pim_router.specs.Packets.{Packet, causes, body_taken, unless, received, Receives}
+use Rattle.pim_router.specs.Seen.{step_seen}
 use Rattle.pim_router.specs.State.{Port, RouterState}
 use Rattle.pim_router.specs.Time.{Outcome, rests, moves, tells, told, has_ended, turn, turn_of_time, turn_of_refresh, turn_of_timers, run_on, run_within, Runs}
 use Rattle.pim_mirror.specs.declared.mirroring.MirrorFault.{MirrorFault}
 use Rattle.pim_mirror.specs.declared.mirroring.MirrorFault.TheVariants as fault
-use Rattle.pim_mirror.specs.Mirror.{needed_of, first_needed, or_later, IsPassed, Passes, HasReached}
+use Rattle.pim_mirror.specs.Mirror.{needed_of, first_needed, or_later, IsPassed, Passes, HasReached, is_reached, needed_by, outcome_if, outcome_of, delivery_inputs}
 
 -- ---- the ports stay
 
@@ -66,19 +69,19 @@ turn_keeps moment state = by (list_any has_ended state.tables) refl
 abbrev Answer : Type 0
 Answer = Option (Step (List ℕ) × RouterState)
 
+pair_of : (p q : Step (List ℕ) × RouterState) → ◌≡◌ {A = Answer} (Some p) (Some q) → p ≡ q
+pair_of p q e = cc
+
+ports_of : (p q : Step (List ℕ) × RouterState) → ◌≡◌ {A = Answer} (Some p) (Some q) → q.1.ports ≡ p.1.ports
+ports_of p q e = sym (ap (λ (r : Step (List ℕ) × RouterState). r.1.ports) (pair_of p q e))
+
 on_keeps : (ports : List Port) (o : Outcome) (state : RouterState) (more : RouterState → Answer) (answer : Step (List ℕ)) (after : RouterState) →
     state.ports ≡ ports → Keeps ports o →
     ((next : RouterState) → next.ports ≡ ports → more next ≡ Some (answer, after) → after.ports ≡ ports) →
     run_on o state more ≡ Some (answer, after) → after.ports ≡ ports
-on_keeps ports rests state more answer after at kept on e = sym (ap (λ (s : RouterState). s.ports) (the_state e)) ∙ at
-  where
-    the_state : ◌≡◌ {A = Answer} (Some (Reached, state)) (Some (answer, after)) → state ≡ after
-    the_state f = cc
+on_keeps ports rests state more answer after at kept on e = ports_of (Reached, state) (answer, after) e ∙ at
 on_keeps ports (moves next) state more answer after at kept on e = on next kept e
-on_keeps ports (tells step end) state more answer after at kept on e = sym (ap (λ (s : RouterState). s.ports) (the_end e)) ∙ kept
-  where
-    the_end : ◌≡◌ {A = Answer} (Some (step, end)) (Some (answer, after)) → end ≡ after
-    the_end f = cc
+on_keeps ports (tells step end) state more answer after at kept on e = ports_of (step, end) (answer, after) e ∙ kept
 
 within_keeps : (turns moment : ℕ) (ports : List Port) (state after : RouterState) (answer : Step (List ℕ)) → state.ports ≡ ports →
     run_within turns moment state ≡ Some (answer, after) → after.ports ≡ ports
@@ -112,6 +115,36 @@ pub refresh_before : (moment : ℕ) (state between after : RouterState) → Runs
 unfolding Reaches first_needed
 refresh_before moment state between after runs more =
     record { told = refresh ∷ more.told; reaches = (between, runs, more.reaches); none_needed = more.none_needed }
+
+-- what is told before the moment is reached, and then the way to it
+pub onward : {A : Type 0} (bytes_of : A → List ℕ) (step : Step A) (moment : ℕ) (state between after : RouterState) →
+    is_reached step ≡ false → Runs moment state (step_seen bytes_of step) between → HasReached moment between after →
+    HasReached moment state after
+onward bytes_of Reached moment state between after ends runs more = absurd (not_false ends)
+  where
+    not_false : ◌≡◌ {A = Bool} true false → ⊥
+    not_false e = cc
+onward bytes_of Refresh moment state between after ends runs more = refresh_before moment state between after runs more
+onward bytes_of (Echo port group what) moment state between after ends runs more =
+    echo_before moment port (bytes_of group) (what_seen bytes_of what) state between after runs more
+
+pub isnt_reached : {A : Type 0} (step : Step A) → is_reached step ≡ false → step ≢ Reached
+isnt_reached step ends same = not_false (sym (ap is_reached same) ∙ ends)
+  where
+    not_false : ◌≡◌ {A = Bool} true false → ⊥
+    not_false e = cc
+
+pub ended : {A : Type 0} (bytes_of : A → List ℕ) (step : Step A) (moment : ℕ) (state after : RouterState) →
+    is_reached step ≡ true → Runs moment state (step_seen bytes_of step) after → HasReached moment state after
+ended bytes_of Reached moment state after ends runs = reached_now moment state after runs
+ended bytes_of Refresh moment state after ends runs = absurd (not_true ends)
+  where
+    not_true : ◌≡◌ {A = Bool} false true → ⊥
+    not_true e = cc
+ended bytes_of (Echo port group what) moment state after ends runs = absurd (not_true ends)
+  where
+    not_true : ◌≡◌ {A = Bool} false true → ⊥
+    not_true e = cc
 
 -- ---- one way after the other
 
@@ -184,3 +217,74 @@ reached_passes family moment old now way = record {
   };
   passed = (way.none_needed, refl);
 }
+
+-- what a call tells of a packet is what the course tells
+linked : (given : Verdict) (o : Option ℕ) (after now : RouterState) → needed_by given ≡ o → now ≡ after →
+    IsPassed (verdict given ∷ []) after now (outcome_if o)
+unfolding first_needed
+linked given None after now none same = (ap (λ o. or_later o None) none, same)
+linked given (Some needed) after now some same = ap (λ o. or_later o None) some
+
+taken_by : {E : Type 0} (family : AddressFamily) (packet : Packet) (old now : RouterState) (r : Result Verdict E) →
+    Receives (causes family packet old) (received family packet old) old r now →
+    IsPassed (verdict (received family packet old).0 ∷ []) (received family packet old).1 now (outcome_of r)
+taken_by family packet old now (Ok given) is =
+    subst (λ (end : Verdict × RouterState). IsPassed (verdict end.0 ∷ []) end.1 now (outcome_if (needed_by given))) is
+    (linked given (needed_by given) now now refl refl)
+taken_by family packet old now (Err refused) is = tt
+
+pub taken : {E : Type 0} (family : AddressFamily) (packet : Packet) (old now : RouterState) (of_packet : Result Verdict E) (result : Done) →
+    Receives (causes family packet old) (received family packet old) old of_packet now → result ≡ outcome_of of_packet →
+    Passes family (takes packet ∷ []) old result now
+unfolding IsCourse
+taken family packet old now of_packet result receives same = record {
+  told = verdict (received family packet old).0 ∷ [];
+  after = (received family packet old).1;
+  course = record {
+    before = verdict (received family packet old).0 ∷ [];
+    behind = [];
+    between = (received family packet old).1;
+    joined = refl;
+    begins = (refl, refl);
+    goes_on = (refl, refl);
+  };
+  passed = subst (λ (r : Done). IsPassed (verdict (received family packet old).0 ∷ []) (received family packet old).1 now r) (sym same)
+      (taken_by family packet old now of_packet receives);
+}
+
+pub taken_keeps : {E : Type 0} (family : AddressFamily) (packet : Packet) (old now : RouterState) (of_packet : Result Verdict E) →
+    Receives (causes family packet old) (received family packet old) old of_packet now → now.ports ≡ old.ports
+taken_keeps family packet old now (Ok given) is =
+    ap (λ (end : Verdict × RouterState). end.1.ports) is ∙ received_keeps family packet old
+taken_keeps family packet old now (Err refused) is = ap (λ (s : RouterState). s.ports) is.1
+
+-- nothing to pass, passed
+pub nothing_passes : (family : AddressFamily) (state : RouterState) → Passes family [] state (Ok tt) state
+unfolding IsCourse first_needed
+nothing_passes family state = record { told = []; after = state; course = (refl, refl); passed = (refl, refl) }
+
+-- a delivery, and what comes behind it
+module _ (goes_on : CourseGoesOn) (every : EveryListHasACourse) (family : AddressFamily) (messages : List (List ℕ)) (sender : List ℕ) where
+  abbrev packet_of : Delivery → Packet
+  packet_of delivery = record {
+    port = 0;
+    source = sender;
+    destination = all_routers family;
+    bytes = slice_index_or messages delivery.message [];
+  }
+
+  pub delivery_passes : (delivery : Delivery) (rest : List Input) (old between next after : RouterState) (result : Done) →
+      HasReached delivery.moment old between → Passes family (takes (packet_of delivery) ∷ []) between (Ok tt) next →
+      Passes family rest next result after → Passes family (delivery_inputs family messages sender delivery ++ rest) old result after
+  delivery_passes delivery rest old between next after result reached took more =
+      then_passes goes_on every family (runs_to delivery.moment ∷ []) (takes (packet_of delivery) ∷ rest) old between after result
+      (reached_passes family delivery.moment old between reached)
+      (then_passes goes_on every family (takes (packet_of delivery) ∷ []) rest between next after result took more)
+
+  pub delivery_stops : (delivery : Delivery) (rest : List Input) (old between next : RouterState) (told : MirrorFault) →
+      HasReached delivery.moment old between → Passes family (takes (packet_of delivery) ∷ []) between (Err told) next →
+      Passes family (delivery_inputs family messages sender delivery ++ rest) old (Err told) next
+  delivery_stops delivery rest old between next told reached took =
+      then_passes goes_on every family (runs_to delivery.moment ∷ []) (takes (packet_of delivery) ∷ rest) old between next (Err told)
+      (reached_passes family delivery.moment old between reached)
+      (then_stops goes_on every family (takes (packet_of delivery) ∷ []) rest between next told took)

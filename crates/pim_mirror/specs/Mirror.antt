@@ -1,7 +1,7 @@
 -- What a fresh router goes through that hears one sender: the Hellos of its neighbours at the moment 0, each delivery at
 -- its moment, and the way to the final moment.
 use Rattle.std.specs.Prelude.{◌≡◌, ℕ, List, [], ◌∷◌, ◌++◌, map, flat_map, slice_index_or, Option, None, Some}
-use Rattle.std.specs.Prelude.{Result, Ok, Err}
+use Rattle.std.specs.Prelude.{Result, Ok, Err, Bool, true, false}
 use Rattle.pim_addr.specs.declared.family.AddressFamily.{AddressFamily}
 use Rattle.pim_frame.specs.Frame.{all_routers}
 use Rattle.pim_frame.specs.Seal.{IsSealed}
@@ -10,6 +10,8 @@ use Rattle.pim_hello.specs.Spelling.{spelling_of}
 use Rattle.pim_router.specs.Course.{Input, runs_to, takes, Telling, verdict, Reaches, IsCourse}
 use Rattle.pim_router.specs.Packets.{Packet}
 use Rattle.pim_router.specs.State.{RouterState, new_router}
+use Rattle.pim_router.specs.declared.step.Step.{Step}
+use Rattle.pim_router.specs.declared.step.Step.TheVariants.{Reached}
 use Rattle.pim_router.specs.declared.verdict.Verdict.{Verdict}
 use Rattle.pim_router.specs.declared.verdict.Verdict.TheVariants.{Full}
 use Rattle.pim_router.specs.declared.verdict.Store.TheVariants.{Records}
@@ -114,3 +116,16 @@ pub record HasReached (moment : ℕ) (old now : RouterState) : Type 0 where
   pub told : List Telling
   pub reaches : Reaches moment told old now
   pub none_needed : first_needed told ≡ None
+
+-- a packet passed, or there was no room, or no memory
+abbrev pub outcome_if : Option ℕ → Result (Unit {0}) MirrorFault
+outcome_if None = Ok tt
+outcome_if (Some needed) = Err (fault.Full needed)
+
+abbrev pub outcome_of : {E : Type 0} → Result Verdict E → Result (Unit {0}) MirrorFault
+outcome_of (Ok told) = outcome_if (needed_by told)
+outcome_of (Err refused) = Err fault.Memory
+
+abbrev pub is_reached : {A : Type 0} → Step A → Bool
+is_reached Reached = true
+is_reached other = false

@@ -3,12 +3,14 @@
 ghost use Rattle.std.specs.Prelude.{◌≡◌, ◌<◌, ◌≤◌, ◌^◌, [], ◌∷◌, length, map, flat_map};
 ghost use Rattle.std.specs.List.{AllByRecursion};
 ghost use Rattle.pim_hello.specs.Kept.{parameters_seen};
+ghost use Rattle.pim_hello.specs.Seen.{hello_seen};
 ghost use Rattle.pim_frame.specs.Frame.{all_routers};
 ghost use Rattle.pim_router.specs.Course.{runs_to, takes};
 ghost use Rattle.pim_router.specs.Seen.{packet_seen};
 ghost use Rattle.pim_mirror.specs.Config.{fresh_seen, neighbour_seen, delivery_seen, sender_hello, port_of};
 ghost use Rattle.pim_mirror.specs.Fits.{Fits};
 ghost use Rattle.pim_mirror.specs.Mirror.{Mirrors, Passes, PassesHellos, delivery_inputs, HasReached};
+ghost use Rattle.pim_mirror.specs.Mirror.{needed_by, outcome_of, is_reached};
 
 use crate::config::{Delivery, FreshConfig, OtherNeighbour};
 use crate::fresh::end_of;
@@ -16,7 +18,7 @@ use pim_addr::Family;
 use pim_form::{Messages, Writer};
 use pim_frame::{MessageType, all_routers, seal};
 use pim_hello::{Addresses, Hello, LanDelay, Parameters};
-use pim_router::{Config, Router, Step, Store, Verdict, every_list_has_a_course};
+use pim_router::{Config, Router, Step, Store, Verdict, course_goes_on, every_list_has_a_course};
 use std::alloc::{AllocError, Global};
 use thiserror::Error;
 
@@ -37,12 +39,29 @@ pub enum MirrorFault {
     Memory,
 }
 
+/// How many records a message needed for which there was no room; none where it isn't that.
+fn needed_by(verdict: Verdict) -> Option<usize>
+    ensures { result ≡ needed_by verdict }
+{
+    let Verdict::Full(store) = verdict else {
+        return None;
+    };
+    match store {
+        Store::Neighbours => None,
+        Store::Records { needed } => Some(needed),
+    }
+}
+
 /// What a verdict means for the mirror: whether a message had no room.
-fn passed(verdict: Result<Verdict, AllocError>) -> Result<(), MirrorFault> {
-    match verdict {
-        Ok(Verdict::Full(Store::Records { needed })) => Err(MirrorFault::Full { needed }),
-        Ok(_) => Ok(()),
-        Err(_) => Err(MirrorFault::Memory),
+fn passed(verdict: Result<Verdict, AllocError>) -> Result<(), MirrorFault>
+    ensures { result ≡ outcome_of verdict }
+{
+    let Ok(verdict) = verdict else {
+        return Err(MirrorFault::Memory);
+    };
+    match needed_by(verdict) {
+        None => Ok(()),
+        Some(needed) => Err(MirrorFault::Full { needed }),
     }
 }
 
@@ -62,7 +81,9 @@ fn take<F: Family>(
 }
 
 /// A Hello that says this, without an Address List.
-fn hello_of<F: Family>(said: Parameters) -> Hello<'static, F> {
+fn hello_of<F: Family>(said: Parameters) -> Hello<'static, F>
+    ensures { hello_seen F.family result ≡ record { parameters = parameters_seen said; addresses = [] } }
+{
     Hello {
         holdtime: said.holdtime,
         lan: said.lan,
@@ -105,10 +126,18 @@ fn meet_others<F: Family>(
     ensures passes { PassesHellos F.family (map (neighbour_seen F.bytes_of) others.now) router.old result router.new }
 {
     every_list_has_a_course();
+    course_goes_on();
     for other in others {
         meet(router, *other)?;
     }
     Ok(())
+}
+
+/// Whether nothing is due any more.
+fn is_reached<A: Drop>(step: Step<A>) -> bool
+    ensures { result ≡ is_reached step }
+{
+    matches!(step, Step::Reached)
 }
 
 /// Runs to a moment until nothing is due.
@@ -117,7 +146,7 @@ fn reach<F: Family>(router: &mut Router<'_, F>, moment: u64)
     ensures ports { router.new.ports ≡ router.old.ports }
     ensures reaches { HasReached moment router.old router.new }
 {
-    while router.run_to(moment) != Step::Reached {}
+    while !is_reached(router.run_to(moment)) {}
 }
 
 /// Lets the router hear the deliveries, each at its moment.
@@ -134,6 +163,7 @@ fn hear<F: Family>(
         (map delivery_seen deliveries.now)) router.old result router.new }
 {
     every_list_has_a_course();
+    course_goes_on();
     for delivery in deliveries {
         reach(router, delivery.moment);
         let bytes = messages.get(delivery.message).unwrap_or(&[]);
@@ -184,6 +214,7 @@ pub fn mirror<'a, F: Family>(
 {
     writer.is_writing();
     every_list_has_a_course();
+    course_goes_on();
     let config = Config {
         ports: fresh.ports,
         routes: fresh.routes,
