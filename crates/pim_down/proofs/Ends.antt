@@ -1,7 +1,6 @@
 -- When the first timer of some records ends.
-use Rattle.std.proofs.Common.{◌≡◌, ℕ, ◌+◌, ◌-◌, ◌<◌, ◌≤◌, List, ◌∷◌, Option, Some, None, length, drop, get_or, leb, eqb, false, min, refl, sym, ap, ◌∙◌, arith}
+use Rattle.std.proofs.Common.{◌≡◌, ℕ, ◌-◌, ◌<◌, List, [], ◌∷◌, Option, Some, None, leb, eqb, false, min, refl, sym, ap, ◌∙◌, arith}
 use Rattle.std.proofs.lemmas.Bool.Decides.{nat_tests}
-use Rattle.std.proofs.lemmas.List.{drop_more, drop_all}
 use Rattle.pim_down.specs.declared.held.Held.{Held}
 use Rattle.pim_down.specs.Ends.{sooner, pending_end, first_end, ends_by, IsQuietUntil}
 use Rattle.pim_down.specs.Seen.{waiting_seen, records_seen}
@@ -34,13 +33,12 @@ still_quiet last until (Some ends) before quiet = grind (arith, nat_tests)
 
 module _ {A : Type 0} (bytes_of : A → List ℕ) where
   -- one record more
-  pub ends_more : (records : List (Held A)) (i : ℕ) (held : Held A) (end : Option ℕ) → i < length records → held ≡ get_or records i held → sooner (sooner end (sooner held.machine.expires_at (pending_end (waiting_seen held.machine.pending)))) (first_end (records_seen bytes_of (drop (i + 1) records))) ≡ sooner end (first_end (records_seen bytes_of (drop i records)))
+  pub ends_more : (left rest : List (Held A)) (held : Held A) (end : Option ℕ) → left ≡ held ∷ rest → sooner (sooner end (sooner held.machine.expires_at (pending_end (waiting_seen held.machine.pending)))) (first_end (records_seen bytes_of rest)) ≡ sooner end (first_end (records_seen bytes_of left))
   unfolding first_end
-  ends_more records i held end within at =
-      let split : drop i records ≡ held ∷ drop (i + 1) records = drop_more records i held within ∙ ap (λ (r : Held A). r ∷ drop (i + 1) records) (sym at) in
-      sooner_assoc end (sooner held.machine.expires_at (pending_end (waiting_seen held.machine.pending))) (first_end (records_seen bytes_of (drop (i + 1) records)))
+  ends_more left rest held end split =
+      sooner_assoc end (sooner held.machine.expires_at (pending_end (waiting_seen held.machine.pending))) (first_end (records_seen bytes_of rest))
       ∙ ap (λ (rs : List (Held A)). sooner end (first_end (records_seen bytes_of rs))) (sym split)
 
-  pub ends_all : (records : List (Held A)) (i : ℕ) (end : Option ℕ) → length records ≤ i → sooner end (first_end (records_seen bytes_of (drop i records))) ≡ end
+  pub ends_all : (left : List (Held A)) (end : Option ℕ) → left ≡ [] → sooner end (first_end (records_seen bytes_of left)) ≡ end
   unfolding first_end
-  ends_all records i end past = ap (λ (rs : List (Held A)). sooner end (first_end (records_seen bytes_of rs))) (drop_all i records past) ∙ sooner_none end
+  ends_all left end none = ap (λ (rs : List (Held A)). sooner end (first_end (records_seen bytes_of rs))) none ∙ sooner_none end

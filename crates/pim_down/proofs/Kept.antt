@@ -53,6 +53,11 @@ unfolding IsAscending
 ascending_back k [] a = tt
 ascending_back k (held ∷ records) a = (below_any k held.key records a.0, ascending_back k records a.1)
 
+pub settled_back : (k : ℕ) (records : List (Record (List ℕ))) → IsSettled (map (record_after k) records) → IsSettled records
+unfolding IsSettled
+settled_back k [] s = tt
+settled_back k (held ∷ records) s = (s.0, settled_back k records s.1)
+
 -- ---- a timer fires
 
 abbrev stays_settled : Option Machine → Type 0

@@ -3,6 +3,12 @@ pub mod Searched
 pub mod Map
 pub mod Time
 pub mod Ends
+pub mod Counts
+pub mod Bounds
+pub mod Sought
+pub mod Rpts
+pub mod Ending
+pub mod Looking
 pub mod Lists
 pub mod Places
 pub mod Halves

@@ -1,11 +1,13 @@
 -- The records of one port stand together.
-use Rattle.std.proofs.Common.{◌≡◌, ℕ, zero, suc, ◌+◌, ◌<◌, ◌≤◌, Bool, true, false, cond, List, [], ◌∷◌, map, length, take, drop, get_or, eqb, leb, ltb, refl, sym, ap, subst, ◌∙◌, arith}
+use Rattle.std.proofs.Common.{◌≡◌, ℕ, zero, suc, ◌+◌, ◌<◌, ◌≤◌, Bool, true, false, cond, List, [], ◌∷◌, map, length, take, drop, get_or, eqb, ltb, refl, sym, ap, subst, ◌∙◌, arith}
 use Rattle.std.specs.declared.cmp.Ordering.{Ordering}
 use Rattle.std.specs.declared.cmp.Ordering.TheVariants.{Less, Greater}
 use Rattle.std.specs.Ordering.{ordering_then, nat_cmp}
 use Rattle.std.specs.Cmp.{nat_cmp_is}
-use Rattle.std.specs.List.{filter}
+use Rattle.std.specs.List.{filter, AllByRecursion}
 use Rattle.std.specs.List.Sorted.{IsNonDecreasingBy, IsPartitionPoint}
+use Rattle.std.proofs.lemmas.List.Sorted.{IsNonDecreasingBy-drop}
+use Rattle.pim_addr.specs.declared.family.AddressFamily.{AddressFamily}
 use Rattle.std.proofs.lemmas.Bool.{ltb-true, ltb-false}
 use Rattle.std.proofs.lemmas.Bool.Decides.{nat_tests}
 use Rattle.std.proofs.lemmas.List.{get_or-drop, length-drop, length-map}
@@ -15,7 +17,8 @@ use Rattle.pim_down.specs.declared.machine.Record.{Record}
 use Rattle.pim_down.specs.Key.{address_cmp, what_cmp, key_cmp}
 use Rattle.pim_down.specs.Records.{IsBelow, IsAscending, count_on, is_on}
 use Rattle.pim_down.specs.Time.{record_after}
-use Rattle.pim_down.specs.Seen.{records_seen}
+use Rattle.pim_down.specs.Seen.{record_seen, records_seen}
+use Rattle.pim_down.specs.Sound.{IsReal}
 use Rattle.pim_down.proofs.Each.{seen_filter}
 
 -- ---- ports don't fall
@@ -56,14 +59,6 @@ module _ {X : Type 0} (p : X → Bool) where
   no_more [] fails = refl
   no_more (x ∷ xs) fails = let first : p x ≡ false = fails 0 x (omega arith) in rw first (no_more xs (λ k d h. fails (suc k) d (omega arith)))
 
-  front : (xs : List X) (count : ℕ) → ((k : ℕ) (d : X) → k < count → k < length xs → p (get_or xs k d) ≡ true) → ((k : ℕ) (d : X) → count ≤ k → k < length xs → p (get_or xs k d) ≡ false) → take count xs ≡ filter p xs
-  front [] zero passes fails = refl
-  front [] (suc count) passes fails = refl
-  front (x ∷ xs) zero passes fails = sym (no_more (x ∷ xs) (λ k d h. fails k d (omega arith) h))
-  front (x ∷ xs) (suc count) passes fails =
-      let first : p x ≡ true = passes 0 x (omega arith) (omega arith) in
-      rw first (ap (λ (ys : List X). x ∷ ys) (front xs count (λ k d h w. passes (suc k) d (omega arith) (omega arith)) (λ k d h w. fails (suc k) d (omega arith) (omega arith))))
-
   behind : (xs : List X) (first : ℕ) → ((k : ℕ) (d : X) → k < first → k < length xs → p (get_or xs k d) ≡ false) → filter p (drop first xs) ≡ filter p xs
   behind xs zero fails = refl
   behind [] (suc first) fails = refl
@@ -76,37 +71,6 @@ module _ {X : Type 0} (p : X → Bool) where
 apart : (a b : ℕ) → ltb a b ≡ true → eqb a b ≡ false
 apart a b e = grind (arith, nat_tests)
 
-apart_above : (a b : ℕ) → leb a b ≡ false → eqb a b ≡ false
-apart_above a b e = grind (arith, nat_tests)
-
-equal_between : (a b : ℕ) → ltb a b ≡ false → leb a b ≡ true → eqb a b ≡ true
-equal_between a b e f = grind (arith, nat_tests)
-
-module _ {A : Type 0} (bytes_of : A → List ℕ) (port : ℕ) where
-  pub together : (records : List (Held A)) (first count : ℕ) →
-      IsPartitionPoint (λ (held : Held A). ltb held.key.port port ≡ true) (λ (held : Held A). ltb held.key.port port ≡ false) records first →
-      IsPartitionPoint (λ (held : Held A). leb held.key.port port ≡ true) (λ (held : Held A). leb held.key.port port ≡ false) (drop first records) count →
-      records_seen bytes_of (take count (drop first records)) ≡ filter (is_on port) (records_seen bytes_of records)
-  together records first count before after =
-      let p : Held A → Bool = λ (held : Held A). eqb held.key.port port in
-      let from = drop first records in
-      let long = length-drop first records in
-      let passes : (k : ℕ) (d : Held A) → k < count → k < length from → p (get_or from k d) ≡ true = λ k d h w.
-      equal_between _ _
-      (subst (λ (held : Held A). ltb held.key.port port ≡ false) (sym (get_or-drop first records k d)) (before.1 (first + k) d (omega arith) (omega arith)))
-      (after.0 k d (omega arith) h) in
-      let fails : (k : ℕ) (d : Held A) → count ≤ k → k < length from → p (get_or from k d) ≡ false = λ k d h w. apart_above _ _ (after.1 k d h w) in
-      let here : take count from ≡ filter p records = front p from count passes fails ∙ behind p records first (λ k d h w. apart _ _ (before.0 k d (omega arith) h)) in
-      ap (records_seen bytes_of) here ∙ seen_filter bytes_of (is_on port) records
-
-pub on_later : (k port : ℕ) (records : List (Record (List ℕ))) → map (record_after k) (filter (is_on port) records) ≡ filter (is_on port) (map (record_after k) records)
-on_later k port [] = refl
-on_later k port (held ∷ records) =
-    elim (is_on port held) as (λ b. map (record_after k) (cond b (held ∷ filter (is_on port) records) (filter (is_on port) records)) ≡ cond b (record_after k held ∷ filter (is_on port) (map (record_after k) records)) (filter (is_on port) (map (record_after k) records))) [
-      | true ↦ ap (λ (rs : List (Record (List ℕ))). record_after k held ∷ rs) (on_later k port records)
-      | false ↦ on_later k port records
-    ]
-
 -- so many there are
 pub count_filter : (port : ℕ) (records : List (Record (List ℕ))) → count_on port records ≡ length (filter (is_on port) records)
 unfolding count_on
@@ -115,6 +79,62 @@ count_filter port (held ∷ records) =
     elim (is_on port held) as (λ b. cond b 1 0 + count_on port records ≡ length (cond b (held ∷ filter (is_on port) records) (filter (is_on port) records))) [
       | true ↦ let rest = count_filter port records in omega arith
       | false ↦ let rest = count_filter port records in omega arith
+    ]
+
+above : (a b c : ℕ) → a ≤ c → ltb a b ≡ false → eqb a b ≡ false → eqb c b ≡ false
+above a b c le e f = grind (arith, nat_tests)
+
+module _ {A : Type 0} (bytes_of : A → List ℕ) (port : ℕ) where
+  abbrev here : Held A → Bool
+  here held = eqb held.key.port port
+
+  -- the first of records of this port and greater ones
+  front : (xs : List (Held A)) → IsNonDecreasingBy (λ (held : Held A). held.key.port) xs → ((k : ℕ) (d : Held A) → k < length xs → ltb (get_or xs k d).key.port port ≡ false) → take (length (filter here xs)) xs ≡ filter here xs
+  front [] rise least = refl
+  front (x ∷ xs) rise least = by (front xs (λ i j d le w. rise (suc i) (suc j) d (omega arith) (omega arith)) (λ k d w. least (suc k) d (omega arith))) (here x) refl
+    where
+      by : take (length (filter here xs)) xs ≡ filter here xs → (t : Bool) → here x ≡ t → take (length (cond t (x ∷ filter here xs) (filter here xs))) (x ∷ xs) ≡ cond t (x ∷ filter here xs) (filter here xs)
+      by rest true e = ap (λ (ys : List (Held A)). x ∷ ys) rest
+      by rest false e =
+          let none : filter here xs ≡ [] = no_more here xs (λ k d w. above x.key.port port (get_or xs k d).key.port (rise 0 (suc k) d (omega arith) (omega arith)) (least 0 x (omega arith)) e) in
+          rw none refl
+
+  pub together : (records : List (Held A)) (first : ℕ) → IsAscending (records_seen bytes_of records) →
+      IsPartitionPoint (λ (held : Held A). ltb held.key.port port ≡ true) (λ (held : Held A). ltb held.key.port port ≡ false) records first →
+      records_seen bytes_of (take (count_on port (records_seen bytes_of records)) (drop first records)) ≡ filter (is_on port) (records_seen bytes_of records)
+  together records first ascending parts =
+      let from = drop first records in
+      let long = length-drop first records in
+      let rise = IsNonDecreasingBy-drop (λ (held : Held A). held.key.port) first records (rising bytes_of records ascending) in
+      let least : (k : ℕ) (d : Held A) → k < length from → ltb (get_or from k d).key.port port ≡ false = λ k d w.
+      subst (λ (held : Held A). ltb held.key.port port ≡ false) (sym (get_or-drop first records k d)) (parts.1 (first + k) d (omega arith) (omega arith)) in
+      let same : filter here from ≡ filter here records = behind here records first (λ k d h w. apart _ _ (parts.0 k d (omega arith) h)) in
+      let count : length (filter here records) ≡ count_on port (records_seen bytes_of records) =
+      sym (length-map (filter here records) (record_seen bytes_of)) ∙ ap length (seen_filter bytes_of (is_on port) records) ∙ sym (count_filter port (records_seen bytes_of records)) in
+      ap (λ n. records_seen bytes_of (take n from)) (sym count ∙ ap length (sym same))
+      ∙ ap (records_seen bytes_of) (front from rise least ∙ same)
+      ∙ seen_filter bytes_of (is_on port) records
+
+-- ---- a port that isn't there
+
+pub none_on_port : (family : AddressFamily) (ports port : ℕ) (records : List (Record (List ℕ))) → ports ≤ port → AllByRecursion (IsReal family ports) records → filter (is_on port) records ≡ []
+none_on_port family ports port [] le real = refl
+none_on_port family ports port (held ∷ records) le real =
+    let other : eqb held.key.port port ≡ false = less_apart held.key.port port ports real.0.port le in
+    rw other (none_on_port family ports port records le real.1)
+  where
+    less_apart : (a b c : ℕ) → a < c → c ≤ b → eqb a b ≡ false
+    less_apart a b c lt le = grind (arith, nat_tests)
+
+pub count_none : (family : AddressFamily) (ports port : ℕ) (records : List (Record (List ℕ))) → ports ≤ port → AllByRecursion (IsReal family ports) records → count_on port records ≡ 0
+count_none family ports port records le real = count_filter port records ∙ ap length (none_on_port family ports port records le real)
+
+pub on_later : (k port : ℕ) (records : List (Record (List ℕ))) → map (record_after k) (filter (is_on port) records) ≡ filter (is_on port) (map (record_after k) records)
+on_later k port [] = refl
+on_later k port (held ∷ records) =
+    elim (is_on port held) as (λ b. map (record_after k) (cond b (held ∷ filter (is_on port) records) (filter (is_on port) records)) ≡ cond b (record_after k held ∷ filter (is_on port) (map (record_after k) records)) (filter (is_on port) (map (record_after k) records))) [
+      | true ↦ ap (λ (rs : List (Record (List ℕ))). record_after k held ∷ rs) (on_later k port records)
+      | false ↦ on_later k port records
     ]
 
 module _ {A : Type 0} (bytes_of : A → List ℕ) (port : ℕ) (records : List (Record (List ℕ))) (here : List (Held A)) (is : records_seen bytes_of here ≡ filter (is_on port) records) where

@@ -20,12 +20,12 @@ key_total =
     (on_total (λ (k : Key (List ℕ)). k.what) (then_total (on_total rank nat_cmp_total) (on_total source_of nat_list_cmp_total)))
 
 -- both parts are equal where the whole is
-both_equal : (r s : Ordering) → ordering_then r s ≡ Equal → (r ≡ Equal) × (s ≡ Equal)
+pub both_equal : (r s : Ordering) → ordering_then r s ≡ Equal → (r ≡ Equal) × (s ≡ Equal)
 both_equal Less s e = absurd (false≢true (ap is_eq e))
 both_equal Equal s e = (refl, e)
 both_equal Greater s e = absurd (false≢true (ap is_eq e))
 
-same_address : (a b : List ℕ) → address_cmp a b ≡ Equal → a ≡ b
+pub same_address : (a b : List ℕ) → address_cmp a b ≡ Equal → a ≡ b
 same_address a b e = slice_cmp-IsAntisymmetric nat_cmp-IsAntisymmetric a b e
 
 pub same_what : (a b : What (List ℕ)) → what_cmp a b ≡ Equal → a ≡ b

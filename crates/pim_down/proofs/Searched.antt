@@ -93,7 +93,7 @@ module _ {A : Type 0} (bytes_of : A → List ℕ) where
   below_at key (held ∷ records) below zero d within = below.0
   below_at key (held ∷ records) below (suc j) d within = below_at key records below.1 j d (omega arith)
 
-  rise_at : (records : List (Held A)) → IsAscending (records_seen bytes_of records) → (i j : ℕ) (d : Held A) → i < j → j < length records → key_cmp (see (get_or records i d)).key (see (get_or records j d)).key ≡ Less
+  pub rise_at : (records : List (Held A)) → IsAscending (records_seen bytes_of records) → (i j : ℕ) (d : Held A) → i < j → j < length records → key_cmp (see (get_or records i d)).key (see (get_or records j d)).key ≡ Less
   unfolding IsAscending
   rise_at [] a i j d lt within = absurd (omega arith)
   rise_at (held ∷ records) a zero zero d lt within = absurd (omega arith)
@@ -180,7 +180,7 @@ module _ {A : Type 0} (bytes_of : A → List ℕ) where
 
 -- ---- the groups of a port
 
-front_of : (a b : Key (List ℕ)) → key_cmp a b ≡ Less → is_le (ordering_then (nat_cmp a.port b.port) (address_cmp a.group b.group)) ≡ true
+pub front_of : (a b : Key (List ℕ)) → key_cmp a b ≡ Less → is_le (ordering_then (nat_cmp a.port b.port) (address_cmp a.group b.group)) ≡ true
 unfolding key_cmp
 front_of a b e = front_le (ordering_then (nat_cmp a.port b.port) (address_cmp a.group b.group)) (what_cmp a.what b.what) e
 

@@ -1,12 +1,15 @@
 -- What comes next on a port: its groups one after the other, and the machines of a group.
-use Rattle.std.specs.Prelude.{ℕ, Bool, true, ◌&&◌, ◌==◌, List, Option, None, Some, option_map}
+use Rattle.std.specs.Prelude.{ℕ, Bool, true, false, ◌&&◌, ◌==◌, List, Option, None, Some, option_map}
 use Rattle.std.specs.List.{find}
 use Rattle.std.specs.Ordering.{ordering_then, is_eq, is_lt, is_le, nat_cmp}
 use Rattle.pim_down.specs.declared.key.What.{What}
 use Rattle.pim_down.specs.declared.key.Key.{Key}
 use Rattle.pim_down.specs.declared.machine.Record.{Record}
 use Rattle.pim_down.specs.Key.{address_cmp, what_cmp, key_cmp}
+use Rattle.std.specs.declared.cmp.Ordering.{Ordering}
+use Rattle.std.specs.declared.cmp.Ordering.TheVariants.{Less, Greater}
 use Rattle.pim_down.specs.Records.{is_on}
+use Rattle.pim_down.specs.Hearing.{is_rpt}
 
 abbrev pub is_above : Option (List ℕ) → List ℕ → Bool
 is_above None group = true
@@ -44,3 +47,13 @@ is_up_to bound key = is_le (key_cmp key bound)
 -- the key is of the port and the group of this one
 abbrev pub is_of_group : Key (List ℕ) → Key (List ℕ) → Bool
 is_of_group bound key = (key.port == bound.port) && is_eq (address_cmp key.group bound.group)
+
+-- the key stands before the (S,G,rpt) machines of this group on the port
+abbrev pub beside_rpts : Bool → Ordering
+beside_rpts true = Greater
+beside_rpts false = Less
+
+abbrev pub is_before_rpts : ℕ → List ℕ → Key (List ℕ) → Bool
+is_before_rpts port group key =
+    is_lt (ordering_then (ordering_then (nat_cmp key.port port) (address_cmp key.group group))
+    (beside_rpts (is_rpt key.what)))

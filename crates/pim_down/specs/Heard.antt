@@ -38,3 +38,9 @@ MayWantMemory new (Err Memory) = 1 ≤ new
 abbrev pub OthersStay : ℕ → Downstream → Downstream → Type 0
 OthersStay port old new =
     (key : Key (List ℕ)) → key.port ≢ port → machine_at key new.records ≡ machine_at key old.records
+
+-- a fact, where it is refused as Full
+abbrev pub OnFull : {A : Type 0} → Result A HearFault → Type 0 → Type 0
+OnFull (Ok x) P = Unit {0}
+OnFull (Err (Full n)) P = P
+OnFull (Err Memory) P = Unit {0}

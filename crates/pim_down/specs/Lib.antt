@@ -8,6 +8,7 @@ pub mod Time
 pub mod Seen
 pub mod Ends
 pub mod Places
+pub mod Store
 pub mod Running
 pub mod Sound
 pub mod Heard

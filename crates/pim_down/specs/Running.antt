@@ -1,10 +1,12 @@
 -- The state that some records have at a moment.
-use Rattle.std.specs.Prelude.{ℕ, ◌-◌, Bool, ◌&&◌, List}
+use Rattle.std.specs.Prelude.{◌≡◌, ℕ, ◌-◌, Bool, true, false, ◌&&◌, ◌||◌, nat_eq, List, [], ◌∷◌}
+use Rattle.std.specs.Cmp.Lexicographic.{pointwise}
+use Rattle.pim_jp.specs.Message.{GroupSet}
 use Rattle.pim_down.specs.declared.held.Held.{Held}
 use Rattle.pim_down.specs.declared.machine.Record.{Record}
 use Rattle.pim_down.specs.Tables.{Start}
 use Rattle.pim_down.specs.Time.{Downstream, expiry_after}
-use Rattle.pim_down.specs.Hearing.{is_rpt_on}
+use Rattle.pim_down.specs.Hearing.{is_rpt_on, is_rpt_of}
 use Rattle.pim_down.specs.Sound.{is_temporary}
 use Rattle.pim_down.specs.Seen.{shown}
 
@@ -22,3 +24,18 @@ start_after passed start = record {
 -- an (S,G,rpt) machine of the port, in a state that ends with the message
 abbrev pub is_over : ℕ → Record (List ℕ) → Bool
 is_over port held = is_rpt_on port held.key && is_temporary held.machine.state
+
+-- one of this group
+abbrev pub is_over_in : ℕ → List ℕ → Record (List ℕ) → Bool
+is_over_in port group held = is_rpt_of port group held.key && is_temporary held.machine.state
+
+-- one of the sets is of this group
+unfoldable pub is_group_of : List GroupSet → List ℕ → Bool
+is_group_of [] group = false
+is_group_of (set ∷ sets) group = pointwise nat_eq group set.group || is_group_of sets group
+
+-- each machine whose state ends with the message is of a group of these sets
+unfoldable pub AreOverIn : ℕ → List GroupSet → List (Record (List ℕ)) → Type 0
+AreOverIn port sets [] = Unit {0}
+AreOverIn port sets (held ∷ records) =
+    (is_over port held ≡ true → is_group_of sets held.key.group ≡ true) × AreOverIn port sets records

@@ -1,6 +1,6 @@
 //! What comes next on a port, looked for by halves.
 
-ghost use Rattle.std.specs.Prelude.{◌≡◌, drop, option_map};
+ghost use Rattle.std.specs.Prelude.{◌≡◌, option_map};
 ghost use Rattle.std.specs.List.{find};
 ghost use Rattle.pim_down.specs.After.{is_before_groups, is_up_to, is_of_group_after, is_machine_after, is_of_group};
 ghost use Rattle.pim_down.specs.Records.{IsAscending};
@@ -8,43 +8,68 @@ ghost use Rattle.pim_down.specs.Seen.{what_seen, key_seen, record_seen, records_
 
 use crate::held::Held;
 use crate::key::{Key, compare_keys};
+use crate::store::{Bound, Store};
 use pim_addr::Family;
 
-/// Whether the key stands before all groups of the port above the bound.
-fn is_before_groups<F: Family>(key: &Key<F::Addr>, port: usize, bound: Option<F::Addr>) -> bool
-    ensures { result ≡ is_before_groups port (option_map F.bytes_of bound) (key_seen F.bytes_of key.now) }
-{
-    match bound {
-        None => key.port < port,
-        Some(group) => key.port.cmp(&port).then(key.group.cmp(&group)).is_le(),
+/// The bound before all groups of a port above one, or before all of its groups.
+#[derive(Drop)]
+struct GroupsAbove<F: Family> {
+    port: usize,
+    bound: Option<F::Addr>,
+}
+
+impl<F: Family> Bound<F::Addr> for GroupsAbove<F> {
+    ghost use Rattle.std.specs.Prelude.{option_map};
+    ghost use Rattle.pim_down.specs.After.{is_before_groups};
+    ghost use Rattle.pim_down.specs.Seen.{key_seen};
+
+    ghost is_before = { λ b key. is_before_groups b.port (option_map F.bytes_of b.bound) (key_seen F.bytes_of key) };
+
+    fn is_before(&self, key: &Key<F::Addr>) -> bool {
+        match self.bound {
+            None => key.port < self.port,
+            Some(group) => key.port.cmp(&self.port).then(key.group.cmp(&group)).is_le(),
+        }
     }
 }
 
 /// The first record of a group of the port above the bound, or of any of its groups.
 pub(crate) fn first_of_groups_after<F: Family>(
-    records: &[Held<F::Addr>],
+    records: &Store<F::Addr>,
     port: usize,
     bound: Option<F::Addr>,
 ) -> Option<Held<F::Addr>>
-    requires { IsAscending (records_seen F.bytes_of records.now) }
+    requires { IsAscending (records_seen F.bytes_of records.now.items) }
     ensures { option_map (record_seen F.bytes_of) result
-        ≡ find (is_of_group_after port (option_map F.bytes_of bound)) (records_seen F.bytes_of records.now) }
+        ≡ find (is_of_group_after port (option_map F.bytes_of bound)) (records_seen F.bytes_of records.now.items) }
 {
-    let before = records.partition_point(|held| is_before_groups::<F>(&held.key, port, bound));
-    let (_, behind) = records.split_at(before);
-    let first = behind.first()?;
+    let place = records.first_behind(&GroupsAbove::<F> { port, bound });
+    if !records.is_item(place) {
+        return None;
+    }
+    let first = *records.get(place);
     if first.key.port == port {
-        Some(*first)
+        Some(first)
     } else {
         None
     }
 }
 
-/// Whether the key is the other one, or stands before it.
-fn is_up_to<F: Family>(key: &Key<F::Addr>, bound: &Key<F::Addr>) -> bool
-    ensures { result ≡ is_up_to (key_seen F.bytes_of bound.now) (key_seen F.bytes_of key.now) }
-{
-    compare_keys::<F>(key, bound).is_le()
+/// The bound behind a key.
+#[derive(Drop)]
+struct Behind<F: Family> {
+    key: Key<F::Addr>,
+}
+
+impl<F: Family> Bound<F::Addr> for Behind<F> {
+    ghost use Rattle.pim_down.specs.After.{is_up_to};
+    ghost use Rattle.pim_down.specs.Seen.{key_seen};
+
+    ghost is_before = { λ b key. is_up_to (key_seen F.bytes_of b.key) (key_seen F.bytes_of key) };
+
+    fn is_before(&self, key: &Key<F::Addr>) -> bool {
+        compare_keys::<F>(key, &self.key).is_le()
+    }
 }
 
 /// Whether the key is of the port and the group of the other one.
@@ -56,19 +81,21 @@ fn is_of_group<F: Family>(key: &Key<F::Addr>, bound: &Key<F::Addr>) -> bool
 
 /// The first record of the key's port and group whose machine comes after the key's.
 pub(crate) fn first_machine_after<F: Family>(
-    records: &[Held<F::Addr>],
+    records: &Store<F::Addr>,
     key: &Key<F::Addr>,
 ) -> Option<Held<F::Addr>>
-    requires { IsAscending (records_seen F.bytes_of records.now) }
+    requires { IsAscending (records_seen F.bytes_of records.now.items) }
     ensures { option_map (record_seen F.bytes_of) result
         ≡ find (is_machine_after key.now.port (F.bytes_of key.now.group) (what_seen F.bytes_of key.now.what))
-        (records_seen F.bytes_of records.now) }
+        (records_seen F.bytes_of records.now.items) }
 {
-    let before = records.partition_point(|held| is_up_to::<F>(&held.key, key));
-    let (_, behind) = records.split_at(before);
-    let first = behind.first()?;
+    let place = records.first_behind(&Behind::<F> { key: *key });
+    if !records.is_item(place) {
+        return None;
+    }
+    let first = *records.get(place);
     if is_of_group::<F>(&first.key, key) {
-        Some(*first)
+        Some(first)
     } else {
         None
     }

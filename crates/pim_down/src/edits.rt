@@ -1,93 +1,126 @@
 //! Looking up and changing one machine in a list of records in key order.
 
-ghost use Rattle.std.specs.Prelude.{◌≡◌, ◌+◌, ◌<◌, ◌≤◌, ℕ, List, ◌++◌, Option, take, drop, length};
-ghost use Rattle.std.specs.Prelude.{vec_len, vec_capacity};
+ghost use Rattle.std.specs.Prelude.{◌≡◌, ◌+◌, ◌<◌, ◌≤◌, ℕ, List, ◌++◌, Option, take, drop, length, slice_index_or};
+ghost use Rattle.sorted_slab.specs.Listed.{at, IsItem};
+ghost use Rattle.pim_down.specs.declared.held.Held.{Held};
 ghost use Rattle.pim_down.specs.Records.{IsAscending, machine_at, recorded, changed};
 ghost use Rattle.pim_down.specs.Seen.{key_seen, machine_seen, records_seen};
-ghost use Rattle.pim_down.specs.Places.{IsPlace, is_below};
+ghost use Rattle.pim_down.specs.Store.{IsPlaceOf};
 
 use crate::held::{Held, Timed};
 use crate::key::{Key, compare_keys};
+use crate::store::Store;
 use pim_addr::Family;
+use sorted_blocks::{Place, Probe};
 use std::cmp::Ordering;
 
-/// Whether the key stands before the other one.
-fn is_below<F: Family>(key: &Key<F::Addr>, bound: &Key<F::Addr>) -> bool
-    ensures { result ≡ is_below (key_seen F.bytes_of bound.now) (key_seen F.bytes_of key.now) }
-{
-    compare_keys::<F>(key, bound).is_lt()
+/// A key, as it is sought among records.
+#[derive(Drop)]
+struct Sought<F: Family> {
+    key: Key<F::Addr>,
 }
 
-/// Where the key's record stands, or else where it would stand: looked for by halves.
-fn find_place<F: Family>(records: &[Held<F::Addr>], key: &Key<F::Addr>) -> Result<usize, usize>
-    requires { IsAscending (records_seen F.bytes_of records.now) }
-    ensures { IsPlace (key_seen F.bytes_of key.now) (records_seen F.bytes_of records.now) result }
-{
-    let place = records.partition_point(|held| is_below::<F>(&held.key, key));
-    if place == records.len() {
-        return Err(place);
-    }
-    match compare_keys::<F>(key, &records[place].key) {
-        Ordering::Less => Err(place),
-        Ordering::Equal => Ok(place),
-        Ordering::Greater => unreachable!(),
+impl<F: Family> Probe<Held<F::Addr>> for Sought<F> {
+    ghost use Rattle.pim_down.specs.Key.{key_cmp};
+    ghost use Rattle.pim_down.specs.Seen.{key_seen};
+
+    ghost can_compare = { λ _ _. Unit {0} };
+
+    ghost order = { λ sought held. key_cmp (key_seen F.bytes_of held.key) (key_seen F.bytes_of sought.key) };
+
+    fn compare(&self, held: &Held<F::Addr>) -> Ordering {
+        compare_keys::<F>(&held.key, &self.key)
     }
 }
 
-/// Replaces the record at this place: the key has this machine now, or none.
+/// Where the key's record stands, or else where it would stand. It is looked for near a place where it may be;
+/// whatever place that is, the answer is right.
+pub(crate) fn find_place<F: Family>(
+    records: &Store<F::Addr>,
+    near: Place,
+    key: &Key<F::Addr>,
+) -> Result<Place, Place>
+    requires { IsAscending (records_seen F.bytes_of records.now.items) }
+    ensures { IsPlaceOf F.bytes_of (key_seen F.bytes_of key.now) records.now result }
+{
+    records.find_near(near, &Sought::<F> { key: *key })
+}
+
+/// The place that was found.
+pub(crate) fn place_of(found: Result<Place, Place>) -> Place {
+    match found {
+        Ok(place) | Err(place) => place,
+    }
+}
+
+/// Replaces the machine of the record at this place, or lets go of it. The answer is a place near by.
 pub(crate) fn replace_at<A: Copy>(
-    records: &mut Vec<Held<A>>,
-    place: usize,
-    key: Key<A>,
+    records: &mut Store<A>,
+    place: Place,
     machine: Option<Timed>,
-)
-    requires { place < vec_len records.old }
-    ensures left { (bytes_of : A → List ℕ) → records_seen bytes_of records.new.items
-        ≡ take place (records_seen bytes_of records.old.items)
-        ++ (recorded (key_seen bytes_of key) (machine_seen machine)
-        ++ drop (place + 1) (records_seen bytes_of records.old.items)) }
-    ensures len { vec_len records.new ≤ vec_len records.old }
-    ensures capacity { vec_capacity records.new ≡ vec_capacity records.old }
+) -> Place
+    requires { IsItem records.old place }
+    ensures left { (bytes_of : A → List ℕ) (d : Held A) → records_seen bytes_of records.new.items
+        ≡ take (at records.old place) (records_seen bytes_of records.old.items)
+        ++ (recorded (key_seen bytes_of (slice_index_or records.old.items (at records.old place) d).key)
+        (machine_seen machine)
+        ++ drop (at records.old place + 1) (records_seen bytes_of records.old.items)) }
+    ensures capacity { records.new.capacity ≡ records.old.capacity }
 {
     match machine {
-        Some(machine) => records[place] = Held { key, machine },
-        None => {
-            records.remove(place);
+        Some(machine) => {
+            records.set_machine(place, machine);
+            place
         }
+        None => records.remove(place),
     }
 }
 
-/// The key's machine; `None` where it is in NoInfo.
-pub(crate) fn machine_at<F: Family>(records: &[Held<F::Addr>], key: &Key<F::Addr>) -> Option<Timed>
-    requires { IsAscending (records_seen F.bytes_of records.now) }
-    ensures { machine_seen result ≡ machine_at (key_seen F.bytes_of key.now) (records_seen F.bytes_of records.now) }
+/// The machine of the record that was found; `None` where none was.
+pub(crate) fn machine_of<F: Family>(
+    records: &Store<F::Addr>,
+    key: &Key<F::Addr>,
+    found: Result<Place, Place>,
+) -> Option<Timed>
+    requires ascending { IsAscending (records_seen F.bytes_of records.now.items) }
+    requires found { IsPlaceOf F.bytes_of (key_seen F.bytes_of key.now) records.now found }
+    ensures { machine_seen result
+        ≡ machine_at (key_seen F.bytes_of key.now) (records_seen F.bytes_of records.now.items) }
 {
-    match find_place::<F>(records, key) {
-        Ok(place) => Some(records[place].machine),
+    match found {
+        Ok(place) => Some(records.get(place).machine),
         Err(_) => None,
     }
 }
 
-/// Gives the key's machine this state, or lets go of it. There is room for the records that are held then.
+/// The key's machine; `None` where it is in NoInfo.
+pub(crate) fn machine_at<F: Family>(records: &Store<F::Addr>, key: &Key<F::Addr>) -> Option<Timed>
+    requires { IsAscending (records_seen F.bytes_of records.now.items) }
+    ensures { machine_seen result
+        ≡ machine_at (key_seen F.bytes_of key.now) (records_seen F.bytes_of records.now.items) }
+{
+    let found = find_place::<F>(records, records.first(), key);
+    machine_of::<F>(records, key, found)
+}
+
+/// Gives the machine of the key that was looked for this state, or lets go of it. There is room for the records that
+/// are held then. The answer is a place near by.
 pub(crate) fn put_machine<F: Family>(
-    records: &mut Vec<Held<F::Addr>>,
+    records: &mut Store<F::Addr>,
     key: Key<F::Addr>,
+    found: Result<Place, Place>,
     machine: Option<Timed>,
-)
-    requires ascending { IsAscending (records_seen F.bytes_of records.old.items) }
+) -> Place
+    requires found { IsPlaceOf F.bytes_of (key_seen F.bytes_of key) records.old found }
     requires room { length (changed (key_seen F.bytes_of key) (λ _. machine_seen machine)
-        (records_seen F.bytes_of records.old.items)) ≤ vec_capacity records.old }
+        (records_seen F.bytes_of records.old.items)) ≤ records.old.capacity }
     ensures left { records_seen F.bytes_of records.new.items
         ≡ changed (key_seen F.bytes_of key) (λ _. machine_seen machine) (records_seen F.bytes_of records.old.items) }
-    ensures capacity { vec_capacity records.old ≤ vec_capacity records.new }
+    ensures capacity { records.old.capacity ≤ records.new.capacity }
 {
-    match (find_place::<F>(records, &key), machine) {
-        (Ok(place), _) => replace_at(records, place, key, machine),
-        (Err(place), Some(machine)) => {
-            if records.insert(place, Held { key, machine }).is_err() {
-                unreachable!()
-            }
-        }
-        (Err(_), None) => {}
+    match (found, machine) {
+        (Ok(place), _) => replace_at(records, place, machine),
+        (Err(place), Some(machine)) => records.insert_within(place, Held { key, machine }),
+        (Err(place), None) => place,
     }
 }

@@ -1,22 +1,26 @@
 //! What the events of a message do to the machines of a port.
 
-ghost use Rattle.std.specs.Prelude.{◌≡◌, ◌≤◌, ◌+◌, ◌∷◌, [], ℕ, List, Some, length, vec_capacity};
+ghost use Rattle.std.specs.Prelude.{◌≡◌, ◌≤◌, ◌+◌, ℕ, List, length};
 ghost use Rattle.pim_jp.specs.Seen.{entry_seen};
-ghost use Rattle.pim_down.specs.Records.{IsAscending, recorded, each_changed};
+ghost use Rattle.pim_down.specs.Records.{IsAscending, each_changed};
 ghost use Rattle.pim_down.specs.Hearing.{is_known, entry_events, start_of, on_own, is_rpt_of, on_rpts, is_star_join};
-ghost use Rattle.pim_down.specs.Hearing.{act, at_end};
+ghost use Rattle.pim_down.specs.Hearing.{act, is_rpt};
+ghost use Rattle.pim_down.specs.After.{beside_rpts};
 ghost use Rattle.pim_down.specs.Known.{known_in};
-ghost use Rattle.pim_down.specs.Running.{start_after, is_over};
-ghost use Rattle.pim_down.specs.Seen.{start_seen, timed_seen, machine_seen, what_seen, key_seen, record_seen};
+ghost use Rattle.pim_down.specs.Running.{start_after};
+ghost use Rattle.pim_down.specs.Seen.{start_seen, machine_seen, what_seen, key_seen};
 ghost use Rattle.pim_down.specs.Seen.{records_seen, event_seen, events_seen};
 
-use crate::edits::{machine_at, put_machine};
+use crate::edits::{find_place, machine_of, put_machine};
 use crate::event::{Event, Timing};
-use crate::held::{Held, Start, Timed, Waiting};
+use crate::held::{Start, Timed, Waiting};
 use crate::key::{Key, What};
-use crate::machine::{State, on_join, on_prune, on_rpt_prune, on_star_join};
+use crate::machine::{on_join, on_prune, on_rpt_prune, on_star_join};
+use crate::store::{Bound, Store};
 use pim_addr::{Family, Routes};
 use pim_jp::Entry;
+use sorted_blocks::Place;
+use std::cmp::Ordering;
 
 /// The holdtime of a Join/Prune that is never to time out, in seconds (RFC 7761, 4.9.5).
 const FOR_EVER: u16 = 0xffff;
@@ -94,34 +98,60 @@ fn on_own<A>(event: &Event<A>, start: Start, held: Option<Timed>) -> Option<Time
 }
 
 /// Whether it is an (S,G,rpt) machine of this group on this port.
-fn is_rpt_of<F: Family>(key: &Key<F::Addr>, port: usize, group: F::Addr) -> bool
+pub(crate) fn is_rpt_of<F: Family>(key: &Key<F::Addr>, port: usize, group: F::Addr) -> bool
     ensures { result ≡ is_rpt_of port (F.bytes_of group) (key_seen F.bytes_of key.now) }
 {
     key.port == port && matches!(key.what, What::Rpt(_)) && key.group == group
 }
 
-/// What a Join(*,G) makes of a record.
-fn star_joined<F: Family>(held: Held<F::Addr>, port: usize, group: F::Addr) -> Held<F::Addr>
-    ensures { record_seen F.bytes_of result ∷ [] ≡ recorded (key_seen F.bytes_of held.key)
-        (on_rpts port (F.bytes_of group) (key_seen F.bytes_of held.key) (Some (timed_seen held.machine))) }
+/// Whether a machine of a group stands before the (S,G,rpt) ones, as a comparison.
+fn beside_rpts<A>(what: &What<A>) -> Ordering
+    ensures { (bytes_of : A → List ℕ) → result ≡ beside_rpts (is_rpt (what_seen bytes_of what.now)) }
 {
-    if is_rpt_of::<F>(&held.key, port, group) {
-        return Held {
-            key: held.key,
-            machine: on_star_join(held.machine),
-        };
+    match what {
+        What::Star | What::Source(_) => Ordering::Less,
+        What::Rpt(_) => Ordering::Greater,
     }
-    held
 }
 
-/// A Join(*,G) comes to the (S,G,rpt) machines of its group.
-pub(crate) fn join_rpts<F: Family>(records: &mut Vec<Held<F::Addr>>, port: usize, group: F::Addr)
+/// The bound before the (S,G,rpt) machines of a group on a port.
+#[derive(Drop)]
+pub(crate) struct RptsOf<F: Family> {
+    pub(crate) port: usize,
+    pub(crate) group: F::Addr,
+}
+
+impl<F: Family> Bound<F::Addr> for RptsOf<F> {
+    ghost use Rattle.pim_down.specs.Seen.{key_seen};
+    ghost use Rattle.pim_down.specs.After.{is_before_rpts};
+
+    ghost is_before = { λ bound key. is_before_rpts bound.port (F.bytes_of bound.group) (key_seen F.bytes_of key) };
+
+    fn is_before(&self, key: &Key<F::Addr>) -> bool {
+        key.port
+            .cmp(&self.port)
+            .then(key.group.cmp(&self.group))
+            .then(beside_rpts(&key.what))
+            .is_lt()
+    }
+}
+
+/// A Join(*,G) comes to the (S,G,rpt) machines of its group. It goes through these alone.
+pub(crate) fn join_rpts<F: Family>(records: &mut Store<F::Addr>, port: usize, group: F::Addr)
+    requires { IsAscending (records_seen F.bytes_of records.old.items) }
     ensures records { records_seen F.bytes_of records.new.items
         ≡ each_changed (on_rpts port (F.bytes_of group)) (records_seen F.bytes_of records.old.items) }
-    ensures capacity { vec_capacity records.new ≡ vec_capacity records.old }
+    ensures capacity { records.new.capacity ≡ records.old.capacity }
 {
-    for held in records.iter_mut() {
-        *held = star_joined::<F>(*held, port, group);
+    let mut place = records.first_behind(&RptsOf::<F> { port, group });
+    while records.is_item(place) {
+        let held = *records.get(place);
+        if is_rpt_of::<F>(&held.key, port, group) {
+            records.set_machine(place, on_star_join(held.machine));
+            place = records.next(place);
+        } else {
+            return;
+        }
     }
 }
 
@@ -132,45 +162,31 @@ fn is_star_join<A>(event: &Event<A>) -> bool
     event.joins && matches!(event.what, What::Star)
 }
 
-/// Lets an event act on the machines of a port.
+/// Lets an event act on the machines of a port. It begins to look near this place, and leaves one there.
 pub(crate) fn act<F: Family>(
-    records: &mut Vec<Held<F::Addr>>,
+    records: &mut Store<F::Addr>,
+    near: &mut Place,
     port: usize,
     start: Start,
     event: Event<F::Addr>,
 )
     requires ascending { IsAscending (records_seen F.bytes_of records.old.items) }
     requires room { length (act port (start_seen start) (event_seen F.bytes_of event)
-        (records_seen F.bytes_of records.old.items)) ≤ vec_capacity records.old }
+        (records_seen F.bytes_of records.old.items)) ≤ records.old.capacity }
     ensures records { records_seen F.bytes_of records.new.items
         ≡ act port (start_seen start) (event_seen F.bytes_of event) (records_seen F.bytes_of records.old.items) }
-    ensures capacity { vec_capacity records.old ≤ vec_capacity records.new }
+    ensures capacity { records.old.capacity ≤ records.new.capacity }
 {
     let key = Key {
         port,
         group: event.group,
         what: event.what,
     };
-    let held = machine_at::<F>(records, &key);
-    put_machine::<F>(records, key, on_own(&event, start, held));
+    let found = find_place::<F>(records, *near, &key);
+    let held = machine_of::<F>(records, &key, found);
+    let place = put_machine::<F>(records, key, found, on_own(&event, start, held));
+    *near = place;
     if is_star_join(&event) {
         join_rpts::<F>(records, port, event.group);
     }
-}
-
-/// End of Message comes to the (S,G,rpt) machines of a port.
-pub(crate) fn end_message<F: Family>(records: &mut Vec<Held<F::Addr>>, port: usize)
-    ensures { records_seen F.bytes_of records.new.items
-        ≡ each_changed (at_end port) (records_seen F.bytes_of records.old.items) }
-{
-    records.retain(|held| !is_over(held, port));
-}
-
-/// Whether End of Message on this port leads the machine to NoInfo.
-fn is_over<A>(held: &Held<A>, port: usize) -> bool
-    ensures { (bytes_of : A → List ℕ) → result ≡ is_over port (record_seen bytes_of held.now) }
-{
-    held.key.port == port
-        && matches!(held.key.what, What::Rpt(_))
-        && matches!(held.machine.state, State::PruneTmp | State::PrunePendingTmp)
 }

@@ -9,6 +9,7 @@
 
 mod after;
 mod edits;
+mod end;
 mod event;
 mod fault;
 mod hear;
@@ -20,6 +21,7 @@ mod message;
 mod ports;
 mod run;
 mod step;
+mod store;
 #[cfg(test)]
 mod tests;
 mod timers;

@@ -1,24 +1,28 @@
 //! A message's entries, counted and heard.
 
-ghost use Rattle.std.specs.Prelude.{◌≡◌, ◌≤◌, ℕ, List, vec_capacity, OnOk, OnErr};
+ghost use Rattle.std.specs.Prelude.{◌≡◌, ◌≤◌, ◌<◌, ℕ, List, OnOk, OnErr};
 ghost use Rattle.std.specs.List.{flat_map};
 ghost use Rattle.pim_down.specs.Records.{IsAscending, count_on};
 ghost use Rattle.pim_down.specs.Hearing.{list_events, set_events, events_of, act_all, hearing};
 ghost use Rattle.pim_down.specs.Hearing.{creates, is_new, count_new, needed};
-ghost use Rattle.pim_down.specs.Heard.{IsWithin, MayWantMemory};
+ghost use Rattle.pim_down.specs.Heard.{IsWithin, MayWantMemory, OnFull};
 ghost use Rattle.pim_down.specs.Known.{known_in};
 ghost use Rattle.pim_down.specs.Space.{HasRoom};
+ghost use Rattle.pim_down.specs.Sound.{IsSettled};
 ghost use Rattle.pim_down.specs.Seen.{start_seen, records_seen, event_seen};
 
-use crate::edits::machine_at;
+use crate::edits::{find_place, place_of};
+use crate::end::end_message;
 use crate::event::Event;
 use crate::fault::HearFault;
-use crate::hear::{act, end_message, event_of};
-use crate::held::{Held, Start};
+use crate::hear::{act, event_of};
+use crate::held::Start;
 use crate::key::{Key, What};
+use crate::store::Store;
 use crate::walk::count_on;
 use pim_addr::{Family, Routes};
 use pim_jp::{Entries, JpView, Sets};
+use sorted_blocks::Place;
 
 /// Whether the event makes a record where none is held.
 fn creates<A>(event: &Event<A>) -> bool
@@ -30,30 +34,39 @@ fn creates<A>(event: &Event<A>) -> bool
     }
 }
 
-/// Whether the event makes a record that isn't held.
-fn is_new<F: Family>(records: &[Held<F::Addr>], port: usize, event: &Event<F::Addr>) -> bool
-    requires { IsAscending (records_seen F.bytes_of records.now) }
-    ensures { result ≡ is_new port (records_seen F.bytes_of records.now) (event_seen F.bytes_of event.now) }
+/// Whether the event makes a record that isn't held. It begins to look near this place, and leaves one there.
+fn is_new<F: Family>(
+    records: &Store<F::Addr>,
+    near: &mut Place,
+    port: usize,
+    event: &Event<F::Addr>,
+) -> bool
+    requires { IsAscending (records_seen F.bytes_of records.now.items) }
+    ensures { result ≡ is_new port (records_seen F.bytes_of records.now.items) (event_seen F.bytes_of event.now) }
 {
     let key = Key {
         port,
         group: event.group,
         what: event.what,
     };
-    creates(event) && machine_at::<F>(records, &key).is_none()
+    let found = find_place::<F>(records, *near, &key);
+    let place = place_of(found);
+    *near = place;
+    creates(event) && found.is_err()
 }
 
 /// How many entries of one list make a record that isn't held.
 fn count_list<F: Family>(
-    records: &[Held<F::Addr>],
+    records: &Store<F::Addr>,
+    near: &mut Place,
     port: usize,
     routes: &Routes<F>,
     joins: bool,
     group: F::Addr,
     entries: Entries<'_, F>,
 ) -> usize
-    requires { IsAscending (records_seen F.bytes_of records.now) }
-    ensures count { result ≡ count_new port (records_seen F.bytes_of records.now)
+    requires { IsAscending (records_seen F.bytes_of records.now.items) }
+    ensures count { result ≡ count_new port (records_seen F.bytes_of records.now.items)
         (list_events (known_in F.family routes.now) joins (F.bytes_of group) entries.entry) }
     ensures bound { result ≤ 65535 }
 {
@@ -61,7 +74,7 @@ fn count_list<F: Family>(
     let mut count = 0;
     for entry in entries {
         if let Some(event) = event_of::<F>(routes, joins, group, entry) {
-            if is_new::<F>(records, port, &event) {
+            if is_new::<F>(records, near, port, &event) {
                 count += 1;
             }
         }
@@ -71,7 +84,8 @@ fn count_list<F: Family>(
 
 /// Hears the entries of one list.
 fn hear_list<F: Family>(
-    records: &mut Vec<Held<F::Addr>>,
+    records: &mut Store<F::Addr>,
+    near: &mut Place,
     port: usize,
     start: Start,
     routes: &Routes<F>,
@@ -80,17 +94,17 @@ fn hear_list<F: Family>(
     entries: Entries<'_, F>,
 )
     requires ascending { IsAscending (records_seen F.bytes_of records.old.items) }
-    requires room { HasRoom port (start_seen start) (vec_capacity records.old)
+    requires room { HasRoom port (start_seen start) records.old.capacity
         (list_events (known_in F.family routes.now) joins (F.bytes_of group) entries)
         (records_seen F.bytes_of records.old.items) }
     ensures records { records_seen F.bytes_of records.new.items ≡ act_all port (start_seen start)
         (list_events (known_in F.family routes.now) joins (F.bytes_of group) entries.entry)
         (records_seen F.bytes_of records.old.items) }
-    ensures capacity { vec_capacity records.old ≤ vec_capacity records.new }
+    ensures capacity { records.old.capacity ≤ records.new.capacity }
 {
     for entry in entries {
         match event_of::<F>(routes, joins, group, entry) {
-            Some(event) => act::<F>(records, port, start, event),
+            Some(event) => act::<F>(records, near, port, start, event),
             None => {}
         }
     }
@@ -98,22 +112,23 @@ fn hear_list<F: Family>(
 
 /// How many entries of these sets make a record that isn't held.
 pub(crate) fn count_sets<F: Family>(
-    records: &[Held<F::Addr>],
+    records: &Store<F::Addr>,
     port: usize,
     routes: &Routes<F>,
     sets: Sets<'_, F>,
 ) -> usize
-    requires { IsAscending (records_seen F.bytes_of records.now) }
-    ensures count { result ≡ count_new port (records_seen F.bytes_of records.now)
+    requires { IsAscending (records_seen F.bytes_of records.now.items) }
+    ensures count { result ≡ count_new port (records_seen F.bytes_of records.now.items)
         (flat_map (set_events (known_in F.family routes.now)) sets.entry) }
     ensures bound { result ≤ 33422850 }
 {
     let _most = sets.count_left();
+    let mut near = Place::START;
     let mut count = 0;
     for set in sets {
         let group = set.group();
-        let joined = count_list::<F>(records, port, routes, true, group, set.joined());
-        let pruned = count_list::<F>(records, port, routes, false, group, set.pruned());
+        let joined = count_list::<F>(records, &mut near, port, routes, true, group, set.joined());
+        let pruned = count_list::<F>(records, &mut near, port, routes, false, group, set.pruned());
         count += joined + pruned;
     }
     count
@@ -121,28 +136,47 @@ pub(crate) fn count_sets<F: Family>(
 
 /// Hears these sets.
 pub(crate) fn hear_sets<F: Family>(
-    records: &mut Vec<Held<F::Addr>>,
+    records: &mut Store<F::Addr>,
     port: usize,
     start: Start,
     routes: &Routes<F>,
     sets: Sets<'_, F>,
 )
     requires ascending { IsAscending (records_seen F.bytes_of records.old.items) }
-    requires room { HasRoom port (start_seen start) (vec_capacity records.old)
+    requires room { HasRoom port (start_seen start) records.old.capacity
         (flat_map (set_events (known_in F.family routes.now)) sets) (records_seen F.bytes_of records.old.items) }
     ensures records { records_seen F.bytes_of records.new.items ≡ act_all port (start_seen start)
         (flat_map (set_events (known_in F.family routes.now)) sets.entry) (records_seen F.bytes_of records.old.items) }
 {
+    let mut near = Place::START;
     for set in sets {
         let group = set.group();
-        hear_list::<F>(records, port, start, routes, true, group, set.joined());
-        hear_list::<F>(records, port, start, routes, false, group, set.pruned());
+        hear_list::<F>(
+            records,
+            &mut near,
+            port,
+            start,
+            routes,
+            true,
+            group,
+            set.joined(),
+        );
+        hear_list::<F>(
+            records,
+            &mut near,
+            port,
+            start,
+            routes,
+            false,
+            group,
+            set.pruned(),
+        );
     }
 }
 
 /// Hears a message on a port, or refuses with nothing changed. All growths come before the first change.
 pub(crate) fn hear_message<F: Family>(
-    records: &mut Vec<Held<F::Addr>>,
+    records: &mut Store<F::Addr>,
     limit: usize,
     port: usize,
     start: Start,
@@ -150,11 +184,13 @@ pub(crate) fn hear_message<F: Family>(
     message: &JpView<'_, F>,
 ) -> Result<(), HearFault>
     requires ascending { IsAscending (records_seen F.bytes_of records.old.items) }
+    requires settled { IsSettled (records_seen F.bytes_of records.old.items) }
+    requires port { port < 64 }
     requires within { count_on port (records_seen F.bytes_of records.old.items) ≤ 100000 }
     ensures ok { OnOk result (records_seen F.bytes_of records.new.items ≡ hearing port (start_seen start)
         (events_of (known_in F.family routes.now) message.now) (records_seen F.bytes_of records.old.items)) }
     ensures err { OnErr result (records.new.items ≡ records.old.items) }
-    ensures kept { OnErr result (vec_capacity records.new ≡ vec_capacity records.old) }
+    ensures kept { OnFull result (records.new ≡ records.old) }
     ensures memory { MayWantMemory (count_new port (records_seen F.bytes_of records.old.items)
         (events_of (known_in F.family routes.now) message.now)) result }
     ensures room { IsWithin limit (needed port (records_seen F.bytes_of records.old.items)
@@ -169,6 +205,6 @@ pub(crate) fn hear_message<F: Family>(
         return Err(HearFault::Memory);
     }
     hear_sets::<F>(records, port, start, routes, message.sets());
-    end_message::<F>(records, port);
+    end_message::<F>(records, port, message.sets());
     Ok(())
 }

@@ -16,12 +16,12 @@ use crate::edits::machine_at;
 use crate::event::Timing;
 use crate::fault::HearFault;
 use crate::hear::start_at;
-use crate::held::Held;
 use crate::key::{Key, What};
 use crate::machine::{Record, State};
 use crate::message::hear_message;
 use crate::run::{Stop, run};
 use crate::step::Step;
+use crate::store::Store;
 use crate::timers::next_end;
 use crate::walk::{Records, count_on, on_port, record_after};
 use pim_addr::{Family, Routes};
@@ -38,7 +38,7 @@ pub struct Ports<F: Family> {
     /// No timer ends before this moment.
     quiet_until: u64,
     /// In key order.
-    records: Vec<Held<F::Addr>>,
+    records: Store<F::Addr>,
     family: PhantomData<F>,
 }
 
@@ -72,7 +72,7 @@ impl<F: Family> Ports<F> {
             limit,
             moment: 0,
             quiet_until: 0,
-            records: Vec::new(alloc),
+            records: Store::new(alloc),
             family: PhantomData,
         }
     }
@@ -102,6 +102,9 @@ impl<F: Family> Ports<F> {
     pub fn count_on(&self, port: usize) -> usize
         ensures { result ≡ count_on port self.now.records }
     {
+        if port >= self.ports {
+            return 0;
+        }
         count_on::<F>(&self.records, port)
     }
 
@@ -141,7 +144,7 @@ impl<F: Family> Ports<F> {
         ensures records { result ≡ self.now.records }
         ensures sound { IsSound F.family self.now }
     {
-        Records::new(&self.records, self.moment)
+        Records::new(self.records.iter(), self.moment)
     }
 
     /// The machines of one port that are held, in key order, with what is left of their timers; none where the port
@@ -149,6 +152,9 @@ impl<F: Family> Ports<F> {
     pub fn records_on(&self, port: usize) -> Records<'_, F>
         ensures { result ≡ filter (is_on port) self.now.records }
     {
+        if port >= self.ports {
+            return Records::new(self.records.walk(self.records.first(), 0), self.moment);
+        }
         Records::new(on_port::<F>(&self.records, port), self.moment)
     }
 

@@ -7,8 +7,8 @@ ghost use Rattle.pim_down.specs.Ends.{first_end, IsQuietUntil};
 ghost use Rattle.pim_down.specs.Seen.{step_seen, records_seen};
 ghost use Rattle.pim_down.specs.Running.{downstream_at};
 
-use crate::held::Held;
 use crate::step::Step;
+use crate::store::Store;
 use crate::timers::{NextEnd, end_by, fire_first};
 use pim_addr::Family;
 
@@ -23,7 +23,7 @@ pub(crate) struct Stop<A> {
 
 /// Runs from this moment to a later one, or to the first echo, where no timer ends before `quiet_until`.
 pub(crate) fn run<F: Family>(
-    records: &mut Vec<Held<F::Addr>>,
+    records: &mut Store<F::Addr>,
     now: u64,
     moment: u64,
     quiet_until: u64,

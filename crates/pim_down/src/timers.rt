@@ -1,20 +1,24 @@
 //! When the timers of some records end, and what they do then.
 
-ghost use Rattle.std.specs.Prelude.{◌≡◌, ◌<◌, IsTrue, ◌+◌, ℕ, List, ◌++◌, take, drop, vec_len};
-ghost use Rattle.std.specs.List.{position};
+ghost use Rattle.std.specs.Prelude.{◌≡◌, IsTrue, ◌+◌, ℕ, List, ◌++◌, take, drop, slice_index_or};
+ghost use Rattle.sorted_slab.specs.Listed.{at, IsItem};
+ghost use Rattle.pim_down.specs.declared.held.Held.{Held};
 ghost use Rattle.std.specs.Option.{is_some};
 ghost use Rattle.pim_down.specs.Time.{expiry_after, pending_after, record_after, expiry_due, pending_due, et_due};
 ghost use Rattle.pim_down.specs.Time.{ppt_due, on_ppt, after_ppt, echo_of, fired};
 ghost use Rattle.pim_down.specs.Ends.{sooner, pending_end, first_end, IsEndBy};
 ghost use Rattle.pim_down.specs.Seen.{waiting_seen, timed_seen, machine_seen, what_seen, record_seen, records_seen};
 ghost use Rattle.pim_down.specs.Seen.{step_seen, shown};
+ghost use Rattle.pim_down.specs.Store.{IsFirst};
 
 use crate::edits::replace_at;
 use crate::held::{Held, Timed};
 use crate::key::{Key, What};
 use crate::machine::State;
 use crate::step::Step;
+use crate::store::Store;
 use pim_addr::Family;
+use sorted_blocks::Place;
 
 /// The sooner of two ends, of which `None` is never.
 fn sooner(a: Option<u64>, b: Option<u64>) -> Option<u64>
@@ -38,11 +42,11 @@ fn machine_end(machine: &Timed) -> Option<u64>
 }
 
 /// When the first timer of all ends.
-pub(crate) fn next_end<F: Family>(records: &[Held<F::Addr>]) -> Option<u64>
-    ensures { result ≡ first_end (records_seen F.bytes_of records.now) }
+pub(crate) fn next_end<F: Family>(records: &Store<F::Addr>) -> Option<u64>
+    ensures { result ≡ first_end (records_seen F.bytes_of records.now.items) }
 {
     let mut end = None;
-    for record in records {
+    for record in records.iter() {
         end = sooner(end, machine_end(&record.machine));
     }
     end
@@ -57,8 +61,8 @@ pub(crate) enum NextEnd {
 }
 
 /// When the first timer of all ends, where that is no later than this.
-pub(crate) fn end_by<F: Family>(records: &[Held<F::Addr>], last: u64) -> NextEnd
-    ensures { IsEndBy last (first_end (records_seen F.bytes_of records.now)) result }
+pub(crate) fn end_by<F: Family>(records: &Store<F::Addr>, last: u64) -> NextEnd
+    ensures { IsEndBy last (first_end (records_seen F.bytes_of records.now.items)) result }
 {
     match next_end::<F>(records) {
         None => NextEnd::Quiet(u64::MAX),
@@ -90,21 +94,31 @@ fn is_expired(machine: &Timed, now: u64) -> bool
 }
 
 /// The first record whose prune-pending timer is due.
-fn first_pending<F: Family>(records: &[Held<F::Addr>], now: u64) -> Option<usize>
-    ensures { result ≡ position (λ held. ppt_due (record_after now (record_seen F.bytes_of held))) records.now }
+fn first_pending<F: Family>(records: &Store<F::Addr>, now: u64) -> Option<Place>
+    ensures { IsFirst (λ held. ppt_due (record_after now (record_seen F.bytes_of held))) records.now result }
 {
-    records
-        .iter()
-        .position(|held| is_pending_due(&held.machine, now))
+    let mut place = records.first();
+    while records.is_item(place) {
+        if is_pending_due(&records.get(place).machine, now) {
+            return Some(place);
+        }
+        place = records.next(place);
+    }
+    None
 }
 
 /// The first record whose expiry timer is due.
-fn first_expired<F: Family>(records: &[Held<F::Addr>], now: u64) -> Option<usize>
-    ensures { result ≡ position (λ held. et_due (record_after now (record_seen F.bytes_of held))) records.now }
+fn first_expired<F: Family>(records: &Store<F::Addr>, now: u64) -> Option<Place>
+    ensures { IsFirst (λ held. et_due (record_after now (record_seen F.bytes_of held))) records.now result }
 {
-    records
-        .iter()
-        .position(|held| is_expired(&held.machine, now))
+    let mut place = records.first();
+    while records.is_item(place) {
+        if is_expired(&records.get(place).machine, now) {
+            return Some(place);
+        }
+        place = records.next(place);
+    }
+    None
 }
 
 /// Where a machine goes whose prune-pending timer fires: to Prune if it is of (S,G,rpt), else to NoInfo.
@@ -137,34 +151,30 @@ fn echo_of<A: Copy>(held: &Held<A>) -> Step<A>
     }
 }
 
-/// Fires the prune-pending timer of this record, which stands at this place.
-fn fire_pending<F: Family>(
-    records: &mut Vec<Held<F::Addr>>,
-    place: usize,
-    fired: Held<F::Addr>,
-) -> Step<F::Addr>
-    requires { place < vec_len records.old }
-    ensures told { step_seen F.bytes_of result ≡ echo_of (record_seen F.bytes_of fired) }
-    ensures left { records_seen F.bytes_of records.new.items
-        ≡ take place (records_seen F.bytes_of records.old.items)
-        ++ (after_ppt (record_seen F.bytes_of fired) ++ drop (place + 1) (records_seen F.bytes_of records.old.items)) }
+/// Fires the prune-pending timer of the record at this place.
+fn fire_pending<F: Family>(records: &mut Store<F::Addr>, place: Place) -> Step<F::Addr>
+    requires { IsItem records.old place }
+    ensures told { (d : Held F.Addr) → step_seen F.bytes_of result
+        ≡ echo_of (record_seen F.bytes_of (slice_index_or records.old.items (at records.old place) d)) }
+    ensures left { (d : Held F.Addr) → records_seen F.bytes_of records.new.items
+        ≡ take (at records.old place) (records_seen F.bytes_of records.old.items)
+        ++ (after_ppt (record_seen F.bytes_of (slice_index_or records.old.items (at records.old place) d))
+        ++ drop (at records.old place + 1) (records_seen F.bytes_of records.old.items)) }
 {
+    let fired = *records.get(place);
     let machine = on_ppt(&fired.key.what, &fired.machine);
-    replace_at(records, place, fired.key, machine);
+    replace_at(records, place, machine);
     echo_of(&fired)
 }
 
 /// Fires the first due timer: prune-pending timers come before expiry timers.
-pub(crate) fn fire_first<F: Family>(records: &mut Vec<Held<F::Addr>>, now: u64) -> Step<F::Addr>
+pub(crate) fn fire_first<F: Family>(records: &mut Store<F::Addr>, now: u64) -> Step<F::Addr>
     requires { IsTrue (is_some (fired (shown F.bytes_of now records.old.items))) }
     ensures { fired (shown F.bytes_of now records.old.items)
         ≡ Some (step_seen F.bytes_of result, shown F.bytes_of now records.new.items) }
 {
     match first_pending::<F>(records, now) {
-        Some(place) => {
-            let fired = records[place];
-            fire_pending::<F>(records, place, fired)
-        }
+        Some(place) => fire_pending::<F>(records, place),
         None => match first_expired::<F>(records, now) {
             Some(place) => {
                 records.remove(place);

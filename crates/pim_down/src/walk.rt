@@ -1,6 +1,6 @@
 //! The records, one after another.
 
-ghost use Rattle.std.specs.Prelude.{◌≡◌, ℕ, List};
+ghost use Rattle.std.specs.Prelude.{◌≡◌, ◌<◌, ℕ, List};
 ghost use Rattle.std.specs.List.{filter};
 ghost use Rattle.std.specs.Iterator.{YieldsFirstBy, item_count};
 ghost use Rattle.pim_down.specs.Records.{IsAscending, is_on, count_on};
@@ -8,8 +8,12 @@ ghost use Rattle.pim_down.specs.Time.{machine_after, record_after};
 ghost use Rattle.pim_down.specs.Seen.{timed_seen, record_seen, told_seen, records_seen, shown};
 
 use crate::held::{Held, Timed};
+use crate::key::Key;
 use crate::machine::{Machine, Pending, Record};
+use crate::store::{Bound, Store};
 use pim_addr::Family;
+use sorted_slab::Walk;
+use std::fmt;
 use std::marker::{Model, PhantomData};
 
 /// The machine as it stands at this moment: its times are what is left.
@@ -44,30 +48,49 @@ pub(crate) fn record_after<A: Copy>(held: &Held<A>, now: u64) -> Record<A>
     }
 }
 
+/// The bound before all records of a port.
+#[derive(Drop)]
+struct OfPort {
+    port: usize,
+}
+
+impl<A> Bound<A> for OfPort {
+    ghost use Rattle.std.specs.Prelude.{nat_lt};
+
+    ghost is_before = { λ b key. nat_lt key.port b.port };
+
+    fn is_before(&self, key: &Key<A>) -> bool {
+        key.port < self.port
+    }
+}
+
 /// The records of one port, which stand together.
-pub(crate) fn on_port<F: Family>(records: &[Held<F::Addr>], port: usize) -> &[Held<F::Addr>]
-    requires { IsAscending (records_seen F.bytes_of records.now) }
-    ensures { records_seen F.bytes_of result.now ≡ filter (is_on port) (records_seen F.bytes_of records.now) }
+pub(crate) fn on_port<F: Family>(
+    records: &Store<F::Addr>,
+    port: usize,
+) -> Walk<'_, Held<F::Addr>, 64>
+    requires ascending { IsAscending (records_seen F.bytes_of records.now.items) }
+    requires port { port < 64 }
+    ensures { records_seen F.bytes_of result ≡ filter (is_on port) (records_seen F.bytes_of records.now.items) }
 {
-    let first = records.partition_point(|held| held.key.port < port);
-    let (_, from) = records.split_at(first);
-    let count = from.partition_point(|held| held.key.port <= port);
-    let (here, _) = from.split_at(count);
-    here
+    records.walk(
+        records.first_behind(&OfPort { port }),
+        records.count_on(port),
+    )
 }
 
 /// How many records the port has.
-pub(crate) fn count_on<F: Family>(records: &[Held<F::Addr>], port: usize) -> usize
-    requires { IsAscending (records_seen F.bytes_of records.now) }
-    ensures { result ≡ count_on port (records_seen F.bytes_of records.now) }
+pub(crate) fn count_on<F: Family>(records: &Store<F::Addr>, port: usize) -> usize
+    requires { port < 64 }
+    ensures { result ≡ count_on port (records_seen F.bytes_of records.now.items) }
 {
-    on_port::<F>(records, port).len()
+    records.count_on(port)
 }
 
 /// The records in key order, with what is left of their timers. Contracts see those that are left.
-#[derive(Debug, Drop)]
+#[derive(Drop)]
 pub struct Records<'a, F: Family> {
-    left: &'a [Held<F::Addr>],
+    left: Walk<'a, Held<F::Addr>, 64>,
     moment: u64,
     family: PhantomData<F>,
 }
@@ -79,13 +102,13 @@ impl<'a, F: Family> Model for Records<'a, F> {
 
     ghost Value = { List (Record (List ℕ)) };
 
-    ghost view = { λ walk. shown F.bytes_of walk.moment walk.left.now };
+    ghost view = { λ walk. shown F.bytes_of walk.moment walk.left };
 }
 
 impl<'a, F: Family> Records<'a, F> {
     /// These records, as they stand at this moment.
-    pub(crate) fn new(left: &'a [Held<F::Addr>], moment: u64) -> Self
-        ensures { result ≡ shown F.bytes_of moment left.now }
+    pub(crate) fn new(left: Walk<'a, Held<F::Addr>, 64>, moment: u64) -> Self
+        ensures { result ≡ shown F.bytes_of moment left.entry }
     {
         Records {
             left,
@@ -104,9 +127,15 @@ impl<'a, F: Family> Iterator for Records<'a, F> {
     ghost remaining = { item_count (λ records. records) };
 
     fn next(&mut self) -> Option<Record<F::Addr>> {
-        let (first, others) = self.left.split_first()?;
-        let told = record_after(first, self.moment);
-        self.left = others;
-        Some(told)
+        let first = self.left.next()?;
+        Some(record_after(first, self.moment))
+    }
+}
+
+impl<'a, F: Family> fmt::Debug for Records<'a, F> {
+    fn fmt<W: fmt::Write>(&self, f: &mut fmt::Formatter<W>) -> fmt::Result {
+        f.debug_struct("Records")
+            .field("moment", &self.moment)
+            .finish()
     }
 }

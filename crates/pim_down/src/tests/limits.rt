@@ -42,8 +42,10 @@ fn shows_what_is_held(rt: HostRuntime) -> Result<(), Fail> {
     assert!(rt; text.starts_with(start));
     let rows = [hear(0, &[(&[JOIN_STAR], &[])])];
     assert_eq!(rt; play(rt.alloc(), &mut ports, &rows)?, None);
+    let text = format!(in rt.alloc(); "{ports:?}")?;
+    assert!(rt; text.contains("records: [Held { key: Key { port: 0, "));
     let text = format!(in rt.alloc(); "{:?}", ports.records())?;
-    assert!(rt; text.starts_with("Records { left: [Held { key: Key { port: 0, "));
+    assert!(rt; text.starts_with("Records { moment: 0"));
     Ok(())
 }
 

@@ -1,22 +1,23 @@
-use Rattle.std.proofs.Common.{◌∙◌, Option, length, ap, sym, arith}
+use Rattle.std.proofs.Common.{◌∙◌, Option, length, ap, sym, subst, arith}
 use Rattle.pim_down.specs.declared.machine.Machine.{Machine}
 use Rattle.pim_down.specs.Seen.{start_seen, machine_seen, event_seen, records_seen}
-use Rattle.pim_down.specs.Records.{each_changed}
+use Rattle.pim_down.specs.Records.{IsAscending, each_changed}
+use Rattle.pim_down.proofs.Map.{IsAscending-changed}
 use Rattle.pim_down.specs.Hearing.{on_own, on_rpts, key_of}
 use Rattle.pim_down.proofs.Each.{changed_into, length_act, act_star, act_other}
 use Rattle.pim_down.proofs.hear.act.Goals as goal
 
-pub put_machine-requires : goal.put_machine-requires
-put_machine-requires g c =
+pub put_machine-place-requires-clause-room : goal.put_machine-place-requires-clause-room
+put_machine-place-requires-clause-room g c =
     let bytes_of = g.F.Family.bytes_of in
     let event = event_seen bytes_of c.args.event in
     let seen = records_seen bytes_of c.args.records.now.items in
     let change : Option Machine → Option Machine = on_own event.joins event.what (start_seen c.args.start) in
-    let held = rw c.deref.ensures.value at c.machine_at-held.ensures in
+    let held = c.machine_of-held.ensures in
     let own = changed_into (key_of c.args.port event) change (machine_seen c.on_own.result) seen c.requires.ascending (c.on_own.ensures bytes_of ∙ ap change held) in
     let long = ap length own in
     let whole = length_act c.args.port (start_seen c.args.start) event seen in
-    record { ascending = c.requires.ascending; room = omega (arith, c.requires.room) }
+    omega (arith, c.requires.room)
 
 pub returns-then-is_star_join-clause-records : goal.returns-then-is_star_join-clause-records
 returns-then-is_star_join-clause-records g c =
@@ -24,9 +25,9 @@ returns-then-is_star_join-clause-records g c =
     let event = event_seen bytes_of c.args.event in
     let seen = records_seen bytes_of c.args.records.now.items in
     let change : Option Machine → Option Machine = on_own event.joins event.what (start_seen c.args.start) in
-    let held = rw c.deref.ensures.value at c.machine_at-held.ensures in
+    let held = c.machine_of-held.ensures in
     let own = changed_into (key_of c.args.port event) change (machine_seen c.on_own.result) seen c.requires.ascending (c.on_own.ensures bytes_of ∙ ap change held) in
-    c.join_rpts.ensures.records ∙ ap (each_changed (on_rpts c.args.port event.group)) (c.put_machine.ensures.left ∙ own)
+    c.join_rpts.ensures.records ∙ ap (each_changed (on_rpts c.args.port event.group)) (c.put_machine-place.ensures.left ∙ own)
     ∙ sym (act_star c.args.port (start_seen c.args.start) event seen (sym (c.is_star_join.ensures bytes_of) ∙ c.if-is_star_join.true))
 
 pub returns-else-is_star_join-clause-records : goal.returns-else-is_star_join-clause-records
@@ -35,6 +36,13 @@ returns-else-is_star_join-clause-records g c =
     let event = event_seen bytes_of c.args.event in
     let seen = records_seen bytes_of c.args.records.now.items in
     let change : Option Machine → Option Machine = on_own event.joins event.what (start_seen c.args.start) in
-    let held = rw c.deref.ensures.value at c.machine_at-held.ensures in
+    let held = c.machine_of-held.ensures in
     let own = changed_into (key_of c.args.port event) change (machine_seen c.on_own.result) seen c.requires.ascending (c.on_own.ensures bytes_of ∙ ap change held) in
-    c.put_machine.ensures.left ∙ own ∙ sym (act_other c.args.port (start_seen c.args.start) event seen (sym (c.is_star_join.ensures bytes_of) ∙ c.if-is_star_join.false))
+    c.put_machine-place.ensures.left ∙ own ∙ sym (act_other c.args.port (start_seen c.args.start) event seen (sym (c.is_star_join.ensures bytes_of) ∙ c.if-is_star_join.false))
+
+pub join_rpts-requires : goal.join_rpts-requires
+join_rpts-requires g c =
+    let bytes_of = g.F.Family.bytes_of in
+    let event = event_seen bytes_of c.args.event in
+    let seen = records_seen bytes_of c.args.records.now.items in
+    subst IsAscending (sym c.put_machine-place.ensures.left) (IsAscending-changed (key_of c.args.port event) (λ _. machine_seen c.on_own.result) seen c.requires.ascending)

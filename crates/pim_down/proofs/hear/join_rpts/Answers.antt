@@ -1,34 +1,66 @@
-use Rattle.std.proofs.Common.{◌≡◌, ◌<◌, ◌≤◌, ◌∙◌, length, set, drop, ap, arith}
-use Rattle.std.proofs.lemmas.List.{length-map, take_at}
-use Rattle.pim_down.specs.Hearing.{on_rpts}
-use Rattle.pim_down.specs.Seen.{record_seen, records_seen}
-use Rattle.pim_down.proofs.Lists.{map_set, map_at}
-use Rattle.pim_down.proofs.Each.{changed_to_none, changed_to_more, changed_to_all}
+use Rattle.std.proofs.Common.{◌+◌, length, refl, sym, ap, ◌∙◌, arith}
+use Rattle.std.proofs.lemmas.List.{length-set}
+use Rattle.sorted_slab.specs.Listed.{at}
+use Rattle.pim_down.proofs.Looking.{past_end}
+use Rattle.pim_down.proofs.Rpts.{rpts_fall, behind_parts, joins_begin, joins_more, joins_end, joins_past}
+use Rattle.pim_down.proofs.Searched.{parted}
+use Rattle.pim_down.specs.After.{is_before_rpts}
 use Rattle.pim_down.proofs.hear.join_rpts.Goals as goal
 
-pub loop-held-init : goal.loop-held-init
-loop-held-init g c = rw c.deref_mut-held-items.ensures.value (changed_to_none (on_rpts c.args.port (g.F.Family.bytes_of c.args.group)) (records_seen g.F.Family.bytes_of c.args.records.now.items))
-
-pub loop-held-preserved : goal.loop-held-preserved
-loop-held-preserved g c =
+pub first_behind-place-requires : goal.first_behind-place-requires
+first_behind-place-requires g c =
     let bytes_of = g.F.Family.bytes_of in
+    let group = bytes_of c.args.group in
+    parted bytes_of (is_before_rpts c.args.port group) (rpts_fall c.args.port group) c.args.records.now.items c.requires
+
+pub loop-group-init : goal.loop-group-init
+loop-group-init g c =
+    let bytes_of = g.F.Family.bytes_of in
+    let group = bytes_of c.args.group in
+    let list = c.args.records.now in
+    let i = at list c.first_behind-place.result in
+    record {
+      changed = joins_begin bytes_of c.args.port group list.items i c.first_behind-place.ensures.within c.first_behind-place.ensures.parts;
+      behind = behind_parts bytes_of c.args.port group list.items i c.first_behind-place.ensures.parts;
+      next = c.first_behind-place.ensures.item;
+      long = refl;
+      capacity = refl;
+    }
+
+pub loop-group-smaller : goal.loop-group-smaller
+loop-group-smaller g c =
+    let here = c.is_item.ensures.0 c.loop-group-test.true in
+    let same = ap length (c.set_machine.ensures.items c.get.result.now) ∙ length-set c.loop-group.records.items (at c.loop-group.records c.loop-group.place) _ in
+    omega (arith, here.1, same, c.next-place.ensures.at, c.set_machine.ensures.at c.loop-group.place)
+
+pub loop-group-preserved : goal.loop-group-preserved
+loop-group-preserved g c =
+    let bytes_of = g.F.Family.bytes_of in
+    let group = bytes_of c.args.group in
     let old = c.args.records.now.items in
-    let new = c.loop-held.held-items in
-    let i = c.loop-held.held-index in
-    let held = c.held-item.result in
-    let lengths : length c.deref_mut-held-items.result.now ≡ length old = ap length c.deref_mut-held-items.ensures.value in
-    let within_new : i < length new = omega (arith, c.loop-held.auto.held-items, c.loop-held-test.true) in
-    let within_old : i < length old = omega (arith, c.loop-held-test.true) in
-    changed_to_more (on_rpts c.args.port (bytes_of c.args.group)) (records_seen bytes_of old) (records_seen bytes_of new) (records_seen bytes_of (set new i c.star_joined.result)) i (record_seen bytes_of held) (record_seen bytes_of c.star_joined.result)
-    (rw length-map within_old) (rw length-map within_new) (map_at (record_seen bytes_of) new i held within_new c.held-item.is (record_seen bytes_of held)) (rw (← c.held-item.is) at c.star_joined.ensures) (map_set (record_seen bytes_of) new i c.star_joined.result within_new) c.loop-held.invariant
+    let list = c.loop-group.records in
+    let i = at list c.loop-group.place in
+    let here = c.is_item.ensures.0 c.loop-group-test.true in
+    let same = ap length (c.set_machine.ensures.items c.get.result.now) ∙ length-set list.items i _ in
+    let next = c.next-place.ensures.at ∙ ap (λ n. n + 1) (c.set_machine.ensures.at c.loop-group.place) in
+    record {
+      changed = joins_more bytes_of c.args.port group old list.items c.set_machine.new.self.items i (at c.set_machine.new.self c.next-place.result) c.get.result.now c.on_star_join.result c.loop-group.invariant.long here.1 c.get.ensures (sym c.is_rpt_of.ensures ∙ c.if-is_rpt_of.true) c.on_star_join.ensures (c.set_machine.ensures.items c.get.result.now) next c.loop-group.invariant.changed;
+      behind = λ k d le w. c.loop-group.invariant.behind k d (omega (arith, le, next)) w;
+      next = λ lt. c.next-place.ensures.item (omega (arith, lt, c.next-place.ensures.at));
+      long = same ∙ c.loop-group.invariant.long;
+      capacity = c.set_machine.ensures.capacity ∙ c.loop-group.invariant.capacity;
+    }
+
+pub returns-else-is_rpt_of-clause-records : goal.returns-else-is_rpt_of-clause-records
+returns-else-is_rpt_of-clause-records g c =
+    let bytes_of = g.F.Family.bytes_of in
+    let list = c.loop-group.records in
+    let here = c.is_item.ensures.0 c.loop-group-test.true in
+    joins_end bytes_of c.args.port (bytes_of c.args.group) c.args.records.now.items list.items (at list c.loop-group.place) c.get.result.now c.requires c.loop-group.invariant.long here.1 c.get.ensures c.loop-group.invariant.behind (sym c.is_rpt_of.ensures ∙ c.if-is_rpt_of.false) c.loop-group.invariant.changed
 
 pub returns-clause-records : goal.returns-clause-records
 returns-clause-records g c =
     let bytes_of = g.F.Family.bytes_of in
-    let old = c.args.records.now.items in
-    let new = c.loop-held.held-items in
-    let lengths : length c.deref_mut-held-items.result.now ≡ length old = ap length c.deref_mut-held-items.ensures.value in
-    let long : length new ≡ c.args.records.now.len = omega (arith, c.loop-held.auto.held-items, c.args.records.now.ok.0) in
-    let past : length (records_seen bytes_of old) ≤ c.loop-held.held-index = rw length-map (omega (arith, c.loop-held-test.false)) in
-    let whole = take_at new (drop (length new) old) c.args.records.now.len long in
-    ap (records_seen bytes_of) whole ∙ changed_to_all (on_rpts c.args.port (bytes_of c.args.group)) (records_seen bytes_of old) (records_seen bytes_of new) c.loop-held.held-index past c.loop-held.invariant
+    let list = c.loop-group.records in
+    let past = past_end list c.loop-group.place c.is_item.result c.is_item.ensures c.loop-group-test.false c.loop-group.invariant.next in
+    joins_past bytes_of c.args.port (bytes_of c.args.group) c.args.records.now.items list.items (at list c.loop-group.place) (omega (arith, past, c.loop-group.invariant.long)) c.loop-group.invariant.changed

@@ -7,6 +7,6 @@ use Rattle.pim_down.proofs.message.count_sets.Given as goal
 
 abbrev pub invariant-loop-set : goal.invariant-loop-set
 invariant-loop-set g l = record {
-  so_far : l.count + count_new l.port (records_seen g.F.Family.bytes_of l.records) (sets_events (known_in g.F.Family.family l.routes) l.set-iterator) ≡ count_new l.port (records_seen g.F.Family.bytes_of l.records) (sets_events (known_in g.F.Family.family l.routes) l.fn.sets);
+  so_far : l.count + count_new l.port (records_seen g.F.Family.bytes_of l.records.items) (sets_events (known_in g.F.Family.family l.routes) l.set-iterator) ≡ count_new l.port (records_seen g.F.Family.bytes_of l.records.items) (sets_events (known_in g.F.Family.family l.routes) l.fn.sets);
   bound : l.count + 131070 * length l.set-iterator ≤ 131070 * length l.fn.sets;
 }

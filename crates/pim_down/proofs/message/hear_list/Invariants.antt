@@ -1,4 +1,4 @@
-use Rattle.std.proofs.Common.{◌≡◌, ◌≤◌, vec_capacity}
+use Rattle.std.proofs.Common.{◌≡◌, ◌≤◌}
 use Rattle.pim_down.specs.Records.{IsAscending}
 use Rattle.pim_down.specs.Hearing.{list_events, act_all}
 use Rattle.pim_down.specs.Space.{HasRoom}
@@ -10,7 +10,7 @@ use Rattle.pim_down.proofs.message.hear_list.Given as goal
 abbrev pub invariant-loop-entry : goal.invariant-loop-entry
 invariant-loop-entry g l = record {
   ascending : IsAscending (records_seen g.F.Family.bytes_of l.records.items);
-  room : HasRoom l.port (start_seen l.start) (vec_capacity l.records) (list_events (known_in g.F.Family.family l.routes) l.joins (g.F.Family.bytes_of l.group) l.entry-iterator) (records_seen g.F.Family.bytes_of l.records.items);
+  room : HasRoom l.port (start_seen l.start) l.records.capacity (list_events (known_in g.F.Family.family l.routes) l.joins (g.F.Family.bytes_of l.group) l.entry-iterator) (records_seen g.F.Family.bytes_of l.records.items);
   left : act_all l.port (start_seen l.start) (list_events (known_in g.F.Family.family l.routes) l.joins (g.F.Family.bytes_of l.group) l.entry-iterator) (records_seen g.F.Family.bytes_of l.records.items) ≡ act_all l.port (start_seen l.start) (list_events (known_in g.F.Family.family l.routes) l.joins (g.F.Family.bytes_of l.group) l.fn.entries) (records_seen g.F.Family.bytes_of l.fn.records.items);
-  capacity : vec_capacity l.fn.records ≤ vec_capacity l.records;
+  capacity : l.fn.records.capacity ≤ l.records.capacity;
 }

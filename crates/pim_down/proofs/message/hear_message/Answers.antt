@@ -1,10 +1,16 @@
-use Rattle.std.proofs.Common.{◌≡◌, ◌+◌, ◌≤◌, ◌∙◌, sym, length, false, Result, Ok, Err, OnOk, true≢false, vec_len, vec_capacity, arith}
+use Rattle.std.proofs.Common.{◌≡◌, ◌+◌, ◌≤◌, ◌∙◌, sym, ap, subst, length, false, List, ℕ, Result, Ok, Err, OnOk, true≢false, arith}
 use Rattle.std.specs.Prelude.{is_err}
 use Rattle.std.specs.List.{flat_map}
 use Rattle.std.proofs.lemmas.List.{length-map}
+use Rattle.pim_jp.specs.Message.{GroupSet}
+use Rattle.pim_down.specs.declared.machine.Record.{Record}
+use Rattle.pim_down.specs.Records.{IsAscending}
 use Rattle.pim_down.specs.Hearing.{set_events}
 use Rattle.pim_down.specs.Known.{known_in}
+use Rattle.pim_down.specs.Running.{AreOverIn}
 use Rattle.pim_down.specs.Seen.{start_seen, records_seen}
+use Rattle.pim_down.proofs.Act.{IsAscending-act_all}
+use Rattle.pim_down.proofs.Ending.{over_heard}
 use Rattle.pim_down.proofs.Events.{room_for}
 use Rattle.pim_down.proofs.message.hear_message.Goals as goal
 
@@ -17,9 +23,27 @@ hear_sets-requires-clause-room g c =
     let bytes_of = g.F.Family.bytes_of in
     let events = flat_map (set_events (known_in g.F.Family.family c.args.routes.now)) c.args.message.now.sets in
     let held = records_seen bytes_of c.args.records.now.items in
-    let count = rw (c.deref.ensures.value, c.sets.ensures) at c.count_sets-fresh.ensures.count in
-    let items = rw c.deref.ensures.value at c.deref.ensures.len in
+    let count = rw c.sets.ensures at c.count_sets-fresh.ensures.count in
     let long : length held ≡ length c.args.records.now.items = simp length-map in
-    let space = ok_then c.reserve.result (vec_len c.reserve.new.self + c.count_sets-fresh.result ≤ vec_capacity c.reserve.new.self) (sym c.is_err.ensures.value ∙ c.if-is_err.false) c.reserve.ensures.ok in
-    let room = room_for c.args.port (start_seen c.args.start) (vec_capacity c.reserve.new.self) events held c.requires.ascending (omega (arith, c.reserve.ensures.len)) in
+    let items = ap length c.reserve.ensures.items in
+    let space = ok_then c.reserve.result (length c.reserve.new.self.items + c.count_sets-fresh.result ≤ c.reserve.new.self.capacity) (sym c.is_err.ensures.value ∙ c.if-is_err.false) c.reserve.ensures.ok in
+    let room = room_for c.args.port (start_seen c.args.start) c.reserve.new.self.capacity events held c.requires.ascending (omega (arith, items, space, long, count)) in
     rw (c.reserve.ensures.items, c.sets-2.ensures) room
+
+pub end_message-requires-clause-ascending : goal.end_message-requires-clause-ascending
+end_message-requires-clause-ascending g c =
+    let bytes_of = g.F.Family.bytes_of in
+    let start = start_seen c.args.start in
+    let events = flat_map (set_events (known_in g.F.Family.family c.args.routes.now)) c.args.message.now.sets in
+    let left = rw (c.sets-2.ensures, c.reserve.ensures.items) at c.hear_sets.ensures.records in
+    subst IsAscending (sym left) (IsAscending-act_all c.args.port start events (records_seen bytes_of c.args.records.now.items) c.requires.ascending)
+
+pub end_message-requires-clause-groups : goal.end_message-requires-clause-groups
+end_message-requires-clause-groups g c =
+    let bytes_of = g.F.Family.bytes_of in
+    let start = start_seen c.args.start in
+    let known = known_in g.F.Family.family c.args.routes.now in
+    let sets = c.args.message.now.sets in
+    let left = rw (c.sets-2.ensures, c.reserve.ensures.items) at c.hear_sets.ensures.records in
+    let over = over_heard c.args.port known start sets (records_seen bytes_of c.args.records.now.items) c.requires.settled in
+    subst (λ (s : List GroupSet). AreOverIn c.args.port s (records_seen bytes_of c.hear_sets.new.records.items)) (sym c.sets-3.ensures) (subst (λ (rs : List (Record (List ℕ))). AreOverIn c.args.port sets rs) (sym left) over)

@@ -1,4 +1,4 @@
-use Rattle.std.proofs.Common.{◌∙◌, true, false, sym, ap, vec_capacity}
+use Rattle.std.proofs.Common.{◌∙◌, true, false, sym, ap}
 use Rattle.pim_down.specs.Hearing.{list_events, act_all}
 use Rattle.pim_down.specs.Known.{known_in}
 use Rattle.pim_down.specs.Seen.{start_seen, records_seen}
@@ -11,7 +11,7 @@ hear_list-requires-clause-room g c =
     let bytes_of = g.F.Family.bytes_of in
     let known = known_in g.F.Family.family c.args.routes.now in
     let seen = records_seen bytes_of c.loop-set.records.items in
-    let space = set_room c.args.port (start_seen c.args.start) (vec_capacity c.loop-set.records) known c.in-Some.set c.loop-set.set-iterator c.next.new.self seen c.in-Some.ensures.steps c.loop-set.invariant.room in
+    let space = set_room c.args.port (start_seen c.args.start) c.loop-set.records.capacity known c.in-Some.set c.loop-set.set-iterator c.next.new.self seen c.in-Some.ensures.steps c.loop-set.invariant.room in
     rw (c.group-group.ensures, c.joined.ensures) space.0
 
 pub hear_list-requires-in-loop-set-clause-ascending : goal.hear_list-requires-in-loop-set-clause-ascending
@@ -25,9 +25,9 @@ hear_list-requires-in-loop-set-clause-room g c =
     let known = known_in g.F.Family.family c.args.routes.now in
     let set = c.in-Some.set in
     let seen = records_seen bytes_of c.loop-set.records.items in
-    let space = set_room c.args.port (start_seen c.args.start) (vec_capacity c.loop-set.records) known set c.loop-set.set-iterator c.next.new.self seen c.in-Some.ensures.steps c.loop-set.invariant.room in
+    let space = set_room c.args.port (start_seen c.args.start) c.loop-set.records.capacity known set c.loop-set.set-iterator c.next.new.self seen c.in-Some.ensures.steps c.loop-set.invariant.room in
     let joined = rw (c.group-group.ensures, c.joined.ensures) at c.hear_list.ensures.records in
-    let grown = room_grows c.args.port (start_seen c.args.start) (vec_capacity c.loop-set.records) (vec_capacity c.hear_list.new.records) (list_events known false set.group set.pruned) (act_all c.args.port (start_seen c.args.start) (list_events known true set.group set.joined) seen) c.hear_list.ensures.capacity space.1 in
+    let grown = room_grows c.args.port (start_seen c.args.start) c.loop-set.records.capacity c.hear_list.new.records.capacity (list_events known false set.group set.pruned) (act_all c.args.port (start_seen c.args.start) (list_events known true set.group set.joined) seen) c.hear_list.ensures.capacity space.1 in
     rw (joined, c.group-group.ensures, c.pruned.ensures) grown
 
 pub loop-set-preserved : goal.loop-set-preserved
@@ -39,13 +39,13 @@ loop-set-preserved g c =
     let seen = records_seen bytes_of c.loop-set.records.items in
     let joins = list_events known true set.group set.joined in
     let prunes = list_events known false set.group set.pruned in
-    let space = set_room c.args.port (start_seen c.args.start) (vec_capacity c.loop-set.records) known set c.loop-set.set-iterator c.next.new.self seen c.in-Some.ensures.steps c.loop-set.invariant.room in
+    let space = set_room c.args.port (start_seen c.args.start) c.loop-set.records.capacity known set c.loop-set.set-iterator c.next.new.self seen c.in-Some.ensures.steps c.loop-set.invariant.room in
     let joined = rw (c.group-group.ensures, c.joined.ensures) at c.hear_list.ensures.records in
     let pruned = rw (joined, c.group-group.ensures, c.pruned.ensures) at c.hear_list-in-loop-set.ensures.records in
     let middle = act_all c.args.port (start_seen c.args.start) joins seen in
     let after = act_all c.args.port (start_seen c.args.start) prunes middle in
-    let grown = room_grows c.args.port (start_seen c.args.start) (vec_capacity c.loop-set.records) (vec_capacity c.hear_list.new.records) rest after c.hear_list.ensures.capacity space.2 in
-    let more = room_grows c.args.port (start_seen c.args.start) (vec_capacity c.hear_list.new.records) (vec_capacity c.hear_list-in-loop-set.new.records) rest after c.hear_list-in-loop-set.ensures.capacity grown in
+    let grown = room_grows c.args.port (start_seen c.args.start) c.loop-set.records.capacity c.hear_list.new.records.capacity rest after c.hear_list.ensures.capacity space.2 in
+    let more = room_grows c.args.port (start_seen c.args.start) c.hear_list.new.records.capacity c.hear_list-in-loop-set.new.records.capacity rest after c.hear_list-in-loop-set.ensures.capacity grown in
     record {
       ascending = rw pruned (IsAscending-act_all c.args.port (start_seen c.args.start) prunes middle (IsAscending-act_all c.args.port (start_seen c.args.start) joins seen c.loop-set.invariant.ascending));
       room = rw pruned more;

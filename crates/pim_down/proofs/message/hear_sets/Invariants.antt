@@ -1,4 +1,4 @@
-use Rattle.std.proofs.Common.{◌≡◌, vec_capacity}
+use Rattle.std.proofs.Common.{◌≡◌}
 use Rattle.pim_down.specs.Records.{IsAscending}
 use Rattle.pim_down.specs.Hearing.{act_all}
 use Rattle.pim_down.specs.Space.{HasRoom}
@@ -11,6 +11,6 @@ use Rattle.pim_down.proofs.message.hear_sets.Given as goal
 abbrev pub invariant-loop-set : goal.invariant-loop-set
 invariant-loop-set g l = record {
   ascending : IsAscending (records_seen g.F.Family.bytes_of l.records.items);
-  room : HasRoom l.port (start_seen l.start) (vec_capacity l.records) (sets_events (known_in g.F.Family.family l.routes) l.set-iterator) (records_seen g.F.Family.bytes_of l.records.items);
+  room : HasRoom l.port (start_seen l.start) l.records.capacity (sets_events (known_in g.F.Family.family l.routes) l.set-iterator) (records_seen g.F.Family.bytes_of l.records.items);
   left : act_all l.port (start_seen l.start) (sets_events (known_in g.F.Family.family l.routes) l.set-iterator) (records_seen g.F.Family.bytes_of l.records.items) ≡ act_all l.port (start_seen l.start) (sets_events (known_in g.F.Family.family l.routes) l.fn.sets) (records_seen g.F.Family.bytes_of l.fn.records.items);
 }

@@ -8,12 +8,12 @@ use Rattle.pim_down.proofs.run.run.Goals as goal
 
 pub fire_first-requires : goal.fire_first-requires
 fire_first-requires g c =
-    let first = rw c.deref.ensures.value at c.in-Ends.ensures.0 in
+    let first = c.in-Ends.ensures.0 in
     fires_some g.F.Family.bytes_of c.max-now.result c.in-Ends.ends c.loop-ends.records.items first (omega arith)
 
 pub returns-in-Echo-clause-runs : goal.returns-in-Echo-clause-runs
 returns-in-Echo-clause-runs g c ports limit =
-    let first = rw c.deref.ensures.value at c.in-Ends.ensures.0 in
+    let first = c.in-Ends.ensures.0 in
     let echo = fires_echo g.F.Family.bytes_of ports limit c.args.moment c.max-now.result c.loop-ends.records.items c.fire_first.new.records.items c.in-Echo.port (g.F.Family.bytes_of c.in-Echo.group) (what_seen g.F.Family.bytes_of c.in-Echo.what) c.in-Echo.ensures in
     c.loop-ends.invariant.from_start ports limit _ _ (arrive g.F.Family.bytes_of ports limit c.args.moment c.args.now c.loop-ends.now c.max-now.result c.max-last.result c.in-Ends.ends c.loop-ends.records.items _ _ c.loop-ends.invariant.later c.max-last.ensures c.in-Ends.ensures.1 c.max-now.ensures first echo)
 
@@ -22,7 +22,7 @@ loop-ends-smaller g c = lighter g.F.Family.bytes_of c.max-now.result c.loop-ends
 
 pub loop-ends-preserved : goal.loop-ends-preserved
 loop-ends-preserved g c =
-    let first = rw c.deref.ensures.value at c.in-Ends.ensures.0 in
+    let first = c.in-Ends.ensures.0 in
     record {
       from_start = λ ports limit answer after runs. c.loop-ends.invariant.from_start ports limit answer after (arrive g.F.Family.bytes_of ports limit c.args.moment c.args.now c.loop-ends.now c.max-now.result c.max-last.result c.in-Ends.ends c.loop-ends.records.items answer after c.loop-ends.invariant.later c.max-last.ensures c.in-Ends.ensures.1 c.max-now.ensures first (fires_on g.F.Family.bytes_of ports limit c.args.moment c.max-now.result c.loop-ends.records.items c.fire_first.new.records.items answer after c.in-Reached.ensures runs));
       later = omega arith;
@@ -31,7 +31,7 @@ loop-ends-preserved g c =
 
 pub returns-in-Quiet-clause-runs : goal.returns-in-Quiet-clause-runs
 returns-in-Quiet-clause-runs g c ports limit =
-    let quiet = rw c.deref.ensures.value at c.in-Quiet.ensures.0 in
+    let quiet = c.in-Quiet.ensures.0 in
     c.loop-ends.invariant.from_start ports limit _ _ (settle g.F.Family.bytes_of ports limit c.args.moment c.args.now c.loop-ends.now c.max-last.result c.loop-ends.records.items c.loop-ends.invariant.later c.loop-ends.invariant.within c.max-last.ensures quiet)
 
 pub returns-then-last-quiet_until-clause-runs : goal.returns-then-last-quiet_until-clause-runs

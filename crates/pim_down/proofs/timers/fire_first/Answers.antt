@@ -1,23 +1,28 @@
 use Rattle.std.proofs.Common.{◌∙◌, sym, ap}
 use Rattle.std.proofs.lemmas.Bool.{false≢true}
 use Rattle.std.specs.Option.{is_some}
+use Rattle.sorted_slab.specs.Listed.{at}
+use Rattle.pim_down.proofs.Sought.{element}
 use Rattle.pim_down.proofs.Firing.{fired_pending, fired_expiry, fired_none}
 use Rattle.pim_down.proofs.timers.fire_first.Goals as goal
 
 pub returns-in-Some : goal.returns-in-Some
 returns-in-Some g c =
-    let found = rw c.deref.ensures.value at c.in-Some.ensures in
-    fired_pending g.F.Family.bytes_of c.args.now c.args.records.now.items c.fire_pending.new.records.items c.in-Some.place _ c.index-fired.result.now (sym found)
-    (rw (← c.index-fired.ensures) c.fire_pending.ensures.told) (rw (← c.index-fired.ensures) c.fire_pending.ensures.left)
+    let list = c.args.records.now in
+    let found = c.in-Some.ensures in
+    let d = (element list.items (at list c.in-Some.place) found.0.1).0 in
+    fired_pending g.F.Family.bytes_of c.args.now list.items c.fire_pending.new.records.items (at list c.in-Some.place) _ d found.1 (c.fire_pending.ensures.told d) (c.fire_pending.ensures.left d)
 
 pub returns-in-Some-first_expired : goal.returns-in-Some-first_expired
 returns-in-Some-first_expired g c =
-    let none = rw c.deref.ensures.value at c.in-None.ensures in
-    let found = rw c.deref-in-None.ensures.value at c.in-Some-first_expired.ensures in
-    rw c.remove.ensures.items (fired_expiry g.F.Family.bytes_of c.args.now c.args.records.now.items c.in-Some-first_expired.place c.remove.result (sym none) (sym found))
+    let list = c.args.records.now in
+    let none = c.in-None.ensures in
+    let found = c.in-Some-first_expired.ensures in
+    let d = (element list.items (at list c.in-Some-first_expired.place) found.0.1).0 in
+    rw c.remove.ensures.items (fired_expiry g.F.Family.bytes_of c.args.now list.items (at list c.in-Some-first_expired.place) d none found.1)
 
 pub unreachable-requires : goal.unreachable-requires
 unreachable-requires g c =
-    let none = rw c.deref.ensures.value at c.in-None.ensures in
-    let nothing = rw c.deref-in-None.ensures.value at c.in-None-first_expired.ensures in
-    false≢true (sym (ap is_some (fired_none g.F.Family.bytes_of c.args.now c.args.records.now.items (sym none) (sym nothing))) ∙ c.requires)
+    let none = c.in-None.ensures in
+    let nothing = c.in-None-first_expired.ensures in
+    false≢true (sym (ap is_some (fired_none g.F.Family.bytes_of c.args.now c.args.records.now.items none nothing)) ∙ c.requires)

@@ -1,19 +1,17 @@
-use Rattle.std.proofs.Common.{leb, ltb, ap, subst, sym, ◌∙◌, rules}
-use Rattle.std.specs.List.Sorted.{IsNonDecreasingBy}
-use Rattle.std.proofs.lemmas.List.Sorted.{IsPartitionPoint-from_clause, IsPartitionedBy-leb, IsPartitionedBy-ltb, IsNonDecreasingBy-drop}
+use Rattle.std.proofs.Common.{take, drop, ap, ◌∙◌}
+use Rattle.std.proofs.lemmas.List.Sorted.{IsPartitionedBy-ltb}
+use Rattle.sorted_slab.specs.Listed.{at}
 use Rattle.pim_down.specs.Seen.{records_seen}
 use Rattle.pim_down.proofs.OnPort.{rising, together}
 use Rattle.pim_down.proofs.walk.on_port.Goals as goal
 
+pub first_behind-requires : goal.first_behind-requires
+first_behind-requires g c = IsPartitionedBy-ltb (λ held. held.key.port) _ c.args.port (rising g.F.Family.bytes_of c.args.records.now.items c.requires.ascending)
+
 pub returns : goal.returns
 returns g c =
     let bytes_of = g.F.Family.bytes_of in
-    let port = c.args.port in
-    let records = c.args.records.now in
-    let first = c.partition_point-first.result in
-    let rise = rising bytes_of records c.requires in
-    let before = IsPartitionPoint-from_clause (λ held. ltb held.key.port port) _ _ c.partition_point-first.ensures.partitioned (IsPartitionedBy-ltb (λ held. held.key.port) _ port rise) (λ a r q k. search rules) in
-    let rest = subst (IsNonDecreasingBy (λ held. held.key.port)) (sym c.split_at.ensures.back) (IsNonDecreasingBy-drop (λ held. held.key.port) first records rise) in
-    let after = IsPartitionPoint-from_clause (λ held. leb held.key.port port) _ _ c.partition_point-count.ensures.partitioned (IsPartitionedBy-leb (λ held. held.key.port) _ port rest) (λ a r q k. search rules) in
-    ap (records_seen bytes_of) (rw (c.split_at.ensures.back) at c.split_at-2.ensures.front)
-    ∙ together bytes_of port records first c.partition_point-count.result before (rw c.split_at.ensures.back at after)
+    let list = c.args.records.now in
+    let from = drop (at list c.first_behind.result) list.items in
+    ap (records_seen bytes_of) (c.walk.ensures ∙ ap (λ n. take n from) (c.count_on.ensures bytes_of))
+    ∙ together bytes_of c.args.port list.items (at list c.first_behind.result) c.requires.ascending c.first_behind.ensures.parts

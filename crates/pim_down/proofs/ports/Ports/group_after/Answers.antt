@@ -6,16 +6,16 @@ use Rattle.pim_down.proofs.Searched.{group_told}
 use Rattle.pim_down.proofs.ports.Ports.group_after.Goals as goal
 
 pub first_of_groups_after-requires : goal.first_of_groups_after-requires
-first_of_groups_after-requires g c = rw c.deref.ensures.value (ascending_back c.self.inside.moment (records_seen g.F.Family.bytes_of c.self.inside.records.items) c.self.invariant.0.ascending)
+first_of_groups_after-requires g c = (ascending_back c.self.inside.moment (records_seen g.F.Family.bytes_of c.self.inside.records.items) c.self.invariant.0.ascending)
 
 pub returns-in-Some : goal.returns-in-Some
 returns-in-Some g c =
     let bytes_of = g.F.Family.bytes_of in
     group_told bytes_of c.self.inside.moment (records_seen bytes_of c.self.inside.records.items) c.args.self.now.records (ap (λ (s : Downstream). s.records) c.self.view_is)
-    c.args.port (option_map bytes_of c.args.group) (Some c.in-Some.first) (rw c.deref.ensures.value at c.in-Some.ensures)
+    c.args.port (option_map bytes_of c.args.group) (Some c.in-Some.first) (c.in-Some.ensures)
 
 pub returns-in-None : goal.returns-in-None
 returns-in-None g c =
     let bytes_of = g.F.Family.bytes_of in
     group_told bytes_of c.self.inside.moment (records_seen bytes_of c.self.inside.records.items) c.args.self.now.records (ap (λ (s : Downstream). s.records) c.self.view_is)
-    c.args.port (option_map bytes_of c.args.group) None (rw c.deref.ensures.value at c.in-None.ensures)
+    c.args.port (option_map bytes_of c.args.group) None (c.in-None.ensures)

@@ -8,7 +8,7 @@ use Rattle.pim_down.specs.Known.{known_in}
 use Rattle.pim_down.specs.Ends.{first_end}
 use Rattle.pim_down.specs.Seen.{start_seen, records_seen}
 use Rattle.pim_down.proofs.Ends.{quiet_at_first}
-use Rattle.pim_down.proofs.Kept.{ascending_back}
+use Rattle.pim_down.proofs.Kept.{ascending_back, settled_back}
 use Rattle.pim_down.proofs.Origin.{count_on_later}
 use Rattle.pim_down.proofs.Hears.{heard_is, within_is, others_are, memory_is, sound_is, on_err}
 use Rattle.pim_down.proofs.ports.Ports.hear.Goals as goal
@@ -17,6 +17,16 @@ pub hear_message-requires-clause-ascending : goal.hear_message-requires-clause-a
 hear_message-requires-clause-ascending g c =
     let p = c.self.inside in
     ascending_back p.moment (records_seen g.F.Family.bytes_of p.records.items) c.self.invariant.0.ascending
+
+pub hear_message-requires-clause-settled : goal.hear_message-requires-clause-settled
+hear_message-requires-clause-settled g c =
+    let p = c.self.inside in
+    settled_back p.moment (records_seen g.F.Family.bytes_of p.records.items) c.self.invariant.0.settled
+
+pub hear_message-requires-clause-port : goal.hear_message-requires-clause-port
+hear_message-requires-clause-port g c =
+    let there = subst (λ (s : Downstream). c.args.port < s.ports) (sym c.self.view_is) c.requires.port in
+    omega (arith, there, c.self.invariant.0.ports)
 
 pub hear_message-requires-clause-within : goal.hear_message-requires-clause-within
 hear_message-requires-clause-within g c =

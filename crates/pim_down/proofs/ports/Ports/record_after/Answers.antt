@@ -6,17 +6,17 @@ use Rattle.pim_down.proofs.Searched.{next_told}
 use Rattle.pim_down.proofs.ports.Ports.record_after.Goals as goal
 
 pub first_machine_after-requires : goal.first_machine_after-requires
-first_machine_after-requires g c = rw c.deref.ensures.value (ascending_back c.self.inside.moment (records_seen g.F.Family.bytes_of c.self.inside.records.items) c.self.invariant.0.ascending)
+first_machine_after-requires g c = (ascending_back c.self.inside.moment (records_seen g.F.Family.bytes_of c.self.inside.records.items) c.self.invariant.0.ascending)
 
 pub returns-in-Some : goal.returns-in-Some
 returns-in-Some g c =
     let bytes_of = g.F.Family.bytes_of in
     ap (λ r. Some r) (c.record_after.ensures bytes_of)
     ∙ next_told bytes_of c.self.inside.moment (records_seen bytes_of c.self.inside.records.items) c.args.self.now.records (ap (λ (s : Downstream). s.records) c.self.view_is)
-    c.args.port (bytes_of c.args.group) (what_seen bytes_of c.args.what) (Some c.in-Some.first) (rw c.deref.ensures.value at c.in-Some.ensures)
+    c.args.port (bytes_of c.args.group) (what_seen bytes_of c.args.what) (Some c.in-Some.first) (c.in-Some.ensures)
 
 pub returns-in-None : goal.returns-in-None
 returns-in-None g c =
     let bytes_of = g.F.Family.bytes_of in
     next_told bytes_of c.self.inside.moment (records_seen bytes_of c.self.inside.records.items) c.args.self.now.records (ap (λ (s : Downstream). s.records) c.self.view_is)
-    c.args.port (bytes_of c.args.group) (what_seen bytes_of c.args.what) None (rw c.deref.ensures.value at c.in-None.ensures)
+    c.args.port (bytes_of c.args.group) (what_seen bytes_of c.args.what) None (c.in-None.ensures)

@@ -8,16 +8,16 @@ use Rattle.pim_down.proofs.Real.{none_on}
 use Rattle.pim_down.proofs.ports.Ports.state_of.Goals as goal
 
 pub machine_at-requires : goal.machine_at-requires
-machine_at-requires g c = rw c.deref.ensures.value (ascending_back c.self.inside.moment (records_seen g.F.Family.bytes_of c.self.inside.records.items) c.self.invariant.0.ascending)
+machine_at-requires g c = (ascending_back c.self.inside.moment (records_seen g.F.Family.bytes_of c.self.inside.records.items) c.self.invariant.0.ascending)
 
 pub returns-in-None-clause-state : goal.returns-in-None-clause-state
 returns-in-None-clause-state g c =
-    let at = rw c.deref.ensures.value at c.in-None.ensures in
+    let at = c.in-None.ensures in
     state_seen c.self.inside.moment (key_seen g.F.Family.bytes_of (record { port = c.args.port; group = c.args.group; what = c.args.what })) (records_seen g.F.Family.bytes_of c.self.inside.records.items) c.args.self.now None (ap (λ (s : Downstream). s.records) (sym c.self.view_is)) at
 
 pub returns-in-Some-clause-state : goal.returns-in-Some-clause-state
 returns-in-Some-clause-state g c =
-    let at = rw c.deref.ensures.value at c.in-Some.ensures in
+    let at = c.in-Some.ensures in
     state_seen c.self.inside.moment (key_seen g.F.Family.bytes_of (record { port = c.args.port; group = c.args.group; what = c.args.what })) (records_seen g.F.Family.bytes_of c.self.inside.records.items) c.args.self.now (Some (timed_seen c.in-Some.machine)) (ap (λ (s : Downstream). s.records) (sym c.self.view_is)) at
 
 pub returns-in-Some-clause-absent : goal.returns-in-Some-clause-absent

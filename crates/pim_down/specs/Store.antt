@@ -1,0 +1,36 @@
+-- The records of all ports as they are kept: in a list with places, and with a count of each port's.
+use Rattle.std.specs.Prelude.{◌≡◌, ℕ, ◌<◌, ◌≤◌, Bool, true, false, List, length, slice_index_or, Option, Some, None}
+use Rattle.std.specs.Prelude.{Result, Ok, Err}
+use Rattle.std.specs.List.{position}
+use Rattle.std.specs.declared.cmp.Ordering.{Ordering}
+use Rattle.std.specs.declared.cmp.Ordering.TheVariants.{Less, Greater}
+use Rattle.sorted_blocks.specs.declared.place.Place.{Place}
+use Rattle.sorted_slab.specs.Listed.{Listed, at, IsPlace as IsListPlace, IsItem}
+use Rattle.pim_down.specs.declared.held.Held.{Held}
+use Rattle.pim_down.specs.declared.key.Key.{Key}
+use Rattle.pim_down.specs.Records.{count_on}
+use Rattle.pim_down.specs.Places.{StandsAt, WouldStandAt}
+use Rattle.pim_down.specs.Seen.{records_seen}
+
+-- each count, of 64 ports, is that of the port's records; and all records fit
+pub record IsKept {A : Type 0} (counts : List ℕ) (list : Listed (Held A)) : Type 0 where
+  pub counted : (bytes_of : A → List ℕ) (port : ℕ) → port < 64 →
+      slice_index_or counts port 0 ≡ count_on port (records_seen bytes_of list.items)
+  pub fits : length list.items ≤ list.capacity
+
+-- how a record stands to a bound: before it or behind it
+abbrev pub side : Bool → Ordering
+side true = Less
+side false = Greater
+
+-- where a key's record stands in the list, or would stand
+abbrev pub IsPlaceOf : {A : Type 0} → (A → List ℕ) → Key (List ℕ) → Listed (Held A) → Result Place Place → Type 0
+IsPlaceOf bytes_of key list (Ok place) =
+    IsItem list place × StandsAt key (records_seen bytes_of list.items) (at list place)
+IsPlaceOf bytes_of key list (Err place) =
+    IsListPlace list place × WouldStandAt key (records_seen bytes_of list.items) (at list place)
+
+-- the first record that passes the test, if one does
+abbrev pub IsFirst : {A : Type 0} → (Held A → Bool) → Listed (Held A) → Option Place → Type 0
+IsFirst test list None = position test list.items ≡ None
+IsFirst test list (Some place) = IsItem list place × (position test list.items ≡ Some (at list place))
