@@ -116,3 +116,6 @@ pub fn plan<'a, S: AsStr>(alloc: Global, words: &'a [S]) -> Result<Plan<'a>, Fau
     let task = read_met(alloc, &matches)?;
     plan_task(alloc, &task)
 }
+
+#[cfg(test)]
+mod tests;
