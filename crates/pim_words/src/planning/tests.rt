@@ -1,6 +1,6 @@
 //! What is made of words.
 
-use super::plan;
+use super::{plan, plan_check};
 use crate::fault::{ConfigCause, Fault, Side};
 use crate::task::{Plan, Task};
 use std::alloc::Global;
@@ -286,6 +286,42 @@ fn ports_are_at_most_64(rt: HostRuntime) -> Result<(), Fail> {
     words.push(A)?;
     assert_eq!(rt; made(rt.alloc(), &words), Shown::Config(ConfigCause::Ports));
     Ok(())
+}
+
+/// Words of a program that has `check` alone, with the ends of the message that they ask for.
+const ENDS: [(&[&str], &[u8], &[u8]); 4] = [
+    (&["p", "check"], &[0; 4], &[224, 0, 0, 13]),
+    (
+        &["p", "check", "--src", "10.0.0.2"],
+        &[10, 0, 0, 2],
+        &[224, 0, 0, 13],
+    ),
+    (&["p", "check", "--dst=10.0.0.2"], &[0; 4], &[10, 0, 0, 2]),
+    (
+        &["p", "check", "--dst", "ff02::d", "--src", "fe80::1"],
+        &[0xfe, 0x80, 0, 0, 0, 0, 0, 0, 0, 0, 0, 0, 0, 0, 0, 1],
+        &[0xff, 2, 0, 0, 0, 0, 0, 0, 0, 0, 0, 0, 0, 0, 0, 0xd],
+    ),
+];
+
+/// Whether a plan is to read a message with these ends.
+fn has_ends(plan: &Plan<'_>, from: &[u8], to: &[u8]) -> bool {
+    match plan {
+        Plan::V4(Task::Check { src, dst }) => src.as_slice() == from && dst.as_slice() == to,
+        Plan::V6(Task::Check { src, dst }) => src.as_slice() == from && dst.as_slice() == to,
+        _ => false,
+    }
+}
+
+#[test]
+fn options_give_the_ends(rt: HostRuntime) {
+    for (words, from, to) in ENDS {
+        let is_so = match plan_check(rt.alloc(), words) {
+            Ok(plan) => has_ends(&plan, from, to),
+            Err(_) => false,
+        };
+        assert!(rt; is_so);
+    }
 }
 
 /// Requests for help, with a part of the answer.
