@@ -1,6 +1,8 @@
 pub mod FirstWrong
-pub mod Known
+pub mod Numbers
+pub mod Offered
 pub mod OneFamily
+pub mod Passed
 pub mod Planned
 pub mod Refusals
 pub mod Unread

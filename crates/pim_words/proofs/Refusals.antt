@@ -7,8 +7,7 @@ use Rattle.std.specs.declared.string.String.{String}
 use Rattle.clap.specs.declared.error.Error.{Error}
 use Rattle.clap.specs.declared.error.kind.ErrorKind.{ErrorKind}
 use Rattle.clap.specs.declared.error.kind.ErrorKind.TheVariants.{OutOfMemory}
-use Rattle.clap.specs.Words.{Text, Kinds, HasKind, IsAmong, fault_of, takes, kind_of}
-use Rattle.pim_words.specs.CommandLine.{pimtree}
+use Rattle.clap.specs.Words.{App, Text, Kinds, HasKind, IsAmong, fault_of, takes, kind_of}
 use Rattle.pim_words.specs.Plan.{HasCause, refusal_fault}
 
 -- an error of a kind that isn't memory
@@ -17,10 +16,10 @@ among kinds error kind same other (inl memory) = absurd (other (sym same ∙ mem
 among kinds error kind same other (inr found) = let P : ErrorKind → Type 0 = λ k. IsAmong k kinds in subst P same found
 
 -- the fault of an error whose text is this one
-pub caused : (words : List Text) (error : Error) (kind : ErrorKind) (text : Result (String Global) AllocError) → kind_of error ≡ kind
-    → HasKind (fault_of pimtree words) error → (takes pimtree words ≡ true → kind_of error ≡ OutOfMemory) → HasCause words (refusal_fault kind text)
-caused words error OutOfMemory text same has taken = tt
-caused words error kind (Err e) same has taken = tt
-caused words error kind (Ok shown) same has taken =
+pub caused : (app : App) (words : List Text) (error : Error) (kind : ErrorKind) (text : Result (String Global) AllocError) → kind_of error ≡ kind
+    → HasKind (fault_of app words) error → (takes app words ≡ true → kind_of error ≡ OutOfMemory) → HasCause app words (refusal_fault kind text)
+caused app words error OutOfMemory text same has taken = tt
+caused app words error kind (Err e) same has taken = tt
+caused app words error kind (Ok shown) same has taken =
     let other : kind ≡ OutOfMemory → ⊥ = λ memory. absurd cc in
-    inl ((λ takes. other (sym same ∙ taken takes)), among (fault_of pimtree words) error kind same other has)
+    inl ((λ takes. other (sym same ∙ taken takes)), among (fault_of app words) error kind same other has)

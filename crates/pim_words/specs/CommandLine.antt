@@ -66,8 +66,13 @@ bare = record (new_shape (codes "pimtree")) {
   subcommand_required = true;
 }
 
-abbrev pub reading_commands : App
-reading_commands = with_subcommand (with_subcommand (record { top = bare; subs = [] }) check) replay
+-- with `check` alone
+abbrev pub check_alone : App
+check_alone = with_subcommand (record { top = bare; subs = [] }) check
 
+abbrev pub reading_commands : App
+reading_commands = with_subcommand check_alone replay
+
+-- with all four commands
 abbrev pub pimtree : App
 pimtree = with_subcommand (with_subcommand reading_commands (writing (codes "same"))) (writing (codes "mirror"))

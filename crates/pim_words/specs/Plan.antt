@@ -5,14 +5,15 @@ use Rattle.std.specs.declared.alloc.Global.{Global}
 use Rattle.std.specs.declared.string.String.{String}
 use Rattle.clap.specs.declared.error.kind.ErrorKind.{ErrorKind}
 use Rattle.clap.specs.declared.error.kind.ErrorKind.TheVariants.{OutOfMemory}
-use Rattle.clap.specs.Words.{IsAmong, Row, Text, fault_of, subcommand_of, takes}
+use Rattle.clap.specs.Words.{App, IsAmong, Row, Text, fault_of, subcommand_of, takes}
 use Rattle.pim_words.specs.declared.addresses.Address.{Address}
 use Rattle.pim_words.specs.declared.fault.Fault.{Fault}
 use Rattle.pim_words.specs.declared.fault.Fault.TheVariants as cause
 use Rattle.pim_words.specs.declared.task.Kind.{Kind}
 use Rattle.pim_words.specs.declared.task.Plan.{Plan}
+use Rattle.pim_words.specs.declared.task.Plan.TheVariants.{V4, V6}
 use Rattle.pim_words.specs.declared.task.Task.{Task}
-use Rattle.pim_words.specs.CommandLine.{pimtree}
+use Rattle.pim_words.specs.declared.task.Task.TheVariants.{Check}
 use Rattle.pim_words.specs.Faults.{task_faults}
 use Rattle.pim_words.specs.Given.{kind_name}
 use Rattle.pim_words.specs.Reading.{IsTask, IsUnreadable}
@@ -43,37 +44,48 @@ abbrev pub IsWrongTask : Task Address → Fault → Type 0
 IsWrongTask task cause.Memory = ⊤
 IsWrongTask task fault = IsFirstOf (task_faults task) fault
 
--- ---- the plan of words, the first of which is the program's name
+-- ---- the plan of words, the first of which is the program's name, by a command line
 
 -- `clap` finds nothing wrong with the words, the command that it meets in them was given a task, with which nothing is
 -- wrong either, and this is its plan.
-abbrev pub Plans : List Text → Plan → Type 0
-Plans words plan =
-    (fault_of pimtree words ≡ [])
-    × IsSomeAnd (subcommand_of pimtree words) (λ met.
+abbrev pub Plans : App → List Text → Plan → Type 0
+Plans app words plan =
+    (fault_of app words ≡ [])
+    × IsSomeAnd (subcommand_of app words) (λ met.
     (task : Task Address) × IsTaskOf met task × IsPlanOfTask task plan)
 
 -- `clap` finds nothing wrong with the words, but this is told of what they ask for: of the texts that can't be read,
 -- and where all are read, of the task.
-abbrev pub HasWrong : List Text → Fault → Type 0
-HasWrong words fault =
-    (fault_of pimtree words ≡ [])
-    × IsSomeAnd (subcommand_of pimtree words) (λ met.
+abbrev pub HasWrong : App → List Text → Fault → Type 0
+HasWrong app words fault =
+    (fault_of app words ≡ [])
+    × IsSomeAnd (subcommand_of app words) (λ met.
     IsUnreadableOf met fault ⊎ ((task : Task Address) × IsTaskOf met task × IsWrongTask task fault))
 
 -- `clap` doesn't take the words, and this is a kind of error that it finds in them.
-abbrev pub IsRefusedBy : List Text → ErrorKind → Type 0
-IsRefusedBy words kind = (takes pimtree words ≡ true → ⊥) × IsAmong kind (fault_of pimtree words)
+abbrev pub IsRefusedBy : App → List Text → ErrorKind → Type 0
+IsRefusedBy app words kind = (takes app words ≡ true → ⊥) × IsAmong kind (fault_of app words)
 
 -- `clap`'s refusal
-abbrev pub IsRefusal : List Text → Fault → Type 0
-IsRefusal words (cause.Clap refusal) = IsRefusedBy words refusal.kind
-IsRefusal words fault = ⊥
+abbrev pub IsRefusal : App → List Text → Fault → Type 0
+IsRefusal app words (cause.Clap refusal) = IsRefusedBy app words refusal.kind
+IsRefusal app words fault = ⊥
 
 -- Why there is no plan.
-abbrev pub HasCause : List Text → Fault → Type 0
-HasCause words cause.Memory = ⊤
-HasCause words fault = IsRefusal words fault ⊎ HasWrong words fault
+abbrev pub HasCause : App → List Text → Fault → Type 0
+HasCause app words cause.Memory = ⊤
+HasCause app words fault = IsRefusal app words fault ⊎ HasWrong app words fault
+
+-- ---- plans of one message
+
+abbrev pub IsCheckTask : {A : Type 0} → Task A → Type 0
+IsCheckTask (Check source destination) = ⊤
+IsCheckTask other = ⊥
+
+-- The plan is to read one message.
+abbrev pub IsCheck : Plan → Type 0
+IsCheck (V4 task) = IsCheckTask task
+IsCheck (V6 task) = IsCheckTask task
 
 -- ---- refusals
 

@@ -1,13 +1,17 @@
 -- What contracts see of the steps.
-use Rattle.std.specs.Prelude.{◌≡◌, Bool, false, List, ⊤, codes}
-use Rattle.clap.specs.Words.{Row, Text}
+use Rattle.std.specs.Prelude.{◌≡◌, ◌==◌, ◌&&◌, ◌||◌, not, ℕ, Bool, true, false, List, Option, Some, ⊤, codes}
+use Rattle.std.specs.List.{AllByRecursion, list_all}
+use Rattle.std.specs.Str.{bytes_eq}
+use Rattle.clap.specs.Words.{App, IsUnsignedIn, Row, Rule, Shape, Text, built, is_simple, is_simple_and_free}
+use Rattle.clap.specs.declared.builder.value_parser.ValueParser.{ValueParser}
+use Rattle.clap.specs.declared.builder.value_parser.ValueParser.TheVariants.{Unsigned}
 use Rattle.pim_words.specs.declared.fault.Fault.{Fault}
 use Rattle.pim_words.specs.declared.fault.Fault.TheVariants.{Family, Memory}
 use Rattle.pim_words.specs.declared.fault.Side.{Side}
 use Rattle.pim_words.specs.declared.port.Cut.{Cut}
 use Rattle.pim_words.specs.declared.reading.Addresses.{Addresses}
 use Rattle.pim_words.specs.Addresses.{Names}
-use Rattle.pim_words.specs.Given.{required}
+use Rattle.pim_words.specs.Given.{IsKnown, option_or, required}
 use Rattle.pim_words.specs.Ports.{IsCut, IsCutWord}
 
 -- want of memory, or a fault of this kind
@@ -34,3 +38,40 @@ abbrev pub IsForeign : Bool → Fault → Type 0
 IsForeign test Memory = ⊤
 IsForeign test Family = test ≡ false
 IsForeign test fault = ⊥
+
+-- ---- what `clap` looks at by itself
+
+-- an option tests its values for numbers between these two
+abbrev pub has_range : ℕ → ℕ → Option ValueParser → Bool
+has_range low high (Some (Unsigned least most)) = (least == low) && (most == high)
+has_range low high other = false
+
+-- so does each option of this name, of each command
+abbrev pub is_tested : ℕ → ℕ → Text → Rule → Bool
+is_tested low high name option = not (bytes_eq option.id name) || has_range low high option.parser
+
+abbrev pub are_tested : ℕ → ℕ → Text → List Shape → Bool
+are_tested low high name commands = list_all (λ (s : Shape). list_all (is_tested low high name) s.rules) commands
+
+-- A command line of which one command has to be given, whose commands are known, and whose options of numbers test
+-- them.
+pub record IsOffered (app : App) : Type 0 where
+  pub required : app.top.subcommand_required ≡ true
+  pub simple : is_simple app ≡ true
+  pub free : is_simple_and_free app ≡ true
+  pub known : AllByRecursion (λ (s : Shape). IsKnown s.name) (built app).subs
+  pub limit : are_tested 1 100000 (codes "limit") (built app).subs ≡ true
+  pub after : are_tested 0 1000000000 (codes "after") (built app).subs ≡ true
+  pub holdtime : are_tested 99 65535 (codes "holdtime") (built app).subs ≡ true
+  pub budget : are_tested 70 65000 (codes "budget") (built app).subs ≡ true
+
+-- The numbers that were found for the options of a command, or their defaults, lie in their ranges.
+pub record HasNumbers (rows : List Row) : Type 0 where
+  pub limit : IsUnsignedIn 1 100000 (option_or (codes "100000") (codes "limit") rows)
+  pub after : IsUnsignedIn 0 1000000000 (option_or (codes "0") (codes "after") rows)
+  pub holdtime : IsUnsignedIn 99 65535 (option_or (codes "210") (codes "holdtime") rows)
+  pub budget : IsUnsignedIn 70 65000 (option_or (codes "1460") (codes "budget") rows)
+
+-- The command that was met is known, and its numbers lie in their ranges.
+abbrev pub IsGiven : Text × List Row → Type 0
+IsGiven met = IsKnown met.0 × HasNumbers met.1

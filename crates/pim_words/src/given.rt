@@ -1,10 +1,9 @@
 //! The values that `clap` finds for the options of a command.
 
-ghost use Rattle.std.specs.Prelude.{◌≡◌, ◌≤◌, IfOk, IfErr, MatchOption, option_map};
-ghost use Rattle.clap.specs.Words.{rows_of, found_of, first_of};
+ghost use Rattle.std.specs.Prelude.{◌≡◌, MatchOption, option_map};
+ghost use Rattle.clap.specs.Words.{rows_of, found_of, first_of, IsUnsignedIn};
 ghost use Rattle.pim_words.specs.Given.{option_or, IsNumber, IsNoNumber};
 
-use crate::fault::Fault;
 use clap::ArgMatches;
 
 /// The value of an option, if the words have one.
@@ -39,15 +38,12 @@ pub(crate) fn number_of<'a>(
     default: &'a str,
     low: u64,
     high: u64,
-) -> Result<u64, Fault<'static>>
-    ensures number { IfOk result (IsNumber low high
-        (option_or default.entry.now name.now (rows_of (found_of options.now)))) }
-    ensures memory { IfErr result (λ fault. fault ≡ Fault.Memory) }
-    ensures none { IfErr result (λ fault. IsNoNumber low high
-        (option_or default.entry.now name.now (rows_of (found_of options.now)))) }
+) -> u64
+    requires { IsUnsignedIn low high (option_or default.now name.now (rows_of (found_of options.now))) }
+    ensures { IsNumber low high (option_or default.entry.now name.now (rows_of (found_of options.now))) result }
 {
     match number_between(option_or(options, name, default), low, high) {
-        Some(number) => Ok(number),
-        None => Err(Fault::Memory),
+        Some(number) => number,
+        None => unreachable!(),
     }
 }

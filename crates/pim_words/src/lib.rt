@@ -14,5 +14,5 @@ mod typed;
 
 pub use addresses::Address;
 pub use fault::{ConfigCause, Fault, Refusal, Side};
-pub use planning::plan;
+pub use planning::{plan, plan_check};
 pub use task::{Captures, Kind, Plan, Port, Task, Writing};

@@ -1,36 +1,42 @@
 //! What the program is to do, by its words.
 
 ghost use Rattle.std.specs.Prelude.{◌≡◌, MatchOption, MatchResult, IfOk, IfErr, IsSomeAnd, true, false, map, codes};
+ghost use Rattle.clap.specs.declared.builder.command.Command.TheViews.{out-Command};
 ghost use Rattle.clap.specs.Words.{found_of, rows_of, subcommand_rows_of, subcommand_of, takes, fault_of, FailsBy};
-ghost use Rattle.clap.specs.Words.{kind_of};
+ghost use Rattle.clap.specs.Words.{app_of, kind_of};
 ghost use Rattle.pim_addr.specs.declared.family.AddressFamily.TheVariants.{Ipv4};
-ghost use Rattle.pim_words.specs.CommandLine.{pimtree};
+ghost use Rattle.pim_words.specs.CommandLine.{check_alone, pimtree};
 ghost use Rattle.pim_words.specs.Faults.{are_in};
 ghost use Rattle.pim_words.specs.Given.{IsKnown, kind_name};
 ghost use Rattle.pim_words.specs.Plan.{IsTaskOf, IsUnreadableOf, IsPlanOfTask, IsWrongTask, Plans, HasCause};
+ghost use Rattle.pim_words.specs.Plan.{IsCheck};
+ghost use Rattle.pim_words.specs.Seen.{IsGiven, IsOffered};
 
 use crate::addresses::Address;
-use crate::commands::command;
+use crate::commands::{check_alone, command};
 use crate::fault::{Fault, refusal_fault};
 use crate::judging::judge;
 use crate::reading::read_task;
 use crate::task::{Kind, Plan, Task};
 use crate::typed::task_in_family;
 use clap::error::ErrorKind;
-use clap::{ArgMatches, Error};
+use clap::{ArgMatches, Command, Error};
 use pim_addr::{V4, V6};
 use std::alloc::Global;
 use std::convert::AsStr;
 
 /// What `clap` finds in the words.
-fn matches_of<'a, S: AsStr>(alloc: Global, words: &'a [S]) -> Result<ArgMatches<'a>, Error>
-    ensures met { IfOk result (λ m. subcommand_rows_of m ≡ subcommand_of pimtree (map S.text words.entry.now)) }
-    ensures known { IfOk result (λ m. IsSomeAnd (subcommand_rows_of m) (λ met. IsKnown met.0)) }
-    ensures refused { FailsBy (fault_of pimtree (map S.text words.entry.now)) result }
-    ensures taken { IfErr result (λ e. takes pimtree (map S.text words.entry.now) ≡ true
+fn matches_of<'a, S: AsStr>(whole: Command<'a>, words: &'a [S]) -> Result<ArgMatches<'a>, Error>
+    requires offered { IsOffered (app_of whole) }
+    requires local { (out-Command whole).has_globals ≡ false }
+    ensures met { IfOk result (λ m. subcommand_rows_of m
+        ≡ subcommand_of (app_of whole.entry) (map S.text words.entry.now)) }
+    ensures given { IfOk result (λ m. IsSomeAnd (subcommand_rows_of m) IsGiven) }
+    ensures refused { FailsBy (fault_of (app_of whole.entry) (map S.text words.entry.now)) result }
+    ensures taken { IfErr result (λ e. takes (app_of whole.entry) (map S.text words.entry.now) ≡ true
         → kind_of e ≡ ErrorKind.OutOfMemory) }
 {
-    let matches = command(alloc)?.try_get_matches_from(words)?;
+    let matches = whole.try_get_matches_from(words)?;
     let Some(_) = matches.subcommand() else {
         unreachable!()
     };
@@ -58,7 +64,7 @@ fn kind_named(name: &str) -> Option<Kind>
 
 /// What the command that `clap` met was given.
 fn read_met<'a>(alloc: Global, matches: &ArgMatches<'a>) -> Result<Task<'a, Address>, Fault<'a>>
-    requires { IsSomeAnd (subcommand_rows_of matches.now) (λ met. IsKnown met.0) }
+    requires { IsSomeAnd (subcommand_rows_of matches.now) IsGiven }
     ensures { MatchResult result
         (λ task. IsSomeAnd (subcommand_rows_of matches.now) (λ met. IsTaskOf met task))
         (λ fault. IsSomeAnd (subcommand_rows_of matches.now) (λ met. IsUnreadableOf met fault)) }
@@ -100,19 +106,55 @@ fn plan_task<'a>(alloc: Global, task: &Task<'a, Address>) -> Result<Plan<'a>, Fa
     }
 }
 
-/// What the words ask for, of which the first is the program's name. It opens nothing.
-///
-/// # Errors
-/// `Memory` at any time; else the first of: `Clap` (what `clap` refuses, and a request for help or the version);
-/// `Address` of the options, in the order in which help tells them; `Word` and `Address` of the words, in order;
-/// `Family`; `NoPort` of a, then of b; `WriterAddress`; `Config` of a, then of b: `Ports`, `Address`, `Rp`.
-pub fn plan<'a, S: AsStr>(alloc: Global, words: &'a [S]) -> Result<Plan<'a>, Fault<'a>>
-    ensures { MatchResult result (Plans (map S.text words.entry.now)) (HasCause (map S.text words.entry.now)) }
+/// What the words ask for, by this command line.
+fn plan_by<'a, S: AsStr>(
+    alloc: Global,
+    whole: Command<'a>,
+    words: &'a [S],
+) -> Result<Plan<'a>, Fault<'a>>
+    requires offered { IsOffered (app_of whole) }
+    requires local { (out-Command whole).has_globals ≡ false }
+    ensures { MatchResult result (Plans (app_of whole.entry) (map S.text words.entry.now))
+        (HasCause (app_of whole.entry) (map S.text words.entry.now)) }
 {
-    let matches = match matches_of(alloc, words) {
+    let matches = match matches_of(whole, words) {
         Ok(matches) => matches,
         Err(error) => return Err(refusal_fault(error.kind(), format!(in alloc; "{error}"))),
     };
     let task = read_met(alloc, &matches)?;
     plan_task(alloc, &task)
 }
+
+/// What the words ask for, of which the first is the program's name. It opens nothing.
+///
+/// # Errors
+/// `Memory` where an allocation is refused; else the first of: `Clap` (what `clap` refuses, and a request for help or
+/// the version); `Address` of the options, in the order in which help tells them; `Word` and `Address` of the words, in
+/// order; `Family`; `NoPort` of a, then of b; `WriterAddress`; `Config` of a, then of b: `Ports`, `Address`, `Rp`.
+pub fn plan<'a, S: AsStr>(alloc: Global, words: &'a [S]) -> Result<Plan<'a>, Fault<'a>>
+    ensures { MatchResult result (Plans pimtree (map S.text words.entry.now))
+        (HasCause pimtree (map S.text words.entry.now)) }
+{
+    let Ok(whole) = command(alloc) else {
+        return Err(Fault::Memory);
+    };
+    plan_by(alloc, whole, words)
+}
+
+/// `plan` for a program that has the command `check` alone, which its help says too.
+///
+/// # Errors
+/// Those of `plan`.
+pub fn plan_check<'a, S: AsStr>(alloc: Global, words: &'a [S]) -> Result<Plan<'a>, Fault<'a>>
+    ensures plan { MatchResult result (Plans check_alone (map S.text words.entry.now))
+        (HasCause check_alone (map S.text words.entry.now)) }
+    ensures check { IfOk result IsCheck }
+{
+    let Ok(whole) = check_alone(alloc) else {
+        return Err(Fault::Memory);
+    };
+    plan_by(alloc, whole, words)
+}
+
+#[cfg(test)]
+mod tests;

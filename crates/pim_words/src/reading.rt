@@ -8,7 +8,7 @@ ghost use Rattle.pim_words.specs.Given.{words_of, required, address_texts, is_si
 ghost use Rattle.pim_words.specs.Ports.{IsPort, IsFirstWrongOf};
 ghost use Rattle.pim_words.specs.Reading.{IsNamed, IsUnreadText, IsUnreadValue, IsFirstUnread, AreCaptures, IsWriting};
 ghost use Rattle.pim_words.specs.Reading.{IsTask, IsUnreadable};
-ghost use Rattle.pim_words.specs.Seen.{OrMemory, AreWritten};
+ghost use Rattle.pim_words.specs.Seen.{OrMemory, AreWritten, HasNumbers};
 
 use crate::addresses::{Address, read_address};
 use crate::fault::Fault;
@@ -65,13 +65,14 @@ fn read_captures<'a>(
     rp: Option<Address>,
     options: &ArgMatches<'a>,
 ) -> Result<Captures<'a, Address>, Fault<'a>>
+    requires { HasNumbers (rows_of (found_of options.now)) }
     ensures rp { IfOk result (λ captures. captures.rp ≡ rp) }
     ensures captures { IfOk result (AreCaptures is_sided (rows_of (found_of options.now))) }
     ensures told { IfErr result (OrMemory (IsFirstWrongOf is_sided (words_of (rows_of (found_of options.now))))) }
 {
     let ports = read_words(alloc, is_sided, options)?;
-    let limit = number_of(options, "limit", "100000", 1, 100_000)?;
-    let after_ms = number_of(options, "after", "0", 0, 1_000_000_000)?;
+    let limit = number_of(options, "limit", "100000", 1, 100_000);
+    let after_ms = number_of(options, "after", "0", 0, 1_000_000_000);
     Ok(Captures {
         rp,
         routes: option_of(options, "routes"),
@@ -93,6 +94,7 @@ fn read_check<'a>(options: &ArgMatches<'a>) -> Result<Task<'a, Address>, Fault<'
 
 /// What `replay` was given.
 fn read_replay<'a>(alloc: Global, options: &ArgMatches<'a>) -> Result<Task<'a, Address>, Fault<'a>>
+    requires { HasNumbers (rows_of (found_of options.now)) }
     ensures { MatchResult result (IsTask Kind.Replay (rows_of (found_of options.now)))
         (IsUnreadable Kind.Replay (rows_of (found_of options.now))) }
 {
@@ -124,43 +126,42 @@ fn read_addresses<'a>(options: &ArgMatches<'a>) -> Result<Addresses, Fault<'a>>
 }
 
 /// How a command writes messages, between these addresses.
-fn read_writing(
-    addresses: Addresses,
-    options: &ArgMatches<'_>,
-) -> Result<Writing<Address>, Fault<'static>>
-    requires { AreWritten (rows_of (found_of options.now)) addresses }
-    ensures writing { IfOk result (IsWriting (rows_of (found_of options.now))) }
-    ensures memory { IfErr result (λ fault. fault ≡ Fault.Memory) }
+fn read_writing(addresses: Addresses, options: &ArgMatches<'_>) -> Writing<Address>
+    requires addresses { AreWritten (rows_of (found_of options.now)) addresses }
+    requires numbers { HasNumbers (rows_of (found_of options.now)) }
+    ensures { IsWriting (rows_of (found_of options.now)) result }
 {
-    let holdtime = number_of(options, "holdtime", "210", 99, 65_535)?;
-    let budget = number_of(options, "budget", "1460", 70, 65_000)?;
-    Ok(Writing {
+    let holdtime = number_of(options, "holdtime", "210", 99, 65_535);
+    let budget = number_of(options, "budget", "1460", 70, 65_000);
+    Writing {
         upstream: addresses.upstream,
         own: addresses.own,
         holdtime: holdtime as u16,
         budget: budget as usize,
-    })
+    }
 }
 
 /// What `same` was given.
 fn read_same<'a>(alloc: Global, options: &ArgMatches<'a>) -> Result<Task<'a, Address>, Fault<'a>>
+    requires { HasNumbers (rows_of (found_of options.now)) }
     ensures { MatchResult result (IsTask Kind.Same (rows_of (found_of options.now)))
         (IsUnreadable Kind.Same (rows_of (found_of options.now))) }
 {
     let addresses = read_addresses(options)?;
     let captures = read_captures(alloc, true, Some(addresses.rp), options)?;
-    let writing = read_writing(addresses, options)?;
+    let writing = read_writing(addresses, options);
     Ok(Task::Same(captures, writing))
 }
 
 /// What `mirror` was given.
 fn read_mirror<'a>(alloc: Global, options: &ArgMatches<'a>) -> Result<Task<'a, Address>, Fault<'a>>
+    requires { HasNumbers (rows_of (found_of options.now)) }
     ensures { MatchResult result (IsTask Kind.Mirror (rows_of (found_of options.now)))
         (IsUnreadable Kind.Mirror (rows_of (found_of options.now))) }
 {
     let addresses = read_addresses(options)?;
     let captures = read_captures(alloc, false, Some(addresses.rp), options)?;
-    let writing = read_writing(addresses, options)?;
+    let writing = read_writing(addresses, options);
     Ok(Task::Mirror(captures, writing))
 }
 
@@ -170,6 +171,7 @@ pub(crate) fn read_task<'a>(
     kind: Kind,
     options: &ArgMatches<'a>,
 ) -> Result<Task<'a, Address>, Fault<'a>>
+    requires { HasNumbers (rows_of (found_of options.now)) }
     ensures { MatchResult result (IsTask kind (rows_of (found_of options.now)))
         (IsUnreadable kind (rows_of (found_of options.now))) }
 {
