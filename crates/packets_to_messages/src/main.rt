@@ -3,12 +3,13 @@
 #![tactic(auto)]
 
 ghost use Rattle.std.specs.Prelude.{◌≡◌, ◌≤◌, ◌^◌, max, OnOk};
+ghost use Rattle.pim_router.specs.State.{setup_of};
 
+use anyhow::Result;
 use pim_addr::{Routes, V4};
 use pim_form::Writer;
 use pim_frame::all_routers;
 use pim_router::{Config, PortConfig, Router, Step};
-use std::io;
 
 /// The interfaces that speak PIM, with their own delays: here one.
 const PORTS: [PortConfig<[u8; 4]>; 1] = [PortConfig {
@@ -44,10 +45,8 @@ const JOIN_AND_PRUNE: [u8; 42] = [
 const PACKETS: [(u64, &[u8]); 3] = [(0, &HELLO), (5, &JOIN), (61_000, &JOIN_AND_PRUNE)];
 
 /// Writes the messages that ask the upstream neighbour for what the router's ports want: to be sent at each Refresh.
-fn ask_upstream(rt: &HostRuntime, router: &Router<'_, V4>, writer: &Writer<V4>) -> io::Result<()> {
-    let Ok(messages) = router.canonical(rt.alloc(), writer) else {
-        return println!(rt; "a star too big for one message, or no memory");
-    };
+fn ask_upstream(rt: &HostRuntime, router: &Router<'_, V4>, writer: &Writer<V4>) -> Result<()> {
+    let messages = router.canonical(rt.alloc(), writer)?;
     for index in 0..messages.count() {
         for byte in messages.get(index).unwrap_or(&[]) {
             print!(rt; "{byte:02x}")?;
@@ -57,55 +56,41 @@ fn ask_upstream(rt: &HostRuntime, router: &Router<'_, V4>, writer: &Writer<V4>) 
     Ok(())
 }
 
-/// Lets time pass up to this moment: before each packet, and whenever the daemon wakes up.
-fn pass_time(
-    rt: &HostRuntime,
-    router: &mut Router<'_, V4>,
-    writer: &Writer<V4>,
-    moment: u64,
-) -> io::Result<()>
-    requires { moment ≤ 10 ^ 15 }
-    ensures { OnOk result (router.new.machines.moment ≡ max router.old.machines.moment moment) }
+/// Lets time pass until this moment: before each packet, and whenever the daemon wakes up.
+fn run(rt: &HostRuntime, router: &mut Router<'_, V4>, writer: &Writer<V4>, until: u64) -> Result<()>
+    requires { until ≤ 10 ^ 15 }
+    ensures moment { OnOk result (router.new.machines.moment ≡ max router.old.machines.moment until) }
+    ensures setup { setup_of router.new ≡ setup_of router.old }
 {
     loop {
-        match router.run_to(moment) {
+        match router.run_to(until) {
             Step::Reached => return Ok(()),
-            Step::Echo { port, group, .. } => println!(rt;
-                "send a PruneEcho of {group:?} on port {port}"
-            )?,
             Step::Refresh => ask_upstream(rt, router, writer)?,
+            Step::Echo { port, group, .. } => println!(rt; "a PruneEcho of {group:?} on {port}")?,
         }
     }
 }
 
-fn main(rt: HostRuntime) -> io::Result<()> {
-    // what the daemon was configured with: the RP of all groups, the way to it, and a limit of records for each port
+/// A router that knows the RP of all groups and the way to it, with at most 1,000 records a port, hears the packets.
+fn main(rt: HostRuntime) -> Result<()> {
     let mut routes = Routes::<V4>::new(rt.alloc());
-    let rp = routes.add_rp([224, 0, 0, 0], 4, [10, 9, 9, 9]);
-    let via = routes.add_via([0; 4], 0, UPSTREAM);
+    routes.add_rp([224, 0, 0, 0], 4, [10, 9, 9, 9])?;
+    routes.add_via([0; 4], 0, UPSTREAM)?;
     let config = Config {
         ports: &PORTS,
         routes: &routes,
         limit: 1_000,
     };
-    let writer = Writer::<V4>::new(UPSTREAM, OWN, 210, 1_460);
-    let router = Router::<V4>::new(rt.alloc(), &config);
-    let (Ok(()), Ok(()), Ok(writer), Ok(mut router)) = (rp, via, writer, router) else {
-        return println!(rt; "a fault in the configuration, or no memory");
-    };
+    let mut router = Router::<V4>::new(rt.alloc(), &config)?;
+    let writer = Writer::<V4>::new(UPSTREAM, OWN, 210, 1_460)?;
     for (moment, packet) in PACKETS {
-        pass_time(&rt, &mut router, &writer, moment)?;
-        if router.port_count() == 0 || packet.len() > 65_535 {
-            break;
-        }
-        match router.take_packet(0, SENDER, all_routers::<V4>(), packet) {
-            Ok(verdict) => println!(rt; "{moment} {verdict:?}")?,
-            // nothing has changed: as if the packet had been lost
-            Err(_) => println!(rt; "{moment} no memory")?,
-        }
+        run(&rt, &mut router, &writer, moment)?;
+        // want of memory changes nothing: a daemon would go on, as if the packet had been lost
+        let verdict = router.take_packet(0, SENDER, all_routers::<V4>(), packet)?;
+        println!(rt; "{moment} {verdict:?}")?;
     }
     // a prune of the only neighbour counts at once
-    pass_time(&rt, &mut router, &writer, 61_000)?;
+    run(&rt, &mut router, &writer, 61_000)?;
     for held in router.ports().records() {
         println!(rt; "{:?} {:?}", held.key.what, held.machine.state)?;
     }

@@ -7,6 +7,7 @@ pub mod HeardHello
 pub mod Unless
 pub mod Runs
 pub mod Turns
+pub mod Setups
 pub mod Passing
 pub mod RunTo
 pub mod Courses

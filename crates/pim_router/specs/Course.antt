@@ -8,8 +8,8 @@ use Rattle.pim_router.specs.Packets.{Packet, received}
 use Rattle.pim_router.specs.State.{RouterState}
 use Rattle.pim_router.specs.Time.{Runs}
 
--- What a router is given: a moment, to which it runs until nothing is due by then, or a packet, which it takes. A packet
--- that comes at a moment is that moment, and then the packet.
+-- What a router is given: a moment, to which it runs until nothing is due by then, or a packet, which it takes. A
+-- packet that comes at a moment is that moment, and then the packet.
 pub data Input : Type 0 where
   runs_to : ℕ → Input
   takes : Packet → Input

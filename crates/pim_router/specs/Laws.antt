@@ -36,4 +36,5 @@ CourseGoesOn = (family : AddressFamily) (earlier later : List Input) (state betw
 
 -- From every state there is a course over every list.
 abbrev pub EveryListHasACourse : Type 0
-EveryListHasACourse = (family : AddressFamily) (inputs : List Input) (state : RouterState) → HasCourse family inputs state
+EveryListHasACourse = (family : AddressFamily) (inputs : List Input) (state : RouterState) →
+    HasCourse family inputs state

@@ -133,7 +133,8 @@ Receives causes end old (Err refused) new = (causes ≡ []) × (new ≡ old)
 abbrev pub new_by : AddressFamily → ℕ → Message → RouterState → ℕ
 new_by family port message state = new_for port message (known_in family state.routes) state.machines
 
--- A Hello may take memory unless it is a goodbye, or keeps a known sender for ever; a Join/Prune where it makes a record.
+-- A Hello may take memory unless it is a goodbye, or keeps a known sender for ever; a Join/Prune where it makes a
+-- record.
 abbrev pub may_grow : AddressFamily → ℕ → List ℕ → RouterState → Content → Bool
 may_grow family port source state (other type) = false
 may_grow family port source state (hello body) =

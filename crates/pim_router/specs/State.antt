@@ -30,6 +30,10 @@ pub record RouterState : Type 0 where
 abbrev pub refresh_period : ℕ
 refresh_period = 60000
 
+-- what a router was made from, as it still has it
+abbrev pub setup_of : RouterState → Setup
+setup_of state = record { ports = state.ports; routes = state.routes; limit = state.machines.limit }
+
 -- a new router: no records, no neighbours, the moment 0
 abbrev pub new_router : Setup → RouterState
 new_router setup = record {

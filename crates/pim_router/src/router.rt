@@ -1,6 +1,7 @@
 //! The router: its ports with their machines and neighbours, and its time.
 
-ghost use Rattle.std.specs.Prelude.{◌≡◌, ◌≢◌, ◌<◌, ◌≤◌, ◌^◌, length, replicate, map, max, IfOk, OnErr, IsTrue, not, nat_lt};
+ghost use Rattle.std.specs.Prelude.{◌≡◌, ◌≢◌, ◌<◌, ◌≤◌, ◌^◌, length, replicate, map, max};
+ghost use Rattle.std.specs.Prelude.{IfOk, OnErr, IsTrue, not, nat_lt};
 ghost use Rattle.pim_hello.specs.Laws.{expired_at};
 ghost use Rattle.pim_frame.specs.Frame.{content, hello, join_prune};
 ghost use Rattle.pim_hello.specs.Neighbours.{no_neighbours, needs_no_memory};
@@ -14,7 +15,7 @@ ghost use Rattle.pim_router.specs.Time.{Runs, turns_left};
 ghost use Rattle.pim_router.specs.declared.step.Step.TheVariants.{Reached};
 ghost use Rattle.pim_router.specs.Told.{hello_verdict, message_verdict};
 ghost use Rattle.pim_router.specs.Sound.{IsRouter};
-ghost use Rattle.pim_router.specs.State.{new_router, port_at, table_at};
+ghost use Rattle.pim_router.specs.State.{new_router, port_at, setup_of, table_at};
 
 use crate::config::{Config, ConfigFault, PortConfig, check};
 use crate::laws::runs_come_nearer;
@@ -337,6 +338,26 @@ impl<'a, F: Family> Router<'a, F> {
             (received F.family (packet_seen F.bytes_of port src dst bytes.now) self.old) self.old result self.new }
         ensures memory { OnErr result
             (IsTrue (may_grow F.family port (F.bytes_of src) self.old (content bytes.now))) }
+        ensures setup { setup_of self.new ≡ setup_of self.old }
+    {
+        self.receive(port, src, dst, bytes)
+    }
+
+    /// Takes a packet that a port received.
+    fn receive(
+        &mut self,
+        port: usize,
+        src: F::Addr,
+        dst: F::Addr,
+        bytes: &[u8],
+    ) -> Result<Verdict, AllocError>
+        requires port { port < length self.old.ports }
+        requires bytes { length bytes.now < 2 ^ 32 }
+        ensures told { Receives
+            (causes F.family (packet_seen F.bytes_of port src dst bytes.now) self.old)
+            (received F.family (packet_seen F.bytes_of port src dst bytes.now) self.old) self.old result self.new }
+        ensures memory { OnErr result
+            (IsTrue (may_grow F.family port (F.bytes_of src) self.old (content bytes.now))) }
     {
         if src == self.port(port).address {
             return Ok(Verdict::Mine);
@@ -353,9 +374,9 @@ impl<'a, F: Family> Router<'a, F> {
     /// counts as now. What is still due stays due, and the next call goes on.
     ///
     /// It takes no memory. It walks through all records once for each timer that fires, and once more; through none
-    /// where nothing was heard since the last walk and no timer ends, so that a quiet minute costs the same however many
-    /// records are held; and through no neighbour whose time isn't over. A loop of calls that goes on until `Reached`
-    /// comes to its end, since `turns_left` falls.
+    /// where nothing was heard since the last walk and no timer ends, so that a quiet minute costs the same however
+    /// many records are held; and through no neighbour whose time isn't over. A loop of calls that goes on until
+    /// `Reached` comes to its end, since `turns_left` falls.
     pub fn run_to(&mut self, moment: u64) -> Step<F::Addr>
         requires { moment ≤ 10 ^ 15 }
         ensures run { Runs moment self.old (step_seen F.bytes_of result) self.new }
@@ -363,6 +384,7 @@ impl<'a, F: Family> Router<'a, F> {
         ensures moment { self.new.machines.moment ≤ max self.old.machines.moment moment }
         ensures reached { result ≡ Reached → self.new.machines.moment ≡ max self.old.machines.moment moment }
         ensures nearer { result ≢ Reached → turns_left moment self.new < turns_left moment self.old }
+        ensures setup { setup_of self.new ≡ setup_of self.old }
     {
         runs_come_nearer();
         self.run_until(moment)
