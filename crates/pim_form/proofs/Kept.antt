@@ -51,11 +51,11 @@ module _ {A : Type 0} (bytes_of : A → List ℕ) (row : List A) where
   places_count [] = refl
   places_count (place ∷ places) = ap suc (places_count places)
 
-  groups_seen : (places : List (Place A)) → groups_of (form_seen bytes_of row places) ≡ map (place_group bytes_of) places
+  pub groups_seen : (places : List (Place A)) → groups_of (form_seen bytes_of row places) ≡ map (place_group bytes_of) places
   groups_seen [] = refl
   groups_seen (place ∷ places) = ap (λ (gs : List (List ℕ)). place_group bytes_of place ∷ gs) (groups_seen places)
 
-  seen_at : (places : List (Place A)) (i : ℕ) (d : Place A) → i < length places → get_or (form_seen bytes_of row places) i (place_seen bytes_of row d) ≡ place_seen bytes_of row (get_or places i d)
+  pub seen_at : (places : List (Place A)) (i : ℕ) (d : Place A) → i < length places → get_or (form_seen bytes_of row places) i (place_seen bytes_of row d) ≡ place_seen bytes_of row (get_or places i d)
   seen_at [] i d below = absurd (omega arith)
   seen_at (place ∷ places) zero d below = refl
   seen_at (place ∷ places) (suc i) d below = seen_at places i d (omega arith)

@@ -44,3 +44,4 @@ pub mod OpenPlace
 pub mod Collecting
 pub mod AllPorts
 pub mod EntriesWritten
+pub mod PortSettled

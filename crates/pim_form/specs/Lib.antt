@@ -21,3 +21,4 @@ pub mod Filling
 pub mod Merge
 pub mod Collect
 pub mod Drafts
+pub mod Settled

@@ -1,9 +1,10 @@
 //! The normal form of a demand.
 
-ghost use Rattle.std.specs.Prelude.{◌≡◌, List, [], IfOk};
+ghost use Rattle.std.specs.Prelude.{◌≡◌, List, [], IfOk, unwrap_or};
 ghost use Rattle.pim_form.specs.NormalForm.{IsNormal, form_wants};
+ghost use Rattle.pim_form.specs.Settled.{unwanted, group_in};
 
-use crate::groups::{Groups, group_at};
+use crate::groups::{GroupView, Groups, group_at};
 use crate::place::Place;
 use crate::sorted::find_group;
 use crate::tree::Tree;
@@ -49,6 +50,16 @@ impl<F: Family> NormalForm<F> {
         ensures { result ≡ self.now }
     {
         Groups::new(&self.row, &self.places)
+    }
+
+    /// What the form has of this group; `None` where it has nothing. It looks for it by halves.
+    pub(crate) fn group(&self, group: F::Addr) -> Option<GroupView<'_, F>>
+        ensures { unwrap_or result (unwanted (F.bytes_of group)) ≡ group_in (F.bytes_of group) self.now }
+    {
+        match find_group::<F>(&self.places, group) {
+            Some(index) => Some(group_at::<F>(&self.row, &self.places[index])),
+            None => None,
+        }
     }
 
     /// Whether the traffic of this source to this group is wanted on this tree. It looks for the group and then for the

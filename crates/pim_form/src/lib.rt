@@ -6,7 +6,8 @@
 //! form, or the least group that is too big. Normal forms that want the same are one; a list of units has one packing
 //! at most; a form has at most one list of canonical messages by a writer, and messages tell their form: so the
 //! messages of two states to a neighbour are byte-equal exactly if the states want the same of it. A canonical message
-//! that is sealed for ALL-PIM-ROUTERS opens without a fault and is read as that message.
+//! that is sealed for ALL-PIM-ROUTERS opens without a fault and is read as that message. `settled` tells whether a port's
+//! machines are exactly those that a form asks for.
 #![tactic(auto)]
 
 mod collect;
@@ -22,6 +23,7 @@ mod messages;
 mod packing;
 mod place;
 mod plan;
+mod settling;
 mod sizes;
 mod sorted;
 #[cfg(test)]
@@ -43,6 +45,7 @@ pub use laws::{
 };
 pub use messages::Messages;
 pub use packing::pack;
+pub use settling::settled;
 pub use toward::{is_toward, upstream_of};
 pub use toward_laws::{
     one_row_asks_one_neighbour, same_messages_same_asked, test_tells_who_is_asked,

@@ -4,6 +4,7 @@ mod asked;
 mod forms;
 mod kept;
 mod packing;
+mod settling;
 mod toward;
 mod wanting;
 mod writers;
