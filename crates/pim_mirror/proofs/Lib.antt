@@ -22,3 +22,6 @@ pub mod Timely
 pub mod Intervals
 pub mod Finals
 pub mod Conditions
+pub mod Ways
+pub mod Hellos
+pub mod Heard

@@ -6,13 +6,17 @@
 //! order and however often, applies each where there is room, and asks again for exactly what the form asks for, by the
 //! same messages, from the final moment of the deliveries on and while no message is missed for its holdtime.
 //!
-//! `fits` is exactly its conditions, under which a fresh router mirrors the sender of its messages.
+//! `fits` is exactly its conditions, under which a fresh router mirrors the sender of its messages. `mirror` answers that
+//! router, as it is at its final moment: the state behind the course of a new router over the Hellos of its neighbours,
+//! the deliveries and the way to that moment. `Full` tells what the first message needed that had no room.
 #![tactic(auto)]
 
 mod config;
 mod fitting;
 mod fresh;
 mod laws;
+mod meeting;
+mod mirroring;
 #[cfg(test)]
 mod tests;
 
@@ -24,3 +28,4 @@ pub use laws::{
     messages_are_read, part_asks, parts_tell_units_once, router_asks_again, router_leaves_its_port,
     writer_stays_heard,
 };
+pub use mirroring::{MirrorFault, mirror};
