@@ -5,5 +5,6 @@ pub mod Given
 pub mod Ports
 pub mod Reading
 pub mod Seen
+pub mod Table
 pub mod Typed
 pub mod Plan

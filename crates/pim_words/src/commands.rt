@@ -56,19 +56,24 @@ const SAME_ABOUT: &str = "Do these two routers want the same traffic?";
 /// What `mirror` does.
 const MIRROR_ABOUT: &str = "Which messages make a fresh router want what this router wants?";
 
-/// What `--rp` is.
-const RP_HELP: &str = "Rendezvous point of all groups";
+/// What `--rp` is, where it has to be given.
+const RP_HELP: &str = "Address of the rendezvous point of all groups";
+
+/// What `--rp` is, where it may be missing.
+const REPLAY_RP_HELP: &str =
+    "Address of the rendezvous point of all groups; Joins of a whole group count only{n}where they \
+name it [default: none]";
 
 /// What `--upstream` is.
-const UPSTREAM_HELP: &str = "Upstream neighbour, to whom the messages go";
+const UPSTREAM_HELP: &str = "Address of the upstream neighbour, to whom the messages go";
 
 /// What `--own` is.
-const OWN_HELP: &str = "Address that the messages come from";
+const OWN_HELP: &str = "Address that the messages come from; another than the upstream neighbour's";
 
 /// What `--routes` is.
 const ROUTES_HELP: &str =
     "File of routes, at most 1048576 bytes of lines `rp ADDRESS/LENGTH ADDRESS` and{n}`via \
-ADDRESS/LENGTH ADDRESS`: the rendezvous points of groups, and the upstream{n}neighbours of addresses";
+ADDRESS/LENGTH ADDRESS`: the rendezvous points of groups, and the upstream{n}neighbours of addresses [default: none]";
 
 /// What `--holdtime` is.
 const HOLDTIME_HELP: &str =
@@ -96,27 +101,29 @@ capture of its packets; 1 to 64 of each";
 
 /// What is to be known of `replay`, and an example.
 const REPLAY_AFTER_HELP: &str =
-    "A FILE is a classic pcap file. What is told of each PIM packet is a line; the state follows.
+    "A FILE is a classic pcap file of the packets on one port. Each PIM packet has a line, which says
+what became of it; the state at the end follows. Times are milliseconds, and the first record's is 0.
 All addresses are of one family, and packets of the other are counted as skipped.
 
 Example:
-  pimtree replay --rp 10.9.9.9 10.0.0.2@a.pcap";
+  pimtree replay --rp 10.9.9.9 10.0.0.2@examples/lan.pcap";
 
 /// What is to be known of `same`, and an example.
 const SAME_AFTER_HELP: &str =
-    "A FILE is a classic pcap file. `same` or `different` is printed, with status 0 or 1.
-All addresses are of one family.
+    "A FILE is a classic pcap file of the packets on one port. `same` is printed, with status 0, or
+`different`, with status 1. All addresses are of one family.
 
 Example:
-  pimtree same --rp 10.9.9.9 --upstream 10.0.0.2 --own 10.0.0.1 a=10.0.0.2@a.pcap b=10.0.0.2@b.pcap";
+  pimtree same --rp 10.9.9.9 --upstream 10.0.0.3 --own 10.0.0.1 a=10.0.0.2@examples/lan.pcap \
+b=10.0.0.2@examples/lost.pcap";
 
 /// What is to be known of `mirror`, and an example.
 const MIRROR_AFTER_HELP: &str =
-    "A FILE is a classic pcap file. Each message is a line of hexadecimal digits.
-All addresses are of one family.
+    "A FILE is a classic pcap file of the packets on one port. Each message is a line of hexadecimal
+digits. All addresses are of one family.
 
 Example:
-  pimtree mirror --rp 10.9.9.9 --upstream 10.0.0.2 --own 10.0.0.1 10.0.0.2@a.pcap";
+  pimtree mirror --rp 10.9.9.9 --upstream 10.0.0.3 --own 10.0.0.1 10.0.0.2@examples/lan.pcap";
 
 /// An option that takes one text, which help calls by this name.
 fn text_option<'a>(alloc: Global, name: &'a str, value: &'a str, help: &'a str) -> Arg<'a>
@@ -255,7 +262,7 @@ fn replay_command<'a>(alloc: Global) -> Result<Command<'a>, AllocError>
     let command = Command::new(alloc, "replay")
         .about(REPLAY_ABOUT)
         .after_help(REPLAY_AFTER_HELP);
-    let command = with_option(command, text_option(alloc, "rp", "ADDRESS", RP_HELP))?;
+    let command = with_option(command, text_option(alloc, "rp", "ADDRESS", REPLAY_RP_HELP))?;
     let command = with_option(command, text_option(alloc, "routes", "FILE", ROUTES_HELP))?;
     with_run_options(alloc, command, PORT_HELP)
 }

@@ -9,10 +9,12 @@ mod judging;
 mod planning;
 mod port;
 mod reading;
+mod table;
 mod task;
 mod typed;
 
 pub use addresses::Address;
 pub use fault::{ConfigCause, Fault, Refusal, Side};
 pub use planning::{plan, plan_check};
+pub use table::given_table;
 pub use task::{Captures, Kind, Plan, Port, Task, Writing};

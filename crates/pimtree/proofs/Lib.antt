@@ -1,6 +1,3 @@
-pub mod Asked
 pub mod Lines
-pub mod Refusals
 pub mod Reports
-pub mod Unread
 pub mod Writes

@@ -17,8 +17,7 @@ use Rattle.pim_jp.specs.declared.fault.JpFault.{JpFault}
 use Rattle.pimtree.specs.Text.{message_text}
 use Rattle.pimtree.specs.HelloText.{hello_text}
 use Rattle.pimtree.specs.declared.fault.Fault.{Fault}
-use Rattle.pimtree.specs.declared.fault.Fault.TheVariants.{Clap, Address, Word, Family, NoPort, WriterAddress, Config, File}
-use Rattle.pimtree.specs.declared.fault.Fault.TheVariants.{RoutesTooLong, RoutesRead, RoutesLine, Capture, TooBig}
+use Rattle.pimtree.specs.declared.fault.Fault.TheVariants.{Words, File, RoutesTooLong, RoutesRead, RoutesLine, Capture, TooBig, Full}
 use Rattle.pimtree.specs.declared.fault.Fault.TheVariants.{Frame, Hello, JoinPrune, InputTooLong, InputRead, Output, Memory}
 use Rattle.pimtree.specs.Report.{content_faults, content_text, body_report, hello_report, message_report, input_report, Explains, IsMessageFault, Reports}
 
@@ -42,22 +41,17 @@ unreported report old new (Frame fault) kept cause = (cause, kept)
 unreported report old new (Hello fault) kept cause = (cause, kept)
 unreported report old new (JoinPrune fault) kept cause = (cause, kept)
 unreported report old new Memory kept cause = kept
-unreported report old new (Clap refusal) kept cause = absurd cause
-unreported report old new (Address word) kept cause = absurd cause
-unreported report old new Family kept cause = absurd cause
+unreported report old new (Words why) kept cause = absurd cause
 unreported report old new InputRead kept cause = absurd cause
 unreported report old new InputTooLong kept cause = absurd cause
 unreported report old new Output kept cause = absurd cause
-unreported report old new (Word word) kept cause = absurd cause
-unreported report old new (NoPort side) kept cause = absurd cause
-unreported report old new WriterAddress kept cause = absurd cause
-unreported report old new (Config why) kept cause = absurd cause
 unreported report old new (File word) kept cause = absurd cause
 unreported report old new RoutesTooLong kept cause = absurd cause
 unreported report old new RoutesRead kept cause = absurd cause
 unreported report old new (RoutesLine number) kept cause = absurd cause
 unreported report old new (Capture why) kept cause = absurd cause
 unreported report old new (TooBig group) kept cause = absurd cause
+unreported report old new (Full needed) kept cause = absurd cause
 
 keeps_self : (known : Option (List ℕ)) → Keeps known known
 keeps_self None = tt

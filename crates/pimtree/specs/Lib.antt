@@ -2,7 +2,5 @@ pub mod Text
 pub mod HelloText
 pub mod Words
 pub mod Report
-pub mod CommandLine
-pub mod Addresses
-pub mod Plan
+pub mod Ends
 pub mod Telling

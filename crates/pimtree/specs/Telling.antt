@@ -1,11 +1,14 @@
 -- How a run that met a fault ends: what is told, on which device, and the status.
-use Rattle.std.specs.Prelude.{◌≡◌, ◌⊎◌, ℕ, ◌+◌, Bool, true, false, List, Option, min, string_bytes}
+use Rattle.std.specs.Prelude.{◌≡◌, ◌⊎◌, ℕ, ◌+◌, Bool, true, false, List, Option, Some, None, min}
+use Rattle.std.specs.Prelude.{string_bytes, unwrap_or}
 use Rattle.std.specs.Io.KnownBytes.{Appends}
 use Rattle.clap.specs.declared.error.kind.ErrorKind.{ErrorKind}
 use Rattle.clap.specs.declared.error.kind.ErrorKind.TheVariants.{DisplayHelp, DisplayVersion}
 use Rattle.pim_device.specs.Device.{AppendsFront, top_count}
+use Rattle.pim_words.specs.declared.fault.Fault.{Fault as WordsFault}
+use Rattle.pim_words.specs.declared.fault.Fault.TheVariants.{Clap}
 use Rattle.pimtree.specs.declared.fault.Fault.{Fault}
-use Rattle.pimtree.specs.declared.fault.Fault.TheVariants.{Clap}
+use Rattle.pimtree.specs.declared.fault.Fault.TheVariants.{Words}
 use Rattle.pimtree.specs.Words.{fault_text}
 
 -- a request for help or for the version
@@ -14,15 +17,27 @@ is_request DisplayHelp = true
 is_request DisplayVersion = true
 is_request mistake = false
 
--- The words asked for what is told, so it is no mistake.
+-- `clap` shows what the words asked for, so it is no mistake.
+abbrev pub is_shown : WordsFault → Bool
+is_shown (Clap refusal) = is_request refusal.kind
+is_shown other = false
+
 abbrev pub is_asked_for : Fault → Bool
-is_asked_for (Clap refusal) = is_request refusal.kind
+is_asked_for (Words fault) = is_shown fault
 is_asked_for other = false
 
--- what is told: `clap`'s own text of what it refuses, and else the line of the fault
+-- `clap`'s own text of what it refuses or shows
+abbrev pub clap_text : WordsFault → Option (List ℕ)
+clap_text (Clap refusal) = Some (string_bytes refusal.text)
+clap_text other = None
+
+abbrev pub own_text : Fault → Option (List ℕ)
+own_text (Words fault) = clap_text fault
+own_text other = None
+
+-- what is told: `clap`'s own text, and else the line of the fault
 abbrev pub told_text : Fault → List ℕ
-told_text (Clap refusal) = string_bytes refusal.text
-told_text fault = fault_text fault
+told_text fault = unwrap_or (own_text fault) (fault_text fault)
 
 -- ---- a device that a text is written to: its bytes and the count of its failures, before and after
 

@@ -2,61 +2,26 @@
 use Rattle.std.specs.Prelude.{ℕ, List, ◌++◌, codes, decimal, unwrap_or}
 use Rattle.clap.specs.declared.error.kind.ErrorKind.{ErrorKind}
 use Rattle.clap.specs.Values.{kind_text}
-use Rattle.pim_frame.specs.declared.frame.FrameFault.{FrameFault}
-use Rattle.pim_frame.specs.declared.frame.FrameFault.TheVariants as frame
-use Rattle.pim_hello.specs.declared.fault.HelloKind.{HelloKind}
-use Rattle.pim_hello.specs.declared.fault.HelloKind.TheVariants as hello_kind
-use Rattle.pim_hello.specs.declared.fault.HelloFault.{HelloFault}
-use Rattle.pim_jp.specs.declared.fault.JpKind.{JpKind}
-use Rattle.pim_jp.specs.declared.fault.JpKind.TheVariants as kind
-use Rattle.pim_jp.specs.declared.fault.JpFault.{JpFault}
+use Rattle.pim_replay.specs.Malformed.{frame_words, hello_words, join_prune_words}
 use Rattle.pim_addr.specs.declared.family.AddressFamily.TheVariants.{Ipv4, Ipv6}
 use Rattle.pim_addr.specs.Text.{address_text}
 use Rattle.pim_routes_file.specs.declared.fault.RoutesFault.{RoutesFault}
 use Rattle.pim_routes_file.specs.declared.fault.RoutesFault.TheVariants as routes
-use Rattle.pimtree.specs.declared.addresses.Address.{Address as Either}
-use Rattle.pimtree.specs.declared.addresses.Address.TheVariants as either
-use Rattle.pimtree.specs.declared.causes.Side.{Side}
-use Rattle.pimtree.specs.declared.causes.Side.TheVariants as side
+use Rattle.pim_words.specs.declared.addresses.Address.{Address as Either}
+use Rattle.pim_words.specs.declared.addresses.Address.TheVariants as either
+use Rattle.pim_words.specs.declared.fault.Side.{Side}
+use Rattle.pim_words.specs.declared.fault.Side.TheVariants as side
+use Rattle.pim_words.specs.declared.fault.ConfigCause.{ConfigCause}
+use Rattle.pim_words.specs.declared.fault.ConfigCause.TheVariants as config
+use Rattle.pim_words.specs.declared.fault.Fault.{Fault as WordsFault}
+use Rattle.pim_words.specs.declared.fault.Fault.TheVariants as words
 use Rattle.pimtree.specs.declared.causes.CaptureCause.{CaptureCause}
 use Rattle.pimtree.specs.declared.causes.CaptureCause.TheVariants as capture
-use Rattle.pimtree.specs.declared.causes.ConfigCause.{ConfigCause}
-use Rattle.pimtree.specs.declared.causes.ConfigCause.TheVariants as config
 use Rattle.pimtree.specs.declared.fault.Fault.{Fault}
-use Rattle.pimtree.specs.declared.fault.Fault.TheVariants.{Clap, Address, Word, Family, NoPort, WriterAddress, Config}
-use Rattle.pimtree.specs.declared.fault.Fault.TheVariants.{File, RoutesTooLong, RoutesRead, RoutesLine, Capture, Frame}
-use Rattle.pimtree.specs.declared.fault.Fault.TheVariants.{Hello, JoinPrune, TooBig, InputTooLong, InputRead, Output}
-use Rattle.pimtree.specs.declared.fault.Fault.TheVariants.{Memory}
+use Rattle.pimtree.specs.declared.fault.Fault.TheVariants.{Words, File, RoutesTooLong, RoutesRead, RoutesLine, Capture}
+use Rattle.pimtree.specs.declared.fault.Fault.TheVariants.{Frame, Hello, JoinPrune, TooBig, Full, InputTooLong}
+use Rattle.pimtree.specs.declared.fault.Fault.TheVariants.{InputRead, Output, Memory}
 use Rattle.pimtree.specs.Text.{line}
-
-abbrev pub frame_words : FrameFault → List ℕ
-frame_words frame.Short = codes "frame short"
-frame_words (frame.Version version) = codes "frame version " ++ decimal version
-frame_words frame.Checksum = codes "frame checksum"
-frame_words frame.NotAllRouters = codes "frame not-all-routers"
-
-abbrev pub hello_kind_name : HelloKind → List ℕ
-hello_kind_name hello_kind.Short = codes "short"
-hello_kind_name hello_kind.OptionLength = codes "option-length"
-hello_kind_name hello_kind.Address = codes "address"
-
-abbrev pub hello_words : HelloFault → List ℕ
-hello_words fault = codes "hello " ++ hello_kind_name fault.kind ++ codes " at " ++ decimal fault.at
-
-abbrev pub kind_name : JpKind → List ℕ
-kind_name kind.Short = codes "short"
-kind_name kind.Family = codes "family"
-kind_name kind.Encoding = codes "encoding"
-kind_name kind.Mask = codes "mask"
-kind_name kind.NotGroup = codes "not-group"
-kind_name kind.Flags = codes "flags"
-kind_name kind.NotSource = codes "not-source"
-kind_name kind.SecondStar = codes "second-star"
-kind_name kind.BothLists = codes "both-lists"
-kind_name kind.Trailing = codes "trailing"
-
-abbrev pub join_prune_words : JpFault → List ℕ
-join_prune_words fault = codes "join/prune " ++ kind_name fault.kind ++ codes " at " ++ decimal fault.at
 
 -- the short text that `clap` has on a kind of error; it has none on a request for help
 abbrev pub refusal_words : ErrorKind → List ℕ
@@ -90,14 +55,19 @@ routes_fault routes.Read = RoutesRead
 routes_fault (routes.Line number) = RoutesLine number
 routes_fault routes.Memory = Memory
 
+-- why the words of the command line make no plan
+abbrev pub plan_words : WordsFault → List ℕ
+plan_words (words.Clap refusal) = refusal_words refusal.kind
+plan_words (words.Address word) = codes "address " ++ word.now
+plan_words (words.Word word) = codes "word " ++ word.now
+plan_words words.Family = codes "family"
+plan_words (words.NoPort side) = no_port_words side
+plan_words words.WriterAddress = codes "writer address"
+plan_words (words.Config cause) = config_words cause
+plan_words words.Memory = codes "memory"
+
 abbrev pub fault_words : Fault → List ℕ
-fault_words (Clap refusal) = refusal_words refusal.kind
-fault_words (Address word) = codes "address " ++ word.now
-fault_words (Word word) = codes "word " ++ word.now
-fault_words Family = codes "family"
-fault_words (NoPort side) = no_port_words side
-fault_words WriterAddress = codes "writer address"
-fault_words (Config cause) = config_words cause
+fault_words (Words fault) = plan_words fault
 fault_words (File word) = codes "file " ++ word.now
 fault_words RoutesTooLong = codes "routes too-long"
 fault_words RoutesRead = codes "routes read"
@@ -107,6 +77,7 @@ fault_words (Frame fault) = frame_words fault
 fault_words (Hello fault) = hello_words fault
 fault_words (JoinPrune fault) = join_prune_words fault
 fault_words (TooBig group) = codes "too big " ++ address_words group
+fault_words (Full needed) = codes "full " ++ decimal needed
 fault_words InputTooLong = codes "input too-long"
 fault_words InputRead = codes "input read"
 fault_words Output = codes "output"

@@ -1,16 +1,9 @@
-//! What a fault of a capture, of a configuration or of a routes file may be, and its words.
+//! What a fault of a capture may be, and the words of causes.
 
 ghost use Rattle.std.specs.Prelude.{◌≡◌};
 ghost use Rattle.pimtree.specs.Words.{capture_words, config_words, no_port_words};
 
-/// One of the two routers that a command compares.
-#[derive(Clone, Copy, Debug, PartialEq, Eq)]
-pub enum Side {
-    /// The one whose words begin with `a=`.
-    A,
-    /// The one whose words begin with `b=`.
-    B,
-}
+use pim_words::{ConfigCause, Side};
 
 /// Why a capture isn't read to its end.
 #[derive(Clone, Copy, Debug, PartialEq, Eq)]
@@ -25,17 +18,6 @@ pub enum CaptureCause {
     TooLong,
     /// It can't be read, or has more than 4,294,967,295 records.
     Read,
-}
-
-/// Why a router can't be as the words want it.
-#[derive(Clone, Copy, Debug, PartialEq, Eq)]
-pub enum ConfigCause {
-    /// It has no port, or more than 64.
-    Ports,
-    /// The address of a port isn't a valid source.
-    Address,
-    /// The RP isn't a valid source.
-    Rp,
 }
 
 /// The words where no word of the command line is a port of this router.

@@ -2,19 +2,20 @@
 
 ghost use Rattle.std.specs.Prelude.{◌≡◌, ◌≤◌, length, IfOk, IfSome, IfErr, vec_len};
 ghost use Rattle.pim_device.specs.Device.{ConsumesAtMost};
-ghost use Rattle.pimtree.specs.Plan.{end_family, end_source, end_destination};
+ghost use Rattle.pim_words.specs.Plan.{IsCheck, IsCheckTask};
+ghost use Rattle.pimtree.specs.Ends.{task_source, task_destination, plan_family, plan_source, plan_destination};
 ghost use Rattle.pimtree.specs.Report.{body_report, hello_report, message_report, input_report, read_failures_after};
 ghost use Rattle.pimtree.specs.Report.{write_failures_after};
 ghost use Rattle.pimtree.specs.Report.{Reports, GivesReport, GivesInput, IsReadFault};
 
 use crate::fault::Fault;
 use crate::hello_text::hello_text;
-use crate::task::Ends;
 use crate::text::{message_text, type_text};
 use pim_addr::{Drain, Failed, Family, Feed, V4, V6, read_up_to, write_all};
 use pim_frame::{Body, open};
 use pim_hello::Hello;
 use pim_jp::JpView;
+use pim_words::{Plan, Task};
 use std::alloc::Global;
 
 /// The most bytes that an input may have.
@@ -122,26 +123,49 @@ pub fn check_into<F: Family, R: Feed, W: Drain>(
     }
 }
 
-/// `check_into` of a message that went from one of these ends to the other.
-///
-/// # Errors
-/// Those of `check_into`.
-pub fn check_ends<R: Feed, W: Drain>(
+/// `check_into` of the message that a task asks for.
+fn check_task<F: Family, R: Feed, W: Drain>(
     alloc: Global,
     reader: &mut R,
     writer: &mut W,
-    ends: Ends,
+    task: &Task<'_, F::Addr>,
 ) -> Result<u8, Fault<'static>>
+    requires { IsCheckTask task.now }
     ensures report { IfSome (R.remaining reader.old) (λ input.
-        Reports (input_report (end_family ends) (end_source ends) (end_destination ends) input)
+        Reports (input_report F.family (task_source F.bytes_of task.now) (task_destination F.bytes_of task.now) input)
         (W.contents writer.old) (W.contents writer.new) result) }
     ensures status { IfOk result (λ status. status ≡ 0) }
     ensures input_read { R.failures reader.new ≡ read_failures_after (R.failures reader.old) result }
     ensures output { W.failures writer.new ≡ write_failures_after (W.failures writer.old) result }
     ensures taken { ConsumesAtMost 65537 (R.remaining reader.old) (R.remaining reader.new) }
 {
-    match ends {
-        Ends::V4 { src, dst } => check_into::<V4, _, _>(alloc, reader, writer, src, dst),
-        Ends::V6 { src, dst } => check_into::<V6, _, _>(alloc, reader, writer, src, dst),
+    match task {
+        Task::Check { src, dst } => check_into::<F, _, _>(alloc, reader, writer, *src, *dst),
+        _ => unreachable!(),
+    }
+}
+
+/// `check_into` of the message that a plan asks for.
+///
+/// # Errors
+/// Those of `check_into`.
+pub fn check_plan<R: Feed, W: Drain>(
+    alloc: Global,
+    reader: &mut R,
+    writer: &mut W,
+    plan: &Plan<'_>,
+) -> Result<u8, Fault<'static>>
+    requires { IsCheck plan.now }
+    ensures report { IfSome (R.remaining reader.old) (λ input.
+        Reports (input_report (plan_family plan.now) (plan_source plan.now) (plan_destination plan.now) input)
+        (W.contents writer.old) (W.contents writer.new) result) }
+    ensures status { IfOk result (λ status. status ≡ 0) }
+    ensures input_read { R.failures reader.new ≡ read_failures_after (R.failures reader.old) result }
+    ensures output { W.failures writer.new ≡ write_failures_after (W.failures writer.old) result }
+    ensures taken { ConsumesAtMost 65537 (R.remaining reader.old) (R.remaining reader.new) }
+{
+    match plan {
+        Plan::V4(task) => check_task::<V4, _, _>(alloc, reader, writer, task),
+        Plan::V6(task) => check_task::<V6, _, _>(alloc, reader, writer, task),
     }
 }

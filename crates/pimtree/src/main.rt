@@ -2,25 +2,23 @@
 //! standard input is printed, or the fault that it has.
 #![tactic(auto)]
 
-mod addresses;
 mod causes;
 mod check;
 mod fault;
 mod hello_text;
-mod planning;
-mod task;
 mod telling;
 #[cfg(test)]
 mod tests;
 mod text;
-mod words;
+#[cfg(test)]
+mod words_tests;
 #[cfg(test)]
 mod writing_tests;
 
-use check::check_ends;
+use check::check_plan;
 use fault::Fault;
 use pim_addr::Counted;
-use planning::plan;
+use pim_words::plan_check;
 use std::io::Write;
 use std::process::ExitCode;
 use std::{env, io};
@@ -34,10 +32,10 @@ fn words_given(rt: &HostRuntime) -> io::Result<Vec<String>> {
 
 /// Does what the words ask for, with standard input and output.
 fn run<'a>(rt: &HostRuntime, words: &'a [String]) -> Result<u8, Fault<'a>> {
-    let task::Plan::Check(ends) = plan(rt.alloc(), words)?;
+    let plan = plan_check(rt.alloc(), words)?;
     let mut output = Counted::new(io::writer(rt));
     let mut input = Counted::new(rt.stdin());
-    let status = check_ends(rt.alloc(), &mut input, &mut output, ends)?;
+    let status = check_plan(rt.alloc(), &mut input, &mut output, &plan)?;
     output.into_inner().flush().map_err(|_| Fault::Output)?;
     Ok(status)
 }

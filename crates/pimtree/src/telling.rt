@@ -1,8 +1,9 @@
 //! How a run that met a fault ends.
 
-ghost use Rattle.std.specs.Prelude.{◌≡◌, true, false};
+ghost use Rattle.std.specs.Prelude.{◌≡◌, true, false, option_map};
 ghost use Rattle.pim_device.specs.Device.{AppendsAll, failures_after};
-ghost use Rattle.pimtree.specs.Telling.{is_asked_for, told_text, IsAnswered, IsTold};
+ghost use Rattle.pimtree.specs.Telling.{is_shown, is_asked_for, clap_text, own_text, told_text};
+ghost use Rattle.pimtree.specs.Telling.{IsAnswered, IsTold};
 
 use crate::fault::{Fault, fault_line};
 use clap::error::ErrorKind;
@@ -14,16 +15,46 @@ mod tests;
 /// The status of a run that met a fault.
 pub const FAULTY: u8 = 2;
 
+/// Whether `clap` shows what the words asked for.
+fn is_shown(fault: &pim_words::Fault<'_>) -> bool
+    ensures { result ≡ is_shown fault.now }
+{
+    match fault {
+        pim_words::Fault::Clap(refusal) => matches!(
+            refusal.kind,
+            ErrorKind::DisplayHelp | ErrorKind::DisplayVersion
+        ),
+        _ => false,
+    }
+}
+
 /// Whether the words asked for what is told: help or the version.
 fn is_asked_for(fault: &Fault<'_>) -> bool
     ensures { result ≡ is_asked_for fault.now }
 {
     match fault {
-        Fault::Clap(refusal) => matches!(
-            refusal.kind,
-            ErrorKind::DisplayHelp | ErrorKind::DisplayVersion
-        ),
+        Fault::Words(fault) => is_shown(fault),
         _ => false,
+    }
+}
+
+/// `clap`'s own text of what it refuses or shows.
+fn clap_text<'a>(fault: &'a pim_words::Fault<'_>) -> Option<&'a str>
+    ensures { option_map (λ text. text.now) result ≡ clap_text fault.now }
+{
+    match fault {
+        pim_words::Fault::Clap(refusal) => Some(refusal.text.as_str()),
+        _ => None,
+    }
+}
+
+/// The fault's own text, where it has one.
+fn own_text<'a>(fault: &'a Fault<'_>) -> Option<&'a str>
+    ensures { option_map (λ text. text.now) result ≡ own_text fault.now }
+{
+    match fault {
+        Fault::Words(fault) => clap_text(fault),
+        _ => None,
     }
 }
 
@@ -32,9 +63,9 @@ fn write_told<D: Drain>(fault: &Fault<'_>, device: &mut D) -> Result<(), Failed>
     ensures bytes { AppendsAll (D.contents device.old) (D.contents device.new) result (told_text fault.now) }
     ensures count { D.failures device.new ≡ failures_after (D.failures device.old) result }
 {
-    match fault {
-        Fault::Clap(refusal) => write_all(device, refusal.text.as_bytes()),
-        _ => fault_line(fault, device),
+    match own_text(fault) {
+        Some(text) => write_all(device, text.as_bytes()),
+        None => fault_line(fault, device),
     }
 }
 

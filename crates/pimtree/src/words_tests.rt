@@ -1,13 +1,11 @@
-//! What is made of words, and what is told of them.
+//! What the program answers to words.
 
-use super::plan;
-use crate::check::check_ends;
+use crate::check::check_plan;
 use crate::fault::Fault;
-use crate::task;
-use crate::task::Ends;
 use crate::telling::tell_into;
 use crate::tests::{JOIN_STAR, JOIN_STAR_TEXT, JOIN_STAR_V6, JOIN_STAR_V6_TEXT, bytes_of};
 use pim_addr::{ScriptedDrain, ScriptedFeed};
+use pim_words::plan_check;
 use std::alloc::Global;
 use std::process::Abort;
 use std::test::Fail;
@@ -17,38 +15,6 @@ const CHECK: &[&str] = &["pimtree", "check"];
 
 /// Words of a message over IPv6 from fe80::1.
 const CHECK_V6: &[&str] = &["pimtree", "check", "--dst", "ff02::d", "--src", "fe80::1"];
-
-/// Words that are understood, with the ends that they give.
-const UNDERSTOOD: [(&[&str], Ends); 4] = [
-    (
-        CHECK,
-        Ends::V4 {
-            src: [0; 4],
-            dst: [224, 0, 0, 13],
-        },
-    ),
-    (
-        &["pimtree", "check", "--src", "10.0.0.2"],
-        Ends::V4 {
-            src: [10, 0, 0, 2],
-            dst: [224, 0, 0, 13],
-        },
-    ),
-    (
-        &["pimtree", "check", "--dst=10.0.0.2"],
-        Ends::V4 {
-            src: [0; 4],
-            dst: [10, 0, 0, 2],
-        },
-    ),
-    (
-        CHECK_V6,
-        Ends::V6 {
-            src: [0xfe, 0x80, 0, 0, 0, 0, 0, 0, 0, 0, 0, 0, 0, 0, 0, 1],
-            dst: [0xff, 2, 0, 0, 0, 0, 0, 0, 0, 0, 0, 0, 0, 0, 0, 0xd],
-        },
-    ),
-];
 
 /// Words and a message, with what goes to the output, or else to standard error.
 const RUNS: [(&[&str], &str, &str, &str); 5] = [
@@ -100,10 +66,11 @@ const ADDRESS_FAULTS: [(&[&str], &str); 6] = [
 ];
 
 /// Words that `clap` refuses, with a part of what it says.
-const MISTAKES: [(&[&str], &str); 11] = [
+const MISTAKES: [(&[&str], &str); 12] = [
     (&[], "requires a subcommand"),
     (&["pimtree"], "requires a subcommand"),
     (&["pimtree", "chec"], "unrecognized subcommand 'chec'"),
+    (&["pimtree", "replay"], "unrecognized subcommand 'replay'"),
     (&["pimtree", "help"], "unrecognized subcommand 'help'"),
     (
         &["pimtree", "--src", "10.0.0.2"],
@@ -148,16 +115,6 @@ const REQUESTS: [(&[&str], &str); 6] = [
     (&["pimtree", "--version"], "pimtree 0.1.0\n"),
 ];
 
-#[test]
-fn options_give_the_ends(rt: HostRuntime) {
-    for (words, ends) in UNDERSTOOD {
-        match plan(rt.alloc(), words) {
-            Ok(made) => assert_eq!(rt; made, task::Plan::Check(ends)),
-            Err(_) => assert!(rt; false, "words that are understood"),
-        }
-    }
-}
-
 /// What a run put out and told, and its status.
 #[derive(Drop)]
 struct Ended {
@@ -173,9 +130,9 @@ fn answer<'a>(
     message: &[u8],
     output: &mut ScriptedDrain,
 ) -> Result<u8, Fault<'a>> {
-    let task::Plan::Check(ends) = plan(alloc, words)?;
+    let plan = plan_check(alloc, words)?;
     let mut input = ScriptedFeed::new(message, 7, usize::MAX);
-    check_ends(alloc, &mut input, output, ends)
+    check_plan(alloc, &mut input, output, &plan)
 }
 
 /// Runs the words over this input to the end, as the program does.

@@ -325,16 +325,48 @@ fn options_give_the_ends(rt: HostRuntime) {
 }
 
 /// Requests for help, with a part of the answer.
-const HELP: [(&[&str], &str); 6] = [
+const HELP: [(&[&str], &str); 14] = [
+    (
+        &["p", "--help"],
+        "What does this message say, or where is it wrong?",
+    ),
     (
         &["p", "--help"],
         "What state did this router hold, and why?",
     ),
-    (&["p", "replay", "--help"], "[default: 100000]"),
-    (&["p", "replay", "--help"], "0 to 1000000000"),
-    (&["p", "same", "--help"], "99 to 65535"),
+    (
+        &["p", "--help"],
+        "Do these two routers want the same traffic?",
+    ),
+    (
+        &["p", "check", "--help"],
+        "pimtree check < examples/join-star.pim",
+    ),
+    (&["p", "check", "--help"], "[default: 224.0.0.13]"),
+    (&["p", "replay", "--help"], "1 to 100000 [default: 100000]"),
+    (
+        &["p", "replay", "--help"],
+        "in milliseconds, 0 to 1000000000",
+    ),
+    (
+        &["p", "replay", "--help"],
+        "pimtree replay --rp 10.9.9.9 10.0.0.2@examples/lan.pcap",
+    ),
+    (
+        &["p", "same", "--help"],
+        "in seconds, 99 to 65535, which is for ever [default: 210]",
+    ),
+    (&["p", "same", "--help"], "70 to 65000 [default: 1460]"),
     (&["p", "same", "--help"], "a=ADDRESS@FILE or b=ADDRESS@FILE"),
-    (&["p", "mirror", "--help"], "[default: 1460]"),
+    (
+        &["p", "same", "--help"],
+        "a=10.0.0.2@examples/lan.pcap b=10.0.0.2@examples/lost.pcap",
+    ),
+    (&["p", "mirror", "--help"], "70 to 65000 [default: 1460]"),
+    (
+        &["p", "mirror", "--help"],
+        "10.0.0.1 10.0.0.2@examples/lan.pcap",
+    ),
 ];
 
 /// Whether a fault is `clap`'s text with this part in it.
@@ -353,5 +385,26 @@ fn help_names_units_ranges_and_defaults(rt: HostRuntime) {
             Err(fault) => shows(&fault, part),
         };
         assert!(rt; is_shown);
+    }
+}
+
+/// What a program with `check` alone offers is that.
+#[test]
+fn help_offers_what_there_is(rt: HostRuntime) {
+    for (words, part, is_there) in [
+        (
+            ["p", "--help"],
+            "What does this message say, or where is it wrong?",
+            true,
+        ),
+        (["p", "--help"], "replay", false),
+        (["p", "--help"], "same", false),
+        (["p", "replay"], "unrecognized subcommand 'replay'", true),
+    ] {
+        let is_shown = match plan_check(rt.alloc(), &words) {
+            Ok(_) => false,
+            Err(fault) => shows(&fault, part),
+        };
+        assert_eq!(rt; is_shown, is_there);
     }
 }

@@ -1,12 +1,12 @@
 //! What is told of a fault, on which device, and the status, also where a device fails.
 
 use super::tell_into;
-use crate::addresses::Address;
-use crate::causes::{CaptureCause, ConfigCause, Side};
-use crate::fault::{Fault, Refusal};
+use crate::causes::CaptureCause;
+use crate::fault::Fault;
 use clap::error::ErrorKind;
 use pim_addr::ScriptedDrain;
 use pim_routes_file::RoutesFault;
+use pim_words::{Address, ConfigCause, Fault as Unplanned, Refusal, Side};
 use std::alloc::{AllocError, Global};
 use std::process::Abort;
 use std::test::Fail;
@@ -17,7 +17,7 @@ const TEXT: &str = "two lines,\nas they are\n";
 /// A refusal of this kind with that text.
 fn refusal(alloc: Global, kind: ErrorKind) -> Result<Fault<'static>, AllocError> {
     let text = String::from_str(alloc, TEXT)?;
-    Ok(Fault::Clap(Refusal { kind, text }))
+    Ok(Fault::Words(Unplanned::Clap(Refusal { kind, text })))
 }
 
 /// Tells a fault to devices of which the one that it goes to fails from some byte on. The other one isn't written to.
@@ -56,18 +56,40 @@ fn is_told(rt: &impl Abort, alloc: Global, fault: &Fault<'_>, is_asked_for: bool
 fn faults_are_lines_on_errors(rt: HostRuntime) {
     let alloc = rt.alloc();
     for (fault, text) in [
-        (Fault::Address("1.2.3"), "pimtree: address 1.2.3\n"),
-        (Fault::Word("10.0.0.2"), "pimtree: word 10.0.0.2\n"),
-        (Fault::Family, "pimtree: family\n"),
-        (Fault::NoPort(Side::A), "pimtree: no port for a\n"),
-        (Fault::NoPort(Side::B), "pimtree: no port for b\n"),
-        (Fault::WriterAddress, "pimtree: writer address\n"),
-        (Fault::Config(ConfigCause::Ports), "pimtree: config ports\n"),
         (
-            Fault::Config(ConfigCause::Address),
+            Fault::Words(Unplanned::Address("1.2.3")),
+            "pimtree: address 1.2.3\n",
+        ),
+        (
+            Fault::Words(Unplanned::Word("10.0.0.2")),
+            "pimtree: word 10.0.0.2\n",
+        ),
+        (Fault::Words(Unplanned::Family), "pimtree: family\n"),
+        (
+            Fault::Words(Unplanned::NoPort(Side::A)),
+            "pimtree: no port for a\n",
+        ),
+        (
+            Fault::Words(Unplanned::NoPort(Side::B)),
+            "pimtree: no port for b\n",
+        ),
+        (
+            Fault::Words(Unplanned::WriterAddress),
+            "pimtree: writer address\n",
+        ),
+        (
+            Fault::Words(Unplanned::Config(ConfigCause::Ports)),
+            "pimtree: config ports\n",
+        ),
+        (
+            Fault::Words(Unplanned::Config(ConfigCause::Address)),
             "pimtree: config address\n",
         ),
-        (Fault::Config(ConfigCause::Rp), "pimtree: config rp\n"),
+        (
+            Fault::Words(Unplanned::Config(ConfigCause::Rp)),
+            "pimtree: config rp\n",
+        ),
+        (Fault::from(Unplanned::Memory), "pimtree: memory\n"),
         (Fault::File("10.0.0.2@"), "pimtree: file 10.0.0.2@\n"),
         (
             Fault::from(RoutesFault::TooLong),
@@ -103,6 +125,7 @@ fn faults_are_lines_on_errors(rt: HostRuntime) {
             Fault::TooBig(Address::V4([239, 1, 1, 1])),
             "pimtree: too big 239.1.1.1\n",
         ),
+        (Fault::Full(100_001), "pimtree: full 100001\n"),
         (Fault::InputTooLong, "pimtree: input too-long\n"),
         (Fault::InputRead, "pimtree: input read\n"),
         (Fault::Output, "pimtree: output\n"),
