@@ -45,4 +45,5 @@ type_content JoinPrune body = join_prune body
 abbrev pub SealedOpens : Type 0
 SealedOpens = (family : AddressFamily) (source : List ℕ) (message_type : MessageType) (body message : List ℕ)
     → IsSealed family source (all_routers family) message_type body message
-    → (frame_faults family source (all_routers family) message ≡ []) × (content message ≡ type_content message_type body)
+    → (frame_faults family source (all_routers family) message ≡ [])
+    × (content message ≡ type_content message_type body)

@@ -12,11 +12,11 @@ pub mod PlainSpelling
 pub mod Walks
 pub mod Judged
 pub mod Parts
-pub mod Parted
 pub mod EntryPlaces
 pub mod EntryLoop
 pub mod EntryPass
 pub mod Lengths
 pub mod SortedSources
+pub mod Merging
 pub mod SetLoop
 pub mod Guesses

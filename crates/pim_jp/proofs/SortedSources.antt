@@ -3,13 +3,13 @@ use Rattle.std.proofs.Common.{◌≡◌, ◌∙◌, sym, ap, ℕ, zero, suc, ◌
 use Rattle.std.proofs.lemmas.Bool.{cases_lt, ne_eqb, eq-eqb, eqb-true}
 use Rattle.std.specs.Int.{from_bool}
 use Rattle.std.specs.Cmp.{ranks}
-use Rattle.std.specs.List.Sorted.{IsPermutation, IsSorted, IsSortedBy, IsPartitionPoint}
+use Rattle.std.specs.List.Sorted.{IsSorted, IsSortedBy, IsPartitionPoint}
 use Rattle.std.specs.Ordering.{nat_cmp, is_lt, is_eq, ordering_index, MatchOrdering}
 use Rattle.std.specs.declared.cmp.Ordering.TheVariants.{Less, Equal, Greater}
 use Rattle.std.specs.Cmp.Lexicographic.{pointwise, texts_ties}
 use Rattle.std.proofs.lemmas.List.{get_or_default, drop-drop}
 use Rattle.std.proofs.lemmas.List.Folds.{list_any_none, list_any_at}
-use Rattle.std.proofs.lemmas.List.Sorted.{searchable_from_sorted, list_any-IsPermutation}
+use Rattle.std.proofs.lemmas.List.Sorted.{searchable_from_sorted}
 use Rattle.std.proofs.lemmas.Cmp.{nat_cmp_total}
 use Rattle.pim_addr.specs.declared.family.AddressFamily.{AddressFamily}
 use Rattle.pim_addr.specs.declared.family.AddressFamily.TheVariants.{Ipv4, Ipv6}
@@ -20,6 +20,7 @@ use Rattle.pim_jp.specs.declared.entry.Entry.TheVariants.{Star, Source, Rpt}
 use Rattle.pim_jp.specs.Message.{entry_of, entries_of}
 use Rattle.pim_jp.specs.Spelling.{source_of, is_star, same_source}
 use Rattle.pim_jp.specs.Reading.{is_in, entry_at}
+use Rattle.pim_jp.specs.Merging.{AreSame}
 use Rattle.pim_jp.specs.Sources.{is_among, is_listed}
 use Rattle.pim_jp.proofs.Counts.{AreBytes-drop, AreBytes-first}
 use Rattle.pim_jp.proofs.EntryLoop.{any_more}
@@ -209,11 +210,11 @@ next_place below count step is bound some =
 
 -- ---- sources that are listed
 
-pub listed_permuted : {N : Type 0} (value_of : N → ℕ) (xs ys sorted_xs sorted_ys : List N) (this : Entry (List ℕ)) → IsPermutation xs sorted_xs
-    → IsPermutation ys sorted_ys → is_listed value_of xs ys this ≡ is_listed value_of sorted_xs sorted_ys this
+pub listed_permuted : {N : Type 0} (value_of : N → ℕ) (xs ys sorted_xs sorted_ys : List N) (this : Entry (List ℕ)) → AreSame sorted_xs xs
+    → AreSame sorted_ys ys → is_listed value_of xs ys this ≡ is_listed value_of sorted_xs sorted_ys this
 listed_permuted value_of xs ys sorted_xs sorted_ys (Star rp) h k = refl
-listed_permuted value_of xs ys sorted_xs sorted_ys (Source source) h k = list_any-IsPermutation (λ other. nat_eq (number_of source) (value_of other)) xs sorted_xs h
-listed_permuted value_of xs ys sorted_xs sorted_ys (Rpt source) h k = list_any-IsPermutation (λ other. nat_eq (number_of source) (value_of other)) ys sorted_ys k
+listed_permuted value_of xs ys sorted_xs sorted_ys (Source source) h k = sym (h (λ other. nat_eq (number_of source) (value_of other)))
+listed_permuted value_of xs ys sorted_xs sorted_ys (Rpt source) h k = sym (k (λ other. nat_eq (number_of source) (value_of other)))
 
 -- ---- entries that are looked for in their order
 
@@ -344,7 +345,7 @@ module _ (is : Entry (List ℕ) → Bool) (family : AddressFamily) (done : ℕ) 
 
 -- what is left when one more block was looked through
 module _ {N : Type 0} (value_of : N → ℕ) (sources rpts sorted_sources sorted_rpts : List N) (was left joined : Bool) (this : Entry (List ℕ))
-    (moved_sources : IsPermutation sources sorted_sources) (moved_rpts : IsPermutation rpts sorted_rpts) (first : joined ≡ was)
+    (moved_sources : AreSame sorted_sources sources) (moved_rpts : AreSame sorted_rpts rpts) (first : joined ≡ was)
     (split : was ≡ (is_listed value_of sources rpts this || left)) where
   pub in_left : is_listed value_of sorted_sources sorted_rpts this ≡ false → joined ≡ left
   in_left none = first ∙ split ∙ rw (listed_permuted value_of sources rpts sorted_sources sorted_rpts this moved_sources moved_rpts, none) refl

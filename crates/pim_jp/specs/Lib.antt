@@ -9,3 +9,4 @@ pub mod Seen
 pub mod Whole
 pub mod Reading
 pub mod Sources
+pub mod Merging

@@ -231,9 +231,11 @@ pub(crate) fn first_clash_by_blocks<F: Family>(
     bytes: &[u8],
     joined: &Entries<'_, F>,
     block: &mut [F::Number],
+    spare: &mut [F::Number],
     together: &mut [F::Number],
 ) -> u16
     requires room { 0 < length block.old }
+    requires spare { length block.old ≤ length spare.old }
     requires together { 64 ≤ length together.old }
     requires long { count * source_length F.family ≤ length bytes.now }
     ensures room { length block.new ≡ length block.old }
@@ -247,8 +249,8 @@ pub(crate) fn first_clash_by_blocks<F: Family>(
         let ends = fill::<F>(&mut left, block);
         let (before, rpts) = block.split_at_mut(ends.back);
         let (sources, _) = before.split_at_mut(ends.front);
-        sort_numbers(sources);
-        sort_numbers(rpts);
+        sort_numbers(sources, spare);
+        sort_numbers(rpts, spare);
         end = first_listed::<F>(sources, rpts, end, bytes, together);
     }
     end

@@ -91,8 +91,9 @@ fn first_clash_among_many<F: Family, const N: usize>(
         return first_clash_among_few::<F>(count, bytes, joined);
     }
     let mut block = [number; N];
+    let mut spare = [number; N];
     let mut together = [number; TOGETHER as usize];
-    first_clash_by_blocks::<F>(count, bytes, joined, &mut block, &mut together)
+    first_clash_by_blocks::<F>(count, bytes, joined, &mut block, &mut spare, &mut together)
 }
 
 /// The place of the first of so many pruned entries whose source is among the joined ones of its type; their

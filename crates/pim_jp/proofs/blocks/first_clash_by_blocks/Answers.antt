@@ -1,7 +1,7 @@
 use Rattle.std.proofs.Common.{◌≡◌, ◌∙◌, ap, ℕ, take, drop, arith}
-use Rattle.std.specs.List.Sorted.{IsPermutation}
 use Rattle.std.proofs.lemmas.List.{take-take}
 use Rattle.pim_addr.specs.Address.{AreBytes}
+use Rattle.pim_jp.specs.Merging.{AreSame}
 use Rattle.pim_jp.specs.Reading.{is_in, entry_at}
 use Rattle.pim_jp.proofs.SortedSources.{entry_has_address, in_left, in_block, in_none, still_clash}
 use Rattle.pim_jp.proofs.blocks.first_clash_by_blocks.Goals as goal
@@ -12,9 +12,9 @@ loop-left-preserved g c =
     let cut : c.split_at_mut-sources.result.0.now ≡ take c.fill-ends.result.front filled =
     c.split_at_mut-sources.ensures.front ∙ ap (λ xs. take c.fill-ends.result.front xs) c.split_at_mut-before.ensures.front
     ∙ take-take c.fill-ends.result.front c.fill-ends.result.back filled c.fill-ends.ensures.order in
-    let moved_sources : IsPermutation (take c.fill-ends.result.front filled) c.sort_numbers.new.numbers = rw cut at c.sort_numbers.ensures.permutation in
-    let moved_rpts : IsPermutation (drop c.fill-ends.result.back filled) c.sort_numbers-in-loop-left.new.numbers =
-    rw c.split_at_mut-before.ensures.back at c.sort_numbers-in-loop-left.ensures.permutation in
+    let moved_sources : AreSame c.sort_numbers.new.numbers (take c.fill-ends.result.front filled) = rw cut at c.sort_numbers.ensures.same in
+    let moved_rpts : AreSame c.sort_numbers-in-loop-left.new.numbers (drop c.fill-ends.result.back filled) =
+    rw c.split_at_mut-before.ensures.back at c.sort_numbers-in-loop-left.ensures.same in
     let are : AreBytes c.args.bytes.now = λ i. omega (arith, c.type_inv.bytes i) in
     record {
       bound = omega (arith, c.first_listed-end.ensures.bound, c.loop-left.invariant.bound);
