@@ -1,5 +1,5 @@
 -- How a form is kept: the addresses of all groups stand in one row, and of each group it is known where its own stand.
-use Rattle.std.specs.Prelude.{◌≡◌, ℕ, ◌≤◌, ◌<◌, slice_index_or, Bool, false, List, [], Option, None, Some, length, take}
+use Rattle.std.specs.Prelude.{◌≡◌, ℕ, ◌≤◌, ◌<◌, slice_index_or, Bool, false, List, [], ◌∷◌, Option, None, Some, length, take}
 use Rattle.std.specs.Prelude.{drop, map, if◌then◌else◌}
 use Rattle.std.specs.List.{AllByRecursion}
 use Rattle.pim_form.specs.declared.place.Place.{Place}
@@ -21,6 +21,11 @@ star_of starred exceptions = if starred then Some exceptions else None
 abbrev pub exceptions_of : Option (List (List ℕ)) → List (List ℕ)
 exceptions_of None = []
 exceptions_of (Some exceptions) = exceptions
+
+-- the first group and those behind it, if there is one
+abbrev pub IsCut : List GroupForm → Option (GroupForm × List GroupForm) → Type 0
+IsCut form None = form ≡ []
+IsCut form (Some (this, others)) = form ≡ this ∷ others
 
 module _ {A : Type 0} (bytes_of : A → List ℕ) where
   -- a group with its lists

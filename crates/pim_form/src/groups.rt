@@ -4,7 +4,7 @@ ghost use Rattle.std.specs.Prelude.{◌≡◌, length, map};
 ghost use Rattle.std.specs.Option.{is_some};
 ghost use Rattle.std.specs.Iterator.{YieldsFirst, item_count};
 ghost use Rattle.pim_form.specs.NormalForm.{IsNormalGroup, group_wants};
-ghost use Rattle.pim_form.specs.Rows.{IsWithin, AreKept, exceptions_of, place_seen, form_seen};
+ghost use Rattle.pim_form.specs.Rows.{IsWithin, AreKept, exceptions_of, place_seen, form_seen, IsCut};
 
 use crate::place::Place;
 use crate::sorted::is_listed;
@@ -139,6 +139,15 @@ impl<'a, F: Family> Groups<'a, F> {
         ensures { result ≡ length self.now }
     {
         self.places.len()
+    }
+
+    /// The first group and those behind it; `None` where none is left.
+    pub fn split_first(&self) -> Option<(GroupView<'a, F>, Groups<'a, F>)>
+        ensures { IsCut self.now result }
+    {
+        let (first, others) = self.places.split_first()?;
+        let group = group_at::<F>(self.row, first);
+        Some((group, Groups::new(self.row, others)))
     }
 }
 

@@ -1,0 +1,4 @@
+pub mod Addresses
+pub mod Lacking
+pub mod Changing
+pub mod Units

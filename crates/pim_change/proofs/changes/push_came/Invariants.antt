@@ -1,0 +1,9 @@
+use Rattle.std.proofs.Common.{◌++◌, []}
+use Rattle.pim_change.specs.Change.{change}
+use Rattle.pim_change.specs.Seen.{units_seen}
+use Rattle.pim_change.proofs.Units.{IsChanging}
+use Rattle.pim_change.proofs.changes.push_came.Given as goal
+
+abbrev pub invariant-loop-new : goal.invariant-loop-new
+invariant-loop-new g l =
+    IsChanging g.F.Family.bytes_of l.units.items [] l.new-iterator (units_seen g.F.Family.bytes_of l.fn.units.items ++ change [] l.fn.groups)

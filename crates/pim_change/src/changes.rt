@@ -1,0 +1,82 @@
+//! The change between two forms.
+
+ghost use Rattle.std.specs.Prelude.{◌≡◌, ◌++◌, [], OnOk, IfOk};
+ghost use Rattle.pim_form.specs.NormalForm.{AreAscending, groups_of};
+ghost use Rattle.pim_change.specs.Change.{change};
+ghost use Rattle.pim_change.specs.Seen.{units_seen};
+
+use crate::telling::{push_both, push_new, push_old};
+use crate::unit::Unit;
+use pim_addr::Family;
+use pim_form::{Groups, NormalForm};
+use std::alloc::{AllocError, Global};
+use std::cmp::Ordering;
+
+/// Tells that nothing is wanted of these groups any more.
+fn push_gone<'a, F: Family>(
+    units: &mut Vec<Unit<'a, F::Addr>>,
+    groups: Groups<'_, F>,
+) -> Result<(), AllocError>
+    requires { AreAscending (groups_of groups) }
+    ensures { OnOk result (units_seen F.bytes_of units.new.items
+        ≡ units_seen F.bytes_of units.old.items ++ change groups.entry []) }
+{
+    for old in groups {
+        push_old::<F>(units, &old)?;
+    }
+    Ok(())
+}
+
+/// Tells these groups, of which nothing was told.
+fn push_came<'a, F: Family>(
+    units: &mut Vec<Unit<'a, F::Addr>>,
+    groups: Groups<'a, F>,
+) -> Result<(), AllocError>
+    requires { AreAscending (groups_of groups) }
+    ensures { OnOk result (units_seen F.bytes_of units.new.items
+        ≡ units_seen F.bytes_of units.old.items ++ change [] groups.entry) }
+{
+    for new in groups {
+        push_new::<F>(units, &new)?;
+    }
+    Ok(())
+}
+
+/// The change from a form that was told to one that is wanted, unit by unit: for each group of the two, ascending, what
+/// became of its star and then of its sources. The only refusal is want of memory.
+pub fn changed<'a, F: Family>(
+    alloc: Global,
+    told: &NormalForm<F>,
+    wanted: &'a NormalForm<F>,
+) -> Result<Vec<Unit<'a, F::Addr>>, AllocError>
+    ensures { IfOk result (λ units. units_seen F.bytes_of units.items ≡ change told.now wanted.now) }
+{
+    told.is_normal();
+    wanted.is_normal();
+    let mut units = Vec::new(alloc);
+    let mut left = told.groups();
+    let mut right = wanted.groups();
+    while let Some((old, left_behind)) = left.split_first() {
+        let Some((new, right_behind)) = right.split_first() else {
+            break;
+        };
+        match old.group().cmp(&new.group()) {
+            Ordering::Less => {
+                push_old::<F>(&mut units, &old)?;
+                left = left_behind;
+            }
+            Ordering::Equal => {
+                push_both::<F>(&mut units, &old, &new)?;
+                left = left_behind;
+                right = right_behind;
+            }
+            Ordering::Greater => {
+                push_new::<F>(&mut units, &new)?;
+                right = right_behind;
+            }
+        }
+    }
+    push_gone::<F>(&mut units, left)?;
+    push_came::<F>(&mut units, right)?;
+    Ok(units)
+}

@@ -1,0 +1,184 @@
+//! What is told of a group that was told or is wanted.
+
+ghost use Rattle.std.specs.Prelude.{◌≡◌, ◌++◌, true, None, map, OnOk};
+ghost use Rattle.std.specs.Option.{is_some};
+ghost use Rattle.pim_form.specs.NormalForm.{AreAscending};
+ghost use Rattle.pim_form.specs.Settled.{unwanted};
+ghost use Rattle.pim_change.specs.Change.{told, lacking, star_change, group_change, about};
+ghost use Rattle.pim_change.specs.Seen.{units_seen};
+
+use crate::unit::{Kind, Telling, Unit};
+use pim_addr::Family;
+use pim_form::GroupView;
+use std::alloc::AllocError;
+use std::cmp::Ordering;
+
+/// Tells this of each of the sources.
+fn push_each<'a, F: Family>(
+    units: &mut Vec<Unit<'a, F::Addr>>,
+    group: F::Addr,
+    kind: Kind,
+    sources: &[F::Addr],
+) -> Result<(), AllocError>
+    ensures { OnOk result (units_seen F.bytes_of units.new.items ≡ units_seen F.bytes_of units.old.items
+        ++ about (F.bytes_of group) (map (told kind) (map F.bytes_of sources.now))) }
+{
+    for &source in sources {
+        let telling = Telling::Of(kind, source);
+        units.push(Unit { group, telling })?;
+    }
+    Ok(())
+}
+
+/// Tells this of each of the sources that the other list lacks.
+fn push_lacking<'a, F: Family>(
+    units: &mut Vec<Unit<'a, F::Addr>>,
+    group: F::Addr,
+    kind: Kind,
+    one: &[F::Addr],
+    other: &[F::Addr],
+) -> Result<(), AllocError>
+    requires one { AreAscending (map F.bytes_of one.now) }
+    requires other { AreAscending (map F.bytes_of other.now) }
+    ensures { OnOk result (units_seen F.bytes_of units.new.items ≡ units_seen F.bytes_of units.old.items
+        ++ about (F.bytes_of group) (map (told kind) (lacking (map F.bytes_of one.now) (map F.bytes_of other.now)))) }
+{
+    let (mut left, mut right) = (one, other);
+    while let Some((a, left_behind)) = left.split_first() {
+        let Some((b, right_behind)) = right.split_first() else {
+            break;
+        };
+        match a.cmp(b) {
+            Ordering::Less => {
+                let telling = Telling::Of(kind, *a);
+                units.push(Unit { group, telling })?;
+                left = left_behind;
+            }
+            Ordering::Equal => {
+                left = left_behind;
+                right = right_behind;
+            }
+            Ordering::Greater => right = right_behind,
+        }
+    }
+    push_each::<F>(units, group, kind, left)
+}
+
+/// Tells the star of a group that had none.
+fn push_star_join<'a, F: Family>(
+    units: &mut Vec<Unit<'a, F::Addr>>,
+    new: &GroupView<'a, F>,
+) -> Result<(), AllocError>
+    ensures { OnOk result (units_seen F.bytes_of units.new.items ≡ units_seen F.bytes_of units.old.items
+        ++ about new.now.group (star_change None new.now.star)) }
+{
+    if new.star() {
+        let telling = Telling::JoinStar(new.exceptions());
+        units.push(Unit {
+            group: new.group(),
+            telling,
+        })?;
+    }
+    Ok(())
+}
+
+/// Tells that the star of a group, if it had one, has gone.
+fn push_star_prune<'a, F: Family>(
+    units: &mut Vec<Unit<'a, F::Addr>>,
+    old: &GroupView<'_, F>,
+) -> Result<(), AllocError>
+    ensures { OnOk result (units_seen F.bytes_of units.new.items ≡ units_seen F.bytes_of units.old.items
+        ++ about old.now.group (star_change old.now.star None)) }
+{
+    if old.star() {
+        let telling = Telling::PruneStar;
+        units.push(Unit {
+            group: old.group(),
+            telling,
+        })?;
+    }
+    Ok(())
+}
+
+/// Tells what became of the exceptions of a star that stays.
+fn push_exceptions<'a, F: Family>(
+    units: &mut Vec<Unit<'a, F::Addr>>,
+    old: &GroupView<'_, F>,
+    new: &GroupView<'_, F>,
+) -> Result<(), AllocError>
+    requires old { is_some old.now.star ≡ true }
+    requires new { is_some new.now.star ≡ true }
+    ensures { OnOk result (units_seen F.bytes_of units.new.items ≡ units_seen F.bytes_of units.old.items
+        ++ about old.now.group (star_change old.now.star new.now.star)) }
+{
+    old.is_normal();
+    new.is_normal();
+    let group = old.group();
+    let before = old.exceptions();
+    let after = new.exceptions();
+    push_lacking::<F>(units, group, Kind::JoinRpt, before, after)?;
+    push_lacking::<F>(units, group, Kind::PruneRpt, after, before)
+}
+
+/// Tells what became of the star of a group.
+fn push_star<'a, F: Family>(
+    units: &mut Vec<Unit<'a, F::Addr>>,
+    old: &GroupView<'_, F>,
+    new: &GroupView<'a, F>,
+) -> Result<(), AllocError>
+    requires { old.now.group ≡ new.now.group }
+    ensures { OnOk result (units_seen F.bytes_of units.new.items ≡ units_seen F.bytes_of units.old.items
+        ++ about new.now.group (star_change old.now.star new.now.star)) }
+{
+    if !old.star() {
+        return push_star_join::<F>(units, new);
+    }
+    if !new.star() {
+        return push_star_prune::<F>(units, old);
+    }
+    push_exceptions::<F>(units, old, new)
+}
+
+/// Tells a group of which nothing was told.
+pub(crate) fn push_new<'a, F: Family>(
+    units: &mut Vec<Unit<'a, F::Addr>>,
+    new: &GroupView<'a, F>,
+) -> Result<(), AllocError>
+    ensures { OnOk result (units_seen F.bytes_of units.new.items ≡ units_seen F.bytes_of units.old.items
+        ++ about new.now.group (group_change (unwanted new.now.group) new.now)) }
+{
+    push_star_join::<F>(units, new)?;
+    push_each::<F>(units, new.group(), Kind::JoinSource, new.sources())
+}
+
+/// Tells that nothing is wanted of a group any more.
+pub(crate) fn push_old<'a, F: Family>(
+    units: &mut Vec<Unit<'a, F::Addr>>,
+    old: &GroupView<'_, F>,
+) -> Result<(), AllocError>
+    ensures { OnOk result (units_seen F.bytes_of units.new.items ≡ units_seen F.bytes_of units.old.items
+        ++ about old.now.group (group_change old.now (unwanted old.now.group))) }
+{
+    push_star_prune::<F>(units, old)?;
+    push_each::<F>(units, old.group(), Kind::PruneSource, old.sources())
+}
+
+/// Tells what became of a group.
+pub(crate) fn push_both<'a, F: Family>(
+    units: &mut Vec<Unit<'a, F::Addr>>,
+    old: &GroupView<'_, F>,
+    new: &GroupView<'a, F>,
+) -> Result<(), AllocError>
+    requires { old.now.group ≡ new.now.group }
+    ensures { OnOk result (units_seen F.bytes_of units.new.items ≡ units_seen F.bytes_of units.old.items
+        ++ about new.now.group (group_change old.now new.now)) }
+{
+    old.is_normal();
+    new.is_normal();
+    push_star::<F>(units, old, new)?;
+    let group = new.group();
+    let before = old.sources();
+    let after = new.sources();
+    push_lacking::<F>(units, group, Kind::JoinSource, after, before)?;
+    push_lacking::<F>(units, group, Kind::PruneSource, before, after)
+}
