@@ -15,6 +15,9 @@ pub mod Packets
 pub mod RouterRuns
 pub mod Course
 pub mod StaysHeard
+pub mod Inserted
+pub mod HelloPackets
+pub mod FirstHellos
 pub mod CourseSteps
 pub mod AsksAgain
 pub mod Listed

@@ -8,3 +8,5 @@ pub mod CanonicalMirror
 pub mod CanonicalPackets
 pub mod CanonicalCourse
 pub mod Laws
+pub mod Hellos
+pub mod HelloLaws

@@ -12,12 +12,14 @@
 mod config;
 mod fitting;
 mod fresh;
+mod hello_laws;
 mod laws;
 #[cfg(test)]
 mod tests;
 
 pub use config::{Delivery, FreshConfig, OtherNeighbour};
 pub use fitting::fits;
+pub use hello_laws::{hellos_are_heard, written_hello_is_read};
 pub use laws::{
     asked_stars_have_rps, canonical_messages_tell_form, canonical_messages_tell_parts,
     canonical_packet_is_heard, course_hears_all, delivery_is_taken, heard_messages_are_asked_again,
