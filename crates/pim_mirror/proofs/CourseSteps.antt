@@ -22,14 +22,14 @@ use Rattle.pim_mirror.proofs.Course.{fewer_units, timely_before}
 
 -- ---- a course in two parts
 
-record Parts (family : AddressFamily) (xs ys : List Input) (start after : RouterState) : Type 0 where
-  between : RouterState
-  told : List Telling
-  said : List Telling
-  first : IsCourse family xs told start between
-  second : IsCourse family ys said between after
+pub record Parts (family : AddressFamily) (xs ys : List Input) (start after : RouterState) : Type 0 where
+  pub between : RouterState
+  pub told : List Telling
+  pub said : List Telling
+  pub first : IsCourse family xs told start between
+  pub second : IsCourse family ys said between after
 
-parts : (family : AddressFamily) (xs ys : List Input) (told : List Telling) (start after : RouterState) → IsCourse family (xs ++ ys) told start after → Parts family xs ys start after
+pub parts : (family : AddressFamily) (xs ys : List Input) (told : List Telling) (start after : RouterState) → IsCourse family (xs ++ ys) told start after → Parts family xs ys start after
 unfolding IsCourse
 parts family [] ys told start after course = record { between = start; told = []; said = told; first = (refl, refl); second = course }
 parts family (x ∷ xs) ys told start after course =

@@ -20,6 +20,8 @@ pub mod HelloPackets
 pub mod FirstHellos
 pub mod CourseSteps
 pub mod AsksAgain
+pub mod FormHeld
+pub mod Headlines
 pub mod Listed
 pub mod Timely
 pub mod Intervals

@@ -10,3 +10,4 @@ pub mod CanonicalCourse
 pub mod Laws
 pub mod Hellos
 pub mod HelloLaws
+pub mod Headline

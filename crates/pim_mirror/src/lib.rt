@@ -6,12 +6,16 @@
 //! order and however often, applies each where there is room, and asks again for exactly what the form asks for, by the
 //! same messages, from the final moment of the deliveries on and while no message is missed for its holdtime.
 //!
+//! A new router that has heard the Hellos of its neighbours is such a router. The law `headline` says all of it: what two
+//! states want, their messages, and a fresh router that hears them alone.
+//!
 //! `fits` is exactly its conditions, under which a fresh router mirrors the sender of its messages.
 #![tactic(auto)]
 
 mod config;
 mod fitting;
 mod fresh;
+mod headline_laws;
 mod hello_laws;
 mod laws;
 #[cfg(test)]
@@ -19,6 +23,7 @@ mod tests;
 
 pub use config::{Delivery, FreshConfig, OtherNeighbour};
 pub use fitting::fits;
+pub use headline_laws::{fresh_router_mirrors, headline, normalising_twice_is_once};
 pub use hello_laws::{hellos_are_heard, written_hello_is_read};
 pub use laws::{
     asked_stars_have_rps, canonical_messages_tell_form, canonical_messages_tell_parts,

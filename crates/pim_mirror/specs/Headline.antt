@@ -1,0 +1,181 @@
+-- The words of the laws in `src/headline_laws.rt`: two states and their messages, and a fresh router that hears the messages
+-- of one of them alone.
+use Rattle.std.specs.Prelude.{◌≡◌, ◌↔◌, ℕ, ◌-◌, ◌≤◌, ◌<◌, Bool, true, false, List, [], ◌∷◌, ◌++◌, map, length}
+use Rattle.std.specs.Prelude.{Option, None, Some, slice_index_or}
+use Rattle.std.specs.Option.{is_some}
+use Rattle.std.specs.List.{list_any, flat_map}
+use Rattle.pim_addr.specs.declared.family.AddressFamily.{AddressFamily}
+use Rattle.pim_addr.specs.Routes.{RouteTable, IsRouteTable}
+use Rattle.pim_frame.specs.Frame.{all_routers}
+use Rattle.pim_down.specs.declared.key.Key.{Key}
+use Rattle.pim_down.specs.declared.machine.Machine.{Machine}
+use Rattle.pim_down.specs.Known.{known_in}
+use Rattle.pim_down.specs.Records.{machine_at}
+use Rattle.pim_down.specs.Tables.{machine_in}
+use Rattle.pim_down.specs.Time.{Downstream, expiry_after}
+use Rattle.pim_form.specs.NormalForm.{GroupForm, Demand, Agree, IsFormOf, form_wants}
+use Rattle.pim_form.specs.Messages.{Writing, IsWriting, AreCanonical}
+use Rattle.pim_form.specs.TowardLaws.{asked_of}
+use Rattle.pim_fresh.specs.Deliveries.{Delivery, AreAlive, last_of}
+use Rattle.pim_fresh.specs.Exchange.{Exchange, is_named}
+use Rattle.pim_fresh.specs.Expected.{asked_state, units_of}
+use Rattle.pim_router.specs.Course.{Input, runs_to, takes, Telling, echo, refresh, verdict, Reaches, IsCourse}
+use Rattle.pim_router.specs.Packets.{Packet}
+use Rattle.pim_router.specs.State.{RouterState, new_router}
+use Rattle.pim_mirror.specs.Config.{Fresh, neighbours, newest_first, end_of, setup_of}
+use Rattle.pim_mirror.specs.Fits.{Fits, expiry_of}
+use Rattle.pim_mirror.specs.CanonicalExchange.{exchange_in}
+use Rattle.pim_mirror.specs.CanonicalMirror.{AsksAgain}
+use Rattle.pim_mirror.specs.CanonicalUnits.{form_names}
+use Rattle.pim_mirror.specs.Hellos.{AreHellosFrom, timing_of}
+
+-- ---- a state and its messages
+
+-- The canonical messages by which the writer asks its upstream neighbour, under a route table, for what these machines
+-- want of it: those of its normal form (RFC 7761, 4.1 and 4.9.5). They are there exactly if each star with its
+-- exceptions fits a message.
+pub record AreMessagesOf (family : AddressFamily) (table : RouteTable) (writing : Writing) (state : Downstream)
+    (messages : List (List ℕ)) : Type 0 where
+  pub form : List GroupForm
+  pub is : IsFormOf family (asked_of family table writing.upstream state) form
+  pub told : AreCanonical family writing (known_in family table) form messages
+
+-- Two states want the same traffic of the writer's upstream neighbour: for every valid source, every group and both
+-- trees.
+abbrev pub WantTheSameTraffic : AddressFamily → RouteTable → Writing → Downstream → Downstream → Type 0
+WantTheSameTraffic family table writing one other =
+    Agree family (asked_of family table writing.upstream one) (asked_of family table writing.upstream other)
+
+-- ---- a fresh router that hears messages alone
+
+-- what it hears of them
+abbrev pub fresh_exchange : AddressFamily → RouteTable → Writing → List (List ℕ) → Fresh → Exchange
+fresh_exchange family table writing messages fresh =
+    exchange_in family (known_in family table) writing 0 (timing_of fresh) messages
+
+-- A delivery is its moment, to which the router runs until nothing is due, and then the packet of its message, from the
+-- sender to ALL-PIM-ROUTERS.
+abbrev pub delivery_inputs : AddressFamily → List (List ℕ) → List ℕ → Delivery → List Input
+delivery_inputs family messages sender delivery = runs_to delivery.moment ∷ takes (record {
+  port = 0;
+  source = sender;
+  destination = all_routers family;
+  bytes = slice_index_or messages delivery.message [];
+}) ∷ []
+
+-- What it is given: the Hellos at the moment 0, then the deliveries as they come, and then the final moment.
+abbrev pub fresh_inputs : AddressFamily → List (List ℕ) → Fresh → List Packet → List Input
+fresh_inputs family messages fresh hellos = map (λ packet. takes packet) hellos
+    ++ (flat_map (delivery_inputs family messages fresh.sender) fresh.deliveries ++ runs_to (end_of fresh) ∷ [])
+
+-- A new router hears the Hellos of its neighbours and these messages, nothing else, and is this one at its final moment.
+-- The caller's conditions are met: it has the sender's table and knows the sender; each message comes at least once, and
+-- none is missed for a whole holdtime up to the final moment, by which the prune-pending times are over. It has room for
+-- the units of the messages.
+pub record HearsAlone (family : AddressFamily) (table : RouteTable) (writing : Writing) (messages : List (List ℕ))
+    (fresh : Fresh) (router : RouterState) : Type 0 where
+  pub fits : Fits messages writing table fresh
+  pub room : length (units_of (fresh_exchange family table writing messages fresh) (newest_first fresh)) ≤ fresh.limit
+  pub hellos : List Packet
+  pub are_hellos : AreHellosFrom family (neighbours fresh) hellos
+  pub told : List Telling
+  pub course : IsCourse family (fresh_inputs family messages fresh hellos) told (new_router (setup_of fresh)) router
+
+-- From the end of the prune-pending times until the first expiry: the final moment has come, and each message came last
+-- less than its holdtime ago.
+pub record IsInWindow (writing : Writing) (fresh : Fresh) (moment : ℕ) : Type 0 where
+  pub from_the_end : end_of fresh ≤ moment
+  pub before_expiry : AreAlive (expiry_of writing.holdtime) moment (newest_first fresh)
+
+-- it runs on to this moment, where nothing is due any more
+pub record IsAt (moment : ℕ) (router later : RouterState) : Type 0 where
+  pub told : List Telling
+  pub reaches : Reaches moment told router later
+
+-- ---- what it holds
+
+abbrev pub is_echo : Telling → Bool
+is_echo (echo port group what) = true
+is_echo refresh = false
+is_echo (verdict of_packet) = false
+
+-- A machine that one of so many messages names, at this moment: in Join for a star or a source, in Prune for an
+-- exception; left is the holdtime less the time since the message came last, without end for 65,535; no prune-pending
+-- timer runs.
+pub record IsHeldAs (exchange : Exchange) (count : ℕ) (deliveries : List Delivery) (moment : ℕ) (key : Key (List ℕ))
+    (machine : Option Machine) : Type 0 where
+  pub message : ℕ
+  pub within : message < count
+  pub named : is_named exchange.port key (exchange.messages message) ≡ true
+  pub last : ℕ
+  pub came : last_of message deliveries ≡ Some last
+  pub is : machine
+      ≡ machine_in (asked_state key.what) (expiry_after (moment - last) (expiry_of exchange.holdtime)) None
+
+-- The machines are those of the form, and no others: (*,G) of each star, (S,G,rpt) of each exception, (S,G) of each
+-- source.
+pub record HoldsTheForm (exchange : Exchange) (count : ℕ) (form : List GroupForm) (deliveries : List Delivery)
+    (moment : ℕ) (state : Downstream) : Type 0 where
+  pub held : (key : Key (List ℕ)) → key.port ≡ exchange.port → form_names form key.group key.what ≡ true →
+      IsHeldAs exchange count deliveries moment key (machine_at key state.records)
+  pub no_others : (key : Key (List ℕ)) → is_some (machine_at key state.records) ≡ true →
+      (key.port ≡ exchange.port) × (form_names form key.group key.what ≡ true)
+
+-- At a moment of the window the router holds exactly the machines of the form, wants exactly what the form wants, and
+-- asks for it again by the same messages, under the same table. On the way there no echo was told.
+pub record Mirrors (family : AddressFamily) (table : RouteTable) (writing : Writing) (form : List GroupForm)
+    (messages : List (List ℕ)) (fresh : Fresh) (moment : ℕ) (told : List Telling) (later : RouterState) : Type 0 where
+  pub moment_is : later.machines.moment ≡ moment
+  pub routes : later.routes ≡ table
+  pub holds : HoldsTheForm (fresh_exchange family table writing messages fresh) (length messages) form
+      (newest_first fresh) moment later.machines
+  pub asks : AsksAgain family table writing form messages later.machines
+  pub no_echo : list_any is_echo told ≡ false
+
+-- ---- the laws
+
+-- The normal form of what a normal form wants is that normal form.
+abbrev pub NormalisingTwiceIsOnce : Type 0
+NormalisingTwiceIsOnce = (family : AddressFamily) (demand : Demand) (once twice : List GroupForm) →
+    IsFormOf family demand once → IsFormOf family (form_wants once) twice → twice ≡ once
+
+-- A fresh router that heard the canonical messages of a form alone mirrors it at every moment of the window.
+abbrev pub FreshRouterMirrors : Type 0
+FreshRouterMirrors = (family : AddressFamily) (table : RouteTable) (writing : Writing) (state : Downstream)
+    (messages : List (List ℕ)) (fresh : Fresh) (router later : RouterState) (moment : ℕ) →
+    IsRouteTable family table → IsWriting family writing →
+    (asked : AreMessagesOf family table writing state messages) →
+    HearsAlone family table writing messages fresh router → IsInWindow writing fresh moment →
+    (at : IsAt moment router later) →
+    Mirrors family table writing asked.form messages fresh moment at.told later
+
+-- ---- the headline
+
+-- A state wants the same traffic as another one, whose messages these are, and writes the same bytes: they are its
+-- canonical messages, and it has no others.
+pub record WantsAndWritesTheSame (family : AddressFamily) (table : RouteTable) (writing : Writing) (state : Downstream)
+    (messages : List (List ℕ)) (other : Downstream) : Type 0 where
+  pub traffic : WantTheSameTraffic family table writing state other
+  pub bytes : AreMessagesOf family table writing other messages
+  pub no_others : (others : List (List ℕ)) → AreMessagesOf family table writing other others → others ≡ messages
+
+pub record IsHeadline (family : AddressFamily) (table : RouteTable) (writing : Writing) : Type 0 where
+  -- Two downstream states under one route table want the same traffic of an upstream neighbour, for every source, group
+  -- and tree, exactly if their canonical Join/Prune messages to it are byte-equal;
+  pub same_traffic_same_bytes : (one other : Downstream) (first second : List (List ℕ)) →
+      AreMessagesOf family table writing one first → AreMessagesOf family table writing other second →
+      WantTheSameTraffic family table writing one other ↔ (first ≡ second)
+  -- normalising twice is once;
+  pub twice_is_once : (demand : Demand) (once twice : List GroupForm) →
+      IsFormOf family demand once → IsFormOf family (form_wants once) twice → twice ≡ once
+  -- and a fresh router that hears these messages alone, in any order and however often, wants exactly that traffic from
+  -- the end of its prune-pending times until the first expiry, and writes the same bytes.
+  pub fresh_router_does_the_same : (state : Downstream) (messages : List (List ℕ)) (fresh : Fresh)
+      (router later : RouterState) (moment : ℕ) → AreMessagesOf family table writing state messages →
+      HearsAlone family table writing messages fresh router → IsInWindow writing fresh moment →
+      IsAt moment router later → WantsAndWritesTheSame family table writing state messages later.machines
+
+-- It holds under every route table and for every writer.
+abbrev pub Headline : Type 0
+Headline = (family : AddressFamily) (table : RouteTable) (writing : Writing) → IsRouteTable family table →
+    IsWriting family writing → IsHeadline family table writing

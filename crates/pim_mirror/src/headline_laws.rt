@@ -1,0 +1,46 @@
+//! The headline, and the laws that carry its timed half. Nothing here is to be called.
+
+ghost use Rattle.pim_mirror.specs.Headline.{NormalisingTwiceIsOnce, FreshRouterMirrors, Headline};
+
+use crate::hello_laws::hellos_are_heard;
+use crate::laws::{
+    asked_stars_have_rps, canonical_messages_tell_form, course_hears_all,
+    heard_messages_are_asked_again, router_leaves_its_port,
+};
+
+/// The normal form of what a normal form wants is that normal form.
+pub fn normalising_twice_is_once()
+    ensures { NormalisingTwiceIsOnce }
+{
+    pim_form::one_normal_form();
+}
+
+/// A new router that hears the Hellos of its neighbours, and then a sender's canonical messages alone, each at least
+/// once, in any order and however often, holds exactly the machines of the form that they tell, at every moment from its
+/// final one on and until the first of its records ends: (\*,G) of each star and (S,G) of each source in Join, (S,G,rpt)
+/// of each exception in Prune; left is the holdtime less the time since the message came last, and no prune-pending
+/// timer runs. It wants exactly what the form wants, and asks for it again by the same messages; no echo is told. The
+/// caller's conditions are those of `fits`, and there has to be room for the units of the messages.
+pub fn fresh_router_mirrors()
+    ensures { FreshRouterMirrors }
+{
+    hellos_are_heard();
+    asked_stars_have_rps();
+    course_hears_all();
+    router_leaves_its_port();
+    canonical_messages_tell_form();
+    heard_messages_are_asked_again();
+    pim_fresh::span_is_of_its_message();
+}
+
+/// The headline. Two downstream states under one route table want the same traffic of an upstream neighbour, for every
+/// source, group and tree, exactly if their canonical Join/Prune messages to it are byte-equal; normalising twice is
+/// once; and a fresh router that hears these messages alone, in any order and however often, wants exactly that traffic
+/// from the end of its prune-pending times until the first expiry, and writes the same bytes.
+pub fn headline()
+    ensures { Headline }
+{
+    pim_form::same_messages_same_asked();
+    normalising_twice_is_once();
+    fresh_router_mirrors();
+}
