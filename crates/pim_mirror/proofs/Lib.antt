@@ -20,8 +20,10 @@ pub mod HelloPackets
 pub mod FirstHellos
 pub mod CourseSteps
 pub mod AsksAgain
+pub mod Quiet
 pub mod FormHeld
 pub mod Headlines
+pub mod Standing
 pub mod Listed
 pub mod Timely
 pub mod Intervals

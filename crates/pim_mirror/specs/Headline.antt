@@ -149,6 +149,29 @@ FreshRouterMirrors = (family : AddressFamily) (table : RouteTable) (writing : Wr
     (at : IsAt moment router later) →
     Mirrors family table writing asked.form messages fresh moment at.told later
 
+-- Nor does it tell one up to its final moment.
+abbrev pub FreshRouterTellsNoEcho : Type 0
+FreshRouterTellsNoEcho = (family : AddressFamily) (table : RouteTable) (writing : Writing) (state : Downstream)
+    (messages : List (List ℕ)) (fresh : Fresh) (router : RouterState) → IsRouteTable family table →
+    IsWriting family writing → AreMessagesOf family table writing state messages →
+    (hears : HearsAlone family table writing messages fresh router) → list_any is_echo hears.told ≡ false
+
+-- such a router, which stands at its final moment, a moment of the window, and goes on to every later one
+pub record IsThere (family : AddressFamily) (table : RouteTable) (writing : Writing) (messages : List (List ℕ))
+    (fresh : Fresh) : Type 0 where
+  pub router : RouterState
+  pub hears : HearsAlone family table writing messages fresh router
+  pub window : IsInWindow writing fresh (end_of fresh)
+  pub stands : IsAt (end_of fresh) router router
+  pub goes_on : (moment : ℕ) → (later : RouterState) × IsAt moment router later
+
+-- Where the caller's conditions are met and there is room, there is one, whatever the messages.
+abbrev pub FreshRouterIsThere : Type 0
+FreshRouterIsThere = (family : AddressFamily) (table : RouteTable) (writing : Writing) (messages : List (List ℕ))
+    (fresh : Fresh) (hellos : List Packet) → Fits messages writing table fresh →
+    length (units_of (fresh_exchange family table writing messages fresh) (newest_first fresh)) ≤ fresh.limit →
+    AreHellosFrom family (neighbours fresh) hellos → IsThere family table writing messages fresh
+
 -- ---- the headline
 
 -- A state wants the same traffic as another one, whose messages these are, and writes the same bytes: they are its

@@ -1,10 +1,11 @@
 //! The headline, and the laws that carry its timed half. Nothing here is to be called.
 
-ghost use Rattle.pim_mirror.specs.Headline.{NormalisingTwiceIsOnce, FreshRouterMirrors, Headline};
+ghost use Rattle.pim_mirror.specs.Headline.{NormalisingTwiceIsOnce, FreshRouterMirrors, FreshRouterTellsNoEcho};
+ghost use Rattle.pim_mirror.specs.Headline.{FreshRouterIsThere, Headline};
 
 use crate::hello_laws::hellos_are_heard;
 use crate::laws::{
-    asked_stars_have_rps, canonical_messages_tell_form, course_hears_all,
+    asked_stars_have_rps, canonical_messages_tell_form, course_hears_all, delivery_is_taken,
     heard_messages_are_asked_again, router_leaves_its_port,
 };
 
@@ -31,6 +32,33 @@ pub fn fresh_router_mirrors()
     canonical_messages_tell_form();
     heard_messages_are_asked_again();
     pim_fresh::span_is_of_its_message();
+}
+
+/// Up to its final moment such a router tells no echo either: these messages prune no star and no source.
+pub fn fresh_router_tells_no_echo()
+    ensures { FreshRouterTellsNoEcho }
+{
+    hellos_are_heard();
+    asked_stars_have_rps();
+    course_hears_all();
+    router_leaves_its_port();
+    canonical_messages_tell_form();
+    heard_messages_are_asked_again();
+    pim_fresh::span_is_of_its_message();
+    delivery_is_taken();
+    pim_fresh::no_echo_is_told();
+    pim_fresh::every_hearing_reaches();
+    pim_down::run_has_one_end();
+}
+
+/// Where the caller's conditions are met and there is room for the units of the messages, there is such a router; its
+/// final moment is one of the window, at which it stands, and it goes on to every later one.
+pub fn fresh_router_is_there()
+    ensures { FreshRouterIsThere }
+{
+    pim_router::every_list_has_a_course();
+    pim_router::run_has_one_end();
+    pim_router::run_goes_on();
 }
 
 /// The headline. Two downstream states under one route table want the same traffic of an upstream neighbour, for every

@@ -23,7 +23,10 @@ mod tests;
 
 pub use config::{Delivery, FreshConfig, OtherNeighbour};
 pub use fitting::fits;
-pub use headline_laws::{fresh_router_mirrors, headline, normalising_twice_is_once};
+pub use headline_laws::{
+    fresh_router_is_there, fresh_router_mirrors, fresh_router_tells_no_echo, headline,
+    normalising_twice_is_once,
+};
 pub use hello_laws::{hellos_are_heard, written_hello_is_read};
 pub use laws::{
     asked_stars_have_rps, canonical_messages_tell_form, canonical_messages_tell_parts,

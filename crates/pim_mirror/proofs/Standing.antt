@@ -1,0 +1,77 @@
+-- A fresh router that hears messages alone is there, stands at its final moment, and goes on from there.
+use Rattle.std.proofs.Common.{◌≡◌, ℕ, List, [], ◌∷◌, ◌++◌, map, Option, None, Some, sym, subst, arith, append_assoc}
+use Rattle.std.specs.List.{flat_map}
+use Rattle.pim_down.specs.declared.key.What.{What}
+use Rattle.pim_fresh.specs.Deliveries.{Delivery, IsTimely, AreAlive, last_of}
+use Rattle.pim_router.specs.declared.step.Step.{Step}
+use Rattle.pim_router.specs.declared.step.Step.TheVariants.{Echo, Refresh, Reached}
+use Rattle.pim_router.specs.Course.{Input, Telling, echo, refresh, verdict, runs_to, takes, Reaches, IsCourse}
+use Rattle.pim_router.specs.Laws.{RunHasOneEnd, RunGoesOn, EveryListHasACourse}
+use Rattle.pim_router.specs.State.{RouterState, new_router}
+use Rattle.pim_router.specs.Time.{Runs}
+use Rattle.pim_mirror.specs.Config.{newest_first, end_of, setup_of}
+use Rattle.pim_mirror.specs.Fits.{expiry_of}
+use Rattle.pim_mirror.specs.Headline.{delivery_inputs, fresh_inputs, IsAt, FreshRouterIsThere}
+use Rattle.pim_mirror.proofs.CourseSteps.{parts, last_run}
+
+-- at its last delivery's moment no message is missed
+alive_now : (expiry : Option ℕ) (moment : ℕ) (deliveries : List Delivery) → IsTimely expiry moment deliveries → AreAlive expiry moment deliveries
+unfolding IsTimely last_of
+alive_now expiry moment [] timely = λ message last came. absurd (never last came)
+  where
+    never : (last : ℕ) → ◌≡◌ {A = Option ℕ} None (Some last) → ⊥
+    never last e = cc
+alive_now expiry moment (delivery ∷ earlier) timely = timely.1
+
+-- ---- a router that reached a moment
+
+record CameFrom (moment : ℕ) (after : RouterState) : Type 0 where
+  from : RouterState
+  runs : Runs moment from Reached after
+
+came_from : (moment : ℕ) (told : List Telling) (start after : RouterState) → Reaches moment told start after → CameFrom moment after
+unfolding Reaches
+came_from moment [] start after reaches = record { from = start; runs = reaches }
+came_from moment (echo port group what ∷ more) start after reaches = came_from moment more reaches.0 after reaches.2
+came_from moment (refresh ∷ more) start after reaches = came_from moment more reaches.0 after reaches.2
+came_from moment (verdict of_packet ∷ more) start after reaches = absurd reaches
+
+module _ (one_end : RunHasOneEnd) (goes_on : RunGoesOn) (moment : ℕ) (after : RouterState) (came : CameFrom moment after) where
+  -- another run to the moment reaches it at once
+  at_once : (next : RouterState) (answer : Step (List ℕ)) → Runs moment after answer next → (Reached ≡ answer) × (after ≡ next)
+  at_once next answer runs =
+      one_end moment came.from after next Reached answer came.runs (goes_on moment moment came.from after next answer (omega arith) came.runs runs)
+
+  no_refresh : ◌≡◌ {A = Step (List ℕ)} Reached Refresh → ⊥
+  no_refresh e = cc
+
+  no_echo : (port : ℕ) (group : List ℕ) (what : What (List ℕ)) → ◌≡◌ {A = Step (List ℕ)} Reached (Echo port group what) → ⊥
+  no_echo port group what e = cc
+
+  stands_there : (told : List Telling) (next : RouterState) → Reaches moment told after next → IsAt moment after after
+  unfolding Reaches
+  stands_there [] next reaches =
+      record { told = []; reaches = subst (λ (end : RouterState). Runs moment after Reached end) (sym (at_once next Reached reaches).1) reaches }
+  stands_there (echo port group what ∷ more) next reaches = absurd (no_echo port group what (at_once reaches.0 (Echo port group what) reaches.1).0)
+  stands_there (refresh ∷ more) next reaches = absurd (no_refresh (at_once reaches.0 Refresh reaches.1).0)
+  stands_there (verdict of_packet ∷ more) next reaches = absurd reaches
+
+pub fresh_router_is_there : EveryListHasACourse → RunHasOneEnd → RunGoesOn → FreshRouterIsThere
+fresh_router_is_there every one_end goes_on family table writing messages fresh hellos fits room are =
+    let whole = every family (fresh_inputs family messages fresh hellos) (new_router (setup_of fresh)) in
+    let front : List Input = map (λ packet. takes packet) hellos ++ flat_map (delivery_inputs family messages fresh.sender) fresh.deliveries in
+    let split = sym (append_assoc (map (λ packet. takes packet) hellos) (flat_map (delivery_inputs family messages fresh.sender) fresh.deliveries) (runs_to (end_of fresh) ∷ [])) in
+    let two = parts family front (runs_to (end_of fresh) ∷ []) whole.told (new_router (setup_of fresh)) whole.after (subst (λ (inputs : List Input). IsCourse family inputs whole.told (new_router (setup_of fresh)) whole.after) split whole.course) in
+    let run = last_run family (end_of fresh) two.said two.between whole.after two.second in
+    let again = every family (runs_to (end_of fresh) ∷ []) whole.after in
+    let next = last_run family (end_of fresh) again.told whole.after again.after again.course in
+    record {
+      router = whole.after;
+      hears = record { fits = fits; room = room; hellos = hellos; are_hellos = are; told = whole.told; course = whole.course };
+      window = record { from_the_end = omega arith; before_expiry = alive_now (expiry_of writing.holdtime) (end_of fresh) (newest_first fresh) fits.timely };
+      stands = stands_there one_end goes_on (end_of fresh) whole.after (came_from (end_of fresh) run.said two.between whole.after run.reaches) next.said again.after next.reaches;
+      goes_on = λ moment.
+          let further = every family (runs_to moment ∷ []) whole.after in
+          let end = last_run family moment further.told whole.after further.after further.course in
+          (further.after, record { told = end.said; reaches = end.reaches });
+    }
