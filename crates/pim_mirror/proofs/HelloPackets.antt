@@ -1,5 +1,5 @@
 -- What becomes of the packet of a Hello.
-use Rattle.std.proofs.Common.{◌≡◌, ◌∙◌, ℕ, false, List, [], ◌++◌, map, ap, ap₂, arith}
+use Rattle.std.proofs.Common.{◌≡◌, ◌∙◌, ℕ, false, List, [], ◌++◌, map, ap, ap₂, arith, ◌∷◌}
 use Rattle.pim_addr.specs.Faults.{fault_if}
 use Rattle.pim_addr.specs.declared.family.AddressFamily.{AddressFamily}
 use Rattle.pim_frame.specs.Frame.{content, frame_faults}
@@ -19,8 +19,9 @@ use Rattle.pim_router.specs.declared.verdict.Store.TheVariants as store
 use Rattle.pim_router.specs.Packets.{Packet, causes, received, own_address, neighbours_on, unless, body_causes, hello_causes, body_taken, hello_taken}
 use Rattle.pim_router.specs.State.{RouterState}
 use Rattle.pim_mirror.specs.Config.{Neighbour}
-use Rattle.pim_mirror.specs.Hellos.{IsHelloFrom}
-use Rattle.pim_mirror.specs.HelloLaws.{WrittenHelloIsRead}
+use Rattle.pim_mirror.specs.Hellos.{IsHelloFrom, AreHellosFrom}
+use Rattle.pim_mirror.specs.Mirror.{IsHelloOf, AreHellosOf}
+use Rattle.pim_mirror.specs.HelloLaws.{WrittenHellosAreRead}
 
 module _ (family : AddressFamily) (neighbour : Neighbour) (packet : Packet) (state : RouterState) (is : IsHelloFrom family neighbour packet)
     (not_mine : same_address neighbour.address (own_address 0 state) ≡ false) (room : is_full neighbour.address neighbour.hello (neighbours_on 0 state) ≡ false) where
@@ -53,12 +54,12 @@ module _ (family : AddressFamily) (neighbour : Neighbour) (packet : Packet) (sta
 said_by : Neighbour → Said
 said_by neighbour = record { parameters = neighbour.hello; addresses = [] }
 
-pub written_is_read : SealedOpens → ((family : AddressFamily) → ReadsBack family) → WrittenHelloIsRead
+written_is_read : SealedOpens → ((family : AddressFamily) → ReadsBack family) → (family : AddressFamily) (neighbour : Neighbour) (packet : Packet) → IsHelloOf family neighbour packet → IsHelloFrom family neighbour packet
 unfolding said_by AreAddresses
-written_is_read opens reads family neighbour packet fit is =
+written_is_read opens reads family neighbour packet is =
     let bytes : List ℕ = spelling_of family (said_by neighbour) in
     let opened = opens family neighbour.address Hello (spelling_of family (said_by neighbour)) packet.bytes is.sealed in
-    let read = reads family (said_by neighbour) (record { parameters = fit; addresses = tt; row = omega arith }) in
+    let read = reads family (said_by neighbour) (record { parameters = is.fit; addresses = tt; row = omega arith }) in
     record {
       port = is.port;
       source = is.source;
@@ -68,3 +69,11 @@ written_is_read opens reads family neighbour packet fit is =
       legal = read.0;
       says = ap (λ (said : Said). said.parameters) read.1;
     }
+
+pub written_are_read : SealedOpens → ((family : AddressFamily) → ReadsBack family) → WrittenHellosAreRead
+unfolding AreHellosOf AreHellosFrom
+written_are_read opens reads family [] [] are = tt
+written_are_read opens reads family [] (packet ∷ packets) are = absurd are
+written_are_read opens reads family (neighbour ∷ neighbours) [] are = absurd are
+written_are_read opens reads family (neighbour ∷ neighbours) (packet ∷ packets) are =
+    (written_is_read opens reads family neighbour packet are.0, written_are_read opens reads family neighbours packets are.1)

@@ -1,5 +1,5 @@
 -- A router that hears deliveries tells no echo on its whole course.
-use Rattle.std.proofs.Common.{◌≡◌, ◌∙◌, ℕ, ◌≤◌, Bool, true, false, ◌||◌, List, [], ◌∷◌, ◌++◌, length, refl, sym, ap, subst, arith, append_assoc}
+use Rattle.std.proofs.Common.{◌≡◌, ◌∙◌, ℕ, ◌≤◌, Bool, true, false, ◌||◌, List, [], ◌∷◌, ◌++◌, length, refl, sym, ap, ap₂, subst, arith, append_assoc}
 use Rattle.std.specs.List.{list_any}
 use Rattle.pim_addr.specs.declared.family.AddressFamily.{AddressFamily}
 use Rattle.pim_down.specs.declared.event.Timing.{Timing}
@@ -15,7 +15,7 @@ use Rattle.pim_fresh.specs.Deliveries.{Delivery, IsTimely}
 use Rattle.pim_fresh.specs.Expected.{units_of}
 use Rattle.pim_fresh.specs.Hearing.{after_message}
 use Rattle.pim_fresh.specs.Laws.{NoEchoIsTold}
-use Rattle.pim_router.specs.Course.{Input, Telling, takes, runs_to, IsCourse}
+use Rattle.pim_router.specs.Course.{Input, Telling, takes, runs_to, IsCourse, verdict}
 use Rattle.pim_router.specs.Packets.{Packet, received}
 use Rattle.pim_router.specs.State.{RouterState}
 use Rattle.pim_router.specs.declared.verdict.Verdict.{Verdict}
@@ -43,13 +43,13 @@ quiet_as told before behind joined first second = subst IsQuiet (sym joined) (qu
 
 -- a packet alone
 pub record Took (family : AddressFamily) (packet : Packet) (told : List Telling) (start after : RouterState) : Type 0 where
-  pub quiet : IsQuiet told
+  pub told_is : told ≡ verdict (received family packet start).0 ∷ []
   pub is : after ≡ (received family packet start).1
 
 pub took : (family : AddressFamily) (packet : Packet) (told : List Telling) (start after : RouterState) → IsCourse family (takes packet ∷ []) told start after → Took family packet told start after
 unfolding IsCourse
 took family packet told start after course = record {
-  quiet = quiet_as told course.before course.behind course.joined (subst IsQuiet (sym course.begins.0) refl) (subst IsQuiet (sym course.goes_on.0) refl);
+  told_is = course.joined ∙ ap₂ (λ (before behind : List Telling). before ++ behind) course.begins.0 course.goes_on.0;
   is = course.goes_on.1 ∙ course.begins.1;
 }
 
@@ -90,7 +90,7 @@ module _ (taken : DeliveryIsTaken) (leaves : RouterLeavesItsPort) (course_hears 
       let machines : two.between.machines ≡ after_message exchange delivery.message one.between.machines =
       ap (λ (state : RouterState). state.machines) packet_took.is ∙ ap (λ (end : Verdict × RouterState). end.1.machines) applied in
       quiet_as told two.told two.said two.joined
-      (quiet_as two.told one.told one.said one.joined (all_quiet earlier delivery.moment one.told one.between of.1 timely_here few_here early_here one.first) packet_took.quiet)
+      (quiet_as two.told one.told one.said one.joined (all_quiet earlier delivery.moment one.told one.between of.1 timely_here few_here early_here one.first) (subst IsQuiet (sym packet_took.told_is) refl))
       (quiet_run moment two.said two.between after
       (λ answer end runs. no_echo exchange 1 limit delivery earlier moment one.between.machines end answer once timely left.0 (subst (λ (m : Downstream). MachineRuns moment m answer end) machines runs))
       two.second)

@@ -1,7 +1,10 @@
 -- A fresh router that hears messages alone is there, stands at its final moment, and goes on from there.
-use Rattle.std.proofs.Common.{◌≡◌, ℕ, List, [], ◌∷◌, ◌++◌, map, Option, None, Some, sym, subst, arith, append_assoc}
+use Rattle.std.proofs.Common.{◌≡◌, ◌∙◌, ℕ, List, [], ◌∷◌, ◌++◌, map, Option, None, Some, refl, sym, subst, arith, append_assoc}
 use Rattle.std.specs.List.{flat_map}
+use Rattle.pim_addr.specs.declared.family.AddressFamily.{AddressFamily}
+use Rattle.pim_addr.specs.Routes.{RouteTable}
 use Rattle.pim_down.specs.declared.key.What.{What}
+use Rattle.pim_form.specs.Messages.{Writing}
 use Rattle.pim_fresh.specs.Deliveries.{Delivery, IsTimely, AreAlive, last_of}
 use Rattle.pim_router.specs.declared.step.Step.{Step}
 use Rattle.pim_router.specs.declared.step.Step.TheVariants.{Echo, Refresh, Reached}
@@ -9,10 +12,12 @@ use Rattle.pim_router.specs.Course.{Input, Telling, echo, refresh, verdict, runs
 use Rattle.pim_router.specs.Laws.{RunHasOneEnd, RunGoesOn, EveryListHasACourse}
 use Rattle.pim_router.specs.State.{RouterState, new_router}
 use Rattle.pim_router.specs.Time.{Runs}
-use Rattle.pim_mirror.specs.Config.{newest_first, end_of, setup_of}
-use Rattle.pim_mirror.specs.Fits.{expiry_of}
-use Rattle.pim_mirror.specs.Headline.{delivery_inputs, fresh_inputs, IsAt, FreshRouterIsThere}
+use Rattle.pim_mirror.specs.Config.{Fresh, newest_first, end_of, setup_of}
+use Rattle.pim_mirror.specs.Fits.{Fits, expiry_of}
+use Rattle.pim_mirror.specs.Mirror.{delivery_inputs, inputs_of, first_needed, GoesThrough}
+use Rattle.pim_mirror.specs.Headline.{fresh_exchange, IsInWindow, IsAt, RoomIsForTheUnits, FreshRouterIsThere}
 use Rattle.pim_mirror.proofs.CourseSteps.{parts, last_run}
+use Rattle.pim_mirror.proofs.Rooms.{never_over}
 
 -- at its last delivery's moment no message is missed
 alive_now : (expiry : Option ℕ) (moment : ℕ) (deliveries : List Delivery) → IsTimely expiry moment deliveries → AreAlive expiry moment deliveries
@@ -56,22 +61,44 @@ module _ (one_end : RunHasOneEnd) (goes_on : RunGoesOn) (moment : ℕ) (after : 
   stands_there (refresh ∷ more) next reaches = absurd (no_refresh (at_once reaches.0 Refresh reaches.1).0)
   stands_there (verdict of_packet ∷ more) next reaches = absurd reaches
 
-pub fresh_router_is_there : EveryListHasACourse → RunHasOneEnd → RunGoesOn → FreshRouterIsThere
-fresh_router_is_there every one_end goes_on family table writing messages fresh hellos fits room are =
-    let whole = every family (fresh_inputs family messages fresh hellos) (new_router (setup_of fresh)) in
-    let front : List Input = map (λ packet. takes packet) hellos ++ flat_map (delivery_inputs family messages fresh.sender) fresh.deliveries in
-    let split = sym (append_assoc (map (λ packet. takes packet) hellos) (flat_map (delivery_inputs family messages fresh.sender) fresh.deliveries) (runs_to (end_of fresh) ∷ [])) in
-    let two = parts family front (runs_to (end_of fresh) ∷ []) whole.told (new_router (setup_of fresh)) whole.after (subst (λ (inputs : List Input). IsCourse family inputs whole.told (new_router (setup_of fresh)) whole.after) split whole.course) in
-    let run = last_run family (end_of fresh) two.said two.between whole.after two.second in
-    let again = every family (runs_to (end_of fresh) ∷ []) whole.after in
-    let next = last_run family (end_of fresh) again.told whole.after again.after again.course in
+-- ---- a fresh router
+
+-- the course over what a router is given, up to the final moment, where it stands
+module _ (every : EveryListHasACourse) (one_end : RunHasOneEnd) (goes_on : RunGoesOn) (family : AddressFamily) (messages : List (List ℕ)) (fresh : Fresh) (needed : Option ℕ) (router : RouterState)
+    (goes : GoesThrough family messages fresh needed router) where
+  pub stands : IsAt (end_of fresh) router router
+  stands =
+      let hellos : List Input = map (λ packet. takes packet) goes.hellos in
+      let deliveries : List Input = flat_map (delivery_inputs family messages fresh.sender) fresh.deliveries in
+      let split = sym (append_assoc hellos deliveries (runs_to (end_of fresh) ∷ [])) in
+      let two = parts family (hellos ++ deliveries) (runs_to (end_of fresh) ∷ []) goes.told (new_router (setup_of fresh)) router (subst (λ (inputs : List Input). IsCourse family inputs goes.told (new_router (setup_of fresh)) router) split goes.course) in
+      let run = last_run family (end_of fresh) two.said two.between router two.second in
+      let again = every family (runs_to (end_of fresh) ∷ []) router in
+      let next = last_run family (end_of fresh) again.told router again.after again.course in
+      stands_there one_end goes_on (end_of fresh) router (came_from (end_of fresh) run.said two.between router run.reaches) next.said again.after next.reaches
+
+  pub further : (moment : ℕ) → (later : RouterState) × IsAt moment router later
+  further moment =
+      let more = every family (runs_to moment ∷ []) router in
+      let end = last_run family moment more.told router more.after more.course in
+      (more.after, record { told = end.said; reaches = end.reaches })
+
+pub window_begins : (messages : List (List ℕ)) (writing : Writing) (table : RouteTable) (fresh : Fresh) → Fits messages writing table fresh → IsInWindow writing fresh (end_of fresh)
+window_begins messages writing table fresh fits =
+    record { from_the_end = omega arith; before_expiry = alive_now (expiry_of writing.holdtime) (end_of fresh) (newest_first fresh) fits.timely }
+
+pub fresh_router_is_there : EveryListHasACourse → RunHasOneEnd → RunGoesOn → RoomIsForTheUnits → FreshRouterIsThere
+fresh_router_is_there every one_end goes_on room family table writing state messages fresh hellos sound is_writing asked fits few are =
+    let whole = every family (inputs_of family messages fresh hellos) (new_router (setup_of fresh)) in
+    let some : GoesThrough family messages fresh (first_needed whole.told) whole.after = record { hellos = hellos; are_hellos = are; told = whole.told; course = whole.course; needed_is = refl } in
+    let none : first_needed whole.told ≡ None =
+    room family table writing state messages fresh (first_needed whole.told) whole.after sound is_writing asked fits some
+    ∙ never_over (fresh_exchange family table writing messages fresh) fresh.limit (newest_first fresh) few in
+    let course : GoesThrough family messages fresh None whole.after = record { hellos = hellos; are_hellos = are; told = whole.told; course = whole.course; needed_is = none } in
     record {
       router = whole.after;
-      hears = record { fits = fits; room = room; hellos = hellos; are_hellos = are; told = whole.told; course = whole.course };
-      window = record { from_the_end = omega arith; before_expiry = alive_now (expiry_of writing.holdtime) (end_of fresh) (newest_first fresh) fits.timely };
-      stands = stands_there one_end goes_on (end_of fresh) whole.after (came_from (end_of fresh) run.said two.between whole.after run.reaches) next.said again.after next.reaches;
-      goes_on = λ moment.
-          let further = every family (runs_to moment ∷ []) whole.after in
-          let end = last_run family moment further.told whole.after further.after further.course in
-          (further.after, record { told = end.said; reaches = end.reaches });
+      hears = record { fits = fits; course = course };
+      window = window_begins messages writing table fresh fits;
+      stands = stands every one_end goes_on family messages fresh None whole.after course;
+      goes_on = further every one_end goes_on family messages fresh None whole.after course;
     }

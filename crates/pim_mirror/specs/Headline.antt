@@ -1,12 +1,11 @@
 -- The words of the laws in `src/headline_laws.rt`: two states and their messages, and a fresh router that hears the messages
 -- of one of them alone.
-use Rattle.std.specs.Prelude.{◌≡◌, ◌↔◌, ℕ, ◌-◌, ◌≤◌, ◌<◌, Bool, true, false, List, [], ◌∷◌, ◌++◌, map, length}
-use Rattle.std.specs.Prelude.{Option, None, Some, slice_index_or}
+use Rattle.std.specs.Prelude.{◌≡◌, ◌↔◌, ℕ, ◌-◌, ◌≤◌, ◌<◌, Bool, true, false, List, [], ◌∷◌, length}
+use Rattle.std.specs.Prelude.{Option, None, Some, nat_lt, if◌then◌else◌}
 use Rattle.std.specs.Option.{is_some}
-use Rattle.std.specs.List.{list_any, flat_map}
+use Rattle.std.specs.List.{list_any}
 use Rattle.pim_addr.specs.declared.family.AddressFamily.{AddressFamily}
 use Rattle.pim_addr.specs.Routes.{RouteTable, IsRouteTable}
-use Rattle.pim_frame.specs.Frame.{all_routers}
 use Rattle.pim_down.specs.declared.key.Key.{Key}
 use Rattle.pim_down.specs.declared.machine.Machine.{Machine}
 use Rattle.pim_down.specs.Known.{known_in}
@@ -19,15 +18,16 @@ use Rattle.pim_form.specs.TowardLaws.{asked_of}
 use Rattle.pim_fresh.specs.Deliveries.{Delivery, AreAlive, last_of}
 use Rattle.pim_fresh.specs.Exchange.{Exchange, is_named}
 use Rattle.pim_fresh.specs.Expected.{asked_state, units_of}
-use Rattle.pim_router.specs.Course.{Input, runs_to, takes, Telling, echo, refresh, verdict, Reaches, IsCourse}
+use Rattle.pim_router.specs.Course.{Telling, echo, refresh, verdict, Reaches}
 use Rattle.pim_router.specs.Packets.{Packet}
-use Rattle.pim_router.specs.State.{RouterState, new_router}
-use Rattle.pim_mirror.specs.Config.{Fresh, neighbours, newest_first, end_of, setup_of}
+use Rattle.pim_router.specs.State.{RouterState}
+use Rattle.pim_mirror.specs.Config.{Fresh, neighbours, newest_first, end_of}
 use Rattle.pim_mirror.specs.Fits.{Fits, expiry_of}
 use Rattle.pim_mirror.specs.CanonicalExchange.{exchange_in}
 use Rattle.pim_mirror.specs.CanonicalMirror.{AsksAgain}
 use Rattle.pim_mirror.specs.CanonicalUnits.{form_names}
-use Rattle.pim_mirror.specs.Hellos.{AreHellosFrom, timing_of}
+use Rattle.pim_mirror.specs.Hellos.{timing_of}
+use Rattle.pim_mirror.specs.Mirror.{AreHellosOf, GoesThrough, or_later}
 
 -- ---- a state and its messages
 
@@ -53,33 +53,14 @@ abbrev pub fresh_exchange : AddressFamily → RouteTable → Writing → List (L
 fresh_exchange family table writing messages fresh =
     exchange_in family (known_in family table) writing 0 (timing_of fresh) messages
 
--- A delivery is its moment, to which the router runs until nothing is due, and then the packet of its message, from the
--- sender to ALL-PIM-ROUTERS.
-abbrev pub delivery_inputs : AddressFamily → List (List ℕ) → List ℕ → Delivery → List Input
-delivery_inputs family messages sender delivery = runs_to delivery.moment ∷ takes (record {
-  port = 0;
-  source = sender;
-  destination = all_routers family;
-  bytes = slice_index_or messages delivery.message [];
-}) ∷ []
-
--- What it is given: the Hellos at the moment 0, then the deliveries as they come, and then the final moment.
-abbrev pub fresh_inputs : AddressFamily → List (List ℕ) → Fresh → List Packet → List Input
-fresh_inputs family messages fresh hellos = map (λ packet. takes packet) hellos
-    ++ (flat_map (delivery_inputs family messages fresh.sender) fresh.deliveries ++ runs_to (end_of fresh) ∷ [])
-
 -- A new router hears the Hellos of its neighbours and these messages, nothing else, and is this one at its final moment.
 -- The caller's conditions are met: it has the sender's table and knows the sender; each message comes at least once, and
--- none is missed for a whole holdtime up to the final moment, by which the prune-pending times are over. It has room for
--- the units of the messages.
+-- none is missed for a whole holdtime up to the final moment, by which the prune-pending times are over. There is room for
+-- each.
 pub record HearsAlone (family : AddressFamily) (table : RouteTable) (writing : Writing) (messages : List (List ℕ))
     (fresh : Fresh) (router : RouterState) : Type 0 where
   pub fits : Fits messages writing table fresh
-  pub room : length (units_of (fresh_exchange family table writing messages fresh) (newest_first fresh)) ≤ fresh.limit
-  pub hellos : List Packet
-  pub are_hellos : AreHellosFrom family (neighbours fresh) hellos
-  pub told : List Telling
-  pub course : IsCourse family (fresh_inputs family messages fresh hellos) told (new_router (setup_of fresh)) router
+  pub course : GoesThrough family messages fresh None router
 
 -- From the end of the prune-pending times until the first expiry: the final moment has come, and each message came last
 -- less than its holdtime ago.
@@ -123,7 +104,7 @@ pub record HoldsTheForm (exchange : Exchange) (count : ℕ) (form : List GroupFo
 
 -- At a moment of the window the router holds exactly the machines of the form, wants exactly what the form wants, and
 -- asks for it again by the same messages, under the same table. On the way there no echo was told.
-pub record Mirrors (family : AddressFamily) (table : RouteTable) (writing : Writing) (form : List GroupForm)
+pub record MirrorsForm (family : AddressFamily) (table : RouteTable) (writing : Writing) (form : List GroupForm)
     (messages : List (List ℕ)) (fresh : Fresh) (moment : ℕ) (told : List Telling) (later : RouterState) : Type 0 where
   pub moment_is : later.machines.moment ≡ moment
   pub routes : later.routes ≡ table
@@ -147,14 +128,33 @@ FreshRouterMirrors = (family : AddressFamily) (table : RouteTable) (writing : Wr
     (asked : AreMessagesOf family table writing state messages) →
     HearsAlone family table writing messages fresh router → IsInWindow writing fresh moment →
     (at : IsAt moment router later) →
-    Mirrors family table writing asked.form messages fresh moment at.told later
+    MirrorsForm family table writing asked.form messages fresh moment at.told later
 
 -- Nor does it tell one up to its final moment.
 abbrev pub FreshRouterTellsNoEcho : Type 0
 FreshRouterTellsNoEcho = (family : AddressFamily) (table : RouteTable) (writing : Writing) (state : Downstream)
     (messages : List (List ℕ)) (fresh : Fresh) (router : RouterState) → IsRouteTable family table →
     IsWriting family writing → AreMessagesOf family table writing state messages →
-    (hears : HearsAlone family table writing messages fresh router) → list_any is_echo hears.told ≡ false
+    (hears : HearsAlone family table writing messages fresh router) → list_any is_echo hears.course.told ≡ false
+
+-- how many units the different messages have up to the first delivery at which they pass the limit; none where they
+-- never do
+abbrev pub if_over : ℕ → ℕ → Option ℕ
+if_over limit count = if nat_lt limit count then Some count else None
+
+unfoldable pub first_over : Exchange → ℕ → List Delivery → Option ℕ
+first_over exchange limit [] = None
+first_over exchange limit (delivery ∷ earlier) = or_later (first_over exchange limit earlier)
+    (if_over limit (length (units_of exchange (delivery ∷ earlier))))
+
+-- A message has no room on the course exactly where the units of the different messages pass the limit, and so many
+-- records the first of these needs.
+abbrev pub RoomIsForTheUnits : Type 0
+RoomIsForTheUnits = (family : AddressFamily) (table : RouteTable) (writing : Writing) (state : Downstream)
+    (messages : List (List ℕ)) (fresh : Fresh) (needed : Option ℕ) (after : RouterState) →
+    IsRouteTable family table → IsWriting family writing → AreMessagesOf family table writing state messages →
+    Fits messages writing table fresh → GoesThrough family messages fresh needed after →
+    needed ≡ first_over (fresh_exchange family table writing messages fresh) fresh.limit (newest_first fresh)
 
 -- such a router, which stands at its final moment, a moment of the window, and goes on to every later one
 pub record IsThere (family : AddressFamily) (table : RouteTable) (writing : Writing) (messages : List (List ℕ))
@@ -165,12 +165,13 @@ pub record IsThere (family : AddressFamily) (table : RouteTable) (writing : Writ
   pub stands : IsAt (end_of fresh) router router
   pub goes_on : (moment : ℕ) → (later : RouterState) × IsAt moment router later
 
--- Where the caller's conditions are met and there is room, there is one, whatever the messages.
+-- Where the caller's conditions are met and there is room for the units of the messages, there is one.
 abbrev pub FreshRouterIsThere : Type 0
-FreshRouterIsThere = (family : AddressFamily) (table : RouteTable) (writing : Writing) (messages : List (List ℕ))
-    (fresh : Fresh) (hellos : List Packet) → Fits messages writing table fresh →
+FreshRouterIsThere = (family : AddressFamily) (table : RouteTable) (writing : Writing) (state : Downstream)
+    (messages : List (List ℕ)) (fresh : Fresh) (hellos : List Packet) → IsRouteTable family table →
+    IsWriting family writing → AreMessagesOf family table writing state messages → Fits messages writing table fresh →
     length (units_of (fresh_exchange family table writing messages fresh) (newest_first fresh)) ≤ fresh.limit →
-    AreHellosFrom family (neighbours fresh) hellos → IsThere family table writing messages fresh
+    AreHellosOf family (neighbours fresh) hellos → IsThere family table writing messages fresh
 
 -- ---- the headline
 

@@ -3,18 +3,18 @@ use Rattle.std.specs.Prelude.{List, map, ℕ}
 use Rattle.pim_addr.specs.declared.family.AddressFamily.{AddressFamily}
 use Rattle.pim_addr.specs.Routes.{RouteTable}
 use Rattle.pim_form.specs.Messages.{Writing, IsWriting}
-use Rattle.pim_hello.specs.Spelling.{ParametersFit}
 use Rattle.pim_router.specs.Course.{takes, Telling, IsCourse}
 use Rattle.pim_router.specs.Packets.{Packet}
 use Rattle.pim_router.specs.State.{RouterState, new_router}
 use Rattle.pim_mirror.specs.Config.{Neighbour, Fresh, neighbours, setup_of}
 use Rattle.pim_mirror.specs.Fits.{Fits}
-use Rattle.pim_mirror.specs.Hellos.{IsHelloFrom, AreHellosFrom, IsHelloAsWritten, HasMet}
+use Rattle.pim_mirror.specs.Hellos.{AreHellosFrom, HasMet}
+use Rattle.pim_mirror.specs.Mirror.{AreHellosOf}
 
--- A Hello that is written is read as what the neighbour says, where that has a spelling.
-abbrev pub WrittenHelloIsRead : Type 0
-WrittenHelloIsRead = (family : AddressFamily) (neighbour : Neighbour) (packet : Packet) →
-    ParametersFit neighbour.hello → IsHelloAsWritten family neighbour packet → IsHelloFrom family neighbour packet
+-- Hellos that are written are read as what the neighbours say.
+abbrev pub WrittenHellosAreRead : Type 0
+WrittenHellosAreRead = (family : AddressFamily) (neighbours : List Neighbour) (packets : List Packet) →
+    AreHellosOf family neighbours packets → AreHellosFrom family neighbours packets
 
 -- A new router that takes the Hellos of the sender and of the other neighbours at the moment 0 has met them.
 abbrev pub HellosAreHeard : Type 0

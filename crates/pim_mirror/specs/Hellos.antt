@@ -2,11 +2,8 @@
 -- (RFC 7761, 4.3.1 and 4.3.3).
 use Rattle.std.specs.Prelude.{◌≡◌, ℕ, nat_lt, List, [], ◌∷◌, length}
 use Rattle.pim_addr.specs.declared.family.AddressFamily.{AddressFamily}
-use Rattle.pim_frame.specs.Frame.{content, hello, frame_faults, all_routers}
-use Rattle.pim_frame.specs.Seal.{IsSealed}
-use Rattle.pim_frame.specs.declared.frame.MessageType.TheVariants.{Hello}
+use Rattle.pim_frame.specs.Frame.{content, hello, frame_faults}
 use Rattle.pim_hello.specs.Faults.{faults}
-use Rattle.pim_hello.specs.Spelling.{spelling_of}
 use Rattle.pim_hello.specs.Value.{hello_of}
 use Rattle.pim_down.specs.declared.event.Timing.{Timing}
 use Rattle.pim_form.specs.Messages.{Writing}
@@ -34,14 +31,6 @@ AreHellosFrom family [] (packet ∷ packets) = ⊥
 AreHellosFrom family (neighbour ∷ neighbours) [] = ⊥
 AreHellosFrom family (neighbour ∷ neighbours) (packet ∷ packets) =
     IsHelloFrom family neighbour packet × AreHellosFrom family neighbours packets
-
--- The Hello of a neighbour as it is written: without an Address List, from its address to ALL-PIM-ROUTERS.
-pub record IsHelloAsWritten (family : AddressFamily) (neighbour : Neighbour) (packet : Packet) : Type 0 where
-  pub port : packet.port ≡ 0
-  pub source : packet.source ≡ neighbour.address
-  pub destination : packet.destination ≡ all_routers family
-  pub sealed : IsSealed family neighbour.address (all_routers family) Hello
-      (spelling_of family (record { parameters = neighbour.hello; addresses = [] })) packet.bytes
 
 -- the override interval of the port, and whether it has neighbours beside the sender
 abbrev pub timing_of : Fresh → Timing

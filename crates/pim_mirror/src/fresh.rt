@@ -61,8 +61,9 @@ pub(crate) fn interval_of<F: Family>(fresh: &FreshConfig<'_, F>) -> u64
 fn settled_at(delivery: Delivery, earlier: &[Delivery], interval: u64) -> u64
     requires early { delivery.moment ≤ 10 ^ 14 }
     requires interval { interval ≤ 131070 }
-    ensures { result ≡ (if list_any (λ other. other.message == delivery.message) earlier.now
+    ensures settled { result ≡ (if list_any (λ other. other.message == delivery.message) earlier.now
         then delivery.moment else delivery.moment + interval) }
+    ensures bound { result ≤ 10 ^ 15 }
 {
     if is_delivered(delivery.message, earlier) {
         return delivery.moment;
@@ -74,7 +75,8 @@ fn settled_at(delivery: Delivery, earlier: &[Delivery], interval: u64) -> u64
 fn final_moment(deliveries: &[Delivery], interval: u64) -> u64
     requires early { AreEarly (map delivery_seen deliveries.now) }
     requires interval { interval ≤ 131070 }
-    ensures { result ≡ final_moment interval (reverse (map delivery_seen deliveries.now)) }
+    ensures end { result ≡ final_moment interval (reverse (map delivery_seen deliveries.now)) }
+    ensures bound { result ≤ 10 ^ 15 }
 {
     let mut latest = 0;
     let mut left = deliveries;
@@ -89,7 +91,8 @@ fn final_moment(deliveries: &[Delivery], interval: u64) -> u64
 pub(crate) fn end_of<F: Family>(fresh: &FreshConfig<'_, F>) -> u64
     requires one_port { length fresh.now.ports.now ≡ 1 }
     requires early { AreEarly (fresh_seen F.bytes_of fresh.now).deliveries }
-    ensures { result ≡ end_of (fresh_seen F.bytes_of fresh.now) }
+    ensures end { result ≡ end_of (fresh_seen F.bytes_of fresh.now) }
+    ensures bound { result ≤ 10 ^ 15 }
 {
     final_moment(fresh.deliveries, interval_of(fresh))
 }

@@ -1,9 +1,9 @@
 //! The headline, and the laws that carry its timed half. Nothing here is to be called.
 
 ghost use Rattle.pim_mirror.specs.Headline.{NormalisingTwiceIsOnce, FreshRouterMirrors, FreshRouterTellsNoEcho};
-ghost use Rattle.pim_mirror.specs.Headline.{FreshRouterIsThere, Headline};
+ghost use Rattle.pim_mirror.specs.Headline.{RoomIsForTheUnits, FreshRouterIsThere, Headline};
 
-use crate::hello_laws::hellos_are_heard;
+use crate::hello_laws::{hellos_are_heard, written_hellos_are_read};
 use crate::laws::{
     asked_stars_have_rps, canonical_messages_tell_form, course_hears_all, delivery_is_taken,
     heard_messages_are_asked_again, router_leaves_its_port,
@@ -16,17 +16,32 @@ pub fn normalising_twice_is_once()
     pim_form::one_normal_form();
 }
 
+/// On the course of a new router over the Hellos of its neighbours and a sender's canonical messages, a message has no room
+/// exactly where the units of the different messages up to it pass the limit of records, and as many records as these are
+/// the first such message needs; the caller's conditions are those of `fits`.
+pub fn room_is_for_the_units()
+    ensures { RoomIsForTheUnits }
+{
+    written_hellos_are_read();
+    hellos_are_heard();
+    asked_stars_have_rps();
+    delivery_is_taken();
+    course_hears_all();
+}
+
 /// A new router that hears the Hellos of its neighbours, and then a sender's canonical messages alone, each at least
 /// once, in any order and however often, holds exactly the machines of the form that they tell, at every moment from its
 /// final one on and until the first of its records ends: (\*,G) of each star and (S,G) of each source in Join, (S,G,rpt)
 /// of each exception in Prune; left is the holdtime less the time since the message came last, and no prune-pending
 /// timer runs. It wants exactly what the form wants, and asks for it again by the same messages; no echo is told. The
-/// caller's conditions are those of `fits`, and there has to be room for the units of the messages.
+/// caller's conditions are those of `fits`, and each message has room.
 pub fn fresh_router_mirrors()
     ensures { FreshRouterMirrors }
 {
+    written_hellos_are_read();
     hellos_are_heard();
     asked_stars_have_rps();
+    room_is_for_the_units();
     course_hears_all();
     router_leaves_its_port();
     canonical_messages_tell_form();
@@ -38,13 +53,13 @@ pub fn fresh_router_mirrors()
 pub fn fresh_router_tells_no_echo()
     ensures { FreshRouterTellsNoEcho }
 {
+    written_hellos_are_read();
     hellos_are_heard();
     asked_stars_have_rps();
+    room_is_for_the_units();
     course_hears_all();
     router_leaves_its_port();
     canonical_messages_tell_form();
-    heard_messages_are_asked_again();
-    pim_fresh::span_is_of_its_message();
     delivery_is_taken();
     pim_fresh::no_echo_is_told();
     pim_fresh::every_hearing_reaches();
@@ -56,6 +71,7 @@ pub fn fresh_router_tells_no_echo()
 pub fn fresh_router_is_there()
     ensures { FreshRouterIsThere }
 {
+    room_is_for_the_units();
     pim_router::every_list_has_a_course();
     pim_router::run_has_one_end();
     pim_router::run_goes_on();

@@ -1,11 +1,11 @@
 //! What a fresh router knows behind the Hellos of its neighbours. Nothing here is to be called.
 
-ghost use Rattle.pim_mirror.specs.HelloLaws.{WrittenHelloIsRead, HellosAreHeard};
+ghost use Rattle.pim_mirror.specs.HelloLaws.{WrittenHellosAreRead, HellosAreHeard};
 
-/// A Hello that is written canonically and sealed for ALL-PIM-ROUTERS opens without a fault, and is read without one as
-/// what its sender says (RFC 7761, 4.9 and 4.9.2).
-pub fn written_hello_is_read()
-    ensures { WrittenHelloIsRead }
+/// Hellos that are written canonically and sealed for ALL-PIM-ROUTERS open without a fault, and are read without one as
+/// what their senders say (RFC 7761, 4.9 and 4.9.2).
+pub fn written_hellos_are_read()
+    ensures { WrittenHellosAreRead }
 {
     pim_frame::sealed_opens();
     pim_hello::reads_back();

@@ -9,7 +9,9 @@
 //! A new router that has heard the Hellos of its neighbours is such a router. The law `headline` says all of it: what two
 //! states want, their messages, and a fresh router that hears them alone.
 //!
-//! `fits` is exactly its conditions, under which a fresh router mirrors the sender of its messages.
+//! `fits` is exactly its conditions, under which a fresh router mirrors the sender of its messages. `mirror` answers that
+//! router, as it is at its final moment: the state behind the course of a new router over the Hellos of its neighbours,
+//! the deliveries and the way to that moment. `Full` tells what the first message needed that had no room.
 #![tactic(auto)]
 
 mod config;
@@ -18,6 +20,8 @@ mod fresh;
 mod headline_laws;
 mod hello_laws;
 mod laws;
+mod meeting;
+mod mirroring;
 #[cfg(test)]
 mod tests;
 
@@ -25,12 +29,13 @@ pub use config::{Delivery, FreshConfig, OtherNeighbour};
 pub use fitting::fits;
 pub use headline_laws::{
     fresh_router_is_there, fresh_router_mirrors, fresh_router_tells_no_echo, headline,
-    normalising_twice_is_once,
+    normalising_twice_is_once, room_is_for_the_units,
 };
-pub use hello_laws::{hellos_are_heard, written_hello_is_read};
+pub use hello_laws::{hellos_are_heard, written_hellos_are_read};
 pub use laws::{
     asked_stars_have_rps, canonical_messages_tell_form, canonical_messages_tell_parts,
     canonical_packet_is_heard, course_hears_all, delivery_is_taken, heard_messages_are_asked_again,
     messages_are_read, part_asks, parts_tell_units_once, router_asks_again, router_leaves_its_port,
     writer_stays_heard,
 };
+pub use mirroring::{MirrorFault, mirror};

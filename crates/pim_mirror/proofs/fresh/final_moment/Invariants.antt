@@ -1,4 +1,4 @@
-use Rattle.std.proofs.Common.{◌≡◌, map, max, length}
+use Rattle.std.proofs.Common.{◌≡◌, ◌≤◌, ◌^◌, map, max, length}
 use Rattle.pim_fresh.specs.Deliveries.{final_moment}
 use Rattle.pim_mirror.specs.Config.{delivery_seen}
 use Rattle.pim_mirror.specs.Tests.{AreEarly}
@@ -10,6 +10,7 @@ abbrev pub invariant-loop-delivery : goal.invariant-loop-delivery
 invariant-loop-delivery l = record {
   latest : max l.latest (final_moment l.interval (newest l.left)) ≡ final_moment l.interval (newest l.deliveries);
   early : AreEarly (map delivery_seen l.left);
+  bound : l.latest ≤ 10 ^ 15;
 }
 
 abbrev pub decreases-loop-delivery : goal.decreases-loop-delivery

@@ -1,0 +1,290 @@
+-- The way of a router over packets and moments: its ports stay, and what it tells on the way is joined.
+use Rattle.std.proofs.Common.{◌≡◌, ◌≢◌, ◌∙◌, ℕ, zero, suc, Bool, true, false, ◌==◌, List, [], ◌∷◌, ◌++◌, Option, None, Some, Result, Ok, Err, slice_index_or, nat_lt, refl, sym, ap, subst}
+use Rattle.std.proofs.lemmas.List.{append-nil}
+use Rattle.std.specs.List.{list_any}
+use Rattle.pim_addr.specs.declared.family.AddressFamily.{AddressFamily}
+use Rattle.pim_frame.specs.Frame.{Content, hello, join_prune, other, content, all_routers}
+use Rattle.pim_down.specs.Seen.{what_seen}
+use Rattle.pim_down.specs.declared.key.What.{What}
+use Rattle.pim_down.specs.declared.machine.Record.{Record}
+use Rattle.pim_down.specs.declared.step.Step.{Step as Fires}
+use Rattle.pim_down.specs.declared.step.Step.TheVariants as fires
+use Rattle.pim_down.specs.Time.{fired}
+use Rattle.pim_router.specs.declared.step.Step.{Step}
+use Rattle.pim_router.specs.declared.step.Step.TheVariants.{Echo, Refresh, Reached}
+use Rattle.pim_router.specs.declared.verdict.Verdict.{Verdict}
+use Rattle.pim_router.specs.Course.{Input, runs_to, takes, Telling, echo, refresh, verdict, Reaches, IsCourse}
+use Rattle.pim_fresh.specs.Deliveries.{Delivery}
+use Rattle.pim_router.specs.Laws.{CourseGoesOn, EveryListHasACourse}
+use Rattle.pim_router.specs.Packets.{Packet, causes, body_taken, unless, received, Receives}
+use Rattle.pim_router.specs.Seen.{step_seen}
+use Rattle.pim_router.specs.State.{Port, RouterState}
+use Rattle.pim_router.specs.Time.{Outcome, rests, moves, tells, told, has_ended, turn, turn_of_time, turn_of_refresh, turn_of_timers, run_on, run_within, Runs}
+use Rattle.pim_mirror.specs.declared.mirroring.MirrorFault.{MirrorFault}
+use Rattle.pim_mirror.specs.declared.mirroring.MirrorFault.TheVariants as fault
+use Rattle.pim_mirror.specs.Mirror.{needed_of, first_needed, or_later, IsPassed, Passes, HasReached, is_reached, needed_by, outcome_if, outcome_of, delivery_inputs}
+
+-- ---- the ports stay
+
+unless_keeps : (all : List Verdict) (state : RouterState) (taken : Verdict × RouterState) → taken.1.ports ≡ state.ports → (unless all state taken).1.ports ≡ state.ports
+unless_keeps [] state taken same = same
+unless_keeps (cause ∷ others) state taken same = refl
+
+body_keeps : (family : AddressFamily) (port : ℕ) (source : List ℕ) (state : RouterState) (body : Content) → (body_taken family port source state body).1.ports ≡ state.ports
+body_keeps family port source state (other type) = refl
+body_keeps family port source state (hello body) = refl
+body_keeps family port source state (join_prune body) = refl
+
+pub received_keeps : (family : AddressFamily) (packet : Packet) (state : RouterState) → (received family packet state).1.ports ≡ state.ports
+received_keeps family packet state =
+    unless_keeps (causes family packet state) state (body_taken family packet.port packet.source state (content packet.bytes))
+    (body_keeps family packet.port packet.source state (content packet.bytes))
+
+abbrev Keeps : List Port → Outcome → Type 0
+Keeps ports rests = Unit {0}
+Keeps ports (moves after) = after.ports ≡ ports
+Keeps ports (tells step after) = after.ports ≡ ports
+
+time_keeps : (b : Bool) (moment : ℕ) (state : RouterState) → nat_lt state.machines.moment moment ≡ b → Keeps state.ports (turn_of_time moment state)
+time_keeps true moment state e = rw e refl
+time_keeps false moment state e = rw e tt
+
+refresh_keeps : (b : Bool) (moment : ℕ) (state : RouterState) → (state.refresh == 0) ≡ b → Keeps state.ports (turn_of_refresh moment state)
+refresh_keeps true moment state e = rw e refl
+refresh_keeps false moment state e = rw e (time_keeps (nat_lt state.machines.moment moment) moment state refl)
+
+timers_keep : (moment : ℕ) (state : RouterState) (o : Option (Fires (List ℕ) × List (Record (List ℕ)))) → Keeps state.ports (turn_of_timers moment state o)
+timers_keep moment state None = refresh_keeps (state.refresh == 0) moment state refl
+timers_keep moment state (Some (fires.Reached, records)) = refl
+timers_keep moment state (Some (fires.Echo port group what, records)) = refl
+
+turn_keeps : (moment : ℕ) (state : RouterState) → Keeps state.ports (turn moment state)
+unfolding turn
+turn_keeps moment state = by (list_any has_ended state.tables) refl
+  where
+    by : (b : Bool) → list_any has_ended state.tables ≡ b → Keeps state.ports (turn moment state)
+    by true e = rw e refl
+    by false e = rw e (timers_keep moment state (fired state.machines.records))
+
+abbrev Answer : Type 0
+Answer = Option (Step (List ℕ) × RouterState)
+
+pair_of : (p q : Step (List ℕ) × RouterState) → ◌≡◌ {A = Answer} (Some p) (Some q) → p ≡ q
+pair_of p q e = cc
+
+ports_of : (p q : Step (List ℕ) × RouterState) → ◌≡◌ {A = Answer} (Some p) (Some q) → q.1.ports ≡ p.1.ports
+ports_of p q e = sym (ap (λ (r : Step (List ℕ) × RouterState). r.1.ports) (pair_of p q e))
+
+on_keeps : (ports : List Port) (o : Outcome) (state : RouterState) (more : RouterState → Answer) (answer : Step (List ℕ)) (after : RouterState) →
+    state.ports ≡ ports → Keeps ports o →
+    ((next : RouterState) → next.ports ≡ ports → more next ≡ Some (answer, after) → after.ports ≡ ports) →
+    run_on o state more ≡ Some (answer, after) → after.ports ≡ ports
+on_keeps ports rests state more answer after at kept on e = ports_of (Reached, state) (answer, after) e ∙ at
+on_keeps ports (moves next) state more answer after at kept on e = on next kept e
+on_keeps ports (tells step end) state more answer after at kept on e = ports_of (step, end) (answer, after) e ∙ kept
+
+within_keeps : (turns moment : ℕ) (ports : List Port) (state after : RouterState) (answer : Step (List ℕ)) → state.ports ≡ ports →
+    run_within turns moment state ≡ Some (answer, after) → after.ports ≡ ports
+unfolding run_within
+within_keeps zero moment ports state after answer at e = absurd (no_run e)
+  where
+    no_run : ◌≡◌ {A = Answer} None (Some (answer, after)) → ⊥
+    no_run f = cc
+within_keeps (suc turns) moment ports state after answer at e =
+    on_keeps ports (turn moment state) state (run_within turns moment) answer after at
+    (subst (λ (ps : List Port). Keeps ps (turn moment state)) at (turn_keeps moment state))
+    (λ next same more. within_keeps turns moment ports next after answer same more) e
+
+pub runs_keep : (moment : ℕ) (state after : RouterState) (answer : Step (List ℕ)) → Runs moment state answer after → after.ports ≡ state.ports
+runs_keep moment state after answer runs = within_keeps runs.turns moment state.ports state after answer refl runs.within
+
+-- ---- runs until nothing is due
+
+pub reached_now : (moment : ℕ) (state after : RouterState) → Runs moment state Reached after → HasReached moment state after
+unfolding Reaches first_needed
+reached_now moment state after runs = record { told = []; reaches = runs; none_needed = refl }
+
+pub echo_before : (moment port : ℕ) (group : List ℕ) (what : What (List ℕ)) (state between after : RouterState) →
+    Runs moment state (Echo port group what) between → HasReached moment between after → HasReached moment state after
+unfolding Reaches first_needed
+echo_before moment port group what state between after runs more =
+    record { told = echo port group what ∷ more.told; reaches = (between, runs, more.reaches); none_needed = more.none_needed }
+
+pub refresh_before : (moment : ℕ) (state between after : RouterState) → Runs moment state Refresh between →
+    HasReached moment between after → HasReached moment state after
+unfolding Reaches first_needed
+refresh_before moment state between after runs more =
+    record { told = refresh ∷ more.told; reaches = (between, runs, more.reaches); none_needed = more.none_needed }
+
+-- what is told before the moment is reached, and then the way to it
+pub onward : {A : Type 0} (bytes_of : A → List ℕ) (step : Step A) (moment : ℕ) (state between after : RouterState) →
+    is_reached step ≡ false → Runs moment state (step_seen bytes_of step) between → HasReached moment between after →
+    HasReached moment state after
+onward bytes_of Reached moment state between after ends runs more = absurd (not_false ends)
+  where
+    not_false : ◌≡◌ {A = Bool} true false → ⊥
+    not_false e = cc
+onward bytes_of Refresh moment state between after ends runs more = refresh_before moment state between after runs more
+onward bytes_of (Echo port group what) moment state between after ends runs more =
+    echo_before moment port (bytes_of group) (what_seen bytes_of what) state between after runs more
+
+pub isnt_reached : {A : Type 0} (step : Step A) → is_reached step ≡ false → step ≢ Reached
+isnt_reached step ends same = not_false (sym (ap is_reached same) ∙ ends)
+  where
+    not_false : ◌≡◌ {A = Bool} true false → ⊥
+    not_false e = cc
+
+pub ended : {A : Type 0} (bytes_of : A → List ℕ) (step : Step A) (moment : ℕ) (state after : RouterState) →
+    is_reached step ≡ true → Runs moment state (step_seen bytes_of step) after → HasReached moment state after
+ended bytes_of Reached moment state after ends runs = reached_now moment state after runs
+ended bytes_of Refresh moment state after ends runs = absurd (not_true ends)
+  where
+    not_true : ◌≡◌ {A = Bool} false true → ⊥
+    not_true e = cc
+ended bytes_of (Echo port group what) moment state after ends runs = absurd (not_true ends)
+  where
+    not_true : ◌≡◌ {A = Bool} false true → ⊥
+    not_true e = cc
+
+-- ---- one way after the other
+
+pub joined : (xs ys : List Telling) → first_needed (xs ++ ys) ≡ or_later (first_needed xs) (first_needed ys)
+unfolding first_needed
+joined [] ys = refl
+joined (x ∷ xs) ys = ap (or_later (needed_of x)) (joined xs ys) ∙ later (needed_of x) (first_needed xs) (first_needed ys)
+  where
+    later : (a b c : Option ℕ) → or_later a (or_later b c) ≡ or_later (or_later a b) c
+    later None b c = refl
+    later (Some n) b c = refl
+
+none_then : (xs ys : List Telling) (o : Option ℕ) → first_needed xs ≡ None → first_needed ys ≡ o → first_needed (xs ++ ys) ≡ o
+none_then xs ys o none rest = joined xs ys ∙ ap (λ a. or_later a (first_needed ys)) none ∙ rest
+
+some_then : (xs ys : List Telling) (needed : ℕ) → first_needed xs ≡ Some needed → first_needed (xs ++ ys) ≡ Some needed
+some_then xs ys needed some = joined xs ys ∙ ap (λ a. or_later a (first_needed ys)) some
+
+abbrev Done : Type 0
+Done = Result (Unit {0}) MirrorFault
+
+both_passed : (before behind : List Telling) (after now : RouterState) (result : Done) → first_needed before ≡ None →
+    IsPassed behind after now result → IsPassed (before ++ behind) after now result
+both_passed before behind after now (Ok done) none passed = (none_then before behind None none passed.0, passed.1)
+both_passed before behind after now (Err (fault.Full needed)) none passed = none_then before behind (Some needed) none passed
+both_passed before behind after now (Err fault.Memory) none passed = tt
+
+module _ (goes_on : CourseGoesOn) (every : EveryListHasACourse) (family : AddressFamily) where
+  pub then_passes : (earlier later : List Input) (old between now : RouterState) (result : Done) → Passes family earlier old (Ok tt) between →
+      Passes family later between result now → Passes family (earlier ++ later) old result now
+  then_passes earlier later old between now result a b = record {
+    told = a.told ++ b.told;
+    after = b.after;
+    course = goes_on family earlier later old between b.after a.told b.told
+        (subst (λ (s : RouterState). IsCourse family earlier a.told old s) (sym a.passed.1) a.course) b.course;
+    passed = both_passed a.told b.told b.after now result a.passed.0 b.passed;
+  }
+
+  stopped : (before behind : List Telling) (after end now : RouterState) (told : MirrorFault) → IsPassed before after now (Err told) →
+      IsPassed (before ++ behind) end now (Err told)
+  stopped before behind after end now (fault.Full needed) passed = some_then before behind needed passed
+  stopped before behind after end now fault.Memory passed = tt
+
+  -- a fault is told, whatever is left
+  pub then_stops : (earlier later : List Input) (old now : RouterState) (told : MirrorFault) → Passes family earlier old (Err told) now →
+      Passes family (earlier ++ later) old (Err told) now
+  then_stops earlier later old now told a =
+      let rest = every family later a.after in record {
+        told = a.told ++ rest.told;
+        after = rest.after;
+        course = goes_on family earlier later old a.after rest.after a.told rest.told a.course rest.course;
+        passed = stopped a.told rest.told a.after rest.after now told a.passed;
+      }
+
+-- ---- a run and a packet
+
+pub reached_passes : (family : AddressFamily) (moment : ℕ) (old now : RouterState) → HasReached moment old now →
+    Passes family (runs_to moment ∷ []) old (Ok tt) now
+unfolding IsCourse
+reached_passes family moment old now way = record {
+  told = way.told;
+  after = now;
+  course = record {
+    before = way.told;
+    behind = [];
+    between = now;
+    joined = sym (append-nil way.told);
+    begins = way.reaches;
+    goes_on = (refl, refl);
+  };
+  passed = (way.none_needed, refl);
+}
+
+-- what a call tells of a packet is what the course tells
+linked : (given : Verdict) (o : Option ℕ) (after now : RouterState) → needed_by given ≡ o → now ≡ after →
+    IsPassed (verdict given ∷ []) after now (outcome_if o)
+unfolding first_needed
+linked given None after now none same = (ap (λ o. or_later o None) none, same)
+linked given (Some needed) after now some same = ap (λ o. or_later o None) some
+
+taken_by : {E : Type 0} (family : AddressFamily) (packet : Packet) (old now : RouterState) (r : Result Verdict E) →
+    Receives (causes family packet old) (received family packet old) old r now →
+    IsPassed (verdict (received family packet old).0 ∷ []) (received family packet old).1 now (outcome_of r)
+taken_by family packet old now (Ok given) is =
+    subst (λ (end : Verdict × RouterState). IsPassed (verdict end.0 ∷ []) end.1 now (outcome_if (needed_by given))) is
+    (linked given (needed_by given) now now refl refl)
+taken_by family packet old now (Err refused) is = tt
+
+pub taken : {E : Type 0} (family : AddressFamily) (packet : Packet) (old now : RouterState) (of_packet : Result Verdict E) (result : Done) →
+    Receives (causes family packet old) (received family packet old) old of_packet now → result ≡ outcome_of of_packet →
+    Passes family (takes packet ∷ []) old result now
+unfolding IsCourse
+taken family packet old now of_packet result receives same = record {
+  told = verdict (received family packet old).0 ∷ [];
+  after = (received family packet old).1;
+  course = record {
+    before = verdict (received family packet old).0 ∷ [];
+    behind = [];
+    between = (received family packet old).1;
+    joined = refl;
+    begins = (refl, refl);
+    goes_on = (refl, refl);
+  };
+  passed = subst (λ (r : Done). IsPassed (verdict (received family packet old).0 ∷ []) (received family packet old).1 now r) (sym same)
+      (taken_by family packet old now of_packet receives);
+}
+
+pub taken_keeps : {E : Type 0} (family : AddressFamily) (packet : Packet) (old now : RouterState) (of_packet : Result Verdict E) →
+    Receives (causes family packet old) (received family packet old) old of_packet now → now.ports ≡ old.ports
+taken_keeps family packet old now (Ok given) is =
+    ap (λ (end : Verdict × RouterState). end.1.ports) is ∙ received_keeps family packet old
+taken_keeps family packet old now (Err refused) is = ap (λ (s : RouterState). s.ports) is.1
+
+-- nothing to pass, passed
+pub nothing_passes : (family : AddressFamily) (state : RouterState) → Passes family [] state (Ok tt) state
+unfolding IsCourse first_needed
+nothing_passes family state = record { told = []; after = state; course = (refl, refl); passed = (refl, refl) }
+
+-- a delivery, and what comes behind it
+module _ (goes_on : CourseGoesOn) (every : EveryListHasACourse) (family : AddressFamily) (messages : List (List ℕ)) (sender : List ℕ) where
+  abbrev packet_of : Delivery → Packet
+  packet_of delivery = record {
+    port = 0;
+    source = sender;
+    destination = all_routers family;
+    bytes = slice_index_or messages delivery.message [];
+  }
+
+  pub delivery_passes : (delivery : Delivery) (rest : List Input) (old between next after : RouterState) (result : Done) →
+      HasReached delivery.moment old between → Passes family (takes (packet_of delivery) ∷ []) between (Ok tt) next →
+      Passes family rest next result after → Passes family (delivery_inputs family messages sender delivery ++ rest) old result after
+  delivery_passes delivery rest old between next after result reached took more =
+      then_passes goes_on every family (runs_to delivery.moment ∷ []) (takes (packet_of delivery) ∷ rest) old between after result
+      (reached_passes family delivery.moment old between reached)
+      (then_passes goes_on every family (takes (packet_of delivery) ∷ []) rest between next after result took more)
+
+  pub delivery_stops : (delivery : Delivery) (rest : List Input) (old between next : RouterState) (told : MirrorFault) →
+      HasReached delivery.moment old between → Passes family (takes (packet_of delivery) ∷ []) between (Err told) next →
+      Passes family (delivery_inputs family messages sender delivery ++ rest) old (Err told) next
+  delivery_stops delivery rest old between next told reached took =
+      then_passes goes_on every family (runs_to delivery.moment ∷ []) (takes (packet_of delivery) ∷ rest) old between next (Err told)
+      (reached_passes family delivery.moment old between reached)
+      (then_stops goes_on every family (takes (packet_of delivery) ∷ []) rest between next told took)

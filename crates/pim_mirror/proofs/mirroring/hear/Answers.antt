@@ -1,0 +1,40 @@
+use Rattle.std.proofs.Common.{◌∙◌, ◌+◌, List, Ok, drop, map, slice_index_or, sym, subst}
+use Rattle.std.specs.List.{flat_map}
+use Rattle.std.proofs.lemmas.Result.{err_from_is_err_and}
+use Rattle.pim_mirror.specs.Config.{delivery_seen}
+use Rattle.pim_mirror.specs.declared.config.Delivery as code
+use Rattle.pim_mirror.specs.Mirror.{Passes, delivery_inputs}
+use Rattle.pim_mirror.proofs.Heard.{early_at, left_is, none_left, more_heard, stopped_there}
+use Rattle.pim_mirror.proofs.Ways.{nothing_passes}
+use Rattle.pim_mirror.proofs.mirroring.hear.Goals as goal
+
+pub hear_one-requires-clause-early : goal.hear_one-requires-clause-early
+hear_one-requires-clause-early g c = early_at c.args.deliveries.now c.loop-delivery.delivery-index _ c.requires.early c.loop-delivery-test.true
+
+pub returns-in_err-hear_one-clause-passes : goal.returns-in_err-hear_one-clause-passes
+returns-in_err-hear_one-clause-passes g c =
+    let deliveries = c.args.deliveries.now in
+    let i = c.loop-delivery.delivery-index in
+    let told = err_from_is_err_and c.from_residual.result c.from_residual.ensures.1 in
+    c.loop-delivery.invariant.0 c.from_residual.result c.hear_one.new.router
+    (rw (told.1, told.2) (stopped_there c.course_goes_on.ensures c.every_list_has_a_course.ensures g.F.Family.family c.args.messages.now
+    (g.F.Family.bytes_of c.args.sender) (drop i deliveries) (drop (i + 1) deliveries) (slice_index_or deliveries i _) c.loop-delivery.router c.hear_one.new.router c.in_err-hear_one.field-0.0
+    (left_is deliveries i _ c.loop-delivery-test.true) c.in_err-hear_one.ensures.passes))
+
+pub loop-delivery-preserved : goal.loop-delivery-preserved
+loop-delivery-preserved g c =
+    let deliveries = c.args.deliveries.now in
+    let i = c.loop-delivery.delivery-index in (
+      λ result after more. c.loop-delivery.invariant.0 result after
+          (more_heard c.course_goes_on.ensures c.every_list_has_a_course.ensures g.F.Family.family c.args.messages.now
+          (g.F.Family.bytes_of c.args.sender) (drop i deliveries) (drop (i + 1) deliveries) (slice_index_or deliveries i _) c.loop-delivery.router c.hear_one.new.router after result
+          (left_is deliveries i _ c.loop-delivery-test.true) c.in_ok-hear_one.ensures.passes more),
+      c.hear_one.ensures.ports ∙ c.loop-delivery.invariant.1,
+    )
+
+pub returns-clause-passes : goal.returns-clause-passes
+returns-clause-passes g c =
+    c.loop-delivery.invariant.0 (Ok tt) c.loop-delivery.router
+    (subst (λ (left : List code.Delivery). Passes g.F.Family.family (flat_map (delivery_inputs g.F.Family.family c.args.messages.now (g.F.Family.bytes_of c.args.sender))
+    (map delivery_seen left)) c.loop-delivery.router (Ok tt) c.loop-delivery.router) (sym (none_left c.args.deliveries.now c.loop-delivery.delivery-index c.loop-delivery-test.false))
+    (nothing_passes g.F.Family.family c.loop-delivery.router))

@@ -1,0 +1,15 @@
+use Rattle.std.proofs.Common.{◌≡◌}
+use Rattle.pim_router.specs.State.{RouterState}
+use Rattle.pim_router.specs.Time.{turns_left}
+use Rattle.pim_mirror.specs.Mirror.{HasReached}
+use Rattle.pim_mirror.proofs.mirroring.reach.Given as goal
+
+-- what is reached from here is reached from the start
+abbrev pub invariant-loop : goal.invariant-loop
+invariant-loop g l =
+    ((after : RouterState) → HasReached l.fn.moment l.router after → HasReached l.fn.moment l.fn.router after)
+    × (l.router.ports ≡ l.fn.router.ports)
+
+-- each run that tells something comes nearer to the moment
+abbrev pub decreases-loop : goal.decreases-loop
+decreases-loop g l = turns_left l.fn.moment l.router

@@ -1,0 +1,22 @@
+use Rattle.std.proofs.Common.{ℕ, List, [], ◌∷◌, subst}
+use Rattle.pim_router.specs.Course.{takes}
+use Rattle.pim_router.specs.Seen.{packet_seen}
+use Rattle.pim_mirror.specs.Mirror.{Passes}
+use Rattle.pim_mirror.proofs.Ways.{taken, taken_keeps}
+use Rattle.pim_mirror.proofs.mirroring.take.Goals as goal
+
+pub returns-clause-ports : goal.returns-clause-ports
+returns-clause-ports g c =
+    taken_keeps g.F.Family.family (packet_seen g.F.Family.bytes_of 0 c.args.source c.all_routers.result c.args.bytes.now) c.args.router.now
+    c.take_packet.new.self c.take_packet.result c.take_packet.ensures.told
+
+pub returns-clause-passes : goal.returns-clause-passes
+returns-clause-passes g c =
+    subst (λ (destination : List ℕ). Passes g.F.Family.family (takes (record {
+      port = 0;
+      source = g.F.Family.bytes_of c.args.source;
+      destination = destination;
+      bytes = c.args.bytes.now;
+    }) ∷ []) c.args.router.now c.passed.result c.take_packet.new.self) c.all_routers.ensures
+    (taken g.F.Family.family (packet_seen g.F.Family.bytes_of 0 c.args.source c.all_routers.result c.args.bytes.now) c.args.router.now
+    c.take_packet.new.self c.take_packet.result c.passed.result c.take_packet.ensures.told c.passed.ensures)

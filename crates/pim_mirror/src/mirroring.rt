@@ -1,0 +1,178 @@
+//! A fresh router that has heard one sender's messages.
+
+ghost use Rattle.std.specs.Prelude.{◌≡◌, ◌<◌, ◌≤◌, ◌^◌, [], ◌∷◌, length, map, slice_index_or};
+ghost use Rattle.std.specs.List.{AllByRecursion, flat_map};
+ghost use Rattle.pim_frame.specs.Frame.{all_routers};
+ghost use Rattle.pim_router.specs.Course.{takes};
+ghost use Rattle.pim_mirror.specs.Config.{fresh_seen, delivery_seen};
+ghost use Rattle.pim_mirror.specs.Fits.{Fits};
+ghost use Rattle.pim_mirror.specs.Mirror.{Mirrors, Passes, delivery_inputs, HasReached};
+ghost use Rattle.pim_mirror.specs.Mirror.{needed_by, outcome_of, is_reached};
+ghost use Rattle.pim_mirror.specs.Tests.{AreEarly};
+
+use crate::config::{Delivery, FreshConfig};
+use crate::fresh::end_of;
+use crate::meeting::introduced;
+use pim_addr::Family;
+use pim_form::{Messages, Writer};
+use pim_frame::all_routers;
+use pim_router::{Router, Step, Store, Verdict, course_goes_on, every_list_has_a_course};
+use std::alloc::{AllocError, Global};
+use thiserror::Error;
+
+/// Why there is no such router.
+#[derive(Clone, Copy, Debug, PartialEq, Eq, Error)]
+pub enum MirrorFault {
+    /// A message has no room: the port would need more records than its limit.
+    #[error("full {needed}")]
+    Full {
+        /// The port's records when the first such message came, and those that this would make.
+        needed: usize,
+    },
+    /// A growth was refused.
+    #[error("memory")]
+    Memory,
+}
+
+/// How many records a message needed for which there was no room; none where it isn't that.
+fn needed_by(verdict: Verdict) -> Option<usize>
+    ensures { result ≡ needed_by verdict }
+{
+    let Verdict::Full(store) = verdict else {
+        return None;
+    };
+    match store {
+        Store::Neighbours => None,
+        Store::Records { needed } => Some(needed),
+    }
+}
+
+/// What a verdict means for the mirror: whether a message had no room.
+fn passed(verdict: Result<Verdict, AllocError>) -> Result<(), MirrorFault>
+    ensures { result ≡ outcome_of verdict }
+{
+    let Ok(verdict) = verdict else {
+        return Err(MirrorFault::Memory);
+    };
+    match needed_by(verdict) {
+        None => Ok(()),
+        Some(needed) => Err(MirrorFault::Full { needed }),
+    }
+}
+
+/// Lets the router take a packet on its only port.
+fn take<F: Family>(
+    router: &mut Router<'_, F>,
+    source: F::Addr,
+    bytes: &[u8],
+) -> Result<(), MirrorFault>
+    requires port { length router.old.ports ≡ 1 }
+    requires bytes { length bytes.now < 2 ^ 32 }
+    ensures ports { router.new.ports ≡ router.old.ports }
+    ensures passes { Passes F.family (takes (record {
+      port = 0;
+      source = F.bytes_of source;
+      destination = all_routers F.family;
+      bytes = bytes.now;
+    }) ∷ []) router.old result router.new }
+{
+    passed(router.take_packet(0, source, all_routers::<F>(), bytes))
+}
+
+/// Whether nothing is due any more.
+fn is_reached<A: Drop>(step: Step<A>) -> bool
+    ensures { result ≡ is_reached step }
+{
+    matches!(step, Step::Reached)
+}
+
+/// Runs to a moment until nothing is due.
+fn reach<F: Family>(router: &mut Router<'_, F>, moment: u64)
+    requires { moment ≤ 10 ^ 15 }
+    ensures ports { router.new.ports ≡ router.old.ports }
+    ensures reaches { HasReached moment router.old router.new }
+{
+    while !is_reached(router.run_to(moment)) {}
+}
+
+/// The bytes of the message with this number; none where there is no such message.
+fn message_at(messages: &Messages, message: usize) -> &[u8]
+    requires small { AllByRecursion (λ message. length message < 2 ^ 32) messages.now }
+    ensures bytes { result.now ≡ slice_index_or messages.now message [] }
+    ensures small { length result.now < 2 ^ 32 }
+{
+    match messages.get(message) {
+        Some(bytes) => bytes,
+        None => &[],
+    }
+}
+
+/// Lets the router hear a delivery at its moment.
+fn hear_one<F: Family>(
+    router: &mut Router<'_, F>,
+    messages: &Messages,
+    sender: F::Addr,
+    delivery: Delivery,
+) -> Result<(), MirrorFault>
+    requires port { length router.old.ports ≡ 1 }
+    requires small { AllByRecursion (λ message. length message < 2 ^ 32) messages.now }
+    requires early { delivery.moment ≤ 10 ^ 14 }
+    ensures ports { router.new.ports ≡ router.old.ports }
+    ensures passes { Passes F.family (delivery_inputs F.family messages.now (F.bytes_of sender)
+        (delivery_seen delivery)) router.old result router.new }
+{
+    every_list_has_a_course();
+    course_goes_on();
+    reach(router, delivery.moment);
+    take(router, sender, message_at(messages, delivery.message))
+}
+
+/// Lets the router hear the deliveries, each at its moment.
+fn hear<F: Family>(
+    router: &mut Router<'_, F>,
+    messages: &Messages,
+    sender: F::Addr,
+    deliveries: &[Delivery],
+) -> Result<(), MirrorFault>
+    requires port { length router.old.ports ≡ 1 }
+    requires small { AllByRecursion (λ message. length message < 2 ^ 32) messages.now }
+    requires early { AreEarly (map delivery_seen deliveries.now) }
+    ensures ports { router.new.ports ≡ router.old.ports }
+    ensures passes { Passes F.family (flat_map (delivery_inputs F.family messages.now (F.bytes_of sender))
+        (map delivery_seen deliveries.now)) router.old result router.new }
+{
+    every_list_has_a_course();
+    course_goes_on();
+    for delivery in deliveries {
+        hear_one(router, messages, sender, *delivery)?;
+    }
+    Ok(())
+}
+
+/// The fresh router that has heard these messages, at its final moment. The Hellos of the sender and of the other
+/// neighbours come at the moment 0; before each delivery the router runs to its moment until nothing is due, and behind
+/// the last one to the final moment: that of the last delivery, or the end of the override interval that began with the
+/// latest first delivery of a message, whichever is later. The router is told as it is then, with what is left of each
+/// time.
+///
+/// # Errors
+/// `Full` where a message has no room, with what the first such message needed; `Memory` where a growth was refused.
+pub fn mirror<'a, F: Family>(
+    alloc: Global,
+    messages: &Messages,
+    writer: &Writer<F>,
+    fresh: &FreshConfig<'a, F>,
+) -> Result<Router<'a, F>, MirrorFault>
+    requires fits { Fits messages.now writer.now fresh.now.routes.now (fresh_seen F.bytes_of fresh.now) }
+    requires small { AllByRecursion (λ message. length message < 2 ^ 32) messages.now }
+    ensures { Mirrors F.family messages.now (fresh_seen F.bytes_of fresh.now) result }
+{
+    every_list_has_a_course();
+    course_goes_on();
+    let Ok(mut router) = introduced(alloc, fresh) else {
+        return Err(MirrorFault::Memory);
+    };
+    hear(&mut router, messages, fresh.sender, fresh.deliveries)?;
+    reach(&mut router, end_of(fresh));
+    Ok(router)
+}
