@@ -1,10 +1,12 @@
 -- A fresh router that hears messages alone is there, stands at its final moment, and goes on from there.
-use Rattle.std.proofs.Common.{◌≡◌, ◌∙◌, ℕ, List, [], ◌∷◌, ◌++◌, map, Option, None, Some, refl, sym, subst, arith, append_assoc}
+use Rattle.std.proofs.Common.{◌≡◌, ◌∙◌, ℕ, List, [], ◌∷◌, ◌++◌, map, Option, None, Some, refl, sym, subst, arith, append_assoc, Ok, Err}
 use Rattle.std.specs.List.{flat_map}
 use Rattle.pim_addr.specs.declared.family.AddressFamily.{AddressFamily}
-use Rattle.pim_addr.specs.Routes.{RouteTable}
+use Rattle.pim_addr.specs.Routes.{RouteTable, IsRouteTable}
 use Rattle.pim_down.specs.declared.key.What.{What}
-use Rattle.pim_form.specs.Messages.{Writing}
+use Rattle.pim_down.specs.Time.{Downstream}
+use Rattle.pim_form.specs.Messages.{Writing, IsWriting}
+use Rattle.pim_mirror.specs.declared.mirroring.MirrorFault.TheVariants as fault
 use Rattle.pim_fresh.specs.Deliveries.{Delivery, IsTimely, AreAlive, last_of}
 use Rattle.pim_router.specs.declared.step.Step.{Step}
 use Rattle.pim_router.specs.declared.step.Step.TheVariants.{Echo, Refresh, Reached}
@@ -15,9 +17,9 @@ use Rattle.pim_router.specs.Time.{Runs}
 use Rattle.pim_mirror.specs.Config.{Fresh, newest_first, end_of, setup_of}
 use Rattle.pim_mirror.specs.Fits.{Fits, expiry_of}
 use Rattle.pim_mirror.specs.Mirror.{delivery_inputs, inputs_of, first_needed, GoesThrough}
-use Rattle.pim_mirror.specs.Headline.{fresh_exchange, IsInWindow, IsAt, RoomIsForTheUnits, FreshRouterIsThere}
+use Rattle.pim_mirror.specs.Headline.{AreMessagesOf, fresh_exchange, HearsAlone, IsInWindow, IsAt, RoomIsForTheUnits, FreshRouterMirrors, FreshRouterTellsNoEcho, FreshRouterIsThere, IsMirrorOf, MirrorAnswersForTheForm}
 use Rattle.pim_mirror.proofs.CourseSteps.{parts, last_run}
-use Rattle.pim_mirror.proofs.Rooms.{never_over}
+use Rattle.pim_mirror.proofs.Rooms.{within, never_over}
 
 -- at its last delivery's moment no message is missed
 alive_now : (expiry : Option ℕ) (moment : ℕ) (deliveries : List Delivery) → IsTimely expiry moment deliveries → AreAlive expiry moment deliveries
@@ -102,3 +104,27 @@ fresh_router_is_there every one_end goes_on room family table writing state mess
       stands = stands every one_end goes_on family messages fresh None whole.after course;
       goes_on = further every one_end goes_on family messages fresh None whole.after course;
     }
+
+-- ---- what `mirror` answers
+
+module _ (every : EveryListHasACourse) (one_end : RunHasOneEnd) (goes_on : RunGoesOn) (room : RoomIsForTheUnits) (mirrors : FreshRouterMirrors) (quiet : FreshRouterTellsNoEcho) where
+  is_mirror : (family : AddressFamily) (table : RouteTable) (writing : Writing) (state : Downstream) (messages : List (List ℕ)) (fresh : Fresh) (router : RouterState) → IsRouteTable family table → IsWriting family writing
+      → (asked : AreMessagesOf family table writing state messages) → Fits messages writing table fresh → (course : GoesThrough family messages fresh None router) → IsMirrorOf family table writing asked.form messages fresh router course
+  is_mirror family table writing state messages fresh router sound is_writing asked fits course =
+      let hears : HearsAlone family table writing messages fresh router = record { fits = fits; course = course } in
+      let window = window_begins messages writing table fresh fits in
+      let here = mirrors family table writing state messages fresh router router (end_of fresh) sound is_writing asked hears window (stands every one_end goes_on family messages fresh None router course) in
+      record {
+        room = within (fresh_exchange family table writing messages fresh) fresh.limit (newest_first fresh) (sym (room family table writing state messages fresh None router sound is_writing asked fits course));
+        window = window;
+        at_first = record { moment_is = here.moment_is; routes = here.routes; holds = here.holds; asks = here.asks; no_echo = refl };
+        later = λ moment later window at. mirrors family table writing state messages fresh router later moment sound is_writing asked hears window at;
+        no_echo = quiet family table writing state messages fresh router sound is_writing asked hears;
+      }
+
+  pub answers_for_the_form : MirrorAnswersForTheForm
+  answers_for_the_form family table writing state messages fresh (Ok router) sound is_writing asked fits course =
+      is_mirror family table writing state messages fresh router sound is_writing asked fits course
+  answers_for_the_form family table writing state messages fresh (Err (fault.Full needed)) sound is_writing asked fits (after, course) =
+      sym (room family table writing state messages fresh (Some needed) after sound is_writing asked fits course)
+  answers_for_the_form family table writing state messages fresh (Err fault.Memory) sound is_writing asked fits course = tt

@@ -1,7 +1,7 @@
 -- The words of the laws in `src/headline_laws.rt`: two states and their messages, and a fresh router that hears the messages
 -- of one of them alone.
 use Rattle.std.specs.Prelude.{◌≡◌, ◌↔◌, ℕ, ◌-◌, ◌≤◌, ◌<◌, Bool, true, false, List, [], ◌∷◌, length}
-use Rattle.std.specs.Prelude.{Option, None, Some, nat_lt, if◌then◌else◌}
+use Rattle.std.specs.Prelude.{Option, None, Some, Result, Ok, Err, nat_lt, if◌then◌else◌}
 use Rattle.std.specs.Option.{is_some}
 use Rattle.std.specs.List.{list_any}
 use Rattle.pim_addr.specs.declared.family.AddressFamily.{AddressFamily}
@@ -27,7 +27,9 @@ use Rattle.pim_mirror.specs.CanonicalExchange.{exchange_in}
 use Rattle.pim_mirror.specs.CanonicalMirror.{AsksAgain}
 use Rattle.pim_mirror.specs.CanonicalUnits.{form_names}
 use Rattle.pim_mirror.specs.Hellos.{timing_of}
-use Rattle.pim_mirror.specs.Mirror.{AreHellosOf, GoesThrough, or_later}
+use Rattle.pim_mirror.specs.Mirror.{AreHellosOf, GoesThrough, Mirrors, or_later}
+use Rattle.pim_mirror.specs.declared.mirroring.MirrorFault.{MirrorFault}
+use Rattle.pim_mirror.specs.declared.mirroring.MirrorFault.TheVariants as fault
 
 -- ---- a state and its messages
 
@@ -172,6 +174,40 @@ FreshRouterIsThere = (family : AddressFamily) (table : RouteTable) (writing : Wr
     IsWriting family writing → AreMessagesOf family table writing state messages → Fits messages writing table fresh →
     length (units_of (fresh_exchange family table writing messages fresh) (newest_first fresh)) ≤ fresh.limit →
     AreHellosOf family (neighbours fresh) hellos → IsThere family table writing messages fresh
+
+-- ---- what `mirror` answers
+
+-- A router at the end of its course, on which each message had room: there is room for the units of all messages; it
+-- stands where the window begins, and mirrors the form there, and at every moment of the window to which it goes on; no
+-- echo was told on its course.
+pub record IsMirrorOf (family : AddressFamily) (table : RouteTable) (writing : Writing) (form : List GroupForm)
+    (messages : List (List ℕ)) (fresh : Fresh) (router : RouterState)
+    (course : GoesThrough family messages fresh None router) : Type 0 where
+  pub room : length (units_of (fresh_exchange family table writing messages fresh) (newest_first fresh)) ≤ fresh.limit
+  pub window : IsInWindow writing fresh (end_of fresh)
+  pub at_first : MirrorsForm family table writing form messages fresh (end_of fresh) [] router
+  pub later : (moment : ℕ) (later : RouterState) → IsInWindow writing fresh moment → (at : IsAt moment router later) →
+      MirrorsForm family table writing form messages fresh moment at.told later
+  pub no_echo : list_any is_echo course.told ≡ false
+
+-- Full tells how many units the different messages have up to the first delivery at which they pass the limit.
+abbrev pub AnswersFor : (family : AddressFamily) (table : RouteTable) (writing : Writing) (form : List GroupForm)
+    (messages : List (List ℕ)) (fresh : Fresh) (result : Result RouterState MirrorFault) →
+    Mirrors family messages fresh result → Type 0
+AnswersFor family table writing form messages fresh (Ok router) course =
+    IsMirrorOf family table writing form messages fresh router course
+AnswersFor family table writing form messages fresh (Err (fault.Full needed)) course =
+    first_over (fresh_exchange family table writing messages fresh) fresh.limit (newest_first fresh) ≡ Some needed
+AnswersFor family table writing form messages fresh (Err fault.Memory) course = Unit {0}
+
+-- What `mirror` answers is so wherever the messages are the canonical ones of a state.
+abbrev pub MirrorAnswersForTheForm : Type 0
+MirrorAnswersForTheForm = (family : AddressFamily) (table : RouteTable) (writing : Writing) (state : Downstream)
+    (messages : List (List ℕ)) (fresh : Fresh) (result : Result RouterState MirrorFault) →
+    IsRouteTable family table → IsWriting family writing →
+    (asked : AreMessagesOf family table writing state messages) → Fits messages writing table fresh →
+    (course : Mirrors family messages fresh result) →
+    AnswersFor family table writing asked.form messages fresh result course
 
 -- ---- the headline
 

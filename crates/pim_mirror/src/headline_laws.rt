@@ -1,7 +1,8 @@
 //! The headline, and the laws that carry its timed half. Nothing here is to be called.
 
 ghost use Rattle.pim_mirror.specs.Headline.{NormalisingTwiceIsOnce, FreshRouterMirrors, FreshRouterTellsNoEcho};
-ghost use Rattle.pim_mirror.specs.Headline.{RoomIsForTheUnits, FreshRouterIsThere, Headline};
+ghost use Rattle.pim_mirror.specs.Headline.{RoomIsForTheUnits, FreshRouterIsThere};
+ghost use Rattle.pim_mirror.specs.Headline.{MirrorAnswersForTheForm, Headline};
 
 use crate::hello_laws::{hellos_are_heard, written_hellos_are_read};
 use crate::laws::{
@@ -72,6 +73,21 @@ pub fn fresh_router_is_there()
     ensures { FreshRouterIsThere }
 {
     room_is_for_the_units();
+    pim_router::every_list_has_a_course();
+    pim_router::run_has_one_end();
+    pim_router::run_goes_on();
+}
+
+/// What `mirror` answers where its messages are the canonical ones of a state by the writer under the table. An Ok router
+/// had room for the units of all messages, and no echo was told on its course; it stands where the window begins, and it
+/// mirrors the form there and at every moment of the window to which it goes on. `Full` tells as many records as the
+/// different messages have units up to the first delivery at which these pass the limit.
+pub fn mirror_answers_for_the_form()
+    ensures { MirrorAnswersForTheForm }
+{
+    room_is_for_the_units();
+    fresh_router_mirrors();
+    fresh_router_tells_no_echo();
     pim_router::every_list_has_a_course();
     pim_router::run_has_one_end();
     pim_router::run_goes_on();

@@ -29,7 +29,7 @@ pub use config::{Delivery, FreshConfig, OtherNeighbour};
 pub use fitting::fits;
 pub use headline_laws::{
     fresh_router_is_there, fresh_router_mirrors, fresh_router_tells_no_echo, headline,
-    normalising_twice_is_once, room_is_for_the_units,
+    mirror_answers_for_the_form, normalising_twice_is_once, room_is_for_the_units,
 };
 pub use hello_laws::{hellos_are_heard, written_hellos_are_read};
 pub use laws::{
