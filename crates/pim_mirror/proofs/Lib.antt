@@ -25,3 +25,4 @@ pub mod Conditions
 pub mod Ways
 pub mod Hellos
 pub mod Heard
+pub mod ShortMessages
