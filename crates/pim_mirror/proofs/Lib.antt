@@ -34,3 +34,4 @@ pub mod Rooms
 pub mod FormHeld
 pub mod Headlines
 pub mod Standing
+pub mod ShortMessages

@@ -2,6 +2,7 @@ pub mod Config
 pub mod Fits
 pub mod Tests
 pub mod Mirror
+pub mod MirrorLaws
 pub mod CanonicalParts
 pub mod CanonicalUnits
 pub mod CanonicalExchange

@@ -21,6 +21,7 @@ mod headline_laws;
 mod hello_laws;
 mod laws;
 mod meeting;
+mod mirror_laws;
 mod mirroring;
 #[cfg(test)]
 mod tests;
@@ -38,4 +39,5 @@ pub use laws::{
     messages_are_read, part_asks, parts_tell_units_once, router_asks_again, router_leaves_its_port,
     writer_stays_heard,
 };
-pub use mirroring::{MirrorFault, mirror};
+pub use mirror_laws::canonical_messages_are_short;
+pub use mirroring::{MirrorFault, are_short, mirror};

@@ -106,15 +106,16 @@ fn sender_of<F: Family>(fresh: &FreshConfig<'_, F>) -> OtherNeighbour<F::Addr>
     } }
 {
     let port = fresh.port();
+    let lan = LanDelay {
+        t: false,
+        propagation: port.propagation,
+        override_ms: port.override_ms,
+    };
     OtherNeighbour {
         address: fresh.sender,
         hello: Parameters {
             holdtime: Some(0xffff),
-            lan: Some(LanDelay {
-                t: false,
-                propagation: port.propagation,
-                override_ms: port.override_ms,
-            }),
+            lan: Some(lan),
             priority: None,
             generation: None,
         },

@@ -1,6 +1,6 @@
 //! A fresh router that has heard one sender's messages.
 
-ghost use Rattle.std.specs.Prelude.{◌≡◌, ◌<◌, ◌≤◌, ◌^◌, [], ◌∷◌, length, map, slice_index_or};
+ghost use Rattle.std.specs.Prelude.{◌≡◌, ◌<◌, ◌≤◌, ◌^◌, ◌↔◌, IsTrue, nat_lt, [], ◌∷◌, length, map, slice_index_or};
 ghost use Rattle.std.specs.List.{AllByRecursion, flat_map};
 ghost use Rattle.pim_frame.specs.Frame.{all_routers};
 ghost use Rattle.pim_router.specs.Course.{takes};
@@ -107,6 +107,28 @@ fn message_at(messages: &Messages, message: usize) -> &[u8]
     }
 }
 
+/// Whether the message with this number is below 2^32 bytes, as it is where there is no such message.
+fn is_short_at(messages: &Messages, message: usize) -> bool
+    ensures { result ≡ nat_lt (length (slice_index_or messages.now message [])) (2 ^ 32) }
+{
+    match messages.get(message) {
+        Some(bytes) => bytes.len() < 0x1_0000_0000,
+        None => true,
+    }
+}
+
+/// Whether each message is below 2^32 bytes, which `mirror` wants: it reads no others. Canonical messages are.
+pub fn are_short(messages: &Messages) -> bool
+    ensures { IsTrue result ↔ AllByRecursion (λ message. length message < 2 ^ 32) messages.now }
+{
+    for message in 0..messages.count() {
+        if !is_short_at(messages, message) {
+            return false;
+        }
+    }
+    true
+}
+
 /// Lets the router hear a delivery at its moment.
 fn hear_one<F: Family>(
     router: &mut Router<'_, F>,
@@ -164,7 +186,7 @@ pub fn mirror<'a, F: Family>(
     fresh: &FreshConfig<'a, F>,
 ) -> Result<Router<'a, F>, MirrorFault>
     requires fits { Fits messages.now writer.now fresh.now.routes.now (fresh_seen F.bytes_of fresh.now) }
-    requires small { AllByRecursion (λ message. length message < 2 ^ 32) messages.now }
+    requires short { AllByRecursion (λ message. length message < 2 ^ 32) messages.now }
     ensures { Mirrors F.family messages.now (fresh_seen F.bytes_of fresh.now) result }
 {
     every_list_has_a_course();
