@@ -1,5 +1,5 @@
--- The words of the laws in `src/headline_laws.rt`: two states and their messages, and a fresh router that hears the messages
--- of one of them alone.
+-- The words of the laws in `src/headline_laws.rt`: two states and their messages, and a fresh router that hears the
+-- messages of one of them alone.
 use Rattle.std.specs.Prelude.{◌≡◌, ◌↔◌, ℕ, ◌-◌, ◌≤◌, ◌<◌, Bool, true, false, List, [], ◌∷◌, length}
 use Rattle.std.specs.Prelude.{Option, None, Some, Result, Ok, Err, nat_lt, if◌then◌else◌}
 use Rattle.std.specs.Option.{is_some}
@@ -55,10 +55,10 @@ abbrev pub fresh_exchange : AddressFamily → RouteTable → Writing → List (L
 fresh_exchange family table writing messages fresh =
     exchange_in family (known_in family table) writing 0 (timing_of fresh) messages
 
--- A new router hears the Hellos of its neighbours and these messages, nothing else, and is this one at its final moment.
--- The caller's conditions are met: it has the sender's table and knows the sender; each message comes at least once, and
--- none is missed for a whole holdtime up to the final moment, by which the prune-pending times are over. There is room for
--- each.
+-- A new router hears the Hellos of its neighbours and these messages, nothing else, and is this one at its final
+-- moment. The caller's conditions are met: it has the sender's table and knows the sender; each message comes at least
+-- once, and none is missed for a whole holdtime up to the final moment, by which the prune-pending times are over.
+-- There is room for each.
 pub record HearsAlone (family : AddressFamily) (table : RouteTable) (writing : Writing) (messages : List (List ℕ))
     (fresh : Fresh) (router : RouterState) : Type 0 where
   pub fits : Fits messages writing table fresh
@@ -199,6 +199,12 @@ AnswersFor family table writing form messages fresh (Ok router) course =
 AnswersFor family table writing form messages fresh (Err (fault.Full needed)) course =
     first_over (fresh_exchange family table writing messages fresh) fresh.limit (newest_first fresh) ≡ Some needed
 AnswersFor family table writing form messages fresh (Err fault.Memory) course = Unit {0}
+
+-- a call's answer, and what it means
+pub record TellsOfForm (family : AddressFamily) (table : RouteTable) (writing : Writing) (form : List GroupForm)
+    (messages : List (List ℕ)) (fresh : Fresh) (result : Result RouterState MirrorFault) : Type 0 where
+  pub course : Mirrors family messages fresh result
+  pub answers : AnswersFor family table writing form messages fresh result course
 
 -- What `mirror` answers is so wherever the messages are the canonical ones of a state.
 abbrev pub MirrorAnswersForTheForm : Type 0

@@ -17,9 +17,9 @@ pub fn normalising_twice_is_once()
     pim_form::one_normal_form();
 }
 
-/// On the course of a new router over the Hellos of its neighbours and a sender's canonical messages, a message has no room
-/// exactly where the units of the different messages up to it pass the limit of records, and as many records as these are
-/// the first such message needs; the caller's conditions are those of `fits`.
+/// On the course of a new router over the Hellos of its neighbours and a sender's canonical messages, a message has no
+/// room exactly where the units of the different messages up to it pass the limit of records, and as many records as
+/// these are the first such message needs; the caller's conditions are those of `fits`.
 pub fn room_is_for_the_units()
     ensures { RoomIsForTheUnits }
 {
@@ -31,11 +31,11 @@ pub fn room_is_for_the_units()
 }
 
 /// A new router that hears the Hellos of its neighbours, and then a sender's canonical messages alone, each at least
-/// once, in any order and however often, holds exactly the machines of the form that they tell, at every moment from its
-/// final one on and until the first of its records ends: (\*,G) of each star and (S,G) of each source in Join, (S,G,rpt)
-/// of each exception in Prune; left is the holdtime less the time since the message came last, and no prune-pending
-/// timer runs. It wants exactly what the form wants, and asks for it again by the same messages; no echo is told. The
-/// caller's conditions are those of `fits`, and each message has room.
+/// once, in any order and however often, holds exactly the machines of the form that they tell, at every moment from
+/// its final one on and until the first of its records ends: (\*,G) of each star and (S,G) of each source in Join,
+/// (S,G,rpt) of each exception in Prune; left is the holdtime less the time since the message came last, and no
+/// prune-pending timer runs. It wants exactly what the form wants, and asks for it again by the same messages; no echo
+/// is told. The caller's conditions are those of `fits`, and each message has room.
 pub fn fresh_router_mirrors()
     ensures { FreshRouterMirrors }
 {
@@ -78,10 +78,10 @@ pub fn fresh_router_is_there()
     pim_router::run_goes_on();
 }
 
-/// What `mirror` answers where its messages are the canonical ones of a state by the writer under the table. An Ok router
-/// had room for the units of all messages, and no echo was told on its course; it stands where the window begins, and it
-/// mirrors the form there and at every moment of the window to which it goes on. `Full` tells as many records as the
-/// different messages have units up to the first delivery at which these pass the limit.
+/// What `mirror` answers where its messages are the canonical ones of a state by the writer under the table. An Ok
+/// router had room for the units of all messages, and no echo was told on its course; it stands where the window
+/// begins, and it mirrors the form there and at every moment of the window to which it goes on. `Full` tells as many
+/// records as the different messages have units up to the first delivery at which these pass the limit.
 pub fn mirror_answers_for_the_form()
     ensures { MirrorAnswersForTheForm }
 {

@@ -6,12 +6,12 @@
 //! order and however often, applies each where there is room, and asks again for exactly what the form asks for, by the
 //! same messages, from the final moment of the deliveries on and while no message is missed for its holdtime.
 //!
-//! A new router that has heard the Hellos of its neighbours is such a router. The law `headline` says all of it: what two
-//! states want, their messages, and a fresh router that hears them alone.
+//! A new router that has heard the Hellos of its neighbours is such a router. The law `headline` says all of it: what
+//! two states want, their messages, and a fresh router that hears them alone.
 //!
-//! `fits` is exactly its conditions, under which a fresh router mirrors the sender of its messages. `mirror` answers that
-//! router, as it is at its final moment: the state behind the course of a new router over the Hellos of its neighbours,
-//! the deliveries and the way to that moment. `Full` tells what the first message needed that had no room.
+//! `fits` is exactly its conditions, under which a fresh router mirrors the sender of its messages. `mirror` answers
+//! that router, as it is at its final moment: the state behind the course of a new router over the Hellos of its
+//! neighbours, the deliveries and the way to that moment. `Full` tells what the first message needed that had no room.
 #![tactic(auto)]
 
 mod config;
