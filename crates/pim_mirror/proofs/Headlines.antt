@@ -77,7 +77,7 @@ module _ (laws : Laws) (family : AddressFamily) (table : RouteTable) (writing : 
   first = begun laws.read laws.hellos_heard laws.stars family table writing state messages fresh None router sound is_writing asked hears.fits hears.course
 
   room : length (units_of exchange deliveries) ≤ fresh.limit
-  room = within exchange fresh.limit deliveries (sym (laws.room family table writing state messages fresh None router sound is_writing asked hears.fits hears.course))
+  room = within exchange fresh.limit deliveries (sym (laws.room family table writing state messages fresh None router sound is_writing asked hears.fits hears.course).0)
 
   room_here : length (units_of (exchange_in family (known_in family first.start.routes) writing 0 (timing_of fresh) messages) deliveries) ≤ fresh.limit
   room_here = subst (λ (t : RouteTable). length (units_of (exchange_in family (known_in family t) writing 0 (timing_of fresh) messages) deliveries) ≤ fresh.limit) (sym first.routes) room

@@ -30,6 +30,7 @@ pub mod Hellos
 pub mod Heard
 pub mod Begun
 pub mod Quiet
+pub mod EntryCounts
 pub mod Rooms
 pub mod FormHeld
 pub mod Headlines

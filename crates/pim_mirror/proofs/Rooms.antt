@@ -2,7 +2,7 @@
 use Rattle.std.proofs.Common.{◌≡◌, ◌∙◌, ℕ, ◌≤◌, Bool, true, false, nat_lt, if◌then◌else◌, List, [], ◌∷◌, ◌++◌, length, map, Option, None, Some, refl, sym, ap, ap₂, subst, arith, append_assoc, zero-le}
 use Rattle.std.proofs.lemmas.Bool.{le-ltb, ltb-false, ltb-true}
 use Rattle.pim_addr.specs.declared.family.AddressFamily.{AddressFamily}
-use Rattle.pim_addr.specs.Routes.{RouteTable}
+use Rattle.pim_addr.specs.Routes.{RouteTable, IsRouteTable}
 use Rattle.pim_down.specs.declared.event.Timing.{Timing}
 use Rattle.pim_down.specs.Hearing.{start_of}
 use Rattle.pim_down.specs.Known.{known_in}
@@ -15,15 +15,18 @@ use Rattle.pim_router.specs.Course.{Input, Telling, echo, refresh, verdict, take
 use Rattle.pim_router.specs.Packets.{Packet, received}
 use Rattle.pim_router.specs.State.{RouterState, new_router}
 use Rattle.pim_router.specs.declared.verdict.Verdict.{Verdict}
-use Rattle.pim_mirror.specs.Config.{Neighbour, newest_first, end_of, setup_of, neighbours}
+use Rattle.pim_mirror.specs.Config.{Neighbour, Fresh, newest_first, end_of, setup_of, neighbours}
 use Rattle.pim_mirror.specs.CanonicalCourse.{AreOf, HoldsNothing, Lasts, inputs_of, IsTaken}
 use Rattle.pim_mirror.specs.CanonicalExchange.{exchange_in}
 use Rattle.pim_mirror.specs.CanonicalPackets.{packet_of, HearsWriter, heard_exchange}
 use Rattle.pim_mirror.specs.Hellos.{AreHellosFrom, timing_of}
 use Rattle.pim_mirror.specs.HelloLaws.{WrittenHellosAreRead, HellosAreHeard}
 use Rattle.pim_mirror.specs.Laws.{AskedStarsHaveRps, DeliveryIsTaken, CourseHearsAll}
-use Rattle.pim_mirror.specs.Mirror.{needed_by, or_later, first_needed}
-use Rattle.pim_mirror.specs.Headline.{if_over, first_over, RoomIsForTheUnits}
+use Rattle.pim_mirror.specs.Mirror.{needed_by, or_later, first_needed, GoesThrough}
+use Rattle.pim_mirror.specs.Fits.{Fits}
+use Rattle.pim_down.specs.Time.{Downstream}
+use Rattle.pim_mirror.specs.Headline.{AreMessagesOf, fresh_exchange, all_entries, if_over, first_over, RoomIsForTheUnits}
+use Rattle.pim_mirror.proofs.EntryCounts.{units_are_entries}
 use Rattle.pim_mirror.proofs.Begun.{Begun, begun}
 use Rattle.pim_mirror.proofs.Course.{fewer_units, timely_before}
 use Rattle.pim_mirror.proofs.CourseSteps.{parts, last_run, first_by}
@@ -147,16 +150,33 @@ module _ (taken : DeliveryIsTaken) (course_hears : CourseHearsAll)
           let heard = course_hears family writing form messages timing limit last start earlier delivery.moment told before is_writing is have are nothing of.1 timely few early lasts hears course in
           taken family writing form messages timing limit start delivery earlier before is_writing is have are nothing of timely few heard.0 heard.2
 
-pub room_is_for_the_units : WrittenHellosAreRead → HellosAreHeard → AskedStarsHaveRps → DeliveryIsTaken → CourseHearsAll → RoomIsForTheUnits
-room_is_for_the_units read hellos_heard stars taken course_hears family table writing state messages fresh needed after sound is_writing asked fits goes =
+-- what the first message without room needs
+first_without : WrittenHellosAreRead → HellosAreHeard → AskedStarsHaveRps → DeliveryIsTaken → CourseHearsAll → (family : AddressFamily) (table : RouteTable) (writing : Writing) (state : Downstream) (messages : List (List ℕ)) (fresh : Fresh) (needed : Option ℕ) (after : RouterState)
+    → IsRouteTable family table → IsWriting family writing → AreMessagesOf family table writing state messages → Fits messages writing table fresh → GoesThrough family messages fresh needed after
+    → (needed ≡ first_over (fresh_exchange family table writing messages fresh) fresh.limit (newest_first fresh)) × AreOf (length messages) (newest_first fresh)
+first_without read hellos_heard stars taken course_hears family table writing state messages fresh needed after sound is_writing asked fits goes =
     let first : Begun read hellos_heard stars family table writing state messages fresh needed after sound is_writing asked fits goes = begun read hellos_heard stars family table writing state messages fresh needed after sound is_writing asked fits goes in
     let two = parts family (inputs_of family writing 0 messages (newest_first fresh)) (runs_to (end_of fresh) ∷ []) first.said first.start after first.course in
     let deliveries_need : first_needed two.told ≡ first_over (heard_exchange family writing 0 (timing_of fresh) messages first.start) fresh.limit (newest_first fresh) =
     needs_over taken course_hears family writing asked.form messages (timing_of fresh) fresh.limit (end_of fresh) first.start is_writing asked.is.normal first.have first.messages_are first.met.nothing first.met.lasts first.met.hears
     (newest_first fresh) (end_of fresh) two.told two.between first.are_of fits.timely (omega arith) two.first in
     let said_needs = needed_as first.said two.told two.said (first_over (heard_exchange family writing 0 (timing_of fresh) messages first.start) fresh.limit (newest_first fresh)) None two.joined deliveries_need (last_needs_none family (end_of fresh) two.said two.between after two.second) in
+    let same : needed ≡ first_over (fresh_exchange family table writing messages fresh) fresh.limit (newest_first fresh) =
     sym goes.needed_is
     ∙ needed_as goes.told first.told first.said None (or_later (first_over (heard_exchange family writing 0 (timing_of fresh) messages first.start) fresh.limit (newest_first fresh)) None) first.joined
     (hellos_need_none family (neighbours fresh) goes.hellos first.told (new_router (setup_of fresh)) first.start (read family (neighbours fresh) goes.hellos goes.are_hellos) first.hellos) said_needs
     ∙ or_none (first_over (heard_exchange family writing 0 (timing_of fresh) messages first.start) fresh.limit (newest_first fresh))
-    ∙ ap (λ (t : RouteTable). first_over (exchange_in family (known_in family t) writing 0 (timing_of fresh) messages) fresh.limit (newest_first fresh)) first.routes
+    ∙ ap (λ (t : RouteTable). first_over (exchange_in family (known_in family t) writing 0 (timing_of fresh) messages) fresh.limit (newest_first fresh)) first.routes in
+    (same, first.are_of)
+
+pub room_is_for_the_units : WrittenHellosAreRead → HellosAreHeard → AskedStarsHaveRps → DeliveryIsTaken → CourseHearsAll → RoomIsForTheUnits
+room_is_for_the_units read hellos_heard stars taken course_hears family table writing state messages fresh needed after sound is_writing asked fits goes =
+    let exchange : Exchange = fresh_exchange family table writing messages fresh in
+    let first = first_without read hellos_heard stars taken course_hears family table writing state messages fresh needed after sound is_writing asked fits goes in
+    let count : length (units_of exchange (newest_first fresh)) ≡ all_entries family table writing messages fresh = units_are_entries exchange (newest_first fresh) (length messages) first.1 fits.delivered in (
+      first.0,
+      (
+        λ none. let few = within exchange fresh.limit (newest_first fresh) (sym first.0 ∙ none) in omega (arith, few, count),
+        λ few. first.0 ∙ never_over exchange fresh.limit (newest_first fresh) (omega (arith, few, count)),
+      ),
+    )

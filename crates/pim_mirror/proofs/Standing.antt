@@ -1,6 +1,7 @@
 -- A fresh router that hears messages alone is there, stands at its final moment, and goes on from there.
-use Rattle.std.proofs.Common.{◌≡◌, ◌∙◌, ℕ, List, [], ◌∷◌, ◌++◌, map, Option, None, Some, refl, sym, subst, arith, append_assoc, Ok, Err}
+use Rattle.std.proofs.Common.{◌≡◌, ℕ, List, [], ◌∷◌, ◌++◌, map, Option, None, Some, refl, sym, subst, arith, append_assoc, Ok, Err, ◌<◌, ◌≤◌, Bool, true, false, nat_lt}
 use Rattle.std.specs.List.{flat_map}
+use Rattle.std.proofs.lemmas.Bool.{ltb-true, ltb-false}
 use Rattle.pim_addr.specs.declared.family.AddressFamily.{AddressFamily}
 use Rattle.pim_addr.specs.Routes.{RouteTable, IsRouteTable}
 use Rattle.pim_down.specs.declared.key.What.{What}
@@ -17,9 +18,8 @@ use Rattle.pim_router.specs.Time.{Runs}
 use Rattle.pim_mirror.specs.Config.{Fresh, newest_first, end_of, setup_of}
 use Rattle.pim_mirror.specs.Fits.{Fits, expiry_of}
 use Rattle.pim_mirror.specs.Mirror.{delivery_inputs, inputs_of, first_needed, GoesThrough}
-use Rattle.pim_mirror.specs.Headline.{AreMessagesOf, fresh_exchange, HearsAlone, IsInWindow, IsAt, RoomIsForTheUnits, FreshRouterMirrors, FreshRouterTellsNoEcho, FreshRouterIsThere, IsMirrorOf, MirrorAnswersForTheForm}
+use Rattle.pim_mirror.specs.Headline.{AreMessagesOf, all_entries, HearsAlone, IsInWindow, IsAt, RoomIsForTheUnits, FreshRouterMirrors, FreshRouterTellsNoEcho, FreshRouterIsThere, IsMirrorOf, MirrorAnswersForTheForm}
 use Rattle.pim_mirror.proofs.CourseSteps.{parts, last_run}
-use Rattle.pim_mirror.proofs.Rooms.{within, never_over}
 
 -- at its last delivery's moment no message is missed
 alive_now : (expiry : Option ℕ) (moment : ℕ) (deliveries : List Delivery) → IsTimely expiry moment deliveries → AreAlive expiry moment deliveries
@@ -94,8 +94,7 @@ fresh_router_is_there every one_end goes_on room family table writing state mess
     let whole = every family (inputs_of family messages fresh hellos) (new_router (setup_of fresh)) in
     let some : GoesThrough family messages fresh (first_needed whole.told) whole.after = record { hellos = hellos; are_hellos = are; told = whole.told; course = whole.course; needed_is = refl } in
     let none : first_needed whole.told ≡ None =
-    room family table writing state messages fresh (first_needed whole.told) whole.after sound is_writing asked fits some
-    ∙ never_over (fresh_exchange family table writing messages fresh) fresh.limit (newest_first fresh) few in
+    (room family table writing state messages fresh (first_needed whole.told) whole.after sound is_writing asked fits some).1.1 few in
     let course : GoesThrough family messages fresh None whole.after = record { hellos = hellos; are_hellos = are; told = whole.told; course = whole.course; needed_is = none } in
     record {
       router = whole.after;
@@ -107,6 +106,16 @@ fresh_router_is_there every one_end goes_on room family table writing state mess
 
 -- ---- what `mirror` answers
 
+isnt_none : (needed : ℕ) → ◌≡◌ {A = Option ℕ} (Some needed) None → ⊥
+isnt_none needed e = cc
+
+past : (count limit : ℕ) → (count ≤ limit → ⊥) → limit < count
+past count limit over = by (nat_lt limit count) refl
+  where
+    by : (b : Bool) → nat_lt limit count ≡ b → limit < count
+    by true e = ltb-true limit count e
+    by false e = absurd (over (ltb-false limit count e))
+
 module _ (every : EveryListHasACourse) (one_end : RunHasOneEnd) (goes_on : RunGoesOn) (room : RoomIsForTheUnits) (mirrors : FreshRouterMirrors) (quiet : FreshRouterTellsNoEcho) where
   is_mirror : (family : AddressFamily) (table : RouteTable) (writing : Writing) (state : Downstream) (messages : List (List ℕ)) (fresh : Fresh) (router : RouterState) → IsRouteTable family table → IsWriting family writing
       → (asked : AreMessagesOf family table writing state messages) → Fits messages writing table fresh → (course : GoesThrough family messages fresh None router) → IsMirrorOf family table writing asked.form messages fresh router course
@@ -115,7 +124,7 @@ module _ (every : EveryListHasACourse) (one_end : RunHasOneEnd) (goes_on : RunGo
       let window = window_begins messages writing table fresh fits in
       let here = mirrors family table writing state messages fresh router router (end_of fresh) sound is_writing asked hears window (stands every one_end goes_on family messages fresh None router course) in
       record {
-        room = within (fresh_exchange family table writing messages fresh) fresh.limit (newest_first fresh) (sym (room family table writing state messages fresh None router sound is_writing asked fits course));
+        room = (room family table writing state messages fresh None router sound is_writing asked fits course).1.0 refl;
         window = window;
         at_first = record { moment_is = here.moment_is; routes = here.routes; holds = here.holds; asks = here.asks; no_echo = refl };
         later = λ moment later window at. mirrors family table writing state messages fresh router later moment sound is_writing asked hears window at;
@@ -126,5 +135,6 @@ module _ (every : EveryListHasACourse) (one_end : RunHasOneEnd) (goes_on : RunGo
   answers_for_the_form family table writing state messages fresh (Ok router) sound is_writing asked fits course =
       is_mirror family table writing state messages fresh router sound is_writing asked fits course
   answers_for_the_form family table writing state messages fresh (Err (fault.Full needed)) sound is_writing asked fits (after, course) =
-      sym (room family table writing state messages fresh (Some needed) after sound is_writing asked fits course)
+      let is = room family table writing state messages fresh (Some needed) after sound is_writing asked fits course in
+      (past (all_entries family table writing messages fresh) fresh.limit (λ few. isnt_none needed (is.1.1 few)), sym is.0)
   answers_for_the_form family table writing state messages fresh (Err fault.Memory) sound is_writing asked fits course = tt

@@ -1,6 +1,6 @@
 -- The words of the laws in `src/headline_laws.rt`: two states and their messages, and a fresh router that hears the
 -- messages of one of them alone.
-use Rattle.std.specs.Prelude.{◌≡◌, ◌↔◌, ℕ, ◌-◌, ◌≤◌, ◌<◌, Bool, true, false, List, [], ◌∷◌, length}
+use Rattle.std.specs.Prelude.{◌≡◌, ◌↔◌, ℕ, zero, suc, ◌+◌, ◌-◌, ◌≤◌, ◌<◌, Bool, true, false, List, [], ◌∷◌, length}
 use Rattle.std.specs.Prelude.{Option, None, Some, Result, Ok, Err, nat_lt, if◌then◌else◌}
 use Rattle.std.specs.Option.{is_some}
 use Rattle.std.specs.List.{list_any}
@@ -139,6 +139,15 @@ FreshRouterTellsNoEcho = (family : AddressFamily) (table : RouteTable) (writing 
     IsWriting family writing → AreMessagesOf family table writing state messages →
     (hears : HearsAlone family table writing messages fresh router) → list_any is_echo hears.course.told ≡ false
 
+-- how many entries so many messages have together: the stars, exceptions and sources of their form
+unfoldable pub entries_of : Exchange → ℕ → ℕ
+entries_of exchange zero = 0
+entries_of exchange (suc count) = entries_of exchange count + length (exchange.messages count)
+
+abbrev pub all_entries : AddressFamily → RouteTable → Writing → List (List ℕ) → Fresh → ℕ
+all_entries family table writing messages fresh =
+    entries_of (fresh_exchange family table writing messages fresh) (length messages)
+
 -- how many units the different messages have up to the first delivery at which they pass the limit; none where they
 -- never do
 abbrev pub if_over : ℕ → ℕ → Option ℕ
@@ -149,14 +158,15 @@ first_over exchange limit [] = None
 first_over exchange limit (delivery ∷ earlier) = or_later (first_over exchange limit earlier)
     (if_over limit (length (units_of exchange (delivery ∷ earlier))))
 
--- A message has no room on the course exactly where the units of the different messages pass the limit, and so many
--- records the first of these needs.
+-- A message has no room on the course exactly where the entries of all messages together pass the limit; the first such
+-- message needs as many records as the different messages have units up to it.
 abbrev pub RoomIsForTheUnits : Type 0
 RoomIsForTheUnits = (family : AddressFamily) (table : RouteTable) (writing : Writing) (state : Downstream)
     (messages : List (List ℕ)) (fresh : Fresh) (needed : Option ℕ) (after : RouterState) →
     IsRouteTable family table → IsWriting family writing → AreMessagesOf family table writing state messages →
     Fits messages writing table fresh → GoesThrough family messages fresh needed after →
-    needed ≡ first_over (fresh_exchange family table writing messages fresh) fresh.limit (newest_first fresh)
+    (needed ≡ first_over (fresh_exchange family table writing messages fresh) fresh.limit (newest_first fresh))
+    × ((needed ≡ None) ↔ (all_entries family table writing messages fresh ≤ fresh.limit))
 
 -- such a router, which stands at its final moment, a moment of the window, and goes on to every later one
 pub record IsThere (family : AddressFamily) (table : RouteTable) (writing : Writing) (messages : List (List ℕ))
@@ -167,37 +177,39 @@ pub record IsThere (family : AddressFamily) (table : RouteTable) (writing : Writ
   pub stands : IsAt (end_of fresh) router router
   pub goes_on : (moment : ℕ) → (later : RouterState) × IsAt moment router later
 
--- Where the caller's conditions are met and there is room for the units of the messages, there is one.
+-- Where the caller's conditions are met and there is room for the entries of all messages, there is one.
 abbrev pub FreshRouterIsThere : Type 0
 FreshRouterIsThere = (family : AddressFamily) (table : RouteTable) (writing : Writing) (state : Downstream)
     (messages : List (List ℕ)) (fresh : Fresh) (hellos : List Packet) → IsRouteTable family table →
     IsWriting family writing → AreMessagesOf family table writing state messages → Fits messages writing table fresh →
-    length (units_of (fresh_exchange family table writing messages fresh) (newest_first fresh)) ≤ fresh.limit →
+    all_entries family table writing messages fresh ≤ fresh.limit →
     AreHellosOf family (neighbours fresh) hellos → IsThere family table writing messages fresh
 
 -- ---- what `mirror` answers
 
--- A router at the end of its course, on which each message had room: there is room for the units of all messages; it
+-- A router at the end of its course, on which each message had room: there is room for the entries of all messages; it
 -- stands where the window begins, and mirrors the form there, and at every moment of the window to which it goes on; no
 -- echo was told on its course.
 pub record IsMirrorOf (family : AddressFamily) (table : RouteTable) (writing : Writing) (form : List GroupForm)
     (messages : List (List ℕ)) (fresh : Fresh) (router : RouterState)
     (course : GoesThrough family messages fresh None router) : Type 0 where
-  pub room : length (units_of (fresh_exchange family table writing messages fresh) (newest_first fresh)) ≤ fresh.limit
+  pub room : all_entries family table writing messages fresh ≤ fresh.limit
   pub window : IsInWindow writing fresh (end_of fresh)
   pub at_first : MirrorsForm family table writing form messages fresh (end_of fresh) [] router
   pub later : (moment : ℕ) (later : RouterState) → IsInWindow writing fresh moment → (at : IsAt moment router later) →
       MirrorsForm family table writing form messages fresh moment at.told later
   pub no_echo : list_any is_echo course.told ≡ false
 
--- Full tells how many units the different messages have up to the first delivery at which they pass the limit.
+-- Full: the entries of all messages together pass the limit; it tells how many units the different messages have up to
+-- the first delivery at which these do.
 abbrev pub AnswersFor : (family : AddressFamily) (table : RouteTable) (writing : Writing) (form : List GroupForm)
     (messages : List (List ℕ)) (fresh : Fresh) (result : Result RouterState MirrorFault) →
     Mirrors family messages fresh result → Type 0
 AnswersFor family table writing form messages fresh (Ok router) course =
     IsMirrorOf family table writing form messages fresh router course
 AnswersFor family table writing form messages fresh (Err (fault.Full needed)) course =
-    first_over (fresh_exchange family table writing messages fresh) fresh.limit (newest_first fresh) ≡ Some needed
+    (fresh.limit < all_entries family table writing messages fresh)
+    × (first_over (fresh_exchange family table writing messages fresh) fresh.limit (newest_first fresh) ≡ Some needed)
 AnswersFor family table writing form messages fresh (Err fault.Memory) course = Unit {0}
 
 -- a call's answer, and what it means

@@ -17,9 +17,9 @@ pub fn normalising_twice_is_once()
     pim_form::one_normal_form();
 }
 
-/// On the course of a new router over the Hellos of its neighbours and a sender's canonical messages, a message has no
-/// room exactly where the units of the different messages up to it pass the limit of records, and as many records as
-/// these are the first such message needs; the caller's conditions are those of `fits`.
+/// On the course of a new router over the Hellos of its neighbours and a sender's canonical messages, some message has
+/// no room exactly where the entries of all messages together pass the limit of records; the first such message needs
+/// as many records as the different messages have units up to it. The caller's conditions are those of `fits`.
 pub fn room_is_for_the_units()
     ensures { RoomIsForTheUnits }
 {
@@ -67,7 +67,7 @@ pub fn fresh_router_tells_no_echo()
     pim_down::run_has_one_end();
 }
 
-/// Where the caller's conditions are met and there is room for the units of the messages, there is such a router; its
+/// Where the caller's conditions are met and there is room for the entries of all messages, there is such a router; its
 /// final moment is one of the window, at which it stands, and it goes on to every later one.
 pub fn fresh_router_is_there()
     ensures { FreshRouterIsThere }
@@ -79,9 +79,10 @@ pub fn fresh_router_is_there()
 }
 
 /// What `mirror` answers where its messages are the canonical ones of a state by the writer under the table. An Ok
-/// router had room for the units of all messages, and no echo was told on its course; it stands where the window
-/// begins, and it mirrors the form there and at every moment of the window to which it goes on. `Full` tells as many
-/// records as the different messages have units up to the first delivery at which these pass the limit.
+/// router had room for the entries of all messages, and no echo was told on its course; it stands where the window
+/// begins, and it mirrors the form there and at every moment of the window to which it goes on. `Full` comes where the
+/// entries of all messages pass the limit, and tells as many records as the different messages have units up to the
+/// first delivery at which these do.
 pub fn mirror_answers_for_the_form()
     ensures { MirrorAnswersForTheForm }
 {

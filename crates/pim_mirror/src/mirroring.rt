@@ -203,8 +203,8 @@ fn go_through<'a, F: Family>(
 ///
 /// Where the messages are the canonical ones of a state, by this writer under this table, an Ok router wants exactly
 /// what is asked of it, holds no other machines and writes the same messages, from its final moment on and until the
-/// first of them isn't heard for its holdtime; and `Full` tells how many units the different messages have up to the
-/// first delivery at which they pass the limit.
+/// first of them isn't heard for its holdtime. `Full` comes exactly where their entries together pass the limit, unless
+/// memory is refused, and tells how many units the different messages have up to the first delivery at which they do.
 ///
 /// # Errors
 /// `Full` where a message has no room, with what the first such message needed; `Memory` where a growth was refused.
