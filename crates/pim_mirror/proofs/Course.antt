@@ -11,7 +11,7 @@ use Rattle.pim_down.specs.Time.{Downstream, Runs}
 use Rattle.pim_down.specs.Laws.{RunKeepsItsBounds, RunHasOneEnd}
 use Rattle.pim_form.specs.NormalForm.{GroupForm, IsNormal}
 use Rattle.pim_form.specs.Messages.{Writing, IsWriting, HaveRps, AreCanonical}
-use Rattle.pim_fresh.specs.Exchange.{Exchange}
+use Rattle.pim_fresh.specs.Exchange.{Exchange, TellsUnitsOnce}
 use Rattle.pim_fresh.specs.Deliveries.{Delivery, is_delivered, IsTimely}
 use Rattle.pim_fresh.specs.Expected.{units_of}
 use Rattle.pim_fresh.specs.Hearing.{fresh, after_message, Leaves}
@@ -45,6 +45,14 @@ pub timely_before : (expiry : Option ℕ) (delivery : Delivery) (earlier : List 
 unfolding IsTimely
 timely_before expiry delivery earlier moment timely = timely.2
 
+-- no run of fresh machines tells an echo
+pub fresh_quiet : EveryHearingReaches → RunHasOneEnd → (exchange : Exchange) (limit : ℕ) → TellsUnitsOnce exchange → (machines : Downstream) → machines ≡ fresh 1 limit
+    → (moment : ℕ) (answer : Step (List ℕ)) (end : Downstream) → Runs moment machines answer end → answer ≡ Reached
+unfolding Leaves IsTimely
+fresh_quiet reaching one_end exchange limit once machines nothing moment answer end runs =
+    let left = reaching exchange 1 limit [] moment once tt in
+    (one_end moment (fresh 1 limit) end left.after answer Reached (subst (λ (m : Downstream). Runs moment m answer end) nothing runs) left.leaves).0
+
 module _ (tells : CanonicalMessagesTellForm) (heard : CanonicalPacketIsHeard) (needs : NeedsTheUnits) (bounds : RunKeepsItsBounds)
     (family : AddressFamily) (writing : Writing) (form : List GroupForm) (messages : List (List ℕ)) (timing : Timing) (limit : ℕ) (routes : RouteTable)
     (is_writing : IsWriting family writing) (is : IsNormal family form) (have : HaveRps family (known_in family routes) form) (are : AreCanonical family writing (known_in family routes) form messages) where
@@ -72,19 +80,12 @@ module _ (tells : CanonicalMessagesTellForm) (heard : CanonicalPacketIsHeard) (n
       }
 
   module _ (quiet : NoEchoIsTold) (reaching : EveryHearingReaches) (one_end : RunHasOneEnd) (start : RouterState) (begins : start.routes ≡ routes) (nothing : HoldsNothing limit start) where
-    -- no run of fresh machines tells an echo
-    fresh_quiet : (moment : ℕ) (answer : Step (List ℕ)) (end : Downstream) → Runs moment start.machines answer end → answer ≡ Reached
-    unfolding Leaves IsTimely
-    fresh_quiet moment answer end runs =
-        let left = reaching exchange 1 limit [] moment (tells family writing (known_in family routes) form messages 0 timing is_writing is have are).once tt in
-        (one_end moment (fresh 1 limit) end left.after answer Reached (subst (λ (machines : Downstream). Runs moment machines answer end) nothing runs) left.leaves).0
-
     hears_leaves : (deliveries : List Delivery) (moment : ℕ) (after : RouterState) → AreOf (length messages) deliveries → IsTimely (start_of writing.holdtime timing).expires_in moment deliveries
         → length (units_of exchange deliveries) ≤ limit → HearsAll family writing 0 timing messages start deliveries moment after
         → Leaves exchange 1 limit deliveries moment after.machines × (after.routes ≡ routes)
     unfolding HearsAll Leaves
     hears_leaves [] moment after of timely few all =
-        let ends = reaches_as moment all.0 start after (fresh_quiet moment) all.1 in
+        let ends = reaches_as moment all.0 start after (fresh_quiet reaching one_end exchange limit (tells family writing (known_in family routes) form messages 0 timing is_writing is have are).once start.machines nothing moment) all.1 in
         (subst (λ (machines : Downstream). Runs moment machines Reached after.machines) nothing ends.0, ends.1 ∙ begins)
     hears_leaves (delivery ∷ earlier) moment after of timely few all =
         let before = hears_leaves earlier delivery.moment all.before of.1 (timely_before (start_of writing.holdtime timing).expires_in delivery earlier moment timely) (fewer_units exchange limit delivery earlier few) all.was in

@@ -1,5 +1,5 @@
 -- The course of a router over deliveries is a hearing of all of them.
-use Rattle.std.proofs.Common.{◌≡◌, ◌∙◌, ℕ, ◌≤◌, List, [], ◌∷◌, ◌++◌, Option, length, refl, sym, subst, arith}
+use Rattle.std.proofs.Common.{◌≡◌, ◌∙◌, ℕ, ◌≤◌, List, [], ◌∷◌, ◌++◌, Option, length, refl, sym, ap, subst, arith, append_assoc}
 use Rattle.pim_addr.specs.declared.family.AddressFamily.{AddressFamily}
 use Rattle.pim_down.specs.declared.event.Timing.{Timing}
 use Rattle.pim_down.specs.Hearing.{start_of}
@@ -22,22 +22,24 @@ use Rattle.pim_mirror.proofs.Course.{fewer_units, timely_before}
 
 -- ---- a course in two parts
 
-record Parts (family : AddressFamily) (xs ys : List Input) (start after : RouterState) : Type 0 where
-  between : RouterState
-  told : List Telling
-  said : List Telling
-  first : IsCourse family xs told start between
-  second : IsCourse family ys said between after
+pub record Parts (family : AddressFamily) (xs ys : List Input) (whole : List Telling) (start after : RouterState) : Type 0 where
+  pub between : RouterState
+  pub told : List Telling
+  pub said : List Telling
+  pub joined : whole ≡ told ++ said
+  pub first : IsCourse family xs told start between
+  pub second : IsCourse family ys said between after
 
-parts : (family : AddressFamily) (xs ys : List Input) (told : List Telling) (start after : RouterState) → IsCourse family (xs ++ ys) told start after → Parts family xs ys start after
+pub parts : (family : AddressFamily) (xs ys : List Input) (told : List Telling) (start after : RouterState) → IsCourse family (xs ++ ys) told start after → Parts family xs ys told start after
 unfolding IsCourse
-parts family [] ys told start after course = record { between = start; told = []; said = told; first = (refl, refl); second = course }
+parts family [] ys told start after course = record { between = start; told = []; said = told; joined = refl; first = (refl, refl); second = course }
 parts family (x ∷ xs) ys told start after course =
     let rest = parts family xs ys course.behind course.between after course.goes_on in
     record {
       between = rest.between;
       told = course.before ++ rest.told;
       said = rest.said;
+      joined = course.joined ∙ ap (λ (more : List Telling). course.before ++ more) rest.joined ∙ sym (append_assoc course.before rest.told rest.said);
       first = record { before = course.before; behind = rest.told; between = course.between; joined = refl; begins = course.begins; goes_on = rest.first };
       second = rest.second;
     }
@@ -59,14 +61,16 @@ run_and_packet family writing messages delivery told start after course = record
   taken = course.goes_on.goes_on.1 ∙ course.goes_on.begins.1;
 }
 
-record Run (moment : ℕ) (start after : RouterState) : Type 0 where
-  told : List Telling
-  reaches : Reaches moment told start after
+pub record Run (moment : ℕ) (told : List Telling) (start after : RouterState) : Type 0 where
+  pub said : List Telling
+  pub is : told ≡ said ++ []
+  pub reaches : Reaches moment said start after
 
-last_run : (family : AddressFamily) (moment : ℕ) (told : List Telling) (start after : RouterState) → IsCourse family (runs_to moment ∷ []) told start after → Run moment start after
+pub last_run : (family : AddressFamily) (moment : ℕ) (told : List Telling) (start after : RouterState) → IsCourse family (runs_to moment ∷ []) told start after → Run moment told start after
 unfolding IsCourse
 last_run family moment told start after course = record {
-  told = course.before;
+  said = course.before;
+  is = course.joined ∙ ap (λ (more : List Telling). course.before ++ more) course.goes_on.0;
   reaches = subst (λ (end : RouterState). Reaches moment course.before start end) (sym course.goes_on.1) course.begins;
 }
 
@@ -76,7 +80,7 @@ no_inputs family told start after course = course.1
 
 -- ---- deliveries
 
-first_by : (expiry : Option ℕ) (delivery : Delivery) (earlier : List Delivery) (moment : ℕ) → IsTimely expiry moment (delivery ∷ earlier) → delivery.moment ≤ moment
+pub first_by : (expiry : Option ℕ) (delivery : Delivery) (earlier : List Delivery) (moment : ℕ) → IsTimely expiry moment (delivery ∷ earlier) → delivery.moment ≤ moment
 unfolding IsTimely
 first_by expiry delivery earlier moment timely = timely.0
 
@@ -125,5 +129,5 @@ pub course_hears : DeliveryIsTaken → WriterStaysHeard → CourseHearsAll
 course_hears taken stays family writing form messages timing limit last start deliveries moment told after is_writing is have are nothing of timely few early lasts hears course =
     let two = parts family (inputs_of family writing 0 messages deliveries) (runs_to moment ∷ []) told start after course in
     let end = last_run family moment two.said two.between after two.second in
-    let heard = heard_by taken stays family writing form messages timing limit last start is_writing is have are nothing lasts hears deliveries moment two.told end.told two.between after of timely few early two.first end.reaches in
+    let heard = heard_by taken stays family writing form messages timing limit last start is_writing is have are nothing lasts hears deliveries moment two.told end.said two.between after of timely few early two.first end.reaches in
     (heard.all, heard.still.0, heard.still.1)

@@ -47,6 +47,18 @@ small_at (m ∷ messages) zero bytes all e = subst (λ (xs : List ℕ). length x
     one f = cc
 small_at (m ∷ messages) (suc i) bytes all e = small_at messages i bytes all.1 e
 
+abbrev IsShort : List ℕ → Type 0
+IsShort message = length message < 2 ^ 32
+
+pub each_short : (messages : List (List ℕ)) → ((i : ℕ) → i < length messages → IsShort (slice_index_or messages i [])) → AllByRecursion IsShort messages
+each_short [] each = tt
+each_short (m ∷ messages) each = (each 0 (omega (arith)), each_short messages (λ i within. each (suc i) (omega (arith, within))))
+
+pub short_at : (messages : List (List ℕ)) (i : ℕ) → AllByRecursion IsShort messages → IsShort (slice_index_or messages i [])
+short_at [] i all = omega (arith)
+short_at (m ∷ messages) zero all = all.0
+short_at (m ∷ messages) (suc i) all = short_at messages i all.1
+
 -- ---- deliveries
 
 pub left_from : {X : Type 0} (xs : List X) (i : ℕ) (d : X) → i < length xs → drop i xs ≡ slice_index_or xs i d ∷ drop (suc i) xs

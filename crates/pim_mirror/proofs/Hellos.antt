@@ -10,7 +10,7 @@ use Rattle.pim_frame.specs.Seal.{IsSealed, SealedOpens}
 use Rattle.pim_frame.specs.declared.frame.MessageType.TheVariants as message_type
 use Rattle.pim_hello.specs.Faults.{faults as hello_faults}
 use Rattle.pim_hello.specs.Hello.{Delays, Hello}
-use Rattle.pim_hello.specs.Spelling.{spelling_of}
+use Rattle.pim_hello.specs.Spelling.{spelling_of, ParametersFit}
 use Rattle.pim_hello.specs.Neighbours.{is_full}
 use Rattle.pim_hello.specs.Value.{hello_of}
 use Rattle.pim_router.specs.Config.{IsMadeUnless}
@@ -133,15 +133,15 @@ hello_passes family neighbour packet old now given body is_hello holds same = re
 
 pub hello_met : (opens : SealedOpens) (family : AddressFamily) (neighbour : Neighbour) (destination bytes : List ℕ) (said : Hello) (old now : RouterState)
     (given : Verdict) → destination ≡ all_routers family → said ≡ record { parameters = neighbour.hello; addresses = [] } →
-    IsSealed family neighbour.address (all_routers family) message_type.Hello (spelling_of family said) bytes →
+    IsSealed family neighbour.address (all_routers family) message_type.Hello (spelling_of family said) bytes → ParametersFit said.parameters →
     (given, now) ≡ received family (record { port = 0; source = neighbour.address; destination = destination; bytes = bytes }) old →
     PassesHello family neighbour old now
-hello_met opens family neighbour destination bytes said old now given to same sealed taken =
+hello_met opens family neighbour destination bytes said old now given to same sealed fit taken =
     let body = spelling_of family (record { parameters = neighbour.hello; addresses = [] }) in
     let of_neighbour : IsSealed family neighbour.address (all_routers family) message_type.Hello body bytes =
     subst (λ (h : Hello). IsSealed family neighbour.address (all_routers family) message_type.Hello (spelling_of family h) bytes) same sealed in
     hello_passes family neighbour (record { port = 0; source = neighbour.address; destination = destination; bytes = bytes }) old now given body
-    (record { port = refl; source = refl; destination = to; sealed = of_neighbour })
+    (record { port = refl; source = refl; destination = to; fit = subst (λ (h : Hello). ParametersFit h.parameters) same fit; sealed = of_neighbour })
     (opens family neighbour.address message_type.Hello body bytes of_neighbour).1 taken
 
 pub no_hellos : (family : AddressFamily) (state : RouterState) → PassesHellos family [] state state

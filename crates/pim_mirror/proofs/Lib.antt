@@ -15,6 +15,9 @@ pub mod Packets
 pub mod RouterRuns
 pub mod Course
 pub mod StaysHeard
+pub mod Inserted
+pub mod HelloPackets
+pub mod FirstHellos
 pub mod CourseSteps
 pub mod AsksAgain
 pub mod Listed
@@ -25,3 +28,11 @@ pub mod Conditions
 pub mod Ways
 pub mod Hellos
 pub mod Heard
+pub mod Begun
+pub mod Quiet
+pub mod EntryCounts
+pub mod Rooms
+pub mod FormHeld
+pub mod Headlines
+pub mod Standing
+pub mod ShortMessages

@@ -12,6 +12,7 @@ use Rattle.pim_router.specs.declared.step.Step.{Step}
 use Rattle.pim_router.specs.declared.step.Step.TheVariants.{Echo, Refresh, Reached}
 use Rattle.pim_router.specs.Course.{Telling, echo, refresh, verdict, Reaches}
 use Rattle.pim_router.specs.State.{RouterState, with_machines, with_tables, with_refresh, refresh_period}
+use Rattle.pim_mirror.specs.Headline.{is_echo}
 use Rattle.pim_router.specs.Time.{has_ended, tick, told, moves, rests, tells, turn_of_time, turn_of_refresh, turn_of_timers, turn, run_on, run_within, Runs}
 
 -- ---- one turn of the machines
@@ -116,3 +117,15 @@ module _ (moment : ℕ) where
       let later = reaches_as more reaches.0 after (λ answer end runs. quiet answer end (ends.0 answer end runs)) reaches.2 in
       (ends.0 fires.Reached after.machines later.0, later.1 ∙ ends.1)
   reaches_as (verdict told ∷ more) state after quiet reaches = absurd reaches
+
+  -- and they tell no echo
+  pub reaches_quietly : (tellings : List Telling) (state after : RouterState) → ((answer : Fires (List ℕ)) (end : Downstream) → MachineRuns moment state.machines answer end → answer ≡ fires.Reached)
+      → Reaches moment tellings state after → list_any is_echo tellings ≡ false
+  unfolding Reaches Ends
+  reaches_quietly [] state after quiet reaches = refl
+  reaches_quietly (echo port group what ∷ more) state after quiet reaches =
+      absurd (no_echo port group what (quiet (fires.Echo port group what) reaches.0.machines (run_ends state reaches.0 (Echo port group what) reaches.1).0))
+  reaches_quietly (refresh ∷ more) state after quiet reaches =
+      let ends = run_ends state reaches.0 Refresh reaches.1 in
+      reaches_quietly more reaches.0 after (λ answer end runs. quiet answer end (ends.0 answer end runs)) reaches.2
+  reaches_quietly (verdict told ∷ more) state after quiet reaches = absurd reaches

@@ -36,10 +36,10 @@ not_over passed (Some left) short = by (left == 0) refl
         let none : left ≡ 0 = eqb-true left 0 e in
         absurd (omega (arith, none, short))
 
-AllLast : ℕ → List Entry → Type 0
+unfoldable pub AllLast : ℕ → List Entry → Type 0
 AllLast passed entries = AllByRecursion (λ (entry : Entry). IsShorter passed entry.1.left) entries
 
-all_stay : (passed : ℕ) (entries : List Entry) → AllLast passed entries → filter (λ (entry : Entry). not (is_over entry.1.left)) entries ≡ entries
+pub all_stay : (passed : ℕ) (entries : List Entry) → AllLast passed entries → filter (λ (entry : Entry). not (is_over entry.1.left)) entries ≡ entries
 unfolding AllLast
 all_stay passed [] short = refl
 all_stay passed (entry ∷ entries) short = rw (not_over passed entry.1.left short.0) (ap (λ (es : List Entry). entry ∷ es) (all_stay passed entries short.1))

@@ -148,7 +148,7 @@ ended bytes_of (Echo port group what) moment state after ends runs = absurd (not
 
 -- ---- one way after the other
 
-joined : (xs ys : List Telling) → first_needed (xs ++ ys) ≡ or_later (first_needed xs) (first_needed ys)
+pub joined : (xs ys : List Telling) → first_needed (xs ++ ys) ≡ or_later (first_needed xs) (first_needed ys)
 unfolding first_needed
 joined [] ys = refl
 joined (x ∷ xs) ys = ap (or_later (needed_of x)) (joined xs ys) ∙ later (needed_of x) (first_needed xs) (first_needed ys)

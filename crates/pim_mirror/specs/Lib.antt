@@ -2,6 +2,7 @@ pub mod Config
 pub mod Fits
 pub mod Tests
 pub mod Mirror
+pub mod MirrorLaws
 pub mod CanonicalParts
 pub mod CanonicalUnits
 pub mod CanonicalExchange
@@ -9,3 +10,6 @@ pub mod CanonicalMirror
 pub mod CanonicalPackets
 pub mod CanonicalCourse
 pub mod Laws
+pub mod Hellos
+pub mod HelloLaws
+pub mod Headline

@@ -6,7 +6,7 @@ use Rattle.pim_addr.specs.declared.family.AddressFamily.{AddressFamily}
 use Rattle.pim_frame.specs.Frame.{all_routers}
 use Rattle.pim_frame.specs.Seal.{IsSealed}
 use Rattle.pim_frame.specs.declared.frame.MessageType.TheVariants.{Hello}
-use Rattle.pim_hello.specs.Spelling.{spelling_of}
+use Rattle.pim_hello.specs.Spelling.{spelling_of, ParametersFit}
 use Rattle.pim_router.specs.Course.{Input, runs_to, takes, Telling, verdict, Reaches, IsCourse}
 use Rattle.pim_router.specs.Packets.{Packet}
 use Rattle.pim_router.specs.State.{RouterState, new_router}
@@ -22,11 +22,12 @@ use Rattle.pim_mirror.specs.declared.mirroring.MirrorFault.TheVariants as fault
 
 -- ---- what it is given
 
--- The Hello of a neighbour, without an Address List, comes to the only port.
+-- The Hello of a neighbour, whose numbers are in their ranges and which has no Address List, comes to the only port.
 pub record IsHelloOf (family : AddressFamily) (neighbour : Neighbour) (packet : Packet) : Type 0 where
   pub port : packet.port ≡ 0
   pub source : packet.source ≡ neighbour.address
   pub destination : packet.destination ≡ all_routers family
+  pub fit : ParametersFit neighbour.hello
   pub sealed : IsSealed family neighbour.address (all_routers family) Hello
       (spelling_of family (record { parameters = neighbour.hello; addresses = [] })) packet.bytes
 

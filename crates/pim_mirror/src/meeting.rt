@@ -7,7 +7,7 @@ ghost use Rattle.pim_frame.specs.Seal.{IsSealed};
 ghost use Rattle.pim_frame.specs.declared.frame.MessageType.TheVariants as message_type;
 ghost use Rattle.pim_hello.specs.Kept.{parameters_seen};
 ghost use Rattle.pim_hello.specs.Seen.{hello_seen};
-ghost use Rattle.pim_hello.specs.Spelling.{spelling_of};
+ghost use Rattle.pim_hello.specs.Spelling.{spelling_of, ParametersFit};
 ghost use Rattle.pim_router.specs.State.{new_router};
 ghost use Rattle.pim_mirror.specs.Config.{fresh_seen, neighbour_seen, neighbours, setup_of, sender_hello, port_of};
 ghost use Rattle.pim_mirror.specs.Mirror.{PassesHello, PassesHellos};
@@ -51,6 +51,7 @@ fn put_hello<F: Family>(address: F::Addr, hello: &Hello<'_, F>, frame: &mut [u8]
     requires short { length frame.old ≤ 36 }
     ensures sealed { IsSealed F.family (F.bytes_of address) (all_routers F.family) message_type.Hello
         (spelling_of F.family (hello_seen F.family hello.now)) frame.new }
+    ensures fits { ParametersFit (hello_seen F.family hello.now).parameters }
     ensures length { length frame.new ≡ length frame.old }
 {
     let (_, body) = frame.split_at_mut(4);
@@ -105,15 +106,16 @@ fn sender_of<F: Family>(fresh: &FreshConfig<'_, F>) -> OtherNeighbour<F::Addr>
     } }
 {
     let port = fresh.port();
+    let lan = LanDelay {
+        t: false,
+        propagation: port.propagation,
+        override_ms: port.override_ms,
+    };
     OtherNeighbour {
         address: fresh.sender,
         hello: Parameters {
             holdtime: Some(0xffff),
-            lan: Some(LanDelay {
-                t: false,
-                propagation: port.propagation,
-                override_ms: port.override_ms,
-            }),
+            lan: Some(lan),
             priority: None,
             generation: None,
         },

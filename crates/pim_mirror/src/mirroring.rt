@@ -1,17 +1,20 @@
 //! A fresh router that has heard one sender's messages.
 
-ghost use Rattle.std.specs.Prelude.{◌≡◌, ◌<◌, ◌≤◌, ◌^◌, [], ◌∷◌, length, map, slice_index_or};
+ghost use Rattle.std.specs.Prelude.{◌≡◌, ◌<◌, ◌≤◌, ◌^◌, ◌↔◌, IsTrue, nat_lt, [], ◌∷◌, length, map, slice_index_or};
 ghost use Rattle.std.specs.List.{AllByRecursion, flat_map};
 ghost use Rattle.pim_frame.specs.Frame.{all_routers};
+ghost use Rattle.pim_down.specs.Time.{Downstream};
 ghost use Rattle.pim_router.specs.Course.{takes};
 ghost use Rattle.pim_mirror.specs.Config.{fresh_seen, delivery_seen};
 ghost use Rattle.pim_mirror.specs.Fits.{Fits};
+ghost use Rattle.pim_mirror.specs.Headline.{AreMessagesOf, TellsOfForm};
 ghost use Rattle.pim_mirror.specs.Mirror.{Mirrors, Passes, delivery_inputs, HasReached};
 ghost use Rattle.pim_mirror.specs.Mirror.{needed_by, outcome_of, is_reached};
 ghost use Rattle.pim_mirror.specs.Tests.{AreEarly};
 
 use crate::config::{Delivery, FreshConfig};
 use crate::fresh::end_of;
+use crate::headline_laws::mirror_answers_for_the_form;
 use crate::meeting::introduced;
 use pim_addr::Family;
 use pim_form::{Messages, Writer};
@@ -107,6 +110,28 @@ fn message_at(messages: &Messages, message: usize) -> &[u8]
     }
 }
 
+/// Whether the message with this number is below 2^32 bytes, as it is where there is no such message.
+fn is_short_at(messages: &Messages, message: usize) -> bool
+    ensures { result ≡ nat_lt (length (slice_index_or messages.now message [])) (2 ^ 32) }
+{
+    match messages.get(message) {
+        Some(bytes) => bytes.len() < 0x1_0000_0000,
+        None => true,
+    }
+}
+
+/// Whether each message is below 2^32 bytes, which `mirror` wants: it reads no others. Canonical messages are.
+pub fn are_short(messages: &Messages) -> bool
+    ensures { IsTrue result ↔ AllByRecursion (λ message. length message < 2 ^ 32) messages.now }
+{
+    for message in 0..messages.count() {
+        if !is_short_at(messages, message) {
+            return false;
+        }
+    }
+    true
+}
+
 /// Lets the router hear a delivery at its moment.
 fn hear_one<F: Family>(
     router: &mut Router<'_, F>,
@@ -149,22 +174,15 @@ fn hear<F: Family>(
     Ok(())
 }
 
-/// The fresh router that has heard these messages, at its final moment. The Hellos of the sender and of the other
-/// neighbours come at the moment 0; before each delivery the router runs to its moment until nothing is due, and behind
-/// the last one to the final moment: that of the last delivery, or the end of the override interval that began with the
-/// latest first delivery of a message, whichever is later. The router is told as it is then, with what is left of each
-/// time.
-///
-/// # Errors
-/// `Full` where a message has no room, with what the first such message needed; `Memory` where a growth was refused.
-pub fn mirror<'a, F: Family>(
+/// Lets a new router go through its whole course: the Hellos, the deliveries, and the way to its final moment.
+fn go_through<'a, F: Family>(
     alloc: Global,
     messages: &Messages,
     writer: &Writer<F>,
     fresh: &FreshConfig<'a, F>,
 ) -> Result<Router<'a, F>, MirrorFault>
     requires fits { Fits messages.now writer.now fresh.now.routes.now (fresh_seen F.bytes_of fresh.now) }
-    requires small { AllByRecursion (λ message. length message < 2 ^ 32) messages.now }
+    requires short { AllByRecursion (λ message. length message < 2 ^ 32) messages.now }
     ensures { Mirrors F.family messages.now (fresh_seen F.bytes_of fresh.now) result }
 {
     every_list_has_a_course();
@@ -175,4 +193,37 @@ pub fn mirror<'a, F: Family>(
     hear(&mut router, messages, fresh.sender, fresh.deliveries)?;
     reach(&mut router, end_of(fresh));
     Ok(router)
+}
+
+/// The fresh router that has heard these messages, at its final moment. The Hellos of the sender and of the other
+/// neighbours come at the moment 0; before each delivery the router runs to its moment until nothing is due, and behind
+/// the last one to the final moment: that of the last delivery, or the end of the override interval that began with the
+/// latest first delivery of a message, whichever is later. The router is told as it is then, with what is left of each
+/// time.
+///
+/// Where the messages are the canonical ones of a state, by this writer under this table, an Ok router wants exactly
+/// what is asked of it, holds no other machines and writes the same messages, from its final moment on and until the
+/// first of them isn't heard for its holdtime. `Full` comes exactly where their entries together pass the limit, unless
+/// memory is refused, and tells how many units the different messages have up to the first delivery at which they do.
+///
+/// # Errors
+/// `Full` where a message has no room, with what the first such message needed; `Memory` where a growth was refused.
+pub fn mirror<'a, F: Family>(
+    alloc: Global,
+    messages: &Messages,
+    writer: &Writer<F>,
+    fresh: &FreshConfig<'a, F>,
+) -> Result<Router<'a, F>, MirrorFault>
+    requires fits { Fits messages.now writer.now fresh.now.routes.now (fresh_seen F.bytes_of fresh.now) }
+    requires short { AllByRecursion (λ message. length message < 2 ^ 32) messages.now }
+    ensures course { Mirrors F.family messages.now (fresh_seen F.bytes_of fresh.now) result }
+    ensures answers { (state : Downstream) →
+        (asked : AreMessagesOf F.family fresh.now.routes.now writer.now state messages.now) →
+        TellsOfForm F.family fresh.now.routes.now writer.now asked.form messages.now
+        (fresh_seen F.bytes_of fresh.now) result }
+{
+    fresh.routes.is_sound();
+    writer.is_writing();
+    mirror_answers_for_the_form();
+    go_through(alloc, messages, writer, fresh)
 }

@@ -1,3 +1,4 @@
 //! Worked examples.
 
 mod again;
+mod mirrored;

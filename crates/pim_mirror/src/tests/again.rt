@@ -8,11 +8,11 @@ use std::alloc::Global;
 use std::test::Fail;
 
 /// The writer, and on the same link its upstream neighbour and another router.
-const WRITER: [u8; 4] = [10, 0, 0, 1];
+pub(super) const WRITER: [u8; 4] = [10, 0, 0, 1];
 
-const UPSTREAM: [u8; 4] = [10, 0, 0, 2];
+pub(super) const UPSTREAM: [u8; 4] = [10, 0, 0, 2];
 
-const OTHER: [u8; 4] = [10, 0, 0, 9];
+pub(super) const OTHER: [u8; 4] = [10, 0, 0, 9];
 
 /// The writer's own downstream neighbour.
 const BELOW: [u8; 4] = [10, 1, 0, 9];
@@ -25,7 +25,7 @@ const DOWN: [PortConfig<[u8; 4]>; 1] = [PortConfig {
 }];
 
 /// The port of the upstream neighbour, whose override interval is 3,000 ms.
-const UP: [PortConfig<[u8; 4]>; 1] = [PortConfig {
+pub(super) const UP: [PortConfig<[u8; 4]>; 1] = [PortConfig {
     address: UPSTREAM,
     propagation: 500,
     override_ms: 2500,
@@ -41,7 +41,7 @@ const ASKED: [u8; 90] = [
 ];
 
 /// One RP for all groups, and one neighbour for all addresses; `None` where memory is wanting.
-fn table(alloc: Global) -> Option<Routes<V4>> {
+pub(super) fn table(alloc: Global) -> Option<Routes<V4>> {
     let mut routes: Routes<V4> = Routes::new(alloc);
     routes.add_rp([224, 0, 0, 0], 4, [10, 9, 9, 9]).ok()?;
     routes.add_via([0, 0, 0, 0], 0, UPSTREAM).ok()?;
@@ -91,7 +91,7 @@ fn started<'a>(
 }
 
 /// Runs to a moment through its refreshes: whether no echo is told.
-fn reach(router: &mut Router<'_, V4>, moment: u64) -> bool {
+pub(super) fn reach(router: &mut Router<'_, V4>, moment: u64) -> bool {
     if moment > 1_000_000 {
         return false;
     }
@@ -105,12 +105,15 @@ fn reach(router: &mut Router<'_, V4>, moment: u64) -> bool {
     false
 }
 
-/// The messages by which the writer asks its upstream neighbour for what it was asked for.
-fn asked(alloc: Global, writer: &Writer<V4>) -> Option<Messages> {
+/// The messages by which the writer asks its upstream neighbour for what it was asked for by this message.
+pub(super) fn asked_for(
+    alloc: Global,
+    writer: &Writer<V4>,
+    message: &mut [u8],
+) -> Option<Messages> {
     let routes = table(alloc)?;
     let mut router = started(alloc, &DOWN, &routes, &[BELOW])?;
-    let mut bytes = ASKED;
-    if take(&mut router, BELOW, MessageType::JoinPrune, &mut bytes)? != Verdict::Applied {
+    if take(&mut router, BELOW, MessageType::JoinPrune, message)? != Verdict::Applied {
         return None;
     }
     if !reach(&mut router, 0) {
@@ -122,7 +125,8 @@ fn asked(alloc: Global, writer: &Writer<V4>) -> Option<Messages> {
 /// Whether the upstream neighbour asks for the same again at this moment, after these deliveries of the two messages.
 fn asks_again(alloc: Global, deliveries: &[(usize, u64)], moment: u64) -> Option<bool> {
     let writer = Writer::<V4>::new(UPSTREAM, WRITER, 210, 70).ok()?;
-    let messages = asked(alloc, &writer)?;
+    let mut message = ASKED;
+    let messages = asked_for(alloc, &writer, &mut message)?;
     if messages.count() != 2 {
         return None;
     }

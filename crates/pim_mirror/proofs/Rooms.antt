@@ -1,0 +1,182 @@
+-- A message has no room exactly where the units of the different messages pass the limit.
+use Rattle.std.proofs.Common.{◌≡◌, ◌∙◌, ℕ, ◌≤◌, Bool, true, false, nat_lt, if◌then◌else◌, List, [], ◌∷◌, ◌++◌, length, map, Option, None, Some, refl, sym, ap, ap₂, subst, arith, append_assoc, zero-le}
+use Rattle.std.proofs.lemmas.Bool.{le-ltb, ltb-false, ltb-true}
+use Rattle.pim_addr.specs.declared.family.AddressFamily.{AddressFamily}
+use Rattle.pim_addr.specs.Routes.{RouteTable, IsRouteTable}
+use Rattle.pim_down.specs.declared.event.Timing.{Timing}
+use Rattle.pim_down.specs.Hearing.{start_of}
+use Rattle.pim_down.specs.Known.{known_in}
+use Rattle.pim_form.specs.NormalForm.{GroupForm, IsNormal}
+use Rattle.pim_form.specs.Messages.{Writing, IsWriting, HaveRps, AreCanonical}
+use Rattle.pim_fresh.specs.Exchange.{Exchange}
+use Rattle.pim_fresh.specs.Deliveries.{Delivery, IsTimely}
+use Rattle.pim_fresh.specs.Expected.{units_of}
+use Rattle.pim_router.specs.Course.{Input, Telling, echo, refresh, verdict, takes, runs_to, Reaches, IsCourse}
+use Rattle.pim_router.specs.Packets.{Packet, received}
+use Rattle.pim_router.specs.State.{RouterState, new_router}
+use Rattle.pim_router.specs.declared.verdict.Verdict.{Verdict}
+use Rattle.pim_mirror.specs.Config.{Neighbour, Fresh, newest_first, end_of, setup_of, neighbours}
+use Rattle.pim_mirror.specs.CanonicalCourse.{AreOf, HoldsNothing, Lasts, inputs_of, IsTaken}
+use Rattle.pim_mirror.specs.CanonicalExchange.{exchange_in}
+use Rattle.pim_mirror.specs.CanonicalPackets.{packet_of, HearsWriter, heard_exchange}
+use Rattle.pim_mirror.specs.Hellos.{AreHellosFrom, timing_of}
+use Rattle.pim_mirror.specs.HelloLaws.{WrittenHellosAreRead, HellosAreHeard}
+use Rattle.pim_mirror.specs.Laws.{AskedStarsHaveRps, DeliveryIsTaken, CourseHearsAll}
+use Rattle.pim_mirror.specs.Mirror.{needed_by, or_later, first_needed, GoesThrough}
+use Rattle.pim_mirror.specs.Fits.{Fits}
+use Rattle.pim_down.specs.Time.{Downstream}
+use Rattle.pim_mirror.specs.Headline.{AreMessagesOf, fresh_exchange, all_entries, if_over, first_over, RoomIsForTheUnits}
+use Rattle.pim_mirror.proofs.EntryCounts.{units_are_entries}
+use Rattle.pim_mirror.proofs.Begun.{Begun, begun}
+use Rattle.pim_mirror.proofs.Course.{fewer_units, timely_before}
+use Rattle.pim_mirror.proofs.CourseSteps.{parts, last_run, first_by}
+use Rattle.pim_mirror.proofs.Hellos.{hello_wants_no_room}
+use Rattle.pim_mirror.proofs.Quiet.{took}
+use Rattle.pim_mirror.proofs.Ways.{joined}
+
+-- ---- within the limit
+
+not_some : (count : ℕ) → ◌≡◌ {A = Option ℕ} (Some count) None → ⊥
+not_some count e = cc
+
+second_none : (a b : Option ℕ) → or_later a b ≡ None → b ≡ None
+second_none None b e = e
+second_none (Some n) b e = absurd (not_some n e)
+
+isnt_over : (limit count : ℕ) → if_over limit count ≡ None → count ≤ limit
+isnt_over limit count e = by (nat_lt limit count) refl e
+  where
+    by : (b : Bool) → nat_lt limit count ≡ b → (if b then Some count else None) ≡ None → count ≤ limit
+    by true t f = absurd (not_some count f)
+    by false t f = ltb-false limit count t
+
+pub within : (exchange : Exchange) (limit : ℕ) (deliveries : List Delivery) → first_over exchange limit deliveries ≡ None → length (units_of exchange deliveries) ≤ limit
+unfolding first_over units_of
+within exchange limit [] e = zero-le
+within exchange limit (delivery ∷ earlier) e =
+    isnt_over limit (length (units_of exchange (delivery ∷ earlier)))
+    (second_none (first_over exchange limit earlier) (if_over limit (length (units_of exchange (delivery ∷ earlier)))) e)
+
+pub never_over : (exchange : Exchange) (limit : ℕ) (deliveries : List Delivery) → length (units_of exchange deliveries) ≤ limit → first_over exchange limit deliveries ≡ None
+unfolding first_over
+never_over exchange limit [] few = refl
+never_over exchange limit (delivery ∷ earlier) few =
+    ap₂ (λ (a : Option ℕ) (b : Bool). or_later a (if b then Some (length (units_of exchange (delivery ∷ earlier))) else None))
+    (never_over exchange limit earlier (fewer_units exchange limit delivery earlier few)) (le-ltb limit (length (units_of exchange (delivery ∷ earlier))) few)
+
+-- ---- what a course tells
+
+run_needs_none : (moment : ℕ) (told : List Telling) (start after : RouterState) → Reaches moment told start after → first_needed told ≡ None
+unfolding Reaches first_needed
+run_needs_none moment [] start after reaches = refl
+run_needs_none moment (echo port group what ∷ more) start after reaches = run_needs_none moment more reaches.0 after reaches.2
+run_needs_none moment (refresh ∷ more) start after reaches = run_needs_none moment more reaches.0 after reaches.2
+run_needs_none moment (verdict of_packet ∷ more) start after reaches = absurd reaches
+
+or_none : (a : Option ℕ) → or_later a None ≡ a
+or_none None = refl
+or_none (Some n) = refl
+
+needed_as : (told before behind : List Telling) (a b : Option ℕ) → told ≡ before ++ behind → first_needed before ≡ a → first_needed behind ≡ b → first_needed told ≡ or_later a b
+needed_as told before behind a b split first second = ap first_needed split ∙ joined before behind ∙ ap₂ or_later first second
+
+last_needs_none : (family : AddressFamily) (moment : ℕ) (told : List Telling) (start after : RouterState) → IsCourse family (runs_to moment ∷ []) told start after → first_needed told ≡ None
+unfolding first_needed
+last_needs_none family moment told start after course =
+    let run = last_run family moment told start after course in
+    needed_as told run.said [] None None run.is (run_needs_none moment run.said start after run.reaches) refl
+
+packet_needs : (family : AddressFamily) (packet : Packet) (told : List Telling) (start after : RouterState) → IsCourse family (takes packet ∷ []) told start after → first_needed told ≡ needed_by (received family packet start).0
+unfolding first_needed
+packet_needs family packet told start after course =
+    ap first_needed (took family packet told start after course).told_is ∙ or_none (needed_by (received family packet start).0)
+
+hellos_need_none : (family : AddressFamily) (neighbours : List Neighbour) (hellos : List Packet) (told : List Telling) (start after : RouterState) → AreHellosFrom family neighbours hellos
+    → IsCourse family (map (λ packet. takes packet) hellos) told start after → first_needed told ≡ None
+unfolding IsCourse AreHellosFrom first_needed
+hellos_need_none family [] [] told start after are course = ap first_needed course.0
+hellos_need_none family [] (hello ∷ hellos) told start after are course = absurd are
+hellos_need_none family (neighbour ∷ neighbours) [] told start after are course = absurd are
+hellos_need_none family (neighbour ∷ neighbours) (hello ∷ hellos) told start after are course =
+    needed_as told course.before course.behind None None course.joined
+    (ap first_needed course.begins.0 ∙ or_none (needed_by (received family hello start).0) ∙ hello_wants_no_room family hello start are.0.body are.0.holds)
+    (hellos_need_none family neighbours hellos course.behind course.between after are.1 course.goes_on)
+
+module _ (taken : DeliveryIsTaken) (course_hears : CourseHearsAll)
+    (family : AddressFamily) (writing : Writing) (form : List GroupForm) (messages : List (List ℕ)) (timing : Timing) (limit last : ℕ) (start : RouterState)
+    (is_writing : IsWriting family writing) (is : IsNormal family form) (have : HaveRps family (known_in family start.routes) form) (are : AreCanonical family writing (known_in family start.routes) form messages)
+    (nothing : HoldsNothing limit start) (lasts : Lasts last start) (hears : HearsWriter writing 0 timing start) where
+  abbrev exchange : Exchange
+  exchange = heard_exchange family writing 0 timing messages start
+
+  abbrev packet : Delivery → Packet
+  packet delivery = packet_of family writing 0 messages delivery.message
+
+  verdict_needs : (delivery : Delivery) (earlier : List Delivery) (before : RouterState) → IsTaken family exchange limit delivery earlier (packet delivery) before
+      → needed_by (received family (packet delivery) before).0 ≡ if_over limit (length (units_of exchange (delivery ∷ earlier)))
+  verdict_needs delivery earlier before is_taken = by (nat_lt limit (length (units_of exchange (delivery ∷ earlier)))) refl
+    where
+      by : (b : Bool) → nat_lt limit (length (units_of exchange (delivery ∷ earlier))) ≡ b
+          → needed_by (received family (packet delivery) before).0 ≡ (if b then Some (length (units_of exchange (delivery ∷ earlier))) else None)
+      by true e = ap (λ (end : Verdict × RouterState). needed_by end.0) (is_taken.full (ltb-true limit (length (units_of exchange (delivery ∷ earlier))) e))
+      by false e = ap (λ (end : Verdict × RouterState). needed_by end.0) (is_taken.applied (ltb-false limit (length (units_of exchange (delivery ∷ earlier))) e))
+
+  either : (a x y : Option ℕ) → (a ≡ None → x ≡ y) → or_later a x ≡ or_later a y
+  either None x y same = same refl
+  either (Some n) x y same = refl
+
+  needs_over : (deliveries : List Delivery) (moment : ℕ) (told : List Telling) (after : RouterState) → AreOf (length messages) deliveries → IsTimely (start_of writing.holdtime timing).expires_in moment deliveries
+      → moment ≤ last → IsCourse family (inputs_of family writing 0 messages deliveries) told start after → first_needed told ≡ first_over exchange limit deliveries
+  unfolding inputs_of first_over first_needed IsCourse
+  needs_over [] moment told after of timely early course = ap first_needed course.0
+  needs_over (delivery ∷ earlier) moment told after of timely early course =
+      let timely_here = timely_before (start_of writing.holdtime timing).expires_in delivery earlier moment timely in
+      let early_here : delivery.moment ≤ last = omega (arith, early, first_by (start_of writing.holdtime timing).expires_in delivery earlier moment timely) in
+      let front : List Input = inputs_of family writing 0 messages earlier ++ runs_to delivery.moment ∷ [] in
+      let split = sym (append_assoc (inputs_of family writing 0 messages earlier) (runs_to delivery.moment ∷ []) (takes (packet delivery) ∷ [])) in
+      let one = parts family front (takes (packet delivery) ∷ []) told start after (subst (λ (inputs : List Input). IsCourse family inputs told start after) split course) in
+      let zero = parts family (inputs_of family writing 0 messages earlier) (runs_to delivery.moment ∷ []) one.told start one.between one.first in
+      let before = needed_as one.told zero.told zero.said (first_over exchange limit earlier) None zero.joined (needs_over earlier delivery.moment zero.told zero.between of.1 timely_here early_here zero.first)
+      (last_needs_none family delivery.moment zero.said zero.between one.between zero.second) ∙ or_none (first_over exchange limit earlier) in
+      needed_as told one.told one.said (first_over exchange limit earlier) (needed_by (received family (packet delivery) one.between).0) one.joined before
+      (packet_needs family (packet delivery) one.said one.between after one.second)
+      ∙ either (first_over exchange limit earlier) (needed_by (received family (packet delivery) one.between).0) (if_over limit (length (units_of exchange (delivery ∷ earlier))))
+      (λ none. verdict_needs delivery earlier one.between (taken_here one.told one.between of timely_here early_here (within exchange limit earlier none) one.first))
+    where
+      taken_here : (told : List Telling) (before : RouterState) → AreOf (length messages) (delivery ∷ earlier) → IsTimely (start_of writing.holdtime timing).expires_in delivery.moment earlier → delivery.moment ≤ last
+          → length (units_of exchange earlier) ≤ limit → IsCourse family (inputs_of family writing 0 messages earlier ++ runs_to delivery.moment ∷ []) told start before
+          → IsTaken family exchange limit delivery earlier (packet delivery) before
+      taken_here told before of timely early few course =
+          let heard = course_hears family writing form messages timing limit last start earlier delivery.moment told before is_writing is have are nothing of.1 timely few early lasts hears course in
+          taken family writing form messages timing limit start delivery earlier before is_writing is have are nothing of timely few heard.0 heard.2
+
+-- what the first message without room needs
+first_without : WrittenHellosAreRead → HellosAreHeard → AskedStarsHaveRps → DeliveryIsTaken → CourseHearsAll → (family : AddressFamily) (table : RouteTable) (writing : Writing) (state : Downstream) (messages : List (List ℕ)) (fresh : Fresh) (needed : Option ℕ) (after : RouterState)
+    → IsRouteTable family table → IsWriting family writing → AreMessagesOf family table writing state messages → Fits messages writing table fresh → GoesThrough family messages fresh needed after
+    → (needed ≡ first_over (fresh_exchange family table writing messages fresh) fresh.limit (newest_first fresh)) × AreOf (length messages) (newest_first fresh)
+first_without read hellos_heard stars taken course_hears family table writing state messages fresh needed after sound is_writing asked fits goes =
+    let first : Begun read hellos_heard stars family table writing state messages fresh needed after sound is_writing asked fits goes = begun read hellos_heard stars family table writing state messages fresh needed after sound is_writing asked fits goes in
+    let two = parts family (inputs_of family writing 0 messages (newest_first fresh)) (runs_to (end_of fresh) ∷ []) first.said first.start after first.course in
+    let deliveries_need : first_needed two.told ≡ first_over (heard_exchange family writing 0 (timing_of fresh) messages first.start) fresh.limit (newest_first fresh) =
+    needs_over taken course_hears family writing asked.form messages (timing_of fresh) fresh.limit (end_of fresh) first.start is_writing asked.is.normal first.have first.messages_are first.met.nothing first.met.lasts first.met.hears
+    (newest_first fresh) (end_of fresh) two.told two.between first.are_of fits.timely (omega arith) two.first in
+    let said_needs = needed_as first.said two.told two.said (first_over (heard_exchange family writing 0 (timing_of fresh) messages first.start) fresh.limit (newest_first fresh)) None two.joined deliveries_need (last_needs_none family (end_of fresh) two.said two.between after two.second) in
+    let same : needed ≡ first_over (fresh_exchange family table writing messages fresh) fresh.limit (newest_first fresh) =
+    sym goes.needed_is
+    ∙ needed_as goes.told first.told first.said None (or_later (first_over (heard_exchange family writing 0 (timing_of fresh) messages first.start) fresh.limit (newest_first fresh)) None) first.joined
+    (hellos_need_none family (neighbours fresh) goes.hellos first.told (new_router (setup_of fresh)) first.start (read family (neighbours fresh) goes.hellos goes.are_hellos) first.hellos) said_needs
+    ∙ or_none (first_over (heard_exchange family writing 0 (timing_of fresh) messages first.start) fresh.limit (newest_first fresh))
+    ∙ ap (λ (t : RouteTable). first_over (exchange_in family (known_in family t) writing 0 (timing_of fresh) messages) fresh.limit (newest_first fresh)) first.routes in
+    (same, first.are_of)
+
+pub room_is_for_the_units : WrittenHellosAreRead → HellosAreHeard → AskedStarsHaveRps → DeliveryIsTaken → CourseHearsAll → RoomIsForTheUnits
+room_is_for_the_units read hellos_heard stars taken course_hears family table writing state messages fresh needed after sound is_writing asked fits goes =
+    let exchange : Exchange = fresh_exchange family table writing messages fresh in
+    let first = first_without read hellos_heard stars taken course_hears family table writing state messages fresh needed after sound is_writing asked fits goes in
+    let count : length (units_of exchange (newest_first fresh)) ≡ all_entries family table writing messages fresh = units_are_entries exchange (newest_first fresh) (length messages) first.1 fits.delivered in (
+      first.0,
+      (
+        λ none. let few = within exchange fresh.limit (newest_first fresh) (sym first.0 ∙ none) in omega (arith, few, count),
+        λ few. first.0 ∙ never_over exchange fresh.limit (newest_first fresh) (omega (arith, few, count)),
+      ),
+    )

@@ -1,0 +1,259 @@
+-- The words of the laws in `src/headline_laws.rt`: two states and their messages, and a fresh router that hears the
+-- messages of one of them alone.
+use Rattle.std.specs.Prelude.{◌≡◌, ◌↔◌, ℕ, zero, suc, ◌+◌, ◌-◌, ◌≤◌, ◌<◌, Bool, true, false, List, [], ◌∷◌, length}
+use Rattle.std.specs.Prelude.{Option, None, Some, Result, Ok, Err, nat_lt, if◌then◌else◌}
+use Rattle.std.specs.Option.{is_some}
+use Rattle.std.specs.List.{list_any}
+use Rattle.pim_addr.specs.declared.family.AddressFamily.{AddressFamily}
+use Rattle.pim_addr.specs.Routes.{RouteTable, IsRouteTable}
+use Rattle.pim_down.specs.declared.key.Key.{Key}
+use Rattle.pim_down.specs.declared.machine.Machine.{Machine}
+use Rattle.pim_down.specs.Known.{known_in}
+use Rattle.pim_down.specs.Records.{machine_at}
+use Rattle.pim_down.specs.Tables.{machine_in}
+use Rattle.pim_down.specs.Time.{Downstream, expiry_after}
+use Rattle.pim_form.specs.NormalForm.{GroupForm, Demand, Agree, IsFormOf, form_wants}
+use Rattle.pim_form.specs.Messages.{Writing, IsWriting, AreCanonical}
+use Rattle.pim_form.specs.TowardLaws.{asked_of}
+use Rattle.pim_fresh.specs.Deliveries.{Delivery, AreAlive, last_of}
+use Rattle.pim_fresh.specs.Exchange.{Exchange, is_named}
+use Rattle.pim_fresh.specs.Expected.{asked_state, units_of}
+use Rattle.pim_router.specs.Course.{Telling, echo, refresh, verdict, Reaches}
+use Rattle.pim_router.specs.Packets.{Packet}
+use Rattle.pim_router.specs.State.{RouterState}
+use Rattle.pim_mirror.specs.Config.{Fresh, neighbours, newest_first, end_of}
+use Rattle.pim_mirror.specs.Fits.{Fits, expiry_of}
+use Rattle.pim_mirror.specs.CanonicalExchange.{exchange_in}
+use Rattle.pim_mirror.specs.CanonicalMirror.{AsksAgain}
+use Rattle.pim_mirror.specs.CanonicalUnits.{form_names}
+use Rattle.pim_mirror.specs.Hellos.{timing_of}
+use Rattle.pim_mirror.specs.Mirror.{AreHellosOf, GoesThrough, Mirrors, or_later}
+use Rattle.pim_mirror.specs.declared.mirroring.MirrorFault.{MirrorFault}
+use Rattle.pim_mirror.specs.declared.mirroring.MirrorFault.TheVariants as fault
+
+-- ---- a state and its messages
+
+-- The canonical messages by which the writer asks its upstream neighbour, under a route table, for what these machines
+-- want of it: those of its normal form (RFC 7761, 4.1 and 4.9.5). They are there exactly if each star with its
+-- exceptions fits a message.
+pub record AreMessagesOf (family : AddressFamily) (table : RouteTable) (writing : Writing) (state : Downstream)
+    (messages : List (List ℕ)) : Type 0 where
+  pub form : List GroupForm
+  pub is : IsFormOf family (asked_of family table writing.upstream state) form
+  pub told : AreCanonical family writing (known_in family table) form messages
+
+-- Two states want the same traffic of the writer's upstream neighbour: for every valid source, every group and both
+-- trees.
+abbrev pub WantTheSameTraffic : AddressFamily → RouteTable → Writing → Downstream → Downstream → Type 0
+WantTheSameTraffic family table writing one other =
+    Agree family (asked_of family table writing.upstream one) (asked_of family table writing.upstream other)
+
+-- ---- a fresh router that hears messages alone
+
+-- what it hears of them
+abbrev pub fresh_exchange : AddressFamily → RouteTable → Writing → List (List ℕ) → Fresh → Exchange
+fresh_exchange family table writing messages fresh =
+    exchange_in family (known_in family table) writing 0 (timing_of fresh) messages
+
+-- A new router hears the Hellos of its neighbours and these messages, nothing else, and is this one at its final
+-- moment. The caller's conditions are met: it has the sender's table and knows the sender; each message comes at least
+-- once, and none is missed for a whole holdtime up to the final moment, by which the prune-pending times are over.
+-- There is room for each.
+pub record HearsAlone (family : AddressFamily) (table : RouteTable) (writing : Writing) (messages : List (List ℕ))
+    (fresh : Fresh) (router : RouterState) : Type 0 where
+  pub fits : Fits messages writing table fresh
+  pub course : GoesThrough family messages fresh None router
+
+-- From the end of the prune-pending times until the first expiry: the final moment has come, and each message came last
+-- less than its holdtime ago.
+pub record IsInWindow (writing : Writing) (fresh : Fresh) (moment : ℕ) : Type 0 where
+  pub from_the_end : end_of fresh ≤ moment
+  pub before_expiry : AreAlive (expiry_of writing.holdtime) moment (newest_first fresh)
+
+-- it runs on to this moment, where nothing is due any more
+pub record IsAt (moment : ℕ) (router later : RouterState) : Type 0 where
+  pub told : List Telling
+  pub reaches : Reaches moment told router later
+
+-- ---- what it holds
+
+abbrev pub is_echo : Telling → Bool
+is_echo (echo port group what) = true
+is_echo refresh = false
+is_echo (verdict of_packet) = false
+
+-- A machine that one of so many messages names, at this moment: in Join for a star or a source, in Prune for an
+-- exception; left is the holdtime less the time since the message came last, without end for 65,535; no prune-pending
+-- timer runs.
+pub record IsHeldAs (exchange : Exchange) (count : ℕ) (deliveries : List Delivery) (moment : ℕ) (key : Key (List ℕ))
+    (machine : Option Machine) : Type 0 where
+  pub message : ℕ
+  pub within : message < count
+  pub named : is_named exchange.port key (exchange.messages message) ≡ true
+  pub last : ℕ
+  pub came : last_of message deliveries ≡ Some last
+  pub is : machine
+      ≡ machine_in (asked_state key.what) (expiry_after (moment - last) (expiry_of exchange.holdtime)) None
+
+-- The machines are those of the form, and no others: (*,G) of each star, (S,G,rpt) of each exception, (S,G) of each
+-- source.
+pub record HoldsTheForm (exchange : Exchange) (count : ℕ) (form : List GroupForm) (deliveries : List Delivery)
+    (moment : ℕ) (state : Downstream) : Type 0 where
+  pub held : (key : Key (List ℕ)) → key.port ≡ exchange.port → form_names form key.group key.what ≡ true →
+      IsHeldAs exchange count deliveries moment key (machine_at key state.records)
+  pub no_others : (key : Key (List ℕ)) → is_some (machine_at key state.records) ≡ true →
+      (key.port ≡ exchange.port) × (form_names form key.group key.what ≡ true)
+
+-- At a moment of the window the router holds exactly the machines of the form, wants exactly what the form wants, and
+-- asks for it again by the same messages, under the same table. On the way there no echo was told.
+pub record MirrorsForm (family : AddressFamily) (table : RouteTable) (writing : Writing) (form : List GroupForm)
+    (messages : List (List ℕ)) (fresh : Fresh) (moment : ℕ) (told : List Telling) (later : RouterState) : Type 0 where
+  pub moment_is : later.machines.moment ≡ moment
+  pub routes : later.routes ≡ table
+  pub holds : HoldsTheForm (fresh_exchange family table writing messages fresh) (length messages) form
+      (newest_first fresh) moment later.machines
+  pub asks : AsksAgain family table writing form messages later.machines
+  pub no_echo : list_any is_echo told ≡ false
+
+-- ---- the laws
+
+-- The normal form of what a normal form wants is that normal form.
+abbrev pub NormalisingTwiceIsOnce : Type 0
+NormalisingTwiceIsOnce = (family : AddressFamily) (demand : Demand) (once twice : List GroupForm) →
+    IsFormOf family demand once → IsFormOf family (form_wants once) twice → twice ≡ once
+
+-- A fresh router that heard the canonical messages of a form alone mirrors it at every moment of the window.
+abbrev pub FreshRouterMirrors : Type 0
+FreshRouterMirrors = (family : AddressFamily) (table : RouteTable) (writing : Writing) (state : Downstream)
+    (messages : List (List ℕ)) (fresh : Fresh) (router later : RouterState) (moment : ℕ) →
+    IsRouteTable family table → IsWriting family writing →
+    (asked : AreMessagesOf family table writing state messages) →
+    HearsAlone family table writing messages fresh router → IsInWindow writing fresh moment →
+    (at : IsAt moment router later) →
+    MirrorsForm family table writing asked.form messages fresh moment at.told later
+
+-- Nor does it tell one up to its final moment.
+abbrev pub FreshRouterTellsNoEcho : Type 0
+FreshRouterTellsNoEcho = (family : AddressFamily) (table : RouteTable) (writing : Writing) (state : Downstream)
+    (messages : List (List ℕ)) (fresh : Fresh) (router : RouterState) → IsRouteTable family table →
+    IsWriting family writing → AreMessagesOf family table writing state messages →
+    (hears : HearsAlone family table writing messages fresh router) → list_any is_echo hears.course.told ≡ false
+
+-- how many entries so many messages have together: the stars, exceptions and sources of their form
+unfoldable pub entries_of : Exchange → ℕ → ℕ
+entries_of exchange zero = 0
+entries_of exchange (suc count) = entries_of exchange count + length (exchange.messages count)
+
+abbrev pub all_entries : AddressFamily → RouteTable → Writing → List (List ℕ) → Fresh → ℕ
+all_entries family table writing messages fresh =
+    entries_of (fresh_exchange family table writing messages fresh) (length messages)
+
+-- how many units the different messages have up to the first delivery at which they pass the limit; none where they
+-- never do
+abbrev pub if_over : ℕ → ℕ → Option ℕ
+if_over limit count = if nat_lt limit count then Some count else None
+
+unfoldable pub first_over : Exchange → ℕ → List Delivery → Option ℕ
+first_over exchange limit [] = None
+first_over exchange limit (delivery ∷ earlier) = or_later (first_over exchange limit earlier)
+    (if_over limit (length (units_of exchange (delivery ∷ earlier))))
+
+-- A message has no room on the course exactly where the entries of all messages together pass the limit; the first such
+-- message needs as many records as the different messages have units up to it.
+abbrev pub RoomIsForTheUnits : Type 0
+RoomIsForTheUnits = (family : AddressFamily) (table : RouteTable) (writing : Writing) (state : Downstream)
+    (messages : List (List ℕ)) (fresh : Fresh) (needed : Option ℕ) (after : RouterState) →
+    IsRouteTable family table → IsWriting family writing → AreMessagesOf family table writing state messages →
+    Fits messages writing table fresh → GoesThrough family messages fresh needed after →
+    (needed ≡ first_over (fresh_exchange family table writing messages fresh) fresh.limit (newest_first fresh))
+    × ((needed ≡ None) ↔ (all_entries family table writing messages fresh ≤ fresh.limit))
+
+-- such a router, which stands at its final moment, a moment of the window, and goes on to every later one
+pub record IsThere (family : AddressFamily) (table : RouteTable) (writing : Writing) (messages : List (List ℕ))
+    (fresh : Fresh) : Type 0 where
+  pub router : RouterState
+  pub hears : HearsAlone family table writing messages fresh router
+  pub window : IsInWindow writing fresh (end_of fresh)
+  pub stands : IsAt (end_of fresh) router router
+  pub goes_on : (moment : ℕ) → (later : RouterState) × IsAt moment router later
+
+-- Where the caller's conditions are met and there is room for the entries of all messages, there is one.
+abbrev pub FreshRouterIsThere : Type 0
+FreshRouterIsThere = (family : AddressFamily) (table : RouteTable) (writing : Writing) (state : Downstream)
+    (messages : List (List ℕ)) (fresh : Fresh) (hellos : List Packet) → IsRouteTable family table →
+    IsWriting family writing → AreMessagesOf family table writing state messages → Fits messages writing table fresh →
+    all_entries family table writing messages fresh ≤ fresh.limit →
+    AreHellosOf family (neighbours fresh) hellos → IsThere family table writing messages fresh
+
+-- ---- what `mirror` answers
+
+-- A router at the end of its course, on which each message had room: there is room for the entries of all messages; it
+-- stands where the window begins, and mirrors the form there, and at every moment of the window to which it goes on; no
+-- echo was told on its course.
+pub record IsMirrorOf (family : AddressFamily) (table : RouteTable) (writing : Writing) (form : List GroupForm)
+    (messages : List (List ℕ)) (fresh : Fresh) (router : RouterState)
+    (course : GoesThrough family messages fresh None router) : Type 0 where
+  pub room : all_entries family table writing messages fresh ≤ fresh.limit
+  pub window : IsInWindow writing fresh (end_of fresh)
+  pub at_first : MirrorsForm family table writing form messages fresh (end_of fresh) [] router
+  pub later : (moment : ℕ) (later : RouterState) → IsInWindow writing fresh moment → (at : IsAt moment router later) →
+      MirrorsForm family table writing form messages fresh moment at.told later
+  pub no_echo : list_any is_echo course.told ≡ false
+
+-- Full: the entries of all messages together pass the limit; it tells how many units the different messages have up to
+-- the first delivery at which these do.
+abbrev pub AnswersFor : (family : AddressFamily) (table : RouteTable) (writing : Writing) (form : List GroupForm)
+    (messages : List (List ℕ)) (fresh : Fresh) (result : Result RouterState MirrorFault) →
+    Mirrors family messages fresh result → Type 0
+AnswersFor family table writing form messages fresh (Ok router) course =
+    IsMirrorOf family table writing form messages fresh router course
+AnswersFor family table writing form messages fresh (Err (fault.Full needed)) course =
+    (fresh.limit < all_entries family table writing messages fresh)
+    × (first_over (fresh_exchange family table writing messages fresh) fresh.limit (newest_first fresh) ≡ Some needed)
+AnswersFor family table writing form messages fresh (Err fault.Memory) course = Unit {0}
+
+-- a call's answer, and what it means
+pub record TellsOfForm (family : AddressFamily) (table : RouteTable) (writing : Writing) (form : List GroupForm)
+    (messages : List (List ℕ)) (fresh : Fresh) (result : Result RouterState MirrorFault) : Type 0 where
+  pub course : Mirrors family messages fresh result
+  pub answers : AnswersFor family table writing form messages fresh result course
+
+-- What `mirror` answers is so wherever the messages are the canonical ones of a state.
+abbrev pub MirrorAnswersForTheForm : Type 0
+MirrorAnswersForTheForm = (family : AddressFamily) (table : RouteTable) (writing : Writing) (state : Downstream)
+    (messages : List (List ℕ)) (fresh : Fresh) (result : Result RouterState MirrorFault) →
+    IsRouteTable family table → IsWriting family writing →
+    (asked : AreMessagesOf family table writing state messages) → Fits messages writing table fresh →
+    (course : Mirrors family messages fresh result) →
+    AnswersFor family table writing asked.form messages fresh result course
+
+-- ---- the headline
+
+-- A state wants the same traffic as another one, whose messages these are, and writes the same bytes: they are its
+-- canonical messages, and it has no others.
+pub record WantsAndWritesTheSame (family : AddressFamily) (table : RouteTable) (writing : Writing) (state : Downstream)
+    (messages : List (List ℕ)) (other : Downstream) : Type 0 where
+  pub traffic : WantTheSameTraffic family table writing state other
+  pub bytes : AreMessagesOf family table writing other messages
+  pub no_others : (others : List (List ℕ)) → AreMessagesOf family table writing other others → others ≡ messages
+
+pub record IsHeadline (family : AddressFamily) (table : RouteTable) (writing : Writing) : Type 0 where
+  -- Two downstream states under one route table want the same traffic of an upstream neighbour, for every source, group
+  -- and tree, exactly if their canonical Join/Prune messages to it are byte-equal;
+  pub same_traffic_same_bytes : (one other : Downstream) (first second : List (List ℕ)) →
+      AreMessagesOf family table writing one first → AreMessagesOf family table writing other second →
+      WantTheSameTraffic family table writing one other ↔ (first ≡ second)
+  -- normalising twice is once;
+  pub twice_is_once : (demand : Demand) (once twice : List GroupForm) →
+      IsFormOf family demand once → IsFormOf family (form_wants once) twice → twice ≡ once
+  -- and a fresh router that hears these messages alone, in any order and however often, wants exactly that traffic from
+  -- the end of its prune-pending times until the first expiry, and writes the same bytes.
+  pub fresh_router_does_the_same : (state : Downstream) (messages : List (List ℕ)) (fresh : Fresh)
+      (router later : RouterState) (moment : ℕ) → AreMessagesOf family table writing state messages →
+      HearsAlone family table writing messages fresh router → IsInWindow writing fresh moment →
+      IsAt moment router later → WantsAndWritesTheSame family table writing state messages later.machines
+
+-- It holds under every route table and for every writer.
+abbrev pub Headline : Type 0
+Headline = (family : AddressFamily) (table : RouteTable) (writing : Writing) → IsRouteTable family table →
+    IsWriting family writing → IsHeadline family table writing

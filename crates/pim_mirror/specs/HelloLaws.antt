@@ -1,0 +1,25 @@
+-- The words of the laws in `src/hello_laws.rt`.
+use Rattle.std.specs.Prelude.{List, map, ℕ}
+use Rattle.pim_addr.specs.declared.family.AddressFamily.{AddressFamily}
+use Rattle.pim_addr.specs.Routes.{RouteTable}
+use Rattle.pim_form.specs.Messages.{Writing, IsWriting}
+use Rattle.pim_router.specs.Course.{takes, Telling, IsCourse}
+use Rattle.pim_router.specs.Packets.{Packet}
+use Rattle.pim_router.specs.State.{RouterState, new_router}
+use Rattle.pim_mirror.specs.Config.{Neighbour, Fresh, neighbours, setup_of}
+use Rattle.pim_mirror.specs.Fits.{Fits}
+use Rattle.pim_mirror.specs.Hellos.{AreHellosFrom, HasMet}
+use Rattle.pim_mirror.specs.Mirror.{AreHellosOf}
+
+-- Hellos that are written are read as what the neighbours say.
+abbrev pub WrittenHellosAreRead : Type 0
+WrittenHellosAreRead = (family : AddressFamily) (neighbours : List Neighbour) (packets : List Packet) →
+    AreHellosOf family neighbours packets → AreHellosFrom family neighbours packets
+
+-- A new router that takes the Hellos of the sender and of the other neighbours at the moment 0 has met them.
+abbrev pub HellosAreHeard : Type 0
+HellosAreHeard = (family : AddressFamily) (messages : List (List ℕ)) (writing : Writing) (table : RouteTable)
+    (fresh : Fresh) (hellos : List Packet) (told : List Telling) (after : RouterState) → IsWriting family writing →
+    Fits messages writing table fresh → AreHellosFrom family (neighbours fresh) hellos →
+    IsCourse family (map (λ packet. takes packet) hellos) told (new_router (setup_of fresh)) after →
+    HasMet writing fresh after
