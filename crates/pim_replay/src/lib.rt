@@ -12,14 +12,18 @@ mod packet_line;
 mod passing;
 mod pieces;
 mod record_line;
+mod replay;
 mod said;
 mod state_text;
 #[cfg(test)]
 mod tests;
+mod turns;
 
 pub use echo_line::write_echo_line;
 pub use malformed::write_malformed_words;
 pub use packet_line::write_packet_line;
 pub use passing::pass_time;
 pub use record_line::write_record_line;
+pub use replay::{ReplayFault, replay_into};
 pub use state_text::{Counts, TextFault, write_state};
+pub use turns::take_turn;
