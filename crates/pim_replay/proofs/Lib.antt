@@ -1,4 +1,5 @@
 pub mod Demands
+pub mod Sames
 pub mod States
 pub mod Ending
 pub mod OnTheWay

@@ -14,12 +14,15 @@ use Rattle.pim_down.specs.declared.step.Step.TheVariants as fires
 use Rattle.pim_down.specs.Time.{fired}
 use Rattle.pim_capture.specs.Frame.{Datagram}
 use Rattle.pim_capture.specs.Capture.{Told, packet, skipped, ended}
+use Rattle.pim_addr.specs.Routes.{RouteTable}
+use Rattle.pim_merge.specs.Merge.{Taken}
+use Rattle.pim_merge.specs.Next.{MergeState}
 use Rattle.pim_router.specs.declared.verdict.Verdict.{Verdict}
 use Rattle.pim_router.specs.declared.step.Step.{Step}
 use Rattle.pim_router.specs.declared.step.Step.TheVariants.{Reached}
 use Rattle.pim_router.specs.Course.{Telling, echo, refresh, verdict}
 use Rattle.pim_router.specs.Packets.{Packet, received, unless, causes, body_taken}
-use Rattle.pim_router.specs.State.{RouterState}
+use Rattle.pim_router.specs.State.{RouterState, Port}
 use Rattle.pim_router.specs.Time.{Outcome, rests, moves, tells, turn, turn_of_timers, run_on, run_within, has_ended, tick}
 use Rattle.pim_replay.specs.declared.state_text.Counts.{Counts}
 use Rattle.pim_replay.specs.declared.state_text.TextFault.{TextFault}
@@ -27,7 +30,8 @@ use Rattle.pim_replay.specs.declared.state_text.TextFault.TheVariants.{Output, M
 use Rattle.pim_replay.specs.declared.turns.Ends.{Ends}
 use Rattle.pim_replay.specs.PacketLine.{packet_line}
 use Rattle.pim_replay.specs.Passing.{Passes, PassesTime}
-use Rattle.pim_replay.specs.Turn.{Account, is_same, packet_on, line_of, heard, passed_over, packet_taken, taking, ends_seen, ends_in, HearsPacket, TakesRecord, counted, joined, on_the_way}
+use Rattle.pim_replay.specs.Report.{TellsTurns, TellsAll}
+use Rattle.pim_replay.specs.Turn.{TellsTurn, Account, is_same, packet_on, line_of, heard, passed_over, packet_taken, taking, ends_seen, ends_in, HearsPacket, TakesRecord, counted, joined, on_the_way}
 use Rattle.pim_replay.proofs.Written.{front-longer}
 
 abbrev pub made : ℕ → List ℕ → List ℕ → List ℕ → Packet
@@ -136,44 +140,48 @@ begun taken count after old new Memory p = none_is_front old new taken.0.lines p
 
 -- ---- what stays as it was
 
-abbrev pub KeepsPorts : Outcome → RouterState → Type 0
-KeepsPorts rests state = ⊤
-KeepsPorts (moves after) state = after.ports ≡ state.ports
-KeepsPorts (tells step after) state = after.ports ≡ state.ports
+-- its ports and its route table
+abbrev setup_of : RouterState → List Port × RouteTable
+setup_of state = (state.ports, state.routes)
 
-if_keeps : (b : Bool) (x y : Outcome) (state : RouterState) → KeepsPorts x state → KeepsPorts y state → KeepsPorts (if b then x else y) state
+abbrev pub KeepsSetup : Outcome → RouterState → Type 0
+KeepsSetup rests state = ⊤
+KeepsSetup (moves after) state = setup_of after ≡ setup_of state
+KeepsSetup (tells step after) state = setup_of after ≡ setup_of state
+
+if_keeps : (b : Bool) (x y : Outcome) (state : RouterState) → KeepsSetup x state → KeepsSetup y state → KeepsSetup (if b then x else y) state
 if_keeps true x y state p q = p
 if_keeps false x y state p q = q
 
-timers_keep : (moment : ℕ) (state : RouterState) (next : Option (Fires (List ℕ) × List (Record (List ℕ)))) → KeepsPorts (turn_of_timers moment state next) state
+timers_keep : (moment : ℕ) (state : RouterState) (next : Option (Fires (List ℕ) × List (Record (List ℕ)))) → KeepsSetup (turn_of_timers moment state next) state
 timers_keep moment state None =
     if_keeps (state.refresh == 0) _ _ state refl (if_keeps (nat_lt state.machines.moment moment) (moves (tick state)) rests state refl tt)
 timers_keep moment state (Some (fires.Reached, records)) = refl
 timers_keep moment state (Some (fires.Echo port group what, records)) = refl
 
-turn_keeps : (moment : ℕ) (state : RouterState) → KeepsPorts (turn moment state) state
+turn_keeps : (moment : ℕ) (state : RouterState) → KeepsSetup (turn moment state) state
 unfolding turn
 turn_keeps moment state = if_keeps (list_any has_ended state.tables) _ _ state refl (timers_keep moment state (fired state.machines.records))
 
 some_is : {A : Type 0} (x y : A) → Some x ≡ Some y → x ≡ y
 some_is x y e = cc
 
-outcome_keeps : (outcome : Outcome) (state after : RouterState) (answer : Step (List ℕ)) (more : RouterState → Option (Step (List ℕ) × RouterState)) → KeepsPorts outcome state
-    → ((s : RouterState) → more s ≡ Some (answer, after) → after.ports ≡ s.ports) → run_on outcome state more ≡ Some (answer, after) → after.ports ≡ state.ports
+outcome_keeps : (outcome : Outcome) (state after : RouterState) (answer : Step (List ℕ)) (more : RouterState → Option (Step (List ℕ) × RouterState)) → KeepsSetup outcome state
+    → ((s : RouterState) → more s ≡ Some (answer, after) → setup_of after ≡ setup_of s) → run_on outcome state more ≡ Some (answer, after) → setup_of after ≡ setup_of state
 outcome_keeps rests state after answer more keeps hyp is =
-    ap (λ (p : Step (List ℕ) × RouterState). p.1.ports) (sym (some_is {A = Step (List ℕ) × RouterState} (Reached, state) (answer, after) is))
+    ap (λ (p : Step (List ℕ) × RouterState). setup_of p.1) (sym (some_is {A = Step (List ℕ) × RouterState} (Reached, state) (answer, after) is))
 outcome_keeps (moves between) state after answer more keeps hyp is = hyp between is ∙ keeps
 outcome_keeps (tells step between) state after answer more keeps hyp is =
-    ap (λ (p : Step (List ℕ) × RouterState). p.1.ports) (sym (some_is {A = Step (List ℕ) × RouterState} (step, between) (answer, after) is)) ∙ keeps
+    ap (λ (p : Step (List ℕ) × RouterState). setup_of p.1) (sym (some_is {A = Step (List ℕ) × RouterState} (step, between) (answer, after) is)) ∙ keeps
 
-within_keeps : (turns moment : ℕ) (state after : RouterState) (answer : Step (List ℕ)) → run_within turns moment state ≡ Some (answer, after) → after.ports ≡ state.ports
+within_keeps : (turns moment : ℕ) (state after : RouterState) (answer : Step (List ℕ)) → run_within turns moment state ≡ Some (answer, after) → setup_of after ≡ setup_of state
 unfolding run_within
 within_keeps zero moment state after answer is = absurd cc
 within_keeps (suc turns) moment state after answer is =
     outcome_keeps (turn moment state) state after answer (run_within turns moment) (turn_keeps moment state) (λ s more. within_keeps turns moment s after answer more) is
 
 passes_keep : (family : AddressFamily) (moment : ℕ) (said : List Telling) (lines : List ℕ) (refreshes : ℕ) (state after : RouterState) → Passes family moment said lines refreshes state after
-    → after.ports ≡ state.ports
+    → setup_of after ≡ setup_of state
 unfolding Passes
 passes_keep family moment [] lines refreshes state after (runs, a, b) = within_keeps runs.turns moment state after _ runs.within
 passes_keep family moment (echo port group what ∷ more) lines refreshes state after (between, others, runs, a, passes) =
@@ -182,22 +190,29 @@ passes_keep family moment (refresh ∷ more) lines refreshes state after (betwee
     passes_keep family moment more lines others between after passes ∙ within_keeps runs.turns moment state between _ runs.within
 passes_keep family moment (verdict of_packet ∷ more) lines refreshes state after passes = absurd passes
 
--- time leaves the ports
+-- time leaves the ports and the table
 pub time_keeps : (family : AddressFamily) (moment : ℕ) (lines : List ℕ) (refreshes : ℕ) (state after : RouterState) → PassesTime family moment lines refreshes state after → after.ports ≡ state.ports
-time_keeps family moment lines refreshes state after passes = passes_keep family moment passes.told lines refreshes state after passes.passes
+time_keeps family moment lines refreshes state after passes =
+    ap (λ (setup : List Port × RouteTable). setup.0) (passes_keep family moment passes.told lines refreshes state after passes.passes)
 
--- a packet leaves the ports and the moment
+time_keeps_table : (family : AddressFamily) (moment : ℕ) (lines : List ℕ) (refreshes : ℕ) (state after : RouterState) → PassesTime family moment lines refreshes state after
+    → after.routes ≡ state.routes
+time_keeps_table family moment lines refreshes state after passes =
+    ap (λ (setup : List Port × RouteTable). setup.1) (passes_keep family moment passes.told lines refreshes state after passes.passes)
+
+-- a packet leaves the ports, the table and the moment
 pub record Stays (state after : RouterState) : Type 0 where
   pub ports : after.ports ≡ state.ports
+  pub routes : after.routes ≡ state.routes
   pub moment : after.machines.moment ≡ state.machines.moment
 
 stays : (state : RouterState) → Stays state state
-stays state = record { ports = refl; moment = refl }
+stays state = record { ports = refl; routes = refl; moment = refl }
 
 body_stays : (family : AddressFamily) (port : ℕ) (source : List ℕ) (state : RouterState) (body : Content) → Stays state (body_taken family port source state body).1
-body_stays family port source state (other type) = record { ports = refl; moment = refl }
-body_stays family port source state (hello body) = record { ports = refl; moment = refl }
-body_stays family port source state (join_prune body) = record { ports = refl; moment = refl }
+body_stays family port source state (other type) = record { ports = refl; routes = refl; moment = refl }
+body_stays family port source state (hello body) = record { ports = refl; routes = refl; moment = refl }
+body_stays family port source state (join_prune body) = record { ports = refl; routes = refl; moment = refl }
 
 unless_stays : (told : List Verdict) (state : RouterState) (taken : Verdict × RouterState) → Stays state taken.1 → Stays state (unless told state taken).1
 unless_stays [] state taken p = p
@@ -213,6 +228,24 @@ record_stays family port (packet millis frame datagram) state =
     (unless_stays (causes family (packet_on port datagram) state) state _ (body_stays family port datagram.source state (content datagram.payload))) (stays state)
 record_stays family port (skipped millis why) state = stays state
 record_stays family port ended state = stays state
+
+-- all turns and the time behind them leave the table
+turn_keeps_table : (family : AddressFamily) (this : Taken) (account : Account) (state after : RouterState) → TellsTurn family this account state after → after.routes ≡ state.routes
+turn_keeps_table family this account state after done =
+    ap (λ (s : RouterState). s.routes) done.after_is
+    ∙ ((record_stays family this.capture this.told done.between).routes ∙ time_keeps_table family this.moment done.way done.refreshes state done.between done.passes)
+
+turns_keep_table : (family : AddressFamily) (taken : List Taken) (account : Account) (state after : RouterState) → TellsTurns family taken account state after → after.routes ≡ state.routes
+unfolding TellsTurns
+turns_keep_table family [] account state after (none, same) = ap (λ (s : RouterState). s.routes) same
+turns_keep_table family (first ∷ others) account state after (one, more, between, begins, goes_on, is) =
+    turns_keep_table family others more between after goes_on ∙ turn_keeps_table family first one state between begins
+
+pub all_keep_table : (family : AddressFamily) (after_ms : ℕ) (merge : MergeState) (account : Account) (state after : RouterState) → TellsAll family after_ms merge account state after
+    → after.routes ≡ state.routes
+all_keep_table family after_ms merge account state after all =
+    time_keeps_table family (all.between.machines.moment + after_ms) all.way all.refreshes all.between after all.passes
+    ∙ turns_keep_table family all.taken all.turns state all.between all.tells
 
 -- no Refresh is told of a record
 if_none : (b : Bool) (x y : Account × RouterState) → x.0.refreshes ≡ 0 → y.0.refreshes ≡ 0 → (if b then x else y).0.refreshes ≡ 0

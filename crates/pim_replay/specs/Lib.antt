@@ -10,3 +10,4 @@ pub mod Passing
 pub mod Turn
 pub mod Report
 pub mod Underway
+pub mod Same

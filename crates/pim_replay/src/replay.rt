@@ -103,7 +103,7 @@ fn run_turns<F: Family, R: Feed + Drop, W: Drain>(
 }
 
 /// Takes all turns, and lets the last time pass. The answer is what was counted.
-fn run_on<F: Family, R: Feed + Drop, W: Drain>(
+pub(crate) fn run_on<F: Family, R: Feed + Drop, W: Drain>(
     merge: &mut Merge<R>,
     router: &mut Router<'_, F>,
     after_ms: u64,

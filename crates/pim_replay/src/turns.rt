@@ -1,6 +1,7 @@
 //! A turn of a replay: time passes to the moment of a record, and then a port takes the record.
 
-ghost use Rattle.std.specs.Prelude.{◌≡◌, ◌<◌, ◌≤◌, ◌^◌, List, ℕ, length, max, option_map, IfOk, OnOk, OnErr, if◌then◌else◌, Some, None};
+ghost use Rattle.std.specs.Prelude.{◌≡◌, ◌<◌, ◌≤◌, ◌^◌, List, ℕ, length, max, option_map, IfOk, OnOk, OnErr};
+ghost use Rattle.std.specs.Prelude.{if◌then◌else◌, Some, None};
 ghost use Rattle.pim_addr.specs.Address.{address_length};
 ghost use Rattle.pim_capture.specs.Capture.{most_captured};
 ghost use Rattle.pim_capture.specs.Next.{PayloadLiesIn, event_seen};

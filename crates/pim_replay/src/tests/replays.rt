@@ -10,7 +10,7 @@ use pim_router::{Config, PortConfig, Router};
 use std::alloc::{AllocError, Global};
 use std::test::Fail;
 
-const NEVER: usize = usize::MAX;
+pub(super) const NEVER: usize = usize::MAX;
 
 /// A capture of raw IP packets: a Hello from 10.0.0.9 at 100 s, and 5 ms later its Join of the star of 239.1.1.1, to
 /// 10.0.0.2 and with the RP 10.9.9.9.
@@ -25,10 +25,10 @@ const CAPTURE: [u8; 140] = [
 
 /// A reader: these bytes, so many a call, and failures from this byte on.
 #[derive(Clone, Copy)]
-struct Input<'a> {
-    bytes: &'a [u8],
-    most: usize,
-    fails_from: usize,
+pub(super) struct Input<'a> {
+    pub(super) bytes: &'a [u8],
+    pub(super) most: usize,
+    pub(super) fails_from: usize,
 }
 
 /// A replay: its ports, its route table, and how long it goes on behind the last record.
@@ -88,7 +88,7 @@ fn ends(
     }
 }
 
-const ONE: Input<'static> = Input {
+pub(super) const ONE: Input<'static> = Input {
     bytes: &CAPTURE,
     most: 64,
     fails_from: NEVER,
@@ -98,14 +98,14 @@ const ONE: Input<'static> = Input {
 const SLOW: Input<'static> = Input { most: 1, ..ONE };
 
 /// A capture of no record.
-const EMPTY: Input<'static> = Input {
+pub(super) const EMPTY: Input<'static> = Input {
     bytes: &[
         0xd4, 0xc3, 0xb2, 0xa1, 2, 0, 4, 0, 0, 0, 0, 0, 0, 0, 0, 0, 0, 0, 4, 0, 0x65, 0, 0, 0,
     ],
     ..ONE
 };
 
-const FIRST_PORT: [PortConfig<[u8; 4]>; 1] = [PortConfig {
+pub(super) const FIRST_PORT: [PortConfig<[u8; 4]>; 1] = [PortConfig {
     address: [10, 0, 0, 2],
     propagation: 500,
     override_ms: 2500,
