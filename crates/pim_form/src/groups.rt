@@ -145,9 +145,9 @@ impl<'a, F: Family> Groups<'a, F> {
     pub fn split_first(&self) -> Option<(GroupView<'a, F>, Groups<'a, F>)>
         ensures { IsCut self.now result }
     {
-        let (first, others) = self.places.split_first()?;
+        let (first, behind) = self.places.split_first()?;
         let group = group_at::<F>(self.row, first);
-        Some((group, Groups::new(self.row, others)))
+        Some((group, Groups::new(self.row, behind)))
     }
 }
 
