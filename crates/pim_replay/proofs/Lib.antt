@@ -2,6 +2,7 @@ pub mod Demands
 pub mod Sames
 pub mod States
 pub mod Ending
+pub mod OneReport
 pub mod OnTheWay
 pub mod Texts
 pub mod Taken

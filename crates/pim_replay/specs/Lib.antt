@@ -11,3 +11,4 @@ pub mod Turn
 pub mod Report
 pub mod Underway
 pub mod Same
+pub mod Laws

@@ -1,4 +1,5 @@
--- The report of a replay: the lines of its turns, and the state behind the last of them.
+-- The report of a replay: the lines of its turns, and the state behind the last of them. It is a function of what the
+-- captures answer (`ReportHasOneText` in `Laws.antt`).
 use Rattle.std.specs.Prelude.{◌≡◌, ◌≢◌, ◌⊎◌, ⊤, ℕ, ◌+◌, min, Bool, List, [], ◌∷◌, ◌++◌, Option, None, Some, Result, Ok, Err}
 use Rattle.std.specs.Io.KnownBytes.{Appends}
 use Rattle.pim_addr.specs.declared.family.AddressFamily.{AddressFamily}

@@ -10,6 +10,7 @@
 
 mod demand_text;
 mod echo_line;
+mod laws;
 mod malformed;
 mod packet_line;
 mod passing;
@@ -24,6 +25,7 @@ mod tests;
 mod turns;
 
 pub use echo_line::write_echo_line;
+pub use laws::{report_begins_with_its_lines, report_has_one_text};
 pub use malformed::write_malformed_words;
 pub use packet_line::write_packet_line;
 pub use passing::pass_time;

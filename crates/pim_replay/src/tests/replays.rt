@@ -1,6 +1,8 @@
 //! Replays of small captures, by readers that give few bytes, end early or fail, over devices that fail.
 
-use super::states::{ANNE, BOB, HELLO, JOIN_FOREVER, JOIN_STAR, ONE_RP, PORTS, PRUNE_STAR};
+use super::states::{
+    ANNE, BOB, EVE, HELLO, HELLO_OF_EVE, JOIN_FOREVER, JOIN_STAR, ONE_RP, PRUNE_STAR,
+};
 use super::world::{Device, Route, add_rows};
 use crate::{ReplayFault, replay_into};
 use pim_addr::{Routes, ScriptedDrain, ScriptedFeed, V4};
@@ -393,5 +395,22 @@ want star 239.1.1.1
 skipped 1 refreshes 71582788
 ";
     assert!(rt; reports(rt.alloc(), &packets, 4_294_967_295_000, text)?);
+    Ok(())
+}
+
+#[test]
+fn packets_of_the_other_family_are_skipped(rt: HostRuntime) -> Result<(), Fail> {
+    let mut bytes = Vec::from_slice(rt.alloc(), EMPTY.bytes)?;
+    push_head(&mut bytes, 0, 58)?;
+    bytes.extend_from_slice(&[0x60, 0, 0, 0, 0, 18, 103, 1])?;
+    bytes.extend_from_slice(&EVE)?;
+    bytes.extend_from_slice(&[0xff, 2, 0, 0, 0, 0, 0, 0, 0, 0, 0, 0, 0, 0, 0, 13])?;
+    bytes.extend_from_slice(&HELLO_OF_EVE)?;
+    let input = Input {
+        bytes: bytes.as_slice(),
+        ..ONE
+    };
+    let text = "state at 0\nskipped 1 refreshes 0\n";
+    assert!(rt; ends_with(rt.alloc(), input, text, Ok(0)));
     Ok(())
 }

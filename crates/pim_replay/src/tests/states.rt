@@ -63,7 +63,7 @@ const TWO_GROUPS: [u8; 78] = [
 ];
 
 /// Two ports, each with the delays that are usual.
-pub(super) const PORTS: [PortConfig<[u8; 4]>; 2] = [
+const PORTS: [PortConfig<[u8; 4]>; 2] = [
     PortConfig {
         address: [10, 0, 0, 2],
         propagation: 500,
@@ -344,10 +344,10 @@ fn refusals_leave_a_front(rt: HostRuntime) {
 }
 
 /// A neighbour on the link.
-const EVE: [u8; 16] = [0xfe, 0x80, 0, 0, 0, 0, 0, 0, 0, 0, 0, 0, 0, 0, 0, 1];
+pub(super) const EVE: [u8; 16] = [0xfe, 0x80, 0, 0, 0, 0, 0, 0, 0, 0, 0, 0, 0, 0, 0, 1];
 
 /// A Hello of holdtime 105 s and generation 16909060 from that neighbour.
-const HELLO_OF_EVE: [u8; 18] = [
+pub(super) const HELLO_OF_EVE: [u8; 18] = [
     0x20, 0, 0xdd, 0x6a, 0, 1, 0, 2, 0, 105, 0, 20, 0, 4, 1, 2, 3, 4,
 ];
 

@@ -1,0 +1,35 @@
+-- What the definitions mean together.
+use Rattle.std.specs.Prelude.{◌≡◌, ℕ, Bool, List, ◌++◌}
+use Rattle.pim_addr.specs.declared.family.AddressFamily.{AddressFamily}
+use Rattle.pim_capture.specs.Capture.{Answer}
+use Rattle.pim_merge.specs.Lane.{IsComing}
+use Rattle.pim_merge.specs.Next.{MergeState}
+use Rattle.pim_router.specs.State.{RouterState}
+use Rattle.pim_replay.specs.Turn.{Account}
+use Rattle.pim_replay.specs.Report.{TellsFirst, TellsAll, IsReport}
+
+-- A report, and the router behind the replay, are a function of what the captures answer.
+abbrev pub ReportHasOneText : Type 0
+ReportHasOneText = (family : AddressFamily) (tells_via : Bool) (after_ms : ℕ) (merge : MergeState)
+    (captures : List (List Answer)) (state one other : RouterState) (text more : List ℕ) →
+    IsComing merge.lanes captures → IsReport family tells_via after_ms merge state one text →
+    IsReport family tells_via after_ms merge state other more → (text ≡ more) × (one ≡ other)
+
+-- the text begins with these lines
+pub record BeginsWith (text lines : List ℕ) : Type 0 where
+  pub rest : List ℕ
+  pub is : text ≡ lines ++ rest
+
+-- A report begins with the lines of any first turns of its merge, and with those of all.
+pub record BeginsWithItsLines (family : AddressFamily) (after_ms : ℕ) (merge : MergeState) (state : RouterState)
+    (text : List ℕ) : Type 0 where
+  pub first : (account : Account) (after : RouterState) → TellsFirst family merge account state after →
+      BeginsWith text account.lines
+  pub all : (account : Account) (after : RouterState) → TellsAll family after_ms merge account state after →
+      BeginsWith text account.lines
+
+abbrev pub ReportBeginsWithItsLines : Type 0
+ReportBeginsWithItsLines = (family : AddressFamily) (tells_via : Bool) (after_ms : ℕ) (merge : MergeState)
+    (captures : List (List Answer)) (state after : RouterState) (text : List ℕ) → IsComing merge.lanes captures →
+    IsReport family tells_via after_ms merge state after text →
+    BeginsWithItsLines family after_ms merge state text
