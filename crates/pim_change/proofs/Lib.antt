@@ -3,3 +3,4 @@ pub mod Lacking
 pub mod Changing
 pub mod Units
 pub mod StarsFit
+pub mod Unchanged

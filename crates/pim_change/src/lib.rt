@@ -7,6 +7,7 @@
 
 mod changes;
 mod fitting;
+mod laws;
 mod telling;
 #[cfg(test)]
 mod tests;
@@ -14,4 +15,5 @@ mod unit;
 
 pub use changes::changed;
 pub use fitting::too_big;
+pub use laws::equal_forms_change_nothing;
 pub use unit::{Kind, Telling, Unit};
