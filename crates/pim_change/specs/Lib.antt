@@ -1,2 +1,4 @@
 pub mod Change
 pub mod Seen
+pub mod TooBig
+pub mod Laws

@@ -145,8 +145,8 @@ impl<'a, F: Family> Groups<'a, F> {
     pub fn split_first(&self) -> Option<(GroupView<'a, F>, Groups<'a, F>)>
         ensures { IsCut self.now result }
     {
-        let (first, behind) = self.places.split_first()?;
-        let group = group_at::<F>(self.row, first);
+        let (place, behind) = self.places.split_first()?;
+        let group = group_at::<F>(self.row, place);
         Some((group, Groups::new(self.row, behind)))
     }
 }

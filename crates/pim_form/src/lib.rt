@@ -46,6 +46,7 @@ pub use laws::{
 pub use messages::Messages;
 pub use packing::pack;
 pub use settling::settled;
+pub use sizes::star_fits;
 pub use toward::{is_toward, upstream_of};
 pub use toward_laws::{
     one_row_asks_one_neighbour, same_messages_same_asked, test_tells_who_is_asked,

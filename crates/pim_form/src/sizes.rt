@@ -19,8 +19,8 @@ pub(crate) fn message_size<F: Family>(groups: usize, entries: usize) -> usize
     head + groups * set + entries * source_length::<F>()
 }
 
-/// Whether a group's star with all its exceptions fits a message alone.
-fn star_fits<F: Family>(group: &GroupView<'_, F>, budget: usize) -> bool
+/// Whether a group's star, if it has one, fits a message of this budget alone with all its exceptions.
+pub fn star_fits<F: Family>(group: &GroupView<'_, F>, budget: usize) -> bool
     ensures { result ≡ star_fits F.family budget group.now.group group.now.star }
 {
     group.is_normal();

@@ -1,7 +1,7 @@
 //! The units of changes.
 
 use super::{FIRST, GROUP, SECOND, Wanted, form};
-use crate::{Kind, Telling, Unit, changed};
+use crate::{Kind, Telling, Unit, changed, too_big};
 use std::alloc::{AllocError, Global};
 use std::test::Fail;
 
@@ -136,5 +136,32 @@ fn wrong(alloc: Global) -> Result<Option<usize>, AllocError> {
 #[test]
 fn changes_unit_by_unit(rt: HostRuntime) -> Result<(), Fail> {
     assert_eq!(rt; wrong(rt.alloc())?, None);
+    Ok(())
+}
+
+/// The group of a star that is told anew and too big for this budget.
+fn big(
+    alloc: Global,
+    from: Wanted,
+    to: Wanted,
+    budget: usize,
+) -> Result<Option<[u8; 4]>, AllocError> {
+    let old = form(alloc, from)?;
+    let new = form(alloc, to)?;
+    Ok(too_big(&old, &new, budget))
+}
+
+// A message of a star with one exception has 42 bytes.
+#[test]
+fn new_stars_alone_are_too_big(rt: HostRuntime) -> Result<(), Fail> {
+    let alloc = rt.alloc();
+    let nothing = Wanted::Nothing;
+    let starred = Wanted::StarExceptFirst;
+    assert_eq!(rt; big(alloc, nothing, starred, 42)?, None);
+    assert_eq!(rt; big(alloc, nothing, starred, 41)?, Some(GROUP));
+    assert_eq!(rt; big(alloc, Wanted::First, starred, 41)?, Some(GROUP));
+    assert_eq!(rt; big(alloc, Wanted::Star, starred, 41)?, None);
+    assert_eq!(rt; big(alloc, starred, nothing, 41)?, None);
+    assert_eq!(rt; big(alloc, starred, Wanted::First, 41)?, None);
     Ok(())
 }
