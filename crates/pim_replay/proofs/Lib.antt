@@ -1,5 +1,9 @@
 pub mod Demands
+pub mod Sames
 pub mod States
+pub mod Ending
 pub mod OnTheWay
 pub mod Texts
+pub mod Taken
+pub mod Underway
 pub mod Written

@@ -7,3 +7,7 @@ pub mod RecordLine
 pub mod DemandText
 pub mod StateText
 pub mod Passing
+pub mod Turn
+pub mod Report
+pub mod Underway
+pub mod Same

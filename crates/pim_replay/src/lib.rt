@@ -2,7 +2,10 @@
 //! and the state that the router held at the end.
 //!
 //! Proved: each line is written as `specs` spell it, whole or, where the device fails, a front of it. The state is told
-//! by its moment, its records in key order, the groups of the one normal form of what they want, and two counts.
+//! by its moment, its records in key order, the groups of the one normal form of what they want, and two counts. A
+//! replay of captures (`replay_into`) writes exactly the report of their merge, which `specs/Report.antt` defines: the
+//! lines of its turns, and the state behind the last; where a capture has a fault, the lines of the turns before it.
+//! Two routers are compared by their replays (`same_into`).
 #![tactic(auto)]
 
 mod demand_text;
@@ -12,14 +15,20 @@ mod packet_line;
 mod passing;
 mod pieces;
 mod record_line;
+mod replay;
 mod said;
+mod same;
 mod state_text;
 #[cfg(test)]
 mod tests;
+mod turns;
 
 pub use echo_line::write_echo_line;
 pub use malformed::write_malformed_words;
 pub use packet_line::write_packet_line;
 pub use passing::pass_time;
 pub use record_line::write_record_line;
+pub use replay::{ReplayFault, replay_into};
+pub use same::{SameFault, same_into};
 pub use state_text::{Counts, TextFault, write_state};
+pub use turns::take_turn;

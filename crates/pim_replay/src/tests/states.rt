@@ -7,25 +7,25 @@ use pim_router::PortConfig;
 use std::alloc::Global;
 
 /// A neighbour on the link of the first port.
-const ANNE: [u8; 4] = [10, 0, 0, 9];
+pub(super) const ANNE: [u8; 4] = [10, 0, 0, 9];
 
 /// Another one.
-const BOB: [u8; 4] = [10, 0, 0, 8];
+pub(super) const BOB: [u8; 4] = [10, 0, 0, 8];
 
 /// A neighbour on the link of the second port.
 const CARL: [u8; 4] = [10, 0, 1, 9];
 
 /// A Hello whose holdtime is 57,340 s.
-const HELLO: [u8; 10] = [0x20, 0, 0, 0, 0, 1, 0, 2, 0xdf, 0xfc];
+pub(super) const HELLO: [u8; 10] = [0x20, 0, 0, 0, 0, 1, 0, 2, 0xdf, 0xfc];
 
 /// To 10.0.0.2: the star of 239.1.1.1 joined, with the RP 10.9.9.9.
-const JOIN_STAR: [u8; 34] = [
+pub(super) const JOIN_STAR: [u8; 34] = [
     0x23, 0, 0xc4, 0xd4, 1, 0, 10, 0, 0, 2, 0, 1, 0, 210, 1, 0, 0, 32, 239, 1, 1, 1, 0, 1, 0, 0, 1,
     0, 7, 32, 10, 9, 9, 9,
 ];
 
 /// The same, with the holdtime that never ends.
-const JOIN_FOREVER: [u8; 34] = [
+pub(super) const JOIN_FOREVER: [u8; 34] = [
     0x23, 0, 0xc5, 0xa6, 1, 0, 10, 0, 0, 2, 0, 1, 255, 255, 1, 0, 0, 32, 239, 1, 1, 1, 0, 1, 0, 0,
     1, 0, 7, 32, 10, 9, 9, 9,
 ];
@@ -43,7 +43,7 @@ const JOIN_SOURCE: [u8; 42] = [
 ];
 
 /// To 10.0.0.2: the star of 239.1.1.1 pruned.
-const PRUNE_STAR: [u8; 34] = [
+pub(super) const PRUNE_STAR: [u8; 34] = [
     0x23, 0, 0xc4, 0xd4, 1, 0, 10, 0, 0, 2, 0, 1, 0, 210, 1, 0, 0, 32, 239, 1, 1, 1, 0, 0, 0, 1, 1,
     0, 7, 32, 10, 9, 9, 9,
 ];
@@ -63,7 +63,7 @@ const TWO_GROUPS: [u8; 78] = [
 ];
 
 /// Two ports, each with the delays that are usual.
-const PORTS: [PortConfig<[u8; 4]>; 2] = [
+pub(super) const PORTS: [PortConfig<[u8; 4]>; 2] = [
     PortConfig {
         address: [10, 0, 0, 2],
         propagation: 500,
@@ -77,7 +77,7 @@ const PORTS: [PortConfig<[u8; 4]>; 2] = [
 ];
 
 /// One RP for all groups.
-const ONE_RP: [Route<[u8; 4]>; 1] = [(true, [224, 0, 0, 0], 4, [10, 9, 9, 9])];
+pub(super) const ONE_RP: [Route<[u8; 4]>; 1] = [(true, [224, 0, 0, 0], 4, [10, 9, 9, 9])];
 
 /// One RP for all groups, and the neighbour towards it.
 const ONE_WAY: [Route<[u8; 4]>; 2] = [

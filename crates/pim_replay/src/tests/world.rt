@@ -34,7 +34,7 @@ pub(super) struct Device {
 }
 
 /// Adds rows to a table: whether it took all of them.
-fn add_rows<F: Family>(routes: &mut Routes<F>, rows: &[Route<F::Addr>]) -> bool {
+pub(super) fn add_rows<F: Family>(routes: &mut Routes<F>, rows: &[Route<F::Addr>]) -> bool {
     for &(is_rp, prefix, length, to) in rows {
         let added = if is_rp {
             routes.add_rp(prefix, length, to)

@@ -1,0 +1,270 @@
+-- What a turn tells, and what it leaves as it was.
+use Rattle.std.proofs.Common.{◌≡◌, ◌≤◌, ◌+◌, ◌∙◌, ℕ, zero, suc, min, Bool, true, false, if◌then◌else◌, ◌==◌, nat_lt, List, [], ◌∷◌, ◌++◌, Option, None, Some, Ok, Err, length, refl, sym, ap, subst, arith, append-nil, length-append}
+use Rattle.std.specs.Bool.{⊤}
+use Rattle.std.specs.List.{list_any}
+use Rattle.std.specs.Option.{option_map}
+use Rattle.std.specs.Io.KnownBytes.{Keeps, Appends}
+use Rattle.std.proofs.lemmas.List.{take_all}
+use Rattle.pim_addr.specs.declared.family.AddressFamily.{AddressFamily}
+use Rattle.pim_device.specs.Device.{AppendsFront, top_count}
+use Rattle.pim_frame.specs.Frame.{Content, hello, join_prune, other, content}
+use Rattle.pim_down.specs.declared.machine.Record.{Record}
+use Rattle.pim_down.specs.declared.step.Step.{Step as Fires}
+use Rattle.pim_down.specs.declared.step.Step.TheVariants as fires
+use Rattle.pim_down.specs.Time.{fired}
+use Rattle.pim_capture.specs.Frame.{Datagram}
+use Rattle.pim_capture.specs.Capture.{Told, packet, skipped, ended}
+use Rattle.pim_addr.specs.Routes.{RouteTable}
+use Rattle.pim_merge.specs.Merge.{Taken}
+use Rattle.pim_merge.specs.Next.{MergeState}
+use Rattle.pim_router.specs.declared.verdict.Verdict.{Verdict}
+use Rattle.pim_router.specs.declared.step.Step.{Step}
+use Rattle.pim_router.specs.declared.step.Step.TheVariants.{Reached}
+use Rattle.pim_router.specs.Course.{Telling, echo, refresh, verdict}
+use Rattle.pim_router.specs.Packets.{Packet, received, unless, causes, body_taken}
+use Rattle.pim_router.specs.State.{RouterState, Port}
+use Rattle.pim_router.specs.Time.{Outcome, rests, moves, tells, turn, turn_of_timers, run_on, run_within, has_ended, tick}
+use Rattle.pim_replay.specs.declared.state_text.Counts.{Counts}
+use Rattle.pim_replay.specs.declared.state_text.TextFault.{TextFault}
+use Rattle.pim_replay.specs.declared.state_text.TextFault.TheVariants.{Output, Memory}
+use Rattle.pim_replay.specs.declared.turns.Ends.{Ends}
+use Rattle.pim_replay.specs.PacketLine.{packet_line}
+use Rattle.pim_replay.specs.Passing.{Passes, PassesTime}
+use Rattle.pim_replay.specs.Report.{TellsTurns, TellsAll}
+use Rattle.pim_replay.specs.Turn.{TellsTurn, Account, is_same, packet_on, line_of, heard, passed_over, packet_taken, taking, ends_seen, ends_in, HearsPacket, TakesRecord, counted, joined, on_the_way}
+use Rattle.pim_replay.proofs.Written.{front-longer}
+
+abbrev pub made : ℕ → List ℕ → List ℕ → List ℕ → Packet
+made port source destination bytes = record { port = port; source = source; destination = destination; bytes = bytes }
+
+abbrev pub made_counts : ℕ → ℕ → Counts
+made_counts skipped' refreshes' = record { skipped = skipped'; refreshes = refreshes' }
+
+same_packet : (port : ℕ) (a b c d e f : List ℕ) → a ≡ d → b ≡ e → c ≡ f → made port a b c ≡ made port d e f
+same_packet port a b c d e f p q r = ap (λ l. made port l b c) p ∙ (ap (λ l. made port d l c) q ∙ ap (λ l. made port d e l) r)
+
+-- ---- what was written
+
+pub keeps_same : (known : Option (List ℕ)) → Keeps known known
+keeps_same None = tt
+keeps_same (Some bytes) = refl
+
+-- all of a text is a front of it
+pub all_is_front : (old new : Option (List ℕ)) (text : List ℕ) → Appends old new text → AppendsFront old new text
+all_is_front None new text p = tt
+all_is_front (Some xs) None text p = absurd p
+all_is_front (Some xs) (Some ys) text p = (long, rw p (sym (take_all (length (xs ++ text)) (xs ++ text) (omega arith))))
+  where
+    long : length xs ≤ length ys
+    long = let e : length ys ≡ length xs + length text = ap length p ∙ length-append xs text in omega (arith, e)
+
+keeps_is : (old new : Option (List ℕ)) → Keeps old new → Appends old new []
+keeps_is None new p = tt
+keeps_is (Some xs) None p = absurd p
+keeps_is (Some xs) (Some ys) p = p ∙ sym (append-nil xs)
+
+-- nothing is a front of any text
+pub none_is_front : (old new : Option (List ℕ)) (text : List ℕ) → Keeps old new → AppendsFront old new text
+none_is_front old new text p = front-longer old new [] text (all_is_front old new [] (keeps_is old new p))
+
+-- ---- the line of what became of a packet
+
+pub line_is : (family : AddressFamily) (sent : Packet) (state after : RouterState) (moment : ℕ) (said : Verdict) → moment ≡ state.machines.moment → (said, after) ≡ received family sent state
+    → packet_line family moment sent.port sent.source said ≡ line_of family sent state
+line_is family sent state after moment said now is =
+    ap (λ m. packet_line family m sent.port sent.source said) now
+    ∙ ap (λ (end : Verdict × RouterState). packet_line family state.machines.moment sent.port sent.source end.0) is
+
+if_here : {A : Type 0} (b : Bool) (x y : A) → b ≡ true → (if b then x else y) ≡ x
+if_here true x y e = refl
+if_here false x y e = absurd cc
+
+if_there : {A : Type 0} (b : Bool) (x y : A) → b ≡ false → (if b then x else y) ≡ y
+if_there true x y e = absurd cc
+if_there false x y e = refl
+
+-- a value that is there only where the test holds
+is_here : {A : Type 0} (b : Bool) (p q : A) → Some p ≡ (if b then Some q else None) → (b ≡ true) × (p ≡ q)
+is_here true p q e = (refl, cc)
+is_here false p q e = absurd cc
+
+is_gone : {A : Type 0} (b : Bool) (q : A) → None ≡ (if b then Some q else None) → b ≡ false
+is_gone true q e = absurd cc
+is_gone false q e = refl
+
+module _ (family : AddressFamily) (port : ℕ) (datagram : Datagram) (state : RouterState) (count : ℕ) where
+  -- a packet of the other family
+  pub other_skipped : {A : Type 0} (bytes_of : A → List ℕ) (ends : Option (Ends A)) (old : Option (List ℕ)) → ends ≡ None → option_map (ends_seen bytes_of) ends ≡ ends_in family datagram
+      → Appends old old [] → TakesRecord (packet_taken family port datagram state) count state old old (Ok (min (count + 1) top_count))
+  other_skipped bytes_of ends old none is nothing =
+      let test : is_same family datagram.family ≡ false = is_gone (is_same family datagram.family) (datagram.source, datagram.destination) (ap (option_map (ends_seen bytes_of)) (sym none) ∙ is) in
+      subst (λ taken. TakesRecord taken count state old old (Ok (min (count + 1) top_count)))
+      (sym (if_there (is_same family datagram.family) (heard family (packet_on port datagram) state) (passed_over state) test)) (refl, refl, nothing)
+
+  module _ {A : Type 0} (bytes_of : A → List ℕ) (ends : Option (Ends A)) (two : Ends A) (message : List ℕ) (there : ends ≡ Some two)
+      (is : option_map (ends_seen bytes_of) ends ≡ ends_in family datagram) (same : message ≡ datagram.payload) where
+    facts : (is_same family datagram.family ≡ true) × ◌≡◌ {A = List ℕ × List ℕ} (bytes_of two.source, bytes_of two.destination) (datagram.source, datagram.destination)
+    facts = is_here (is_same family datagram.family) (bytes_of two.source, bytes_of two.destination) (datagram.source, datagram.destination) (ap (option_map (ends_seen bytes_of)) (sym there) ∙ is)
+
+    taken_is : heard family (made port (bytes_of two.source) (bytes_of two.destination) message) state ≡ packet_taken family port datagram state
+    taken_is =
+        ap (λ sent. heard family sent state)
+        (same_packet port (bytes_of two.source) (bytes_of two.destination) message datagram.source datagram.destination datagram.payload (ap (λ (p : List ℕ × List ℕ). p.0) facts.1)
+        (ap (λ (p : List ℕ × List ℕ). p.1) facts.1) same)
+        ∙ sym (if_here (is_same family datagram.family) (heard family (packet_on port datagram) state) (passed_over state) facts.0)
+
+    -- a packet of the family that was taken
+    pub packet_heard : (after : RouterState) (old new : Option (List ℕ)) → count ≤ top_count
+        → HearsPacket family (made port (bytes_of two.source) (bytes_of two.destination) message) state after old new (Ok tt)
+        → TakesRecord (packet_taken family port datagram state) count after old new (Ok count)
+    packet_heard after old new small hears =
+        subst (λ taken. TakesRecord taken count after old new (Ok count)) taken_is (hears.0, omega (arith, small), hears.1)
+
+    -- one that wasn't, or whose line wasn't written
+    pub packet_stopped : (after : RouterState) (old new : Option (List ℕ)) (fault : TextFault)
+        → HearsPacket family (made port (bytes_of two.source) (bytes_of two.destination) message) state after old new (Err fault)
+        → TakesRecord (packet_taken family port datagram state) count after old new (Err fault)
+    packet_stopped after old new fault hears = subst (λ taken. TakesRecord taken count after old new (Err fault)) taken_is (stops fault hears)
+      where
+        stops : (fault : TextFault) → HearsPacket family (made port (bytes_of two.source) (bytes_of two.destination) message) state after old new (Err fault)
+            → TakesRecord (heard family (made port (bytes_of two.source) (bytes_of two.destination) message) state) count after old new (Err fault)
+        stops Output h = h
+        stops Memory h = h
+
+-- ---- a front of a record's lines
+
+pub begun : (taken : Account × RouterState) (count : ℕ) (after : RouterState) (old new : Option (List ℕ)) (fault : TextFault) → TakesRecord taken count after old new (Err fault)
+    → AppendsFront old new taken.0.lines
+begun taken count after old new Output p = p
+begun taken count after old new Memory p = none_is_front old new taken.0.lines p
+
+-- ---- what stays as it was
+
+-- its ports and its route table
+abbrev setup_of : RouterState → List Port × RouteTable
+setup_of state = (state.ports, state.routes)
+
+abbrev pub KeepsSetup : Outcome → RouterState → Type 0
+KeepsSetup rests state = ⊤
+KeepsSetup (moves after) state = setup_of after ≡ setup_of state
+KeepsSetup (tells step after) state = setup_of after ≡ setup_of state
+
+if_keeps : (b : Bool) (x y : Outcome) (state : RouterState) → KeepsSetup x state → KeepsSetup y state → KeepsSetup (if b then x else y) state
+if_keeps true x y state p q = p
+if_keeps false x y state p q = q
+
+timers_keep : (moment : ℕ) (state : RouterState) (next : Option (Fires (List ℕ) × List (Record (List ℕ)))) → KeepsSetup (turn_of_timers moment state next) state
+timers_keep moment state None =
+    if_keeps (state.refresh == 0) _ _ state refl (if_keeps (nat_lt state.machines.moment moment) (moves (tick state)) rests state refl tt)
+timers_keep moment state (Some (fires.Reached, records)) = refl
+timers_keep moment state (Some (fires.Echo port group what, records)) = refl
+
+turn_keeps : (moment : ℕ) (state : RouterState) → KeepsSetup (turn moment state) state
+unfolding turn
+turn_keeps moment state = if_keeps (list_any has_ended state.tables) _ _ state refl (timers_keep moment state (fired state.machines.records))
+
+some_is : {A : Type 0} (x y : A) → Some x ≡ Some y → x ≡ y
+some_is x y e = cc
+
+outcome_keeps : (outcome : Outcome) (state after : RouterState) (answer : Step (List ℕ)) (more : RouterState → Option (Step (List ℕ) × RouterState)) → KeepsSetup outcome state
+    → ((s : RouterState) → more s ≡ Some (answer, after) → setup_of after ≡ setup_of s) → run_on outcome state more ≡ Some (answer, after) → setup_of after ≡ setup_of state
+outcome_keeps rests state after answer more keeps hyp is =
+    ap (λ (p : Step (List ℕ) × RouterState). setup_of p.1) (sym (some_is {A = Step (List ℕ) × RouterState} (Reached, state) (answer, after) is))
+outcome_keeps (moves between) state after answer more keeps hyp is = hyp between is ∙ keeps
+outcome_keeps (tells step between) state after answer more keeps hyp is =
+    ap (λ (p : Step (List ℕ) × RouterState). setup_of p.1) (sym (some_is {A = Step (List ℕ) × RouterState} (step, between) (answer, after) is)) ∙ keeps
+
+within_keeps : (turns moment : ℕ) (state after : RouterState) (answer : Step (List ℕ)) → run_within turns moment state ≡ Some (answer, after) → setup_of after ≡ setup_of state
+unfolding run_within
+within_keeps zero moment state after answer is = absurd cc
+within_keeps (suc turns) moment state after answer is =
+    outcome_keeps (turn moment state) state after answer (run_within turns moment) (turn_keeps moment state) (λ s more. within_keeps turns moment s after answer more) is
+
+passes_keep : (family : AddressFamily) (moment : ℕ) (said : List Telling) (lines : List ℕ) (refreshes : ℕ) (state after : RouterState) → Passes family moment said lines refreshes state after
+    → setup_of after ≡ setup_of state
+unfolding Passes
+passes_keep family moment [] lines refreshes state after (runs, a, b) = within_keeps runs.turns moment state after _ runs.within
+passes_keep family moment (echo port group what ∷ more) lines refreshes state after (between, others, runs, a, passes) =
+    passes_keep family moment more others refreshes between after passes ∙ within_keeps runs.turns moment state between _ runs.within
+passes_keep family moment (refresh ∷ more) lines refreshes state after (between, others, runs, a, passes) =
+    passes_keep family moment more lines others between after passes ∙ within_keeps runs.turns moment state between _ runs.within
+passes_keep family moment (verdict of_packet ∷ more) lines refreshes state after passes = absurd passes
+
+-- time leaves the ports and the table
+pub time_keeps : (family : AddressFamily) (moment : ℕ) (lines : List ℕ) (refreshes : ℕ) (state after : RouterState) → PassesTime family moment lines refreshes state after → after.ports ≡ state.ports
+time_keeps family moment lines refreshes state after passes =
+    ap (λ (setup : List Port × RouteTable). setup.0) (passes_keep family moment passes.told lines refreshes state after passes.passes)
+
+time_keeps_table : (family : AddressFamily) (moment : ℕ) (lines : List ℕ) (refreshes : ℕ) (state after : RouterState) → PassesTime family moment lines refreshes state after
+    → after.routes ≡ state.routes
+time_keeps_table family moment lines refreshes state after passes =
+    ap (λ (setup : List Port × RouteTable). setup.1) (passes_keep family moment passes.told lines refreshes state after passes.passes)
+
+-- a packet leaves the ports, the table and the moment
+pub record Stays (state after : RouterState) : Type 0 where
+  pub ports : after.ports ≡ state.ports
+  pub routes : after.routes ≡ state.routes
+  pub moment : after.machines.moment ≡ state.machines.moment
+
+stays : (state : RouterState) → Stays state state
+stays state = record { ports = refl; routes = refl; moment = refl }
+
+body_stays : (family : AddressFamily) (port : ℕ) (source : List ℕ) (state : RouterState) (body : Content) → Stays state (body_taken family port source state body).1
+body_stays family port source state (other type) = record { ports = refl; routes = refl; moment = refl }
+body_stays family port source state (hello body) = record { ports = refl; routes = refl; moment = refl }
+body_stays family port source state (join_prune body) = record { ports = refl; routes = refl; moment = refl }
+
+unless_stays : (told : List Verdict) (state : RouterState) (taken : Verdict × RouterState) → Stays state taken.1 → Stays state (unless told state taken).1
+unless_stays [] state taken p = p
+unless_stays (cause ∷ others) state taken p = stays state
+
+if_stays : (b : Bool) (x y : Account × RouterState) (state : RouterState) → Stays state x.1 → Stays state y.1 → Stays state (if b then x else y).1
+if_stays true x y state p q = p
+if_stays false x y state p q = q
+
+pub record_stays : (family : AddressFamily) (port : ℕ) (said : Told) (state : RouterState) → Stays state (taking family port said state).1
+record_stays family port (packet millis frame datagram) state =
+    if_stays (is_same family datagram.family) (heard family (packet_on port datagram) state) (passed_over state) state
+    (unless_stays (causes family (packet_on port datagram) state) state _ (body_stays family port datagram.source state (content datagram.payload))) (stays state)
+record_stays family port (skipped millis why) state = stays state
+record_stays family port ended state = stays state
+
+-- all turns and the time behind them leave the table
+turn_keeps_table : (family : AddressFamily) (this : Taken) (account : Account) (state after : RouterState) → TellsTurn family this account state after → after.routes ≡ state.routes
+turn_keeps_table family this account state after done =
+    ap (λ (s : RouterState). s.routes) done.after_is
+    ∙ ((record_stays family this.capture this.told done.between).routes ∙ time_keeps_table family this.moment done.way done.refreshes state done.between done.passes)
+
+turns_keep_table : (family : AddressFamily) (taken : List Taken) (account : Account) (state after : RouterState) → TellsTurns family taken account state after → after.routes ≡ state.routes
+unfolding TellsTurns
+turns_keep_table family [] account state after (none, same) = ap (λ (s : RouterState). s.routes) same
+turns_keep_table family (first ∷ others) account state after (one, more, between, begins, goes_on, is) =
+    turns_keep_table family others more between after goes_on ∙ turn_keeps_table family first one state between begins
+
+pub all_keep_table : (family : AddressFamily) (after_ms : ℕ) (merge : MergeState) (account : Account) (state after : RouterState) → TellsAll family after_ms merge account state after
+    → after.routes ≡ state.routes
+all_keep_table family after_ms merge account state after all =
+    time_keeps_table family (all.between.machines.moment + after_ms) all.way all.refreshes all.between after all.passes
+    ∙ turns_keep_table family all.taken all.turns state all.between all.tells
+
+-- no Refresh is told of a record
+if_none : (b : Bool) (x y : Account × RouterState) → x.0.refreshes ≡ 0 → y.0.refreshes ≡ 0 → (if b then x else y).0.refreshes ≡ 0
+if_none true x y p q = p
+if_none false x y p q = q
+
+none_refreshed : (family : AddressFamily) (port : ℕ) (said : Told) (state : RouterState) → (taking family port said state).0.refreshes ≡ 0
+none_refreshed family port (packet millis frame datagram) state =
+    if_none (is_same family datagram.family) (heard family (packet_on port datagram) state) (passed_over state) refl refl
+none_refreshed family port (skipped millis why) state = refl
+none_refreshed family port ended state = refl
+
+-- ---- counts
+
+pub same_counts : (a b c d : ℕ) → a ≡ b → c ≡ d → made_counts a c ≡ made_counts b d
+same_counts a b c d p q = ap (λ n. made_counts n c) p ∙ ap (λ n. made_counts b n) q
+
+pub turn_counted : (family : AddressFamily) (port : ℕ) (said : Told) (state : RouterState) (way : List ℕ) (passed : ℕ) (counts : Counts) (skipped' refreshes' : ℕ)
+    → skipped' ≡ min (counts.skipped + (taking family port said state).0.skips) top_count → refreshes' ≡ min (counts.refreshes + passed) top_count
+    → made_counts skipped' refreshes' ≡ counted counts (joined (on_the_way way passed) (taking family port said state).0)
+turn_counted family port said state way passed counts skipped' refreshes' p q =
+    let none = none_refreshed family port said state in same_counts skipped' _ refreshes' _ (omega (arith, p)) (omega (arith, q, none))

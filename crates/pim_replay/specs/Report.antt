@@ -1,0 +1,151 @@
+-- The report of a replay: the lines of its turns, and the state behind the last of them.
+use Rattle.std.specs.Prelude.{◌≡◌, ◌≢◌, ◌⊎◌, ⊤, ℕ, ◌+◌, min, Bool, List, [], ◌∷◌, ◌++◌, Option, None, Some, Result, Ok, Err}
+use Rattle.std.specs.Io.KnownBytes.{Appends}
+use Rattle.pim_addr.specs.declared.family.AddressFamily.{AddressFamily}
+use Rattle.pim_device.specs.Device.{AppendsFront, top_count}
+use Rattle.pim_capture.specs.declared.fault.CaptureFault.{CaptureFault}
+use Rattle.pim_capture.specs.declared.fault.CaptureFault.TheVariants as fault
+use Rattle.pim_capture.specs.Capture.{Answer}
+use Rattle.pim_capture.specs.Next.{IsRefusal}
+use Rattle.pim_merge.specs.declared.clock.Clock.{Clock}
+use Rattle.pim_merge.specs.declared.merge.MergeFault.{MergeFault}
+use Rattle.pim_merge.specs.Merge.{Taken, IsMerge, turn, takes, fails, after_turn, clock_after, moment_of, time_told}
+use Rattle.pim_merge.specs.Lane.{IsComing, lane_at}
+use Rattle.pim_merge.specs.Next.{MergeState, with_fault}
+use Rattle.pim_form.specs.NormalForm.{GroupForm, IsFormOf}
+use Rattle.pim_form.specs.Wants.{wants}
+use Rattle.pim_router.specs.State.{RouterState}
+use Rattle.pim_replay.specs.declared.replay.ReplayFault.{ReplayFault}
+use Rattle.pim_replay.specs.declared.replay.ReplayFault.TheVariants.{Capture, Output, Memory}
+use Rattle.pim_replay.specs.declared.state_text.Counts.{Counts}
+use Rattle.pim_replay.specs.Passing.{PassesTime}
+use Rattle.pim_replay.specs.StateText.{text_with}
+use Rattle.pim_replay.specs.Turn.{Account, nothing, joined, on_the_way, counted, TellsTurn, HasBegun}
+
+-- ---- the turns of a merge
+
+-- one turn after the other
+unfoldable pub TellsTurns : AddressFamily → List Taken → Account → RouterState → RouterState → Type 0
+TellsTurns family [] account state after = (account ≡ nothing) × (after ≡ state)
+TellsTurns family (first ∷ others) account state after =
+    (one : Account) × (more : Account) × (between : RouterState) × TellsTurn family first one state between
+    × TellsTurns family others more between after × (account ≡ joined one more)
+
+-- These are the records that a merge takes first, in this order; behind them its clock is that, and the captures still
+-- answer the rest.
+unfoldable pub Takes : Option Clock → List (List Answer) → List Taken → Option Clock → List (List Answer) → Type 0
+Takes clock captures [] clock' rest = (clock' ≡ clock) × (rest ≡ captures)
+Takes clock captures (first ∷ others) clock' rest =
+    (turn captures ≡ takes first.capture first.told)
+    × (first.moment ≡ moment_of (clock_after clock (time_told first.told)))
+    × Takes (clock_after clock (time_told first.told)) (after_turn first.capture captures) others clock' rest
+
+-- ---- which turns they are, for all lists that the captures may still answer
+
+-- all the turns of the merge, which ends with this fault of this capture, or with none
+abbrev pub AreAll : MergeState → Option (ℕ × CaptureFault) → List Taken → Type 0
+AreAll merge fault taken =
+    (captures : List (List Answer)) → IsComing merge.lanes captures → IsMerge merge.clock captures taken fault
+
+-- turns that the merge takes first, and what holds of the rest
+pub record GoesOn (clock : Option Clock) (captures : List (List Answer)) (taken : List Taken)
+    (IsRest : List (List Answer) → Type 0) : Type 0 where
+  pub clock_then : Option Clock
+  pub rest : List (List Answer)
+  pub takes_them : Takes clock captures taken clock_then rest
+  pub is_rest : IsRest rest
+
+abbrev pub AreFirst : MergeState → List Taken → Type 0
+AreFirst merge taken = (captures : List (List Answer)) → IsComing merge.lanes captures →
+    GoesOn merge.clock captures taken (λ rest. ⊤)
+
+-- the turns before this fault, which stands in the place of what its capture still answered
+abbrev pub AreBefore : MergeState → MergeFault → List Taken → Type 0
+AreBefore merge told taken = (captures : List (List Answer)) → IsComing merge.lanes captures →
+    GoesOn merge.clock captures taken (λ rest. turn (with_fault told rest) ≡ fails told.capture told.fault)
+
+-- ---- the lines of these turns, and then those up to the end
+
+-- the lines of some first turns
+pub record TellsFirst (family : AddressFamily) (merge : MergeState) (account : Account) (state after : RouterState)
+    : Type 0 where
+  pub taken : List Taken
+  pub are : AreFirst merge taken
+  pub tells : TellsTurns family taken account state after
+
+-- The lines of all turns; then the router runs on, for so many milliseconds.
+pub record TellsAll (family : AddressFamily) (after_ms : ℕ) (merge : MergeState) (account : Account)
+    (state after : RouterState) : Type 0 where
+  pub taken : List Taken
+  pub are : AreAll merge None taken
+  pub turns : Account
+  pub between : RouterState
+  pub tells : TellsTurns family taken turns state between
+  pub way : List ℕ
+  pub refreshes : ℕ
+  pub passes : PassesTime family (between.machines.moment + after_ms) way refreshes between after
+  pub account_is : account ≡ joined turns (on_the_way way refreshes)
+
+-- ---- the report
+
+abbrev pub none_yet : Counts
+none_yet = record { skipped = 0; refreshes = 0 }
+
+-- The lines of the replay, and then the state that the router holds behind it, with the counts.
+pub record IsReport (family : AddressFamily) (tells_via : Bool) (after_ms : ℕ) (merge : MergeState) (state after : RouterState)
+    (text : List ℕ) : Type 0 where
+  pub account : Account
+  pub tells : TellsAll family after_ms merge account state after
+  pub form : List GroupForm
+  pub demand : IsFormOf family (wants after.machines) form
+  pub text_is : text ≡ account.lines ++ text_with family tells_via after form (counted none_yet account)
+
+-- ---- what an engine answers and writes
+
+-- this report, written so
+pub record Reports (family : AddressFamily) (tells_via : Bool) (after_ms : ℕ) (merge : MergeState)
+    (state after : RouterState) (IsWritten : List ℕ → Type 0) : Type 0 where
+  pub text : List ℕ
+  pub is_report : IsReport family tells_via after_ms merge state after text
+  pub written : IsWritten text
+
+-- Exactly the lines of the turns before a capture's fault were written. The fault is what the captures answer, or a read
+-- failed in the call.
+pub record StopsAt (family : AddressFamily) (merge merge' : MergeState) (told : MergeFault) (state : RouterState)
+    (old new : Option (List ℕ)) : Type 0 where
+  pub taken : List Taken
+  pub account : Account
+  pub after : RouterState
+  pub are : AreBefore merge told taken
+  pub tells : TellsTurns family taken account state after
+  pub written : Appends old new account.lines
+  pub no_memory : told.fault ≢ fault.Memory
+  pub cause : IsRefusal {A = ⊤} (lane_at told.capture merge.lanes).failures (lane_at told.capture merge'.lanes).failures
+      (Err told.fault) ⊎ AreAll merge (Some (told.capture, told.fault)) taken
+
+-- Where the device failed or memory was refused, a front of the report was written: of the lines of its first turns, or
+-- of the lines of all, or of all of it.
+abbrev pub BeginsReport : AddressFamily → Bool → ℕ → MergeState → RouterState → Option (List ℕ) → Option (List ℕ) →
+    Type 0
+BeginsReport family tells_via after_ms merge state old new =
+    HasBegun (λ account after. TellsFirst family merge account state after) old new
+    ⊎ HasBegun (λ account after. TellsAll family after_ms merge account state after) old new
+    ⊎ (after : RouterState) × Reports family tells_via after_ms merge state after (AppendsFront old new)
+
+abbrev pub Replays : AddressFamily → Bool → ℕ → MergeState → MergeState → RouterState → RouterState →
+    Option (List ℕ) → Option (List ℕ) → Result ℕ ReplayFault → Type 0
+Replays family tells_via after_ms merge merge' state after old new (Ok status) =
+    (status ≡ 0) × Reports family tells_via after_ms merge state after (Appends old new)
+Replays family tells_via after_ms merge merge' state after old new (Err (Capture told)) =
+    StopsAt family merge merge' told state old new
+Replays family tells_via after_ms merge merge' state after old new (Err Output) =
+    BeginsReport family tells_via after_ms merge state old new
+Replays family tells_via after_ms merge merge' state after old new (Err Memory) =
+    BeginsReport family tells_via after_ms merge state old new
+
+-- The device failed once more where its failure is the answer, and else never.
+abbrev pub failures_of_device : {A : Type 0} → ℕ → Result A ReplayFault → ℕ
+failures_of_device before (Ok done) = before
+failures_of_device before (Err (Capture told)) = before
+failures_of_device before (Err Output) = min (before + 1) top_count
+failures_of_device before (Err Memory) = before

@@ -1,0 +1,98 @@
+-- Whether two routers whose captures are replayed want the same of an upstream neighbour.
+use Rattle.std.specs.Prelude.{◌≡◌, ◌↔◌, ◌⊎◌, ℕ, Bool, true, false, IsTrue, List, Option, None, Some, Result, Ok, Err, codes, min, ◌+◌}
+use Rattle.std.specs.Io.KnownBytes.{Appends, Keeps}
+use Rattle.pim_addr.specs.declared.family.AddressFamily.{AddressFamily}
+use Rattle.pim_device.specs.Device.{AppendsFront, top_count}
+use Rattle.pim_form.specs.Messages.{Writing}
+use Rattle.pim_form.specs.NormalForm.{Agree}
+use Rattle.pim_form.specs.declared.fault.FormFault.{FormFault}
+use Rattle.pim_form.specs.declared.fault.FormFault.TheVariants as form
+use Rattle.pim_merge.specs.Next.{MergeState}
+use Rattle.pim_router.specs.Canonical.{asked, IsFirstTooBig}
+use Rattle.pim_router.specs.State.{RouterState}
+use Rattle.pim_replay.specs.declared.replay.ReplayFault.TheVariants.{Capture, Output, Memory}
+use Rattle.pim_replay.specs.declared.same.SameFault.{SameFault}
+use Rattle.pim_replay.specs.declared.same.SameFault.TheVariants.{Replay, TooBig}
+use Rattle.pim_replay.specs.Pieces.{line}
+use Rattle.pim_replay.specs.Turn.{Account}
+use Rattle.pim_replay.specs.Report.{TellsAll, StopsAt}
+
+-- the word that tells it, and the status
+abbrev pub answer_line : Bool → List ℕ
+answer_line true = line (codes "same")
+answer_line false = line (codes "different")
+
+abbrev pub answer_status : Bool → ℕ
+answer_status true = 0
+answer_status false = 1
+
+-- All turns of the merge were taken, and so much time passed behind them: that is the router then.
+pub record RunsAll (family : AddressFamily) (after_ms : ℕ) (merge : MergeState) (state after : RouterState) : Type 0 where
+  pub account : Account
+  pub tells : TellsAll family after_ms merge account state after
+
+-- what the two routers want of the neighbour is the same for each valid source, each group and both trees
+abbrev pub WantTheSame : AddressFamily → Writing → RouterState → RouterState → Type 0
+WantTheSame family writing one other =
+    Agree family (asked family writing.upstream one) (asked family writing.upstream other)
+
+-- the answer, written so
+pub record Answers (family : AddressFamily) (writing : Writing) (one other : RouterState) (IsWritten : Bool → Type 0) : Type 0 where
+  pub same : Bool
+  pub is_so : IsTrue same ↔ WantTheSame family writing one other
+  pub written : IsWritten same
+
+module _ (family : AddressFamily) (after_ms : ℕ) (writing : Writing) (merge merge' : MergeState) (state after : RouterState)
+    (other other' : MergeState) (state_of after_of : RouterState) where
+  -- Both replays came to their end, and this holds of the routers.
+  abbrev pub Both : Type 0 → Type 0
+  Both fact = RunsAll family after_ms merge state after × RunsAll family after_ms other state_of after_of × fact
+
+  -- A capture's fault is one of the first router, or one of the other where the first came to its end.
+  abbrev pub Compares : {F A N : Type 0} → (A → List ℕ) → Option (List ℕ) → Option (List ℕ) →
+      Result ℕ (SameFault F A N) → Type 0
+  Compares bytes_of old new (Ok status) =
+      Both (Answers family writing after after_of
+      (λ same. (status ≡ answer_status same) × Appends old new (answer_line same)))
+  Compares bytes_of old new (Err (TooBig group)) =
+      Both (IsFirstTooBig family writing after after_of (Some (bytes_of group))) × Keeps old new
+  Compares bytes_of old new (Err (Replay (Capture told))) =
+      (StopsAt family merge merge' told state None None
+      ⊎ RunsAll family after_ms merge state after × StopsAt family other other' told state_of None None)
+      × Keeps old new
+  Compares bytes_of old new (Err (Replay Output)) =
+      Both (Answers family writing after after_of (λ same. AppendsFront old new (answer_line same)))
+  Compares bytes_of old new (Err (Replay Memory)) = Keeps old new
+
+-- The device failed once more where its failure is the answer, and else never.
+abbrev pub failures_of_answer : {T F A N : Type 0} → ℕ → Result T (SameFault F A N) → ℕ
+failures_of_answer before (Ok status) = before
+failures_of_answer before (Err (TooBig group)) = before
+failures_of_answer before (Err (Replay (Capture told))) = before
+failures_of_answer before (Err (Replay Output)) = min (before + 1) top_count
+failures_of_answer before (Err (Replay Memory)) = before
+
+-- ---- words of private functions
+
+-- why two replays aren't compared, where their demands aren't
+abbrev pub of_form : {F A N : Type 0} → FormFault F A N → SameFault F A N
+of_form (form.TooBig group) = TooBig group
+of_form form.Memory = Replay Memory
+of_form form.Tables = Replay Memory
+
+-- what a comparison of two routers answers
+abbrev pub Judges : {F A N : Type 0} → (A → List ℕ) → AddressFamily → Writing → RouterState → RouterState →
+    Result Bool (SameFault F A N) → Type 0
+Judges bytes_of family writing one other (Ok same) = IsTrue same ↔ WantTheSame family writing one other
+Judges bytes_of family writing one other (Err (TooBig group)) = IsFirstTooBig family writing one other (Some (bytes_of group))
+Judges bytes_of family writing one other (Err (Replay (Capture told))) = ⊥
+Judges bytes_of family writing one other (Err (Replay Output)) = ⊥
+Judges bytes_of family writing one other (Err (Replay Memory)) = Unit {0}
+
+-- what writing the answer leaves
+abbrev pub Says : {F A N : Type 0} → Bool → Option (List ℕ) → Option (List ℕ) → Result ℕ (SameFault F A N) → Type 0
+Says same old new (Ok status) = (status ≡ answer_status same) × Appends old new (answer_line same)
+Says same old new (Err (TooBig group)) = ⊥
+Says same old new (Err (Replay (Capture told))) = ⊥
+Says same old new (Err (Replay Output)) = AppendsFront old new (answer_line same)
+Says same old new (Err (Replay Memory)) = ⊥

@@ -1,0 +1,93 @@
+-- A replay on its way: words of private functions.
+use Rattle.std.specs.Prelude.{◌≡◌, ◌⊎◌, ℕ, List, Option, None, Some, Result, Ok, Err}
+use Rattle.std.specs.Io.KnownBytes.{Appends}
+use Rattle.pim_addr.specs.declared.family.AddressFamily.{AddressFamily}
+use Rattle.pim_capture.specs.declared.fault.CaptureFault.{CaptureFault}
+use Rattle.pim_capture.specs.declared.fault.CaptureFault.TheVariants as fault
+use Rattle.pim_capture.specs.Capture.{Answer}
+use Rattle.pim_merge.specs.declared.clock.Clock.{Clock}
+use Rattle.pim_merge.specs.declared.merge.MergeFault.{MergeFault}
+use Rattle.pim_merge.specs.Merge.{Taken}
+use Rattle.pim_merge.specs.Lane.{IsComing, failures_of}
+use Rattle.pim_merge.specs.Next.{MergeState}
+use Rattle.pim_router.specs.State.{RouterState}
+use Rattle.pim_replay.specs.declared.replay.ReplayFault.{ReplayFault}
+use Rattle.pim_replay.specs.declared.replay.ReplayFault.TheVariants.{Capture, Output, Memory}
+use Rattle.pim_replay.specs.declared.state_text.Counts.{Counts}
+use Rattle.pim_replay.specs.declared.state_text.TextFault.{TextFault}
+use Rattle.pim_replay.specs.declared.state_text.TextFault.TheVariants as text
+use Rattle.pim_replay.specs.Turn.{Account, HasTold, HasBegun, counted}
+use Rattle.pim_replay.specs.Report.{TellsTurns, Takes, AreAll, TellsFirst, TellsAll, StopsAt, none_yet}
+
+-- why a replay ends, where a merge answers this fault
+abbrev pub stop_by : MergeFault → CaptureFault → ReplayFault
+stop_by told fault.Memory = Memory
+stop_by told _ = Capture told
+
+abbrev pub stopped_by : MergeFault → ReplayFault
+stopped_by told = stop_by told told.fault
+
+abbrev pub of_text : TextFault → ReplayFault
+of_text text.Output = Output
+of_text text.Memory = Memory
+
+-- These turns are behind: the captures still answer this, and their clock is that.
+pub record IsBehind (clock : Option Clock) (captures : List (List Answer)) (taken : List Taken) (merge : MergeState)
+    : Type 0 where
+  pub rest : List (List Answer)
+  pub takes_them : Takes clock captures taken merge.clock rest
+  pub coming : IsComing merge.lanes rest
+
+module _ (family : AddressFamily) (merge : MergeState) (state : RouterState) (old : Option (List ℕ)) where
+  -- Some turns of the merge were taken; they are written and counted, and no read has failed.
+  pub record IsUnderway (merge' : MergeState) (now : RouterState) (new : Option (List ℕ)) (counts : Counts) : Type 0 where
+    pub taken : List Taken
+    pub account : Account
+    pub turns : (captures : List (List Answer)) → IsComing merge.lanes captures → IsBehind merge.clock captures taken merge'
+    pub tells : TellsTurns family taken account state now
+    pub written : Appends old new account.lines
+    pub is_counted : counts ≡ counted none_yet account
+    pub reads : failures_of merge'.lanes ≡ failures_of merge.lanes
+
+  -- All its turns were taken.
+  pub record HasAll (now : RouterState) (new : Option (List ℕ)) (counts : Counts) : Type 0 where
+    pub taken : List Taken
+    pub account : Account
+    pub are : AreAll merge None taken
+    pub tells : TellsTurns family taken account state now
+    pub written : Appends old new account.lines
+    pub is_counted : counts ≡ counted none_yet account
+
+  -- some of its lines were written, and a front of the next one
+  abbrev pub HasSome : Option (List ℕ) → Type 0
+  HasSome new = HasBegun (λ account after. TellsFirst family merge account state after) old new
+
+  -- what one turn more leaves, where these were counted before
+  abbrev pub Steps : Counts → MergeState → RouterState → Option (List ℕ) → Result (Option Counts) ReplayFault → Type 0
+  Steps counts merge' now new (Ok None) = HasAll now new counts
+  Steps counts merge' now new (Ok (Some more)) = IsUnderway merge' now new more
+  Steps counts merge' now new (Err (Capture told)) = StopsAt family merge merge' told state old new
+  Steps counts merge' now new (Err Output) = HasSome new
+  Steps counts merge' now new (Err Memory) = HasSome new
+
+  -- what all turns leave
+  abbrev pub RunsTurns : MergeState → RouterState → Option (List ℕ) → Result Counts ReplayFault → Type 0
+  RunsTurns merge' now new (Ok counts) = HasAll now new counts
+  RunsTurns merge' now new (Err (Capture told)) = StopsAt family merge merge' told state old new
+  RunsTurns merge' now new (Err Output) = HasSome new
+  RunsTurns merge' now new (Err Memory) = HasSome new
+
+  -- what all turns and the time behind them leave
+  abbrev pub RunsOn : ℕ → MergeState → RouterState → Option (List ℕ) → Result Counts ReplayFault → Type 0
+  RunsOn after_ms merge' now new (Ok counts) =
+      HasTold (λ account. TellsAll family after_ms merge account state now) old new none_yet counts
+  RunsOn after_ms merge' now new (Err (Capture told)) = StopsAt family merge merge' told state old new
+  RunsOn after_ms merge' now new (Err Output) =
+      HasSome new ⊎ HasBegun (λ account after. TellsAll family after_ms merge account state after) old new
+  RunsOn after_ms merge' now new (Err Memory) = HasSome new
+
+-- a fact where there was one turn more
+abbrev pub IfMore : {A : Type 0} → Result (Option A) ReplayFault → Type 0 → Type 0
+IfMore (Ok (Some more)) fact = fact
+IfMore (Ok None) fact = Unit {0}
+IfMore (Err told) fact = Unit {0}

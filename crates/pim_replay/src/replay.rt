@@ -1,0 +1,159 @@
+//! A replay: the captures of a router's ports, from the first record to the state behind the last.
+
+ghost use Rattle.std.specs.Prelude.{◌≡◌, ◌<◌, ◌≤◌, ℕ, List, Option, length, Some, OnOk, OnErr};
+ghost use Rattle.pim_capture.specs.Next.{latest_moment};
+ghost use Rattle.pim_merge.specs.Lane.{failures_of};
+ghost use Rattle.pim_merge.specs.Next.{MergeState, turns_left};
+ghost use Rattle.pim_router.specs.State.{RouterState};
+ghost use Rattle.pim_replay.specs.Report.{Replays, failures_of_device};
+ghost use Rattle.pim_replay.specs.Underway.{stopped_by, of_text, IsUnderway, Steps, RunsTurns, RunsOn, IfMore};
+
+use crate::passing::pass_time;
+use crate::state_text::{Counts, TextFault, write_state};
+use crate::turns::take_turn;
+use pim_addr::{Drain, Family, Feed};
+use pim_capture::CaptureFault;
+use pim_merge::{Merge, MergeFault};
+use pim_router::Router;
+use std::alloc::Global;
+
+/// Why a replay ended before its end.
+#[derive(Clone, Copy, Debug, PartialEq, Eq)]
+pub enum ReplayFault {
+    /// The head of a capture is this fault, or can't be read; of several the first capture's. It is never `Memory`.
+    Capture(MergeFault),
+    /// The device failed.
+    Output,
+    /// A growth was refused.
+    Memory,
+}
+
+/// Why a replay ends where its merge answers this fault.
+fn stopped_by(told: MergeFault) -> ReplayFault
+    ensures { result ≡ stopped_by told }
+{
+    match told.fault {
+        CaptureFault::Memory => ReplayFault::Memory,
+        _ => ReplayFault::Capture(told),
+    }
+}
+
+/// Why a replay ends where a text isn't told.
+fn of_text(fault: TextFault) -> ReplayFault
+    ensures { result ≡ of_text fault }
+{
+    match fault {
+        TextFault::Output => ReplayFault::Output,
+        TextFault::Memory => ReplayFault::Memory,
+    }
+}
+
+/// Takes the next turn, if there is one. The answer is the counts behind it.
+fn step<F: Family, R: Feed + Drop, W: Drain>(
+    merge: &mut Merge<R>,
+    router: &mut Router<'_, F>,
+    writer: &mut W,
+    counts: Counts,
+) -> Result<Option<Counts>, ReplayFault>
+    requires ports { length merge.old.lanes ≡ length router.old.ports }
+    requires moment { router.old.machines.moment ≤ latest_moment }
+    ensures told { (start : MergeState) (state : RouterState) (old : Option (List ℕ)) →
+        IsUnderway F.family start state old merge.old router.old (W.contents writer.old) counts →
+        Steps F.family start state old counts merge.new router.new (W.contents writer.new) result }
+    ensures count { W.failures writer.new ≡ failures_of_device (W.failures writer.old) result }
+    ensures ports { OnOk result (length merge.new.lanes ≡ length router.new.ports) }
+    ensures moment { OnOk result (router.new.machines.moment ≤ latest_moment) }
+    ensures nearer { IfMore result (turns_left merge.new < turns_left merge.old) }
+{
+    let next = match merge.next() {
+        Ok(next) => next,
+        Err(told) => return Err(stopped_by(told)),
+    };
+    let Some(turn) = next else {
+        return Ok(None);
+    };
+    let bytes = merge.bytes(turn.capture);
+    match take_turn::<F, W>(writer, router, &turn, bytes, counts) {
+        Ok(counts) => Ok(Some(counts)),
+        Err(fault) => Err(of_text(fault)),
+    }
+}
+
+/// Takes all turns. The answer is what was counted.
+fn run_turns<F: Family, R: Feed + Drop, W: Drain>(
+    merge: &mut Merge<R>,
+    router: &mut Router<'_, F>,
+    writer: &mut W,
+) -> Result<Counts, ReplayFault>
+    requires ports { length merge.old.lanes ≡ length router.old.ports }
+    requires moment { router.old.machines.moment ≤ latest_moment }
+    ensures told { RunsTurns F.family merge.old router.old (W.contents writer.old)
+        merge.new router.new (W.contents writer.new) result }
+    ensures count { W.failures writer.new ≡ failures_of_device (W.failures writer.old) result }
+    ensures moment { OnOk result (router.new.machines.moment ≤ latest_moment) }
+{
+    let mut counts = Counts {
+        skipped: 0,
+        refreshes: 0,
+    };
+    while let Some(more) = step::<F, R, W>(merge, router, writer, counts)? {
+        counts = more;
+    }
+    Ok(counts)
+}
+
+/// Takes all turns, and lets the last time pass. The answer is what was counted.
+pub(crate) fn run_on<F: Family, R: Feed + Drop, W: Drain>(
+    merge: &mut Merge<R>,
+    router: &mut Router<'_, F>,
+    after_ms: u64,
+    writer: &mut W,
+) -> Result<Counts, ReplayFault>
+    requires ports { length merge.old.lanes ≡ length router.old.ports }
+    requires moment { router.old.machines.moment ≤ latest_moment }
+    requires after { after_ms ≤ 1000000000 }
+    ensures told { RunsOn F.family merge.old router.old (W.contents writer.old) after_ms
+        merge.new router.new (W.contents writer.new) result }
+    ensures count { W.failures writer.new ≡ failures_of_device (W.failures writer.old) result }
+{
+    let counts = run_turns::<F, R, W>(merge, router, writer)?;
+    let end = router.now() + after_ms;
+    let Ok(refreshes) = pass_time::<F, W>(writer, router, end, counts.refreshes) else {
+        return Err(ReplayFault::Output);
+    };
+    Ok(Counts {
+        skipped: counts.skipped,
+        refreshes,
+    })
+}
+
+/// Replays the captures of a router's ports, one for each port and in their order, and writes the report: a line for
+/// each packet of the router's family and for each echo, where they fall, and then the state that the router holds
+/// `after_ms` milliseconds behind the last record. The answer is the status, 0.
+///
+/// Beside the router it takes the memory of one buffer a capture, and in the end that of `write_state`.
+///
+/// # Errors
+/// `Capture` where the head of a capture is a fault: exactly the lines of the turns before it were written. `Output`
+/// and `Memory`: a front of the report was.
+pub fn replay_into<F: Family, R: Feed + Drop, W: Drain>(
+    alloc: Global,
+    merge: &mut Merge<R>,
+    router: &mut Router<'_, F>,
+    after_ms: u64,
+    tells_via: bool,
+    writer: &mut W,
+) -> Result<u8, ReplayFault>
+    requires ports { length merge.old.lanes ≡ length router.old.ports }
+    requires moment { router.old.machines.moment ≤ latest_moment }
+    requires after { after_ms ≤ 1000000000 }
+    ensures report { Replays F.family tells_via after_ms merge.old merge.new router.old router.new
+        (W.contents writer.old) (W.contents writer.new) result }
+    ensures count { W.failures writer.new ≡ failures_of_device (W.failures writer.old) result }
+{
+    let counts = run_on::<F, R, W>(merge, router, after_ms, writer)?;
+    match write_state::<F, W>(alloc, writer, router, tells_via, counts) {
+        Ok(()) => Ok(0),
+        Err(fault) => Err(of_text(fault)),
+    }
+}

@@ -1,0 +1,136 @@
+//! Whether two routers whose captures are replayed want the same.
+
+ghost use Rattle.std.specs.Prelude.{◌≡◌, ◌≤◌, length};
+ghost use Rattle.pim_capture.specs.Next.{latest_moment};
+ghost use Rattle.pim_form.specs.declared.fault.FormFault.TheVariants as form;
+ghost use Rattle.pim_replay.specs.Same.{Compares, Judges, Says, of_form, failures_of_answer, answer_line, answer_status};
+
+use crate::replay::{ReplayFault, run_on};
+use pim_addr::{Drain, Failed, Family, Feed, write_all};
+use pim_form::{FormFault, Writer};
+use pim_merge::Merge;
+use pim_router::{Router, same_wants};
+use std::alloc::Global;
+
+/// Why two replays aren't compared.
+#[derive(Debug, Drop, PartialEq, Eq)]
+pub enum SameFault<F: Family> {
+    /// A replay ended before its end, or memory was refused, or the device failed.
+    Replay(ReplayFault),
+    /// The star of this group, with all its exceptions, is too big for a message of the writer's budget.
+    TooBig(F::Addr),
+}
+
+impl<F: Family> From<ReplayFault> for SameFault<F> {
+    ghost use Rattle.pim_replay.specs.declared.same.SameFault.TheVariants.{Replay};
+
+    ghost from_gives = { λ told fault. fault ≡ Replay told };
+
+    fn from(told: ReplayFault) -> Self {
+        SameFault::Replay(told)
+    }
+}
+
+/// A device that takes all and keeps nothing.
+#[derive(Drop)]
+struct Nowhere;
+
+impl Drain for Nowhere {
+    ghost use Rattle.std.specs.Prelude.{None};
+
+    ghost contents = { λ _. None };
+
+    ghost failures = { λ _. 0 };
+
+    fn write(&mut self, bytes: &[u8]) -> Result<usize, Failed> {
+        Ok(bytes.len())
+    }
+}
+
+/// Why two replays aren't compared, where their demands aren't. Their tables don't differ.
+fn of_form<F: Family>(fault: FormFault<F>) -> SameFault<F>
+    ensures { result ≡ of_form fault }
+{
+    match fault {
+        FormFault::TooBig(group) => SameFault::TooBig(group),
+        FormFault::Memory | FormFault::Tables => SameFault::Replay(ReplayFault::Memory),
+    }
+}
+
+/// Whether two routers want the same of the writer's upstream neighbour.
+fn judge<F: Family>(
+    alloc: Global,
+    a: &Router<'_, F>,
+    b: &Router<'_, F>,
+    by: &Writer<F>,
+) -> Result<bool, SameFault<F>>
+    requires { a.now.routes ≡ b.now.routes }
+    ensures { Judges F.bytes_of F.family by.now a.now b.now result }
+{
+    match same_wants::<F>(alloc, a, b, by) {
+        Ok(same) => Ok(same),
+        Err(fault) => Err(of_form(fault)),
+    }
+}
+
+/// The line that tells the answer.
+fn answer_line(same: bool) -> &'static [u8]
+    ensures { result.now ≡ answer_line same }
+{
+    if same { b"same\n" } else { b"different\n" }
+}
+
+/// The status that tells the answer.
+fn answer_status(same: bool) -> u8
+    ensures { result ≡ answer_status same }
+{
+    if same { 0 } else { 1 }
+}
+
+/// Writes the answer, and answers the status.
+fn say<F: Family, W: Drain>(same: bool, writer: &mut W) -> Result<u8, SameFault<F>>
+    ensures said { Says same (W.contents writer.old) (W.contents writer.new) result }
+    ensures count { W.failures writer.new ≡ failures_of_answer (W.failures writer.old) result }
+{
+    let Ok(()) = write_all(writer, answer_line(same)) else {
+        return Err(SameFault::Replay(ReplayFault::Output));
+    };
+    Ok(answer_status(same))
+}
+
+/// Replays the captures of two routers, one capture a port and each until `after_ms` milliseconds behind its last
+/// record, and writes whether the routers then want the same of the upstream neighbour of `by`, for every source, group
+/// and tree: `same`, with the answer 0, or `different`, with the answer 1. Nothing else is written. Both have one table.
+///
+/// Beside the routers it takes the memory of one buffer a capture, and in the end that of `same_wants`.
+///
+/// # Errors
+/// What ends the replay of `a`, and else that of `b`. Then `TooBig` of `a`, and else of `b`. `Memory` where a growth is
+/// refused, and `Output` where the device fails: a front of the line was written. After any other nothing was.
+pub fn same_into<F: Family, R: Feed + Drop, W: Drain>(
+    alloc: Global,
+    merge_a: &mut Merge<R>,
+    router_a: &mut Router<'_, F>,
+    merge_b: &mut Merge<R>,
+    router_b: &mut Router<'_, F>,
+    after_ms: u64,
+    by: &Writer<F>,
+    writer: &mut W,
+) -> Result<u8, SameFault<F>>
+    requires ports_a { length merge_a.old.lanes ≡ length router_a.old.ports }
+    requires ports_b { length merge_b.old.lanes ≡ length router_b.old.ports }
+    requires moment_a { router_a.old.machines.moment ≤ latest_moment }
+    requires moment_b { router_b.old.machines.moment ≤ latest_moment }
+    requires after { after_ms ≤ 1000000000 }
+    requires routes { router_a.old.routes ≡ router_b.old.routes }
+    ensures compares { Compares F.family after_ms by.now merge_a.old merge_a.new router_a.old router_a.new
+        merge_b.old merge_b.new router_b.old router_b.new
+        F.bytes_of (W.contents writer.old) (W.contents writer.new) result }
+    ensures count { W.failures writer.new ≡ failures_of_answer (W.failures writer.old) result }
+{
+    let mut nowhere = Nowhere;
+    run_on::<F, R, Nowhere>(merge_a, router_a, after_ms, &mut nowhere)?;
+    run_on::<F, R, Nowhere>(merge_b, router_b, after_ms, &mut nowhere)?;
+    let same = judge::<F>(alloc, router_a, router_b, by)?;
+    say::<F, W>(same, writer)
+}
