@@ -47,13 +47,13 @@ module _ {X : Type 0} where
       by same true e = ap (λ (rest : List X). cond (p x) (x ∷ rest) rest) same
       by same false e = let fails : p x ≡ false = less x e in rw fails same
 
-  removed_before : (xs : List X) (i k : ℕ) (d : X) → i < length xs → k < i → get_or (remove xs i) k d ≡ get_or xs k d
+  pub removed_before : (xs : List X) (i k : ℕ) (d : X) → i < length xs → k < i → get_or (remove xs i) k d ≡ get_or xs k d
   removed_before [] i k d w lt = absurd (omega arith)
   removed_before (x ∷ xs) zero k d w lt = absurd (omega arith)
   removed_before (x ∷ xs) (suc i) zero d w lt = refl
   removed_before (x ∷ xs) (suc i) (suc k) d w lt = removed_before xs i k d (omega arith) (omega arith)
 
-  removed_behind : (xs : List X) (i k : ℕ) (d : X) → i < length xs → i ≤ k → get_or (remove xs i) k d ≡ get_or xs (suc k) d
+  pub removed_behind : (xs : List X) (i k : ℕ) (d : X) → i < length xs → i ≤ k → get_or (remove xs i) k d ≡ get_or xs (suc k) d
   removed_behind [] i k d w le = absurd (omega arith)
   removed_behind (x ∷ xs) zero k d w le = refl
   removed_behind (x ∷ xs) (suc i) zero d w le = absurd (omega arith)

@@ -39,7 +39,7 @@ module _ {X : Type 0} (f : X → Record (List ℕ)) (due : Record (List ℕ) →
   first_due_none (x ∷ xs) fails = let first : due (f x) ≡ false = fails 0 x (omega arith) in rw first (first_due_none xs (λ k d h. fails (suc k) d (omega arith)))
 
 -- no place passes the test
-position_none : {X : Type 0} (p : X → Bool) (xs : List X) → position p xs ≡ None → (k : ℕ) (d : X) → k < length xs → p (get_or xs k d) ≡ false
+pub position_none : {X : Type 0} (p : X → Bool) (xs : List X) → position p xs ≡ None → (k : ℕ) (d : X) → k < length xs → p (get_or xs k d) ≡ false
 position_none p xs none k d within =
     elim (ltb (position_or_len p xs) (length xs)) as (λ b. ltb (position_or_len p xs) (length xs) ≡ b → cond b (Some (position_or_len p xs)) None ≡ None → p (get_or xs k d) ≡ false) [
       | true ↦ λ t e. cc

@@ -14,6 +14,7 @@ pub mod Places
 pub mod Halves
 pub mod Firing
 pub mod Jumps
+pub mod Moments
 pub mod Kept
 pub mod Walks
 pub mod Act

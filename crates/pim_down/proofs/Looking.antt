@@ -1,5 +1,5 @@
 -- Going from place to place of a list, up to the first record that passes a test.
-use Rattle.std.proofs.Common.{◌≡◌, ◌↔◌, IsTrue, ℕ, ◌+◌, ◌<◌, ◌≤◌, Bool, true, false, cond, List, [], ◌∷◌, Option, Some, None, length, drop, get_or, ltb, refl, sym, ap, ◌∙◌, arith}
+use Rattle.std.proofs.Common.{◌≡◌, ◌↔◌, IsTrue, ℕ, zero, suc, ◌+◌, ◌<◌, ◌≤◌, Bool, true, false, cond, List, [], ◌∷◌, Option, Some, None, length, drop, get_or, set, ltb, refl, sym, ap, ◌∙◌, arith}
 use Rattle.std.specs.List.{position, slice_get}
 use Rattle.std.proofs.lemmas.Bool.{false≢true, ltb-true, ltb-false, lt-ltb}
 use Rattle.std.proofs.lemmas.List.{get_or-drop, length-drop}
@@ -7,6 +7,7 @@ use Rattle.std.proofs.lemmas.List.Sums.{position_or_len_is}
 use Rattle.std.proofs.lemmas.Option.{slice_get_past, slice_get-get_or}
 use Rattle.sorted_blocks.specs.declared.place.Place.{Place}
 use Rattle.sorted_slab.specs.Listed.{Listed, at, IsItem}
+pub use Rattle.pim_down.specs.Store.{NoneBefore}
 use Rattle.pim_down.proofs.Rpts.{same_default}
 
 module _ {X : Type 0} where
@@ -14,9 +15,12 @@ module _ {X : Type 0} where
   abbrev pub IsNext : Listed X → Place → Type 0
   IsNext list place = at list place < length list.items → IsItem list place
 
-  -- nothing before this index passes
-  abbrev pub NoneBefore : (X → Bool) → List X → ℕ → Type 0
-  NoneBefore test xs i = (k : ℕ) (d : X) → k < i → k < length xs → test (get_or xs k d) ≡ false
+  -- what stands before an item that is set stays
+  pub set_before : (xs : List X) (i k : ℕ) (x d : X) → k < i → get_or (set xs i x) k d ≡ get_or xs k d
+  set_before [] i k x d lt = refl
+  set_before (y ∷ xs) zero k x d lt = absurd (omega arith)
+  set_before (y ∷ xs) (suc i) zero x d lt = refl
+  set_before (y ∷ xs) (suc i) (suc k) x d lt = set_before xs i k x d (omega arith)
 
   pub past_end : (list : Listed X) (place : Place) (r : Bool) → (IsTrue r ↔ IsItem list place) → r ≡ false → IsNext list place → length list.items ≤ at list place
   past_end list place r tells e next = by (ltb (at list place) (length list.items)) refl

@@ -34,3 +34,8 @@ IsPlaceOf bytes_of key list (Err place) =
 abbrev pub IsFirst : {A : Type 0} → (Held A → Bool) → Listed (Held A) → Option Place → Type 0
 IsFirst test list None = position test list.items ≡ None
 IsFirst test list (Some place) = IsItem list place × (position test list.items ≡ Some (at list place))
+
+-- nothing before this index passes
+module _ {X : Type 0} where
+  abbrev pub NoneBefore : (X → Bool) → List X → ℕ → Type 0
+  NoneBefore test xs i = (k : ℕ) (d : X) → k < i → k < length xs → test (slice_index_or xs k d) ≡ false

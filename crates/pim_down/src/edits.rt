@@ -53,7 +53,8 @@ pub(crate) fn place_of(found: Result<Place, Place>) -> Place {
     }
 }
 
-/// Replaces the machine of the record at this place, or lets go of it. The answer is a place near by.
+/// Replaces the machine of the record at this place, or lets go of it. The answer is the place of what stands there
+/// then.
 pub(crate) fn replace_at<A: Copy>(
     records: &mut Store<A>,
     place: Place,
@@ -66,6 +67,10 @@ pub(crate) fn replace_at<A: Copy>(
         (machine_seen machine)
         ++ drop (at records.old place + 1) (records_seen bytes_of records.old.items)) }
     ensures capacity { records.new.capacity ≡ records.old.capacity }
+    ensures before { (k : ℕ) (d : Held A) → k < at records.old place →
+        slice_index_or records.new.items k d ≡ slice_index_or records.old.items k d }
+    ensures at { at records.new result ≡ at records.old place }
+    ensures item { at records.new result < length records.new.items → IsItem records.new result }
 {
     match machine {
         Some(machine) => {

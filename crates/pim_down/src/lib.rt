@@ -8,6 +8,7 @@
 #![tactic(auto)]
 
 mod after;
+mod due;
 mod edits;
 mod end;
 mod event;

@@ -217,8 +217,9 @@ impl<F: Family> Ports<F> {
     /// Runs to this moment, in milliseconds, at most 10^15, or to the first echo; an earlier moment counts as now. What
     /// is still due after an echo stays due, and the next call goes on.
     ///
-    /// It walks through all records once for each timer that fires, and once more; where a call before has reached its
-    /// moment, nothing was heard since and no timer ends by this moment, through none.
+    /// It walks through all records up to five times for each moment at which timers fire, and for each echo, and once
+    /// more; where a call before has reached its moment, nothing was heard since and no timer ends by this moment,
+    /// through none.
     pub fn run_to(&mut self, moment: u64) -> Step<F::Addr>
         requires { moment ≤ 1000000000000000 }
         ensures run { Runs moment self.old (step_seen F.bytes_of result) self.new }

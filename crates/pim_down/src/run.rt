@@ -7,9 +7,10 @@ ghost use Rattle.pim_down.specs.Ends.{first_end, IsQuietUntil};
 ghost use Rattle.pim_down.specs.Seen.{step_seen, records_seen};
 ghost use Rattle.pim_down.specs.Running.{downstream_at};
 
+use crate::due::fire_due;
 use crate::step::Step;
 use crate::store::Store;
-use crate::timers::{NextEnd, end_by, fire_first};
+use crate::timers::{NextEnd, end_by};
 use pim_addr::Family;
 
 /// Where a run stops.
@@ -50,7 +51,7 @@ pub(crate) fn run<F: Family>(
         match end_by::<F>(records, last) {
             NextEnd::Ends(ends) => {
                 now = now.max(ends);
-                match fire_first::<F>(records, now) {
+                match fire_due::<F>(records, now) {
                     Step::Reached => {}
                     Step::Echo { port, group, what } => {
                         let step = Step::Echo { port, group, what };

@@ -1,6 +1,6 @@
 //! When the timers of some records end, and what they do then.
 
-ghost use Rattle.std.specs.Prelude.{◌≡◌, IsTrue, ◌+◌, ℕ, List, ◌++◌, take, drop, slice_index_or};
+ghost use Rattle.std.specs.Prelude.{◌≡◌, IsTrue, ◌+◌, ◌<◌, ℕ, List, ◌++◌, take, drop, length, slice_index_or};
 ghost use Rattle.sorted_slab.specs.Listed.{at, IsItem};
 ghost use Rattle.pim_down.specs.declared.held.Held.{Held};
 ghost use Rattle.std.specs.Option.{is_some};
@@ -73,7 +73,7 @@ pub(crate) fn end_by<F: Family>(records: &Store<F::Addr>, last: u64) -> NextEnd
 
 /// Whether its prune-pending timer is due.
 #[tactic(auto, using(crate::proofs::Ends::due_from_end))]
-fn is_pending_due(machine: &Timed, now: u64) -> bool
+pub(crate) fn is_pending_due(machine: &Timed, now: u64) -> bool
     ensures { result ≡ pending_due (pending_after now (waiting_seen machine.now.pending)) }
 {
     match machine.pending {
@@ -84,7 +84,7 @@ fn is_pending_due(machine: &Timed, now: u64) -> bool
 
 /// Whether its expiry timer is due.
 #[tactic(auto, using(crate::proofs::Ends::due_from_end))]
-fn is_expired(machine: &Timed, now: u64) -> bool
+pub(crate) fn is_expired(machine: &Timed, now: u64) -> bool
     ensures { result ≡ expiry_due (expiry_after now machine.now.expires_at) }
 {
     match machine.expires_at {
@@ -151,20 +151,28 @@ fn echo_of<A: Copy>(held: &Held<A>) -> Step<A>
     }
 }
 
-/// Fires the prune-pending timer of the record at this place.
-fn fire_pending<F: Family>(records: &mut Store<F::Addr>, place: Place) -> Step<F::Addr>
+/// Fires the prune-pending timer of the record at this place. Beside what is told stands the place of what stands there
+/// then.
+pub(crate) fn fire_pending<F: Family>(
+    records: &mut Store<F::Addr>,
+    place: Place,
+) -> (Step<F::Addr>, Place)
     requires { IsItem records.old place }
-    ensures told { (d : Held F.Addr) → step_seen F.bytes_of result
+    ensures told { (d : Held F.Addr) → step_seen F.bytes_of result.0
         ≡ echo_of (record_seen F.bytes_of (slice_index_or records.old.items (at records.old place) d)) }
     ensures left { (d : Held F.Addr) → records_seen F.bytes_of records.new.items
         ≡ take (at records.old place) (records_seen F.bytes_of records.old.items)
         ++ (after_ppt (record_seen F.bytes_of (slice_index_or records.old.items (at records.old place) d))
         ++ drop (at records.old place + 1) (records_seen F.bytes_of records.old.items)) }
+    ensures before { (k : ℕ) (d : Held F.Addr) → k < at records.old place →
+        slice_index_or records.new.items k d ≡ slice_index_or records.old.items k d }
+    ensures at { at records.new result.1 ≡ at records.old place }
+    ensures item { at records.new result.1 < length records.new.items → IsItem records.new result.1 }
 {
     let fired = *records.get(place);
     let machine = on_ppt(&fired.key.what, &fired.machine);
-    replace_at(records, place, machine);
-    echo_of(&fired)
+    let behind = replace_at(records, place, machine);
+    (echo_of(&fired), behind)
 }
 
 /// Fires the first due timer: prune-pending timers come before expiry timers.
@@ -174,7 +182,10 @@ pub(crate) fn fire_first<F: Family>(records: &mut Store<F::Addr>, now: u64) -> S
         ≡ Some (step_seen F.bytes_of result, shown F.bytes_of now records.new.items) }
 {
     match first_pending::<F>(records, now) {
-        Some(place) => fire_pending::<F>(records, place),
+        Some(place) => {
+            let (step, _place) = fire_pending::<F>(records, place);
+            step
+        }
         None => match first_expired::<F>(records, now) {
             Some(place) => {
                 records.remove(place);

@@ -1,30 +1,29 @@
 use Rattle.std.proofs.Common.{arith}
-use Rattle.pim_down.specs.declared.step.Step.TheVariants.{Reached}
 use Rattle.pim_down.specs.Ends.{first_end}
 use Rattle.pim_down.specs.Seen.{what_seen, records_seen}
 use Rattle.pim_down.proofs.Ends.{still_quiet}
-use Rattle.pim_down.proofs.Jumps.{arrive, settle, fires_on, fires_echo, fires_some, lighter}
+use Rattle.pim_down.proofs.Jumps.{arrive, settle, fires_some}
 use Rattle.pim_down.proofs.run.run.Goals as goal
 
-pub fire_first-requires : goal.fire_first-requires
-fire_first-requires g c =
+pub fire_due-requires : goal.fire_due-requires
+fire_due-requires g c =
     let first = c.in-Ends.ensures.0 in
     fires_some g.F.Family.bytes_of c.max-now.result c.in-Ends.ends c.loop-ends.records.items first (omega arith)
 
 pub returns-in-Echo-clause-runs : goal.returns-in-Echo-clause-runs
 returns-in-Echo-clause-runs g c ports limit =
     let first = c.in-Ends.ensures.0 in
-    let echo = fires_echo g.F.Family.bytes_of ports limit c.args.moment c.max-now.result c.loop-ends.records.items c.fire_first.new.records.items c.in-Echo.port (g.F.Family.bytes_of c.in-Echo.group) (what_seen g.F.Family.bytes_of c.in-Echo.what) c.in-Echo.ensures in
+    let echo = c.in-Echo.ensures.goes ports limit c.args.moment in
     c.loop-ends.invariant.from_start ports limit _ _ (arrive g.F.Family.bytes_of ports limit c.args.moment c.args.now c.loop-ends.now c.max-now.result c.max-last.result c.in-Ends.ends c.loop-ends.records.items _ _ c.loop-ends.invariant.later c.max-last.ensures c.in-Ends.ensures.1 c.max-now.ensures first echo)
 
 pub loop-ends-smaller : goal.loop-ends-smaller
-loop-ends-smaller g c = lighter g.F.Family.bytes_of c.max-now.result c.loop-ends.records.items c.fire_first.new.records.items Reached c.in-Reached.ensures
+loop-ends-smaller g c = c.in-Reached.ensures.lighter
 
 pub loop-ends-preserved : goal.loop-ends-preserved
 loop-ends-preserved g c =
     let first = c.in-Ends.ensures.0 in
     record {
-      from_start = λ ports limit answer after runs. c.loop-ends.invariant.from_start ports limit answer after (arrive g.F.Family.bytes_of ports limit c.args.moment c.args.now c.loop-ends.now c.max-now.result c.max-last.result c.in-Ends.ends c.loop-ends.records.items answer after c.loop-ends.invariant.later c.max-last.ensures c.in-Ends.ensures.1 c.max-now.ensures first (fires_on g.F.Family.bytes_of ports limit c.args.moment c.max-now.result c.loop-ends.records.items c.fire_first.new.records.items answer after c.in-Reached.ensures runs));
+      from_start = λ ports limit answer after runs. c.loop-ends.invariant.from_start ports limit answer after (arrive g.F.Family.bytes_of ports limit c.args.moment c.args.now c.loop-ends.now c.max-now.result c.max-last.result c.in-Ends.ends c.loop-ends.records.items answer after c.loop-ends.invariant.later c.max-last.ensures c.in-Ends.ensures.1 c.max-now.ensures first (c.in-Reached.ensures.goes ports limit c.args.moment answer after runs));
       later = omega arith;
       within = omega (arith, c.in-Ends.ensures.1);
     }

@@ -11,7 +11,7 @@ returns-in-Some g c =
     let list = c.args.records.now in
     let found = c.in-Some.ensures in
     let d = (element list.items (at list c.in-Some.place) found.0.1).0 in
-    fired_pending g.F.Family.bytes_of c.args.now list.items c.fire_pending.new.records.items (at list c.in-Some.place) _ d found.1 (c.fire_pending.ensures.told d) (c.fire_pending.ensures.left d)
+    fired_pending g.F.Family.bytes_of c.args.now list.items c.fire_pending-step.new.records.items (at list c.in-Some.place) _ d found.1 (c.fire_pending-step.ensures.told d) (c.fire_pending-step.ensures.left d)
 
 pub returns-in-Some-first_expired : goal.returns-in-Some-first_expired
 returns-in-Some-first_expired g c =

@@ -20,5 +20,5 @@ returns-clause-left g c d =
     let seen = records_seen bytes_of items in
     let i = at c.args.records.now c.args.place in
     let it = c.get.ensures ∙ same_default items i c.get.result.now d c.requires.1 in
-    c.replace_at.ensures.left bytes_of d
+    c.replace_at-behind.ensures.left bytes_of d
     ∙ ap (λ machine. take i seen ++ (recorded (key_seen bytes_of (get_or items i d).key) machine ++ drop (i + 1) seen)) (c.on_ppt-machine.ensures bytes_of ∙ ap (λ held. on_ppt (what_seen bytes_of held.key.what) (timed_seen held.machine)) it)
