@@ -6,6 +6,7 @@
 #![tactic(auto)]
 
 mod changes;
+mod entries;
 mod fitting;
 mod laws;
 mod telling;
