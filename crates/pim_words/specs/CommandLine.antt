@@ -66,12 +66,9 @@ bare = record (new_shape (codes "pimtree")) {
   subcommand_required = true;
 }
 
--- with `check` alone
-abbrev pub check_alone : App
-check_alone = with_subcommand (record { top = bare; subs = [] }) check
-
+-- with the two that write no messages
 abbrev pub reading_commands : App
-reading_commands = with_subcommand check_alone replay
+reading_commands = with_subcommand (with_subcommand (record { top = bare; subs = [] }) check) replay
 
 -- with all four commands
 abbrev pub pimtree : App

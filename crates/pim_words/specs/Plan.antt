@@ -1,5 +1,5 @@
 -- What is to be done, by the words.
-use Rattle.std.specs.Prelude.{◌≡◌, ◌⊎◌, List, [], ◌∷◌, ⊤, true, IsSomeAnd, Result, Ok, Err}
+use Rattle.std.specs.Prelude.{◌≡◌, ◌≤◌, ◌⊎◌, List, [], ◌∷◌, ⊤, true, IsSomeAnd, Result, Ok, Err}
 use Rattle.std.specs.declared.alloc.AllocError.{AllocError}
 use Rattle.std.specs.declared.alloc.Global.{Global}
 use Rattle.std.specs.declared.string.String.{String}
@@ -13,7 +13,7 @@ use Rattle.pim_words.specs.declared.task.Kind.{Kind}
 use Rattle.pim_words.specs.declared.task.Plan.{Plan}
 use Rattle.pim_words.specs.declared.task.Plan.TheVariants.{V4, V6}
 use Rattle.pim_words.specs.declared.task.Task.{Task}
-use Rattle.pim_words.specs.declared.task.Task.TheVariants.{Check}
+use Rattle.pim_words.specs.declared.task.Task.TheVariants.{Check, Replay}
 use Rattle.pim_words.specs.Faults.{task_faults}
 use Rattle.pim_words.specs.Given.{kind_name}
 use Rattle.pim_words.specs.Reading.{IsTask, IsUnreadable}
@@ -76,16 +76,17 @@ abbrev pub HasCause : App → List Text → Fault → Type 0
 HasCause app words cause.Memory = ⊤
 HasCause app words fault = IsRefusal app words fault ⊎ HasWrong app words fault
 
--- ---- plans of one message
+-- ---- plans that read, and write no messages
 
-abbrev pub IsCheckTask : {A : Type 0} → Task A → Type 0
-IsCheckTask (Check source destination) = ⊤
-IsCheckTask other = ⊥
+abbrev pub IsReadingTask : {A : Type 0} → Task A → Type 0
+IsReadingTask (Check source destination) = ⊤
+IsReadingTask (Replay captures) = captures.after_ms ≤ 1000000000
+IsReadingTask other = ⊥
 
--- The plan is to read one message.
-abbrev pub IsCheck : Plan → Type 0
-IsCheck (V4 task) = IsCheckTask task
-IsCheck (V6 task) = IsCheckTask task
+-- The plan is to read one message, or to replay captures and to run on for at most 10^9 milliseconds.
+abbrev pub IsReading : Plan → Type 0
+IsReading (V4 task) = IsReadingTask task
+IsReading (V6 task) = IsReadingTask task
 
 -- ---- refusals
 

@@ -5,7 +5,7 @@ ghost use Rattle.clap.specs.declared.builder.command.Command.TheViews.{out-Comma
 ghost use Rattle.clap.specs.Words.{app_of, shape_of, rule_of, with_rule, with_subcommand};
 ghost use Rattle.pim_words.specs.CommandLine.{text_option, required_option, number_option, words_rule};
 ghost use Rattle.pim_words.specs.CommandLine.{with_run_options, with_addresses, with_writing, check};
-ghost use Rattle.pim_words.specs.CommandLine.{replay, writing, bare, check_alone, reading_commands, pimtree};
+ghost use Rattle.pim_words.specs.CommandLine.{replay, writing, bare, reading_commands, pimtree};
 
 use clap::builder::ValueParser;
 use clap::{Arg, ArgAction, Command};
@@ -19,8 +19,8 @@ const AFTER_HELP: &str =
     "Exit status: 0 where all went well, 1 where `same` tells that the routers differ, 2 for a
 fault, which one line on standard error tells.";
 
-/// How a run ends where `check` is the one command.
-const CHECK_ALONE_AFTER_HELP: &str =
+/// How a run ends where no command compares.
+const READING_AFTER_HELP: &str =
     "Exit status: 0 where all went well, 2 for a fault, which one line on standard error tells.";
 
 /// What `check` does.
@@ -299,31 +299,23 @@ fn bare_command<'a>(alloc: Global, after_help: &'a str) -> Command<'a>
         .subcommand_required(true)
 }
 
-/// The command line with `check` alone. Its help ends with this text.
-fn with_check<'a>(alloc: Global, after_help: &'a str) -> Result<Command<'a>, AllocError>
-    ensures app { IfOk result (λ c. app_of c ≡ check_alone) }
-    ensures local { IfOk result (λ c. (out-Command c).has_globals ≡ false) }
-{
-    let check = check_command(alloc)?;
-    with_command(bare_command(alloc, after_help), check)
-}
-
-/// The command line with its two commands that write nothing.
-fn reading_commands<'a>(alloc: Global) -> Result<Command<'a>, AllocError>
+/// The command line with its two commands that write no messages. Its help ends with this text.
+fn with_reading<'a>(alloc: Global, after_help: &'a str) -> Result<Command<'a>, AllocError>
     ensures app { IfOk result (λ c. app_of c ≡ reading_commands) }
     ensures local { IfOk result (λ c. (out-Command c).has_globals ≡ false) }
 {
-    let whole = with_check(alloc, AFTER_HELP)?;
+    let check = check_command(alloc)?;
+    let whole = with_command(bare_command(alloc, after_help), check)?;
     let replay = replay_command(alloc)?;
     with_command(whole, replay)
 }
 
-/// The command line of a program that has `check` alone.
-pub(crate) fn check_alone<'a>(alloc: Global) -> Result<Command<'a>, AllocError>
-    ensures app { IfOk result (λ c. app_of c ≡ check_alone) }
+/// The command line of a program that has `check` and `replay`.
+pub(crate) fn reading_commands<'a>(alloc: Global) -> Result<Command<'a>, AllocError>
+    ensures app { IfOk result (λ c. app_of c ≡ reading_commands) }
     ensures local { IfOk result (λ c. (out-Command c).has_globals ≡ false) }
 {
-    with_check(alloc, CHECK_ALONE_AFTER_HELP)
+    with_reading(alloc, READING_AFTER_HELP)
 }
 
 /// The whole command line.
@@ -331,7 +323,7 @@ pub(crate) fn command<'a>(alloc: Global) -> Result<Command<'a>, AllocError>
     ensures app { IfOk result (λ c. app_of c ≡ pimtree) }
     ensures local { IfOk result (λ c. (out-Command c).has_globals ≡ false) }
 {
-    let whole = reading_commands(alloc)?;
+    let whole = with_reading(alloc, AFTER_HELP)?;
     let same = writing_command(alloc, "same", SAME_ABOUT, SAME_AFTER_HELP, SIDED_HELP)?;
     let whole = with_command(whole, same)?;
     let mirror = writing_command(alloc, "mirror", MIRROR_ABOUT, MIRROR_AFTER_HELP, PORT_HELP)?;

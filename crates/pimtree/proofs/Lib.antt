@@ -1,3 +1,4 @@
 pub mod Lines
 pub mod Reports
 pub mod Writes
+pub mod Routers
