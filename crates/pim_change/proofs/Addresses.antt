@@ -23,11 +23,13 @@ greater_less a b h = nat_list_cmp_total.antisymm b a ∙ ap ordering_reverse h
 pub less_apart_back : (a b : List ℕ) → slice_cmp nat_cmp a b ≡ Less → same_address b a ≡ false
 less_apart_back a b h = texts_ties b a ∙ ap is_eq (nat_list_cmp_total.antisymm b a ∙ ap ordering_reverse h)
 
-pub all_behind : (a b : List ℕ) (xs : List (List ℕ)) → slice_cmp nat_cmp a b ≡ Less → AllByRecursion (λ x. slice_cmp nat_cmp b x ≡ Less) xs
+pub all_behind : (a b : List ℕ) (xs : List (List ℕ)) → slice_cmp nat_cmp a b ≡ Less
+    → AllByRecursion (λ x. slice_cmp nat_cmp b x ≡ Less) xs
     → AllByRecursion (λ x. slice_cmp nat_cmp a x ≡ Less) xs
 all_behind a b [] less below = tt
 all_behind a b (x ∷ xs) less below = (nat_list_cmp_total.trans a b x less below.0, all_behind a b xs less below.1)
 
-pub unlisted_below : (a : List ℕ) (xs : List (List ℕ)) → AllByRecursion (λ x. slice_cmp nat_cmp a x ≡ Less) xs → is_listed a xs ≡ false
+pub unlisted_below : (a : List ℕ) (xs : List (List ℕ)) → AllByRecursion (λ x. slice_cmp nat_cmp a x ≡ Less) xs
+    → is_listed a xs ≡ false
 unlisted_below a [] below = refl
 unlisted_below a (x ∷ xs) below = rw (less_apart a x below.0) (unlisted_below a xs below.1)

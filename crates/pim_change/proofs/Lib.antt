@@ -4,3 +4,4 @@ pub mod Changing
 pub mod Units
 pub mod StarsFit
 pub mod Unchanged
+pub mod Grouping

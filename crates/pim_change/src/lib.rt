@@ -1,13 +1,15 @@
-//! Triggered Join/Prune messages: what moves an upstream neighbour from the demand that it was last told to the one that
-//! is wanted now (RFC 7761, 4.5).
+//! Triggered Join/Prune messages: what moves an upstream neighbour from the demand that it was last told to the one
+//! that is wanted now (RFC 7761, 4.5).
 //!
-//! Proved: `changed` gives the change between two normal forms, unit by unit; `too_big` tells the least group whose star
-//! is told anew and doesn't fit a message with its exceptions.
+//! Proved: `changed` gives the change between two normal forms, unit by unit; `too_big` tells the least group whose
+//! star is told anew and doesn't fit a message with its exceptions.
 #![tactic(auto)]
 
 mod changes;
+mod entries;
 mod fitting;
 mod laws;
+mod message;
 mod telling;
 #[cfg(test)]
 mod tests;
