@@ -142,7 +142,7 @@ impl<A: Copy> Store<A> {
         ensures capacity { self.new.capacity ≡ self.old.capacity }
     {
         let _most = self.list.capacity();
-        let stands = self.list.insert_within(place, held);
+        let (stands, _number) = self.list.insert_within(place, held);
         count_in(&mut self.counts, held.key.port);
         stands
     }

@@ -1,11 +1,11 @@
 -- What stands under the numbers of a list, and what an edit of the numbers and of the slab makes of it.
-use Rattle.std.proofs.Common.{◌≡◌, ◌≢◌, ℕ, zero, suc, ◌+◌, ◌-◌, ◌<◌, ◌≤◌, true, List, [], ◌∷◌, length, get_or, set, take, drop, Option, Some, None, option_copied, Bor, is_some, count_by, refl, sym, ap, ◌∙◌, arith}
-use Rattle.std.proofs.lemmas.Bool.{false≢true}
+use Rattle.std.proofs.Common.{◌≡◌, ◌≢◌, ℕ, zero, suc, ◌+◌, ◌-◌, ◌<◌, ◌≤◌, true, List, [], ◌∷◌, length, get_or, set, take, drop, Option, Some, None, option_copied, Bor, is_some, count_by, refl, sym, ap, ◌∙◌, arith, inl, inr}
+use Rattle.std.proofs.lemmas.Bool.{false≢true, cases_eq, eq-eqb, ne_eqb}
 use Rattle.std.specs.List.{insert, remove, AllByRecursion}
 use Rattle.std.specs.Iterator.{YieldsFirstBy, MakesProgress, item_count}
 use Rattle.slab.specs.Slab.{Slab, get, slab_len, with_value, entries_from, Updates}
-use Rattle.slab.proofs.SlabLemmas.{length-entries}
-use Rattle.sorted_slab.specs.Listed.{with_item, found}
+use Rattle.slab.proofs.SlabLemmas.{length-entries, Updates-set, ContainsKey-within}
+use Rattle.sorted_slab.specs.Listed.{with_item, found, item_under}
 use Rattle.sorted_slab.specs.Sound.{AllDiffer, AllHeld}
 
 pub some_of : {A : Type 0} (o : Option A) → is_some o ≡ true → (x : A) × (o ≡ Some x)
@@ -211,3 +211,55 @@ module _ {A : Type 0} where
   pub goes : (can : List A → Type 0) → ((xs : List A) → can xs) → (xs ys : List A) (r : Option (Bor A)) → YieldsFirstBy (λ item. item.now) (λ items. items) xs r ys → MakesProgress can (item_count (λ items. items)) xs r ys
   goes can every xs ys None steps = record { on = λ f. tt; keeps = tt; rests = λ f. tt }
   goes can every xs ys (Some item) steps = record { on = λ f. (every ys, tt, omega (arith, ap length steps)); keeps = every ys; rests = λ f. tt }
+
+  -- ---- what stands under any number
+
+  -- a slab from which one number is taken
+  abbrev without : Slab A → ℕ → Slab A
+  without s k = record s { slots = set s.slots k None }
+
+  count_without : (first : ℕ) (slots : List (Option A)) (k : ℕ) → is_some (get_or slots k None) ≡ true → suc (length (entries_from first (set slots k None))) ≡ length (entries_from first slots)
+  count_without first [] k h = absurd (false≢true h)
+  count_without first (None ∷ slots) zero h = absurd (false≢true h)
+  count_without first (Some y ∷ slots) zero h = refl
+  count_without first (None ∷ slots) (suc k) h = count_without (first + 1) slots k h
+  count_without first (Some y ∷ slots) (suc k) h = ap suc (count_without (first + 1) slots k h)
+
+  len_without : (s : Slab A) (k : ℕ) → is_some (get s k) ≡ true → suc (slab_len (without s k)) ≡ slab_len s
+  len_without s k h = ap suc (sym (length-entries (without s k))) ∙ count_without 0 s.slots k h ∙ length-entries s
+
+  -- numbers that differ, each with an item, are no more than the items
+  few : (s : Slab A) (ns : List ℕ) → AllDiffer ns → AllHeld s ns → length ns ≤ slab_len s
+  unfolding AllDiffer AllHeld
+  few s [] d h = omega arith
+  few s (n ∷ ns) d h =
+      let u = Updates-set s (without s n) n None (ContainsKey-within s n h.0) refl in
+      let rest = few (without s n) ns d.1 (held_apart s (without s n) n None ns u d.0 h.1) in
+      omega (arith, rest, len_without s n h.0)
+
+  -- where the list has as many numbers as there are items, no other number has one
+  pub none_else : (s : Slab A) (k : ℕ) (ns : List ℕ) → AllDiffer ns → AllHeld s ns → slab_len s ≡ length ns → AllByRecursion (λ other. other ≢ k) ns → get s k ≡ None
+  unfolding AllDiffer AllHeld
+  none_else s k ns d h l away = by_slot (get s k) refl
+    where
+      by_slot : (o : Option A) → get s k ≡ o → get s k ≡ None
+      by_slot None e = e
+      by_slot (Some x) e = absurd (omega (arith, few s (k ∷ ns) (away, d) (ap is_some e, h), l))
+
+  at_head : (n m : ℕ) (ns : List ℕ) (x : A) (xs : List A) → m ≡ n → item_under n (m ∷ ns) (x ∷ xs) ≡ Some x
+  unfolding item_under
+  at_head n m ns x xs e = rw (eq-eqb m n e) refl
+
+  past_head : (n m : ℕ) (ns : List ℕ) (x : A) (xs : List A) → m ≢ n → item_under n (m ∷ ns) (x ∷ xs) ≡ item_under n ns xs
+  unfolding item_under
+  past_head n m ns x xs d = rw (ne_eqb m n d) refl
+
+  pub under : (s : Slab A) (n : ℕ) (ns : List ℕ) → AllHeld s ns → (AllByRecursion (λ other. other ≢ n) ns → get s n ≡ None) → get s n ≡ item_under n ns (found (get s) ns)
+  unfolding found AllHeld item_under
+  under s n [] h away = away tt
+  under s n (m ∷ ns) h away =
+      let x = some_of (get s m) h.0 in
+      elim (cases_eq m n) [
+        | inl same ↦ ap (get s) (sym same) ∙ x.1 ∙ sym (at_head n m ns x.0 (found (get s) ns) same) ∙ ap (λ o. item_under n (m ∷ ns) (with_item o (found (get s) ns))) (sym x.1)
+        | inr differs ↦ under s n ns h.1 (λ a. away (differs, a)) ∙ sym (past_head n m ns x.0 (found (get s) ns) differs) ∙ ap (λ o. item_under n (m ∷ ns) (with_item o (found (get s) ns))) (sym x.1)
+      ]

@@ -1,5 +1,5 @@
 -- A list in order whose items stand in a slab, as contracts see it.
-use Rattle.std.specs.Prelude.{ℕ, ◌<◌, ◌≤◌, List, [], ◌∷◌, length, Option, None, Some, Result, Ok, Err, min}
+use Rattle.std.specs.Prelude.{ℕ, ◌<◌, ◌≤◌, List, [], ◌∷◌, length, Option, None, Some, Result, Ok, Err, min, ◌==◌, if◌then◌else◌}
 use Rattle.std.specs.declared.cmp.Ordering.{Ordering}
 use Rattle.std.specs.declared.cmp.Ordering.TheVariants.{Less}
 use Rattle.slab.specs.Slab.{Slab, get}
@@ -35,6 +35,13 @@ module _ {A : Type 0} where
   IsFound order list (Ok place) = IsItem list place × IsEqualAt order list.items (at list place)
   IsFound order list (Err place) =
       IsPlace list place × (at list place ≤ length list.items) × IsGap order list.items (at list place)
+
+  -- the item that stands where this number does among the numbers, if it is one of them
+  unfoldable pub item_under : ℕ → List ℕ → List A → Option A
+  item_under number [] items = None
+  item_under number (other ∷ numbers) [] = None
+  item_under number (other ∷ numbers) (item ∷ items) =
+      if other == number then Some item else item_under number numbers items
 
   -- ---- what is under the numbers
 

@@ -1,10 +1,11 @@
 //! The list: its calls.
 
 ghost use Rattle.std.specs.Prelude.{◌≡◌, ℕ, ◌+◌, ◌<◌, ◌≤◌, [], length, take, drop};
-ghost use Rattle.std.specs.Prelude.{slice_index_or, slice_set, OnOk, IsOk, IsTrue, ◌↔◌};
+ghost use Rattle.std.specs.Prelude.{slice_index_or, slice_set, option_copied, OnOk, IsOk, IsTrue, ◌↔◌};
 ghost use Rattle.std.specs.List.{All, insert, remove};
 ghost use Rattle.sorted_blocks.specs.declared.place.Place.{Place};
-ghost use Rattle.sorted_slab.specs.Listed.{at, numbers, IsPlace, IsItem, IsFound};
+ghost use Rattle.sorted_slab.specs.Listed.{at, numbers, item_under, IsPlace, IsItem, IsFound};
+ghost use Rattle.sorted_slab.specs.Sound.{AllDiffer};
 
 use crate::probe::ByNumber;
 use crate::walk::Walk;
@@ -47,10 +48,11 @@ impl<T: Copy, const HALF: usize> SortedSlab<T, HALF> {
         }
     }
 
-    /// How many items there are.
+    /// How many items there are. Each has one number, and no two have the same.
     pub fn len(&self) -> usize
         ensures items { result ≡ length self.now.items }
         ensures numbers { result ≡ length (numbers self.now) }
+        ensures differ { AllDiffer (numbers self.now) }
     {
         self.index.len()
     }
@@ -78,19 +80,21 @@ impl<T: Copy, const HALF: usize> SortedSlab<T, HALF> {
         self.index.reserve_capacity(additional)
     }
 
-    /// Puts an item at this place, within the capacity. The answer is where it stands then.
-    pub fn insert_within(&mut self, place: Place, item: T) -> Place
+    /// Puts an item at this place, within the capacity. The answer is where it stands then, and beside it the number
+    /// that it has as long as it is there; no other item has it.
+    pub fn insert_within(&mut self, place: Place, item: T) -> (Place, usize)
         requires place { IsPlace self.old place }
         requires within { length self.old.items < self.old.capacity }
         ensures items { self.new.items ≡ insert self.old.items (at self.old place) item }
         ensures capacity { self.new.capacity ≡ self.old.capacity }
-        ensures place { IsItem self.new result }
-        ensures at { at self.new result ≡ at self.old place }
+        ensures numbers { numbers self.new ≡ insert (numbers self.old) (at self.old place) result.1 }
+        ensures place { IsItem self.new result.0 }
+        ensures at { at self.new result.0 ≡ at self.old place }
     {
         place_is_within::<usize>();
         item_has_a_place::<usize>();
         let number = self.slab.insert_reserved(item);
-        self.index.insert_within(place, number)
+        (self.index.insert_within(place, number), number)
     }
 
     /// Takes out the item at this place. Beside it stands the place of the item that came next.
@@ -98,6 +102,7 @@ impl<T: Copy, const HALF: usize> SortedSlab<T, HALF> {
         requires { IsItem self.old place }
         ensures item { result.0 ≡ slice_index_or self.old.items (at self.old place) result.0 }
         ensures items { self.new.items ≡ remove self.old.items (at self.old place) }
+        ensures numbers { numbers self.new ≡ remove (numbers self.old) (at self.old place) }
         ensures capacity { self.new.capacity ≡ self.old.capacity }
         ensures place { IsPlace self.new result.1 }
         ensures at { at self.new result.1 ≡ at self.old place }
@@ -125,6 +130,22 @@ impl<T: Copy, const HALF: usize> SortedSlab<T, HALF> {
     {
         let number = *self.index.get(place);
         &self.slab[number]
+    }
+
+    /// The number of the item at this place. It has that number as long as it is there, wherever it comes to stand.
+    pub fn number_at(&self, place: Place) -> usize
+        requires { IsItem self.now place }
+        ensures { result ≡ slice_index_or (numbers self.now) (at self.now place) result }
+    {
+        let found = self.index.get(place);
+        *found
+    }
+
+    /// The item that has this number; `None` where none has. It costs no search.
+    pub fn item_of(&self, number: usize) -> Option<&T>
+        ensures { option_copied result ≡ item_under number (numbers self.now) self.now.items }
+    {
+        self.slab.get(number)
     }
 
     /// Whether an item stands at this place.

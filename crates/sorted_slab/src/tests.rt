@@ -59,9 +59,11 @@ fn turn(list: &mut SortedSlab<u32, 2>, plain: &mut Vec<u32>, near: Place, number
             item == plain.remove(index)
         }
         (Err(place), Err(index)) if index <= plain.len() && list.len() < list.capacity() => {
-            let stands = list.insert_within(place, number);
+            let (stands, under) = list.insert_within(place, number);
             list.is_item(stands)
                 && *list.get(stands) == number
+                && list.number_at(stands) == under
+                && list.item_of(under).copied() == Some(number)
                 && plain.insert(index, number).is_ok()
         }
         _ => false,
@@ -111,7 +113,7 @@ fn changes_in_place(rt: HostRuntime) -> Result<(), Fail> {
             return Ok(());
         };
         if list.len() < list.capacity() {
-            let _stands = list.insert_within(place, number);
+            let (_stands, _under) = list.insert_within(place, number);
         }
     }
     assert!(rt; holds(&list, &[10, 20, 30, 40, 50]));

@@ -14,7 +14,7 @@ count_in-requires g c =
 pub invariant_of-self : goal.invariant_of-self
 invariant_of-self g c =
     let s = c.self.inside in
-    let new = c.insert_within-stands.new.self in
+    let new = c.insert_within-number.new.self in
     let room : length s.list.items < s.list.capacity = subst (λ (l : Listed (Held g.row.A.Denot)). length l.items < l.capacity) (sym c.self.view_is) c.requires.within in
-    let kept = kept_in s.counts s.list new c.self.told c.self.invariant (at s.list c.args.place) c.args.held room c.insert_within-stands.ensures.items c.insert_within-stands.ensures.capacity in
+    let kept = kept_in s.counts s.list new c.self.told c.self.invariant (at s.list c.args.place) c.args.held room c.insert_within-number.ensures.items c.insert_within-number.ensures.capacity in
     subst (λ counts. IsKept counts new) (sym c.count_in.ensures) kept

@@ -3,7 +3,7 @@ use Rattle.std.specs.List.{insert}
 use Rattle.slab.specs.Slab.{get}
 use Rattle.sorted_blocks.specs.Shape.{items}
 use Rattle.sorted_blocks.specs.Places.{before}
-use Rattle.sorted_slab.specs.Listed.{Listed, found, at}
+use Rattle.sorted_slab.specs.Listed.{Listed, found, at, numbers}
 use Rattle.sorted_slab.specs.Sound.{IsSound}
 use Rattle.sorted_slab.proofs.Kept.{slab_room, index_room, index_place, inserted, sound_insert, seen_item}
 use Rattle.sorted_slab.proofs.slab_list.SortedSlab.insert_within.Goals as goal
@@ -32,3 +32,6 @@ pub returns-clause-place : goal.returns-clause-place
 returns-clause-place g c =
     let there = c.insert_within.ensures.place in
     seen_item c.insert_reserved-number.new.self c.insert_within.new.self g.row.HALF _ refl (invariant_of-self g c) c.insert_within.result there (c.item_has_a_place.ensures _ _ there).1
+
+pub returns-clause-numbers : goal.returns-clause-numbers
+returns-clause-numbers g c = c.insert_within.ensures.items ∙ ap (λ (m : Listed g.row.T.Denot). insert (numbers m) (at m c.args.place) c.insert_reserved-number.result) c.self.view_is

@@ -3,7 +3,7 @@ use Rattle.std.specs.List.{remove}
 use Rattle.slab.specs.Slab.{get}
 use Rattle.sorted_blocks.specs.Shape.{items}
 use Rattle.sorted_blocks.specs.Places.{before}
-use Rattle.sorted_slab.specs.Listed.{Listed, found, at}
+use Rattle.sorted_slab.specs.Listed.{Listed, found, at, numbers}
 use Rattle.sorted_slab.specs.Sound.{IsSound}
 use Rattle.sorted_slab.proofs.Kept.{index_within, is_held, item_is, removed, sound_remove}
 use Rattle.sorted_slab.proofs.slab_list.SortedSlab.remove.Goals as goal
@@ -26,3 +26,6 @@ returns-clause-items g c =
     ap (found (get c.remove-item.new.self)) c.remove-number.ensures.items
     ∙ removed c.self.inside.slab c.remove-item.new.self (items c.self.inside.index) (before c.self.inside.index c.args.place) c.remove-number.result.0 (index_within c.self.inside.slab c.self.inside.index g.row.HALF c.args.self.now c.self.view_is c.self.invariant c.args.place c.requires) c.self.invariant c.remove-number.ensures.item c.remove-item.ensures.updates
     ∙ ap (λ (m : Listed g.row.T.Denot). remove m.items (at m c.args.place)) c.self.view_is
+
+pub returns-clause-numbers : goal.returns-clause-numbers
+returns-clause-numbers g c = c.remove-number.ensures.items ∙ ap (λ (m : Listed g.row.T.Denot). remove (numbers m) (at m c.args.place)) c.self.view_is
