@@ -9,6 +9,7 @@ pub mod Sought
 pub mod Rpts
 pub mod Ending
 pub mod Looking
+pub mod Late
 pub mod Lists
 pub mod Places
 pub mod Halves

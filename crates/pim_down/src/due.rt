@@ -1,12 +1,12 @@
 //! All timers that are due at a moment, fired in two walks: prune-pending timers, then expiry timers.
 
-ghost use Rattle.std.specs.Prelude.{◌≡◌, ◌-◌, ◌<◌, ◌≤◌, IsTrue, None, length};
+ghost use Rattle.std.specs.Prelude.{◌≡◌, ℕ, ◌-◌, ◌<◌, ◌≤◌, IsTrue, None, length};
 ghost use Rattle.std.specs.List.{position};
 ghost use Rattle.std.specs.Option.{is_some};
 ghost use Rattle.sorted_slab.specs.Listed.{at, IsItem};
 ghost use Rattle.pim_down.specs.declared.step.Step.TheVariants.{Reached};
 ghost use Rattle.pim_down.specs.Time.{record_after, ppt_due, et_due, fired};
-ghost use Rattle.pim_down.specs.Ends.{weight};
+ghost use Rattle.pim_down.specs.Ends.{weight, AreLate};
 ghost use Rattle.pim_down.specs.Running.{GoesOn};
 ghost use Rattle.pim_down.specs.Seen.{record_seen, records_seen, step_seen, shown};
 ghost use Rattle.pim_down.specs.Store.{NoneBefore};
@@ -35,6 +35,8 @@ fn pass_pending<F: Family>(
         < weight (records_seen F.bytes_of records.old.items) - at records.old place.old }
     ensures lighter { weight (records_seen F.bytes_of records.new.items)
         ≤ weight (records_seen F.bytes_of records.old.items) }
+    ensures late { (m : ℕ) → AreLate m (records_seen F.bytes_of records.old.items) →
+        AreLate m (records_seen F.bytes_of records.new.items) }
 {
     let here = *place;
     if is_pending_due(&records.get(here).machine, now) {
@@ -54,6 +56,8 @@ fn fire_pendings<F: Family>(records: &mut Store<F::Addr>, now: u64) -> Step<F::A
         position (λ held. ppt_due (record_after now (record_seen F.bytes_of held))) records.new.items ≡ None }
     ensures lighter { weight (records_seen F.bytes_of records.new.items)
         ≤ weight (records_seen F.bytes_of records.old.items) }
+    ensures late { (m : ℕ) → AreLate m (records_seen F.bytes_of records.old.items) →
+        AreLate m (records_seen F.bytes_of records.new.items) }
 {
     let mut place = records.first();
     while records.is_item(place) {
@@ -83,6 +87,8 @@ fn pass_expiry<F: Family>(records: &mut Store<F::Addr>, place: Place, now: u64) 
         < weight (records_seen F.bytes_of records.old.items) - at records.old place }
     ensures lighter { weight (records_seen F.bytes_of records.new.items)
         ≤ weight (records_seen F.bytes_of records.old.items) }
+    ensures late { (m : ℕ) → AreLate m (records_seen F.bytes_of records.old.items) →
+        AreLate m (records_seen F.bytes_of records.new.items) }
 {
     if is_expired(&records.get(place).machine, now) {
         return records.remove(place);
@@ -96,6 +102,8 @@ fn expire_all<F: Family>(records: &mut Store<F::Addr>, now: u64)
     ensures goes { GoesOn F.bytes_of now records.old.items Reached records.new.items }
     ensures lighter { weight (records_seen F.bytes_of records.new.items)
         ≤ weight (records_seen F.bytes_of records.old.items) }
+    ensures late { (m : ℕ) → AreLate m (records_seen F.bytes_of records.old.items) →
+        AreLate m (records_seen F.bytes_of records.new.items) }
 {
     let mut place = records.first();
     while records.is_item(place) {
@@ -108,6 +116,8 @@ fn fire_rest<F: Family>(records: &mut Store<F::Addr>, now: u64) -> Step<F::Addr>
     ensures goes { GoesOn F.bytes_of now records.old.items (step_seen F.bytes_of result) records.new.items }
     ensures lighter { weight (records_seen F.bytes_of records.new.items)
         ≤ weight (records_seen F.bytes_of records.old.items) }
+    ensures late { (m : ℕ) → AreLate m (records_seen F.bytes_of records.old.items) →
+        AreLate m (records_seen F.bytes_of records.new.items) }
 {
     match fire_pendings::<F>(records, now) {
         Step::Reached => {
@@ -124,6 +134,8 @@ pub(crate) fn fire_due<F: Family>(records: &mut Store<F::Addr>, now: u64) -> Ste
     ensures goes { GoesOn F.bytes_of now records.old.items (step_seen F.bytes_of result) records.new.items }
     ensures lighter { weight (records_seen F.bytes_of records.new.items)
         < weight (records_seen F.bytes_of records.old.items) }
+    ensures late { (m : ℕ) → AreLate m (records_seen F.bytes_of records.old.items) →
+        AreLate m (records_seen F.bytes_of records.new.items) }
 {
     match fire_first::<F>(records, now) {
         Step::Reached => fire_rest::<F>(records, now),

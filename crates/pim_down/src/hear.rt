@@ -6,6 +6,7 @@ ghost use Rattle.pim_down.specs.Records.{IsAscending, each_changed};
 ghost use Rattle.pim_down.specs.Hearing.{is_known, entry_events, start_of, on_own, is_rpt_of, on_rpts, is_star_join};
 ghost use Rattle.pim_down.specs.Hearing.{act, is_rpt};
 ghost use Rattle.pim_down.specs.After.{beside_rpts};
+ghost use Rattle.pim_down.specs.Ends.{IsLateStart};
 ghost use Rattle.pim_down.specs.Known.{known_in};
 ghost use Rattle.pim_down.specs.Running.{start_after};
 ghost use Rattle.pim_down.specs.Seen.{start_seen, machine_seen, what_seen, key_seen};
@@ -29,7 +30,8 @@ const FOR_EVER: u16 = 0xffff;
 pub(crate) fn start_at(holdtime: u16, timing: Timing, now: u64) -> Start
     requires moment { now ≤ 1000000000000000 }
     requires interval { timing.override_ms ≤ 98302 }
-    ensures { start_after now (start_seen result) ≡ start_of holdtime timing }
+    ensures starts { start_after now (start_seen result) ≡ start_of holdtime timing }
+    ensures late { IsLateStart now (start_seen result) }
 {
     let expires_at = if holdtime == FOR_EVER {
         None

@@ -37,7 +37,7 @@ pub struct Ports<F: Family> {
     moment: u64,
     /// No timer ends before this moment.
     quiet_until: u64,
-    /// In key order.
+    /// In key order; no timer of theirs ends before the present moment.
     records: Store<F::Addr>,
     family: PhantomData<F>,
 }
@@ -48,14 +48,15 @@ impl<F: Family> Model for Ports<F> {
     ghost Value = { Downstream };
 
     ghost use Rattle.pim_down.specs.Running.{downstream_at};
-    ghost use Rattle.pim_down.specs.Ends.{first_end, IsQuietUntil};
+    ghost use Rattle.pim_down.specs.Ends.{first_end, IsQuietUntil, AreLate};
     ghost use Rattle.pim_down.specs.Seen.{records_seen};
     ghost use Rattle.pim_down.specs.Sound.{IsSound};
 
     ghost view = { λ p. downstream_at F.bytes_of p.ports p.limit p.moment p.records.items };
 
     ghost invariant = { λ p. IsSound F.family (downstream_at F.bytes_of p.ports p.limit p.moment p.records.items)
-        × IsQuietUntil p.quiet_until (first_end (records_seen F.bytes_of p.records.items)) };
+        × (IsQuietUntil p.quiet_until (first_end (records_seen F.bytes_of p.records.items))
+        × AreLate p.moment (records_seen F.bytes_of p.records.items)) };
 }
 
 impl<F: Family> Ports<F> {

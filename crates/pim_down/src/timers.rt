@@ -6,7 +6,7 @@ ghost use Rattle.pim_down.specs.declared.held.Held.{Held};
 ghost use Rattle.std.specs.Option.{is_some};
 ghost use Rattle.pim_down.specs.Time.{expiry_after, pending_after, record_after, expiry_due, pending_due, et_due};
 ghost use Rattle.pim_down.specs.Time.{ppt_due, on_ppt, after_ppt, echo_of, fired};
-ghost use Rattle.pim_down.specs.Ends.{sooner, pending_end, first_end, IsEndBy};
+ghost use Rattle.pim_down.specs.Ends.{sooner, pending_end, first_end, IsEndBy, AreLate};
 ghost use Rattle.pim_down.specs.Seen.{waiting_seen, timed_seen, machine_seen, what_seen, record_seen, records_seen};
 ghost use Rattle.pim_down.specs.Seen.{step_seen, shown};
 ghost use Rattle.pim_down.specs.Store.{IsFirst};
@@ -178,8 +178,10 @@ pub(crate) fn fire_pending<F: Family>(
 /// Fires the first due timer: prune-pending timers come before expiry timers.
 pub(crate) fn fire_first<F: Family>(records: &mut Store<F::Addr>, now: u64) -> Step<F::Addr>
     requires { IsTrue (is_some (fired (shown F.bytes_of now records.old.items))) }
-    ensures { fired (shown F.bytes_of now records.old.items)
+    ensures fired { fired (shown F.bytes_of now records.old.items)
         ≡ Some (step_seen F.bytes_of result, shown F.bytes_of now records.new.items) }
+    ensures late { (m : ℕ) → AreLate m (records_seen F.bytes_of records.old.items) →
+        AreLate m (records_seen F.bytes_of records.new.items) }
 {
     match first_pending::<F>(records, now) {
         Some(place) => {

@@ -1,9 +1,9 @@
-use Rattle.std.proofs.Common.{◌≡◌, None, ◌-◌, ◌≤◌}
+use Rattle.std.proofs.Common.{ℕ, ◌≡◌, None, ◌-◌, ◌≤◌}
 use Rattle.std.specs.List.{position}
 use Rattle.sorted_slab.specs.Listed.{at}
 use Rattle.pim_down.specs.declared.step.Step.TheVariants.{Reached}
 use Rattle.pim_down.specs.Time.{record_after, ppt_due, et_due}
-use Rattle.pim_down.specs.Ends.{weight}
+use Rattle.pim_down.specs.Ends.{weight, AreLate}
 use Rattle.pim_down.specs.Running.{GoesOn}
 use Rattle.pim_down.specs.Seen.{record_seen, records_seen}
 use Rattle.pim_down.specs.Store.{NoneBefore}
@@ -17,6 +17,7 @@ invariant-loop-place g l = record {
   none : NoneBefore (λ held. et_due (record_after l.now (record_seen g.F.Family.bytes_of held))) l.records.items (at l.records l.place);
   next : IsNext l.records l.place;
   lighter : weight (records_seen g.F.Family.bytes_of l.records.items) ≤ weight (records_seen g.F.Family.bytes_of l.fn.records.items);
+  late : (m : ℕ) → AreLate m (records_seen g.F.Family.bytes_of l.fn.records.items) → AreLate m (records_seen g.F.Family.bytes_of l.records.items);
 }
 
 abbrev pub decreases-loop-place : goal.decreases-loop-place

@@ -3,6 +3,7 @@ use Rattle.sorted_slab.specs.Listed.{at}
 use Rattle.pim_down.specs.Time.{record_after, ppt_due, et_due}
 use Rattle.pim_down.specs.Seen.{record_seen}
 use Rattle.pim_down.proofs.Moments.{goes_nowhere, goes_expired, length_weight, none_removed, still_none, lighter_expired}
+use Rattle.pim_down.proofs.Late.{late_removed}
 use Rattle.pim_down.proofs.Looking.{none_more, first_here}
 use Rattle.pim_down.proofs.due.pass_expiry.Goals as goal
 
@@ -48,3 +49,8 @@ pub returns-clause-nearer : goal.returns-clause-nearer
 returns-clause-nearer g c =
     let list = c.args.records.now in
     omega (arith, length_weight g.F.Family.bytes_of list.items, c.requires.item.1, c.next.ensures.at)
+
+pub returns-then-is_expired-clause-late : goal.returns-then-is_expired-clause-late
+returns-then-is_expired-clause-late g c m late =
+    let list = c.args.records.now in
+    late_removed g.F.Family.bytes_of m list.items c.remove.new.self.items (at list c.args.place) c.requires.item.1 c.remove.ensures.items late

@@ -3,6 +3,7 @@ use Rattle.sorted_slab.specs.Listed.{at}
 use Rattle.pim_down.specs.Time.{record_after, ppt_due}
 use Rattle.pim_down.specs.Seen.{record_seen, step_seen}
 use Rattle.pim_down.proofs.Moments.{goes_nowhere, goes_fired, length_weight, none_stays}
+use Rattle.pim_down.proofs.Late.{late_fired}
 use Rattle.pim_down.proofs.Firing.{fired_pending}
 use Rattle.pim_down.proofs.Jumps.{lighter}
 use Rattle.pim_down.proofs.Looking.{none_more, first_here}
@@ -46,3 +47,8 @@ pub returns-clause-nearer : goal.returns-clause-nearer
 returns-clause-nearer g c =
     let list = c.args.records.now in
     omega (arith, length_weight g.F.Family.bytes_of list.items, c.requires.item.1, c.next-behind.ensures.at)
+
+pub returns-then-is_pending_due-clause-late : goal.returns-then-is_pending_due-clause-late
+returns-then-is_pending_due-clause-late g c m late =
+    let list = c.args.records.now in
+    late_fired g.F.Family.bytes_of m list.items c.fire_pending-step.new.records.items (at list c.args.place.now) c.get.result.now c.requires.item.1 (c.fire_pending-step.ensures.left c.get.result.now) late
