@@ -1,5 +1,5 @@
 #!/usr/bin/env python3
-"""What the tests of pim_jp (src/tests/changed_bytes.rt) expect of bodies with any one byte changed to any other.
+"""What the tests of pim_jp (crates/pim_jp_tests/src/tests/changed_bytes.rt) expect of bodies with any one byte changed to any other.
 
 A reader of IPv4 Join/Prune bodies that is written apart from the engine (RFC 7761, 4.9.5): it lists all the
 faults of all the parts, as pairs of an offset and a number, and takes the least. For each body it prints of how

@@ -4,7 +4,7 @@
 # to each run. For example, at the top of the repository:
 #
 #   tools/refuse_memory.sh crates/pimtree/out/pimtree check < examples/join-star.pim
-#   tools/refuse_memory.sh crates/pim_hello/out/pim_hello_tests neighbours::tests::refusals_change_nothing
+#   tools/refuse_memory.sh crates/pim_hello_tests/out/pim_hello_tests_tests tests::neighbours::refusals_change_nothing
 set -eu
 folder=$(mktemp -d)
 trap 'rm -r "$folder"' EXIT

@@ -4,9 +4,6 @@ ghost use Rattle.std.specs.Prelude.{◌≡◌, ◌≤◌, true, false, length};
 ghost use Rattle.std.specs.Ordering.{is_lt};
 ghost use Rattle.std.specs.List.Sorted.{IsSorted, IsPartitionPoint};
 
-#[cfg(test)]
-mod tests;
-
 /// The last levels of a search, each of which halves what is left. They are all that lists of up to 8,191 items have.
 const LEVELS: u32 = 12;
 

@@ -8,9 +8,6 @@ ghost use Rattle.pim_addr.specs.declared.family.AddressFamily.TheVariants.{Ipv4,
 use crate::family::{AddressFamily, Family};
 use std::net::{Ipv4Addr, Ipv6Addr};
 
-#[cfg(test)]
-mod tests;
-
 /// The IPv4 address that a text names.
 fn read_ipv4(text: &str) -> Option<[u8; 4]>
     ensures named { IfSome result (λ a. IsText Ipv4 text.now a) }

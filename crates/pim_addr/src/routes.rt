@@ -6,9 +6,6 @@ ghost use Rattle.pim_addr.specs.Routes.{no_routes, rp_of, via, group_bits, is_gr
 ghost use Rattle.pim_addr.specs.Routes.{with_rp, with_via};
 ghost use Rattle.pim_addr.specs.Routes.{IsRefusedBy, IsRouteTable};
 
-#[cfg(test)]
-mod tests;
-
 use crate::family::{AddressFamily, Family};
 use crate::route::Route;
 use crate::route_fault::RouteFault;

@@ -7,9 +7,6 @@ ghost use Rattle.pim_addr.specs.Text.{address_text, hex_pair, hex_groups, separa
 
 use crate::family::{AddressFamily, Family};
 
-#[cfg(test)]
-mod tests;
-
 /// Writes one byte.
 fn write_byte(text: &mut [u8], place: usize, byte: u8) -> usize
     requires { place < length text.old }

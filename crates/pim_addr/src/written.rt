@@ -8,9 +8,6 @@ ghost use Rattle.pim_addr.specs.Canonical.{canonical_unicast, canonical_group, c
 ghost use Rattle.pim_addr.specs.Canonical.{UnicastReadsBack, GroupReadsBack, SourceReadsBack};
 ghost use Rattle.pim_addr.specs.Seen.{source_seen};
 
-#[cfg(test)]
-mod tests;
-
 use crate::encoded::{SourceAddress, SourceBits};
 use crate::family::Family;
 use bitflags::Flags;

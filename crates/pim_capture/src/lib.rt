@@ -17,6 +17,3 @@ mod record;
 pub use capture::Capture;
 pub use event::{Event, Ip, Why};
 pub use fault::CaptureFault;
-
-#[cfg(test)]
-mod tests;

@@ -9,8 +9,6 @@ mod changes;
 mod fitting;
 mod laws;
 mod telling;
-#[cfg(test)]
-mod tests;
 mod unit;
 
 pub use changes::changed;

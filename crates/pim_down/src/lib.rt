@@ -23,8 +23,6 @@ mod ports;
 mod run;
 mod step;
 mod store;
-#[cfg(test)]
-mod tests;
 mod timers;
 mod walk;
 

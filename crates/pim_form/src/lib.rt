@@ -26,8 +26,6 @@ mod plan;
 mod settling;
 mod sizes;
 mod sorted;
-#[cfg(test)]
-mod tests;
 mod toward;
 mod toward_laws;
 mod tree;

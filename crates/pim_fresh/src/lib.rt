@@ -11,8 +11,6 @@
 #![tactic(auto)]
 
 mod laws;
-#[cfg(test)]
-mod tests;
 
 pub use laws::{
     asking_tells_units, every_hearing_reaches, fresh_hearing, hearing_has_one_end, holds_the_units,

@@ -19,8 +19,6 @@ mod option;
 mod parameters;
 mod roster;
 mod row;
-#[cfg(test)]
-mod tests;
 mod walk;
 mod writing;
 

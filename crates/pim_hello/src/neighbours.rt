@@ -7,9 +7,6 @@ ghost use Rattle.pim_hello.specs.Seen.{hello_seen};
 ghost use Rattle.pim_hello.specs.Neighbours.{no_neighbours, neighbour_at, passed_to, without_ended, hellos_of, Hears};
 ghost use Rattle.pim_hello.specs.Neighbours.{IsAscending, IsSound};
 
-#[cfg(test)]
-mod tests;
-
 use crate::heard::{Heard, NeighbourFault};
 use crate::hearing::{end_of_time, says_goodbye, told};
 use crate::hello::Hello;

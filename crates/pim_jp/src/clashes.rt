@@ -13,9 +13,6 @@ use crate::entry::Entry;
 use pim_addr::{Family, source_length};
 use std::mem::size_of_val;
 
-#[cfg(test)]
-mod tests;
-
 /// So few joined entries are compared one by one sooner than sorted.
 const FEW: u16 = 4;
 

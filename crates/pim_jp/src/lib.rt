@@ -12,8 +12,6 @@ mod pairs;
 mod reading;
 mod sets;
 mod sorting;
-#[cfg(test)]
-mod tests;
 mod view;
 mod walking;
 mod writing;

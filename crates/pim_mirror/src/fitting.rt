@@ -10,9 +10,6 @@ ghost use Rattle.pim_mirror.specs.Fits.{Fits, expiry_of};
 ghost use Rattle.pim_mirror.specs.Tests.{is_shorter, is_alive, last_with, is_kept, is_in_order, are_different};
 ghost use Rattle.pim_mirror.specs.Tests.{RouterFits, OthersFit, DeliveriesFit, TimesFit};
 
-#[cfg(test)]
-mod tests;
-
 use crate::config::{Delivery, FreshConfig, OtherNeighbour};
 use crate::fresh::{end_of, is_delivered};
 use pim_addr::{Family, Routes};

@@ -23,8 +23,6 @@ mod laws;
 mod meeting;
 mod mirror_laws;
 mod mirroring;
-#[cfg(test)]
-mod tests;
 
 pub use config::{Delivery, FreshConfig, OtherNeighbour};
 pub use fitting::fits;

@@ -20,8 +20,6 @@ mod replay;
 mod said;
 mod same;
 mod state_text;
-#[cfg(test)]
-mod tests;
 mod turns;
 
 pub use echo_line::write_echo_line;

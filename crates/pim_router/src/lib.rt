@@ -14,8 +14,6 @@ mod config;
 mod laws;
 mod router;
 mod step;
-#[cfg(test)]
-mod tests;
 mod verdict;
 
 pub use canonical::same_wants;

@@ -155,6 +155,3 @@ pub fn plan_check<'a, S: AsStr>(alloc: Global, words: &'a [S]) -> Result<Plan<'a
     };
     plan_by(alloc, whole, words)
 }
-
-#[cfg(test)]
-mod tests;

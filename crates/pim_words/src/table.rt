@@ -86,6 +86,3 @@ pub fn given_table<F: Family>(
     }
     Ok(routes)
 }
-
-#[cfg(test)]
-mod tests;

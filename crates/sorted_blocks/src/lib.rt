@@ -22,8 +22,6 @@ mod place;
 mod probe;
 mod room;
 mod store;
-#[cfg(test)]
-mod tests;
 mod walk;
 
 pub use blocks::Blocks;

@@ -1,0 +1,52 @@
+//! A form that holds nothing, and a form of a form.
+
+use super::{FIRST, GROUP, JOIN_FIRST, RPT_SECOND, SECOND, STAR, alone, hear};
+use pim_addr::V4;
+use pim_down::Ports;
+use pim_form::{NormalForm, Tree, normal_again};
+use std::test::Fail;
+
+#[test]
+fn holds_nothing(rt: HostRuntime) -> Result<(), Fail> {
+    let ports: Ports<V4> = Ports::new(rt.alloc(), 1, 100);
+    let form = NormalForm::of(rt.alloc(), &ports)?;
+    let again = normal_again(rt.alloc(), &form)?;
+    assert_eq!(rt; again.groups().count_left(), 0);
+    assert_eq!(rt; again.groups().next().is_none(), true);
+    assert_eq!(rt; again.wants(FIRST, GROUP, Tree::Shared), false);
+    Ok(())
+}
+
+/// Whether the form wants the first source on its own tree, and all sources but the second on the shared one.
+fn wants_as_heard(form: &NormalForm<V4>) -> bool {
+    form.wants(FIRST, GROUP, Tree::Source)
+        && form.wants(FIRST, GROUP, Tree::Shared)
+        && !form.wants(SECOND, GROUP, Tree::Shared)
+}
+
+// With each allocation refused in turn (`rt try --test --fail-alloc 1..`): the form is as before, and the same call, with
+// memory, gives it again.
+#[test]
+fn refusals_leave_the_form(rt: HostRuntime) {
+    let mut ports: Ports<V4> = Ports::new(rt.alloc(), 1, 100);
+    let message = alone(0, &[STAR, JOIN_FIRST], &[RPT_SECOND]);
+    if hear(rt.alloc(), &mut ports, &message) != Ok(true) {
+        return;
+    }
+    ports.run_to(0);
+    let Ok(form) = NormalForm::of(rt.alloc(), &ports) else {
+        return;
+    };
+    let again = match normal_again(rt.alloc(), &form) {
+        Ok(again) => again,
+        Err(_) => {
+            assert!(rt; wants_as_heard(&form));
+            let Ok(again) = normal_again(rt.alloc(), &form) else {
+                assert!(rt; false);
+                return;
+            };
+            again
+        }
+    };
+    assert!(rt; wants_as_heard(&again));
+}

@@ -1,0 +1,346 @@
+//! Forms that are packed: the bytes and the lengths of their messages, and stars that are too big.
+
+use super::ALONE;
+use pim_addr::{Family, Routes, V4, V6};
+use pim_down::{Ports, Step};
+use pim_form::{FormFault, Messages, NormalForm, Writer, is_toward, normal_again, pack};
+use pim_jp::{Entry, JpView, head_length, put_head, put_set, set_length};
+use std::alloc::{AllocError, Global};
+use std::test::Fail;
+
+/// A router with one port, and the table and the writer by which it tells its upstream neighbour.
+#[derive(Drop)]
+struct Router<F: Family> {
+    ports: Ports<F>,
+    routes: Routes<F>,
+    writer: Writer<F>,
+}
+
+const GROUP: [u8; 4] = [239, 1, 1, 1];
+
+const RP: [u8; 4] = [10, 9, 9, 9];
+
+const FIRST: [u8; 4] = [192, 0, 2, 1];
+
+/// A group of IPv6.
+const GROUP6: [u8; 16] = [255, 62, 0, 0, 0, 0, 0, 0, 0, 0, 0, 0, 0, 0, 0, 1];
+
+/// Its RP.
+const RP6: [u8; 16] = [32, 1, 13, 184, 0, 0, 0, 0, 0, 0, 0, 0, 0, 0, 9, 9];
+
+/// The star of the group: one message of 34 bytes.
+const STAR_MESSAGE: [u8; 34] = [
+    0x23, 0, 0xc4, 0xd4, 1, 0, 10, 0, 0, 2, 0, 1, 0, 210, 1, 0, 0, 32, 239, 1, 1, 1, 0, 1, 0, 0, 1,
+    0, 7, 32, 10, 9, 9, 9,
+];
+
+/// The star of the group except 192.0.2.1: one message of 42 bytes.
+pub(super) const EXCEPT_MESSAGE: [u8; 42] = [
+    0x23, 0, 0xfc, 0xb1, 1, 0, 10, 0, 0, 2, 0, 1, 0, 210, 1, 0, 0, 32, 239, 1, 1, 1, 0, 1, 0, 1, 1,
+    0, 7, 32, 10, 9, 9, 9, 1, 0, 5, 32, 192, 0, 2, 1,
+];
+
+/// A router of IPv4: all groups have one RP, and all addresses are reached by 10.0.0.2.
+fn router4(alloc: Global, budget: usize) -> Option<Router<V4>> {
+    let writer = Writer::new([10, 0, 0, 2], [10, 0, 0, 1], 210, budget).ok()?;
+    let mut routes = Routes::new(alloc);
+    routes.add_rp([224, 0, 0, 0], 4, RP).ok()?;
+    routes.add_via([0; 4], 0, [10, 0, 0, 2]).ok()?;
+    Some(Router {
+        ports: Ports::new(alloc, 1, 1000),
+        routes,
+        writer,
+    })
+}
+
+/// A source of IPv4.
+fn source(number: u8) -> [u8; 4] {
+    [10, 1, 0, number]
+}
+
+/// A source of IPv6: 2001:db8:: and this number.
+fn source6(number: u8) -> [u8; 16] {
+    [32, 1, 13, 184, 0, 0, 0, 0, 0, 0, 0, 0, 0, 0, 0, number]
+}
+
+/// A router of IPv6: all groups have one RP, and all addresses are reached by one neighbour.
+fn router6(alloc: Global, budget: usize) -> Option<Router<V6>> {
+    let writer = Writer::new(source6(2), source6(1), 210, budget).ok()?;
+    let mut routes = Routes::new(alloc);
+    routes
+        .add_rp([255, 0, 0, 0, 0, 0, 0, 0, 0, 0, 0, 0, 0, 0, 0, 0], 8, RP6)
+        .ok()?;
+    routes.add_via([0; 16], 0, source6(2)).ok()?;
+    Some(Router {
+        ports: Ports::new(alloc, 1, 1000),
+        routes,
+        writer,
+    })
+}
+
+/// Hears a message of one set, and lets its prunes act: whether it was taken.
+fn hear<F: Family>(
+    alloc: Global,
+    router: &mut Router<F>,
+    group: F::Addr,
+    joined: &[Entry<F::Addr>],
+    pruned: &[Entry<F::Addr>],
+) -> Result<bool, AllocError> {
+    let (Ok(joins), Ok(prunes)) = (u16::try_from(joined.len()), u16::try_from(pruned.len())) else {
+        return Ok(false);
+    };
+    let size = set_length::<F>(joins, prunes);
+    let mut body = vec![in alloc; 0u8; head_length::<F>() + size]?;
+    let (head, set) = body.split_at_mut(head_length::<F>());
+    put_head::<F>(router.writer.upstream(), 1, 210, head);
+    put_set::<F>(group, joined, pruned, set);
+    let Ok(view) = JpView::<F>::read(&body) else {
+        return Ok(false);
+    };
+    if router.ports.port_count() == 0 {
+        return Ok(false);
+    }
+    if router.ports.hear(0, &view, &router.routes, ALONE).is_err() {
+        return Ok(false);
+    }
+    Ok(router.ports.run_to(0) == Step::Reached)
+}
+
+/// The messages of what the router wants; `None` where it doesn't want it all of its neighbour, or its form isn't made.
+fn told<F: Family>(alloc: Global, router: &Router<F>) -> Option<Result<Messages, FormFault<F>>> {
+    let form = NormalForm::of(alloc, &router.ports).ok()?;
+    if !is_toward(&form, &router.routes, router.writer.upstream()) {
+        return None;
+    }
+    Some(pack(alloc, &form, &router.writer, &router.routes))
+}
+
+/// How long the messages of what the router wants are, if there are two at most; or why there are none.
+fn lengths<F: Family>(
+    alloc: Global,
+    router: &Router<F>,
+) -> Option<Result<(usize, [usize; 2]), FormFault<F>>> {
+    match told(alloc, router)? {
+        Ok(messages) => Some(Ok((
+            messages.count(),
+            [length_at(&messages, 0), length_at(&messages, 1)],
+        ))),
+        Err(fault) => Some(Err(fault)),
+    }
+}
+
+/// How long a message is; 0 where it isn't there.
+fn length_at(messages: &Messages, index: usize) -> usize {
+    match messages.get(index) {
+        Some(message) => message.len(),
+        None => 0,
+    }
+}
+
+#[test]
+fn packs_a_star(rt: HostRuntime) -> Result<(), Fail> {
+    let Some(mut router) = router4(rt.alloc(), 1480) else {
+        assert!(rt; false);
+        return Ok(());
+    };
+    let Some(Ok(nothing)) = told(rt.alloc(), &router) else {
+        assert!(rt; false);
+        return Ok(());
+    };
+    assert_eq!(rt; (nothing.count(), nothing.get(0)), (0, None));
+    assert!(rt; nothing.same_bytes(&nothing));
+    let heard = hear(rt.alloc(), &mut router, GROUP, &[Entry::Star(RP)], &[])?;
+    assert!(rt; heard);
+    let Some(Ok(messages)) = told(rt.alloc(), &router) else {
+        assert!(rt; false);
+        return Ok(());
+    };
+    assert!(rt; !nothing.same_bytes(&messages));
+    assert_eq!(rt; messages.count(), 1);
+    assert_eq!(rt; messages.get(0), Some(STAR_MESSAGE.as_slice()));
+    assert_eq!(rt; messages.get(1), None);
+    Ok(())
+}
+
+#[test]
+fn packs_a_star_with_an_exception(rt: HostRuntime) -> Result<(), Fail> {
+    let Some(mut router) = router4(rt.alloc(), 1480) else {
+        assert!(rt; false);
+        return Ok(());
+    };
+    let heard = hear(
+        rt.alloc(),
+        &mut router,
+        GROUP,
+        &[Entry::Star(RP)],
+        &[Entry::Rpt(FIRST)],
+    )?;
+    assert!(rt; heard);
+    let form = NormalForm::of(rt.alloc(), &router.ports)?;
+    let again = normal_again(rt.alloc(), &form)?;
+    for form in [&form, &again] {
+        if !is_toward(form, &router.routes, router.writer.upstream()) {
+            assert!(rt; false);
+            return Ok(());
+        }
+        let Ok(messages) = pack(rt.alloc(), form, &router.writer, &router.routes) else {
+            assert!(rt; false);
+            return Ok(());
+        };
+        assert_eq!(rt; messages.count(), 1);
+        assert_eq!(rt; messages.get(0), Some(EXCEPT_MESSAGE.as_slice()));
+    }
+    Ok(())
+}
+
+#[test]
+fn fills_messages_with_sources(rt: HostRuntime) -> Result<(), Fail> {
+    let Some(mut router) = router4(rt.alloc(), 1480) else {
+        assert!(rt; false);
+        return Ok(());
+    };
+    let mut joined = Vec::new(rt.alloc());
+    for number in 1..201 {
+        joined.push(Entry::Source(source(number)))?;
+    }
+    let heard = hear(rt.alloc(), &mut router, GROUP, &joined, &[])?;
+    assert!(rt; heard);
+    let told = lengths(rt.alloc(), &router);
+    assert_eq!(rt; told, Some(Ok((2, [1474, 178]))));
+    Ok(())
+}
+
+#[test]
+fn takes_255_groups_a_message(rt: HostRuntime) -> Result<(), Fail> {
+    let Some(mut router) = router4(rt.alloc(), 6000) else {
+        assert!(rt; false);
+        return Ok(());
+    };
+    for number in 0..=255 {
+        let group = [239, 1, 0, number];
+        let heard = hear(rt.alloc(), &mut router, group, &[Entry::Star(RP)], &[])?;
+        assert!(rt; heard);
+    }
+    let told = lengths(rt.alloc(), &router);
+    assert_eq!(rt; told, Some(Ok((2, [5114, 34]))));
+    Ok(())
+}
+
+/// A budget, how many exceptions the star has, and how long its only message is; none where it is too big.
+type Row = (usize, u8, Option<usize>);
+
+#[test]
+fn tells_stars_that_are_too_big(rt: HostRuntime) -> Result<(), Fail> {
+    let rows: [Row; 3] = [
+        (1480, 180, Some(1474)),
+        (1480, 181, None),
+        (70, 0, Some(34)),
+    ];
+    for (budget, count, wanted) in rows {
+        let Some(mut router) = router4(rt.alloc(), budget) else {
+            assert!(rt; false);
+            return Ok(());
+        };
+        let mut pruned = Vec::new(rt.alloc());
+        for number in 0..count {
+            pruned.push(Entry::Rpt(source(number)))?;
+        }
+        let heard = hear(rt.alloc(), &mut router, GROUP, &[Entry::Star(RP)], &pruned)?;
+        assert!(rt; heard);
+        let told = lengths(rt.alloc(), &router);
+        match wanted {
+            Some(length) => assert_eq!(rt; told, Some(Ok((1, [length, 0])))),
+            None => assert_eq!(rt; told, Some(Err(FormFault::TooBig(GROUP)))),
+        }
+    }
+    Ok(())
+}
+
+#[test]
+fn tells_stars_of_ipv6_that_are_too_big(rt: HostRuntime) -> Result<(), Fail> {
+    let rows: [Row; 4] = [
+        (1460, 69, Some(1450)),
+        (1460, 70, None),
+        (70, 0, Some(70)),
+        (70, 1, None),
+    ];
+    for (budget, count, wanted) in rows {
+        let Some(mut router) = router6(rt.alloc(), budget) else {
+            assert!(rt; false);
+            return Ok(());
+        };
+        let mut pruned = Vec::new(rt.alloc());
+        for number in 0..count {
+            pruned.push(Entry::Rpt(source6(number)))?;
+        }
+        let heard = hear(
+            rt.alloc(),
+            &mut router,
+            GROUP6,
+            &[Entry::Star(RP6)],
+            &pruned,
+        )?;
+        assert!(rt; heard);
+        let told = lengths(rt.alloc(), &router);
+        match wanted {
+            Some(length) => assert_eq!(rt; told, Some(Ok((1, [length, 0])))),
+            None => assert_eq!(rt; told, Some(Err(FormFault::TooBig(GROUP6)))),
+        }
+    }
+    Ok(())
+}
+
+#[test]
+fn tells_faults_in_words(rt: HostRuntime) -> Result<(), Fail> {
+    let fault: FormFault<V4> = FormFault::TooBig(GROUP);
+    let text = format!(in rt.alloc(); "{fault}")?;
+    assert_eq!(rt; text.as_str(), "too big 239.1.1.1");
+    let fault: FormFault<V6> = FormFault::Memory;
+    let text = format!(in rt.alloc(); "{fault}")?;
+    assert_eq!(rt; text.as_str(), "memory");
+    let fault: FormFault<V4> = FormFault::Tables;
+    let text = format!(in rt.alloc(); "{fault}")?;
+    assert_eq!(rt; text.as_str(), "tables");
+    Ok(())
+}
+
+// With each allocation refused in turn (`rt try --test --fail-alloc 1..`): the form is as it was, and the same call,
+// with memory, gives its messages.
+#[test]
+fn refusals_change_nothing(rt: HostRuntime) -> Result<(), Fail> {
+    let Some(mut router) = router4(rt.alloc(), 1480) else {
+        return Ok(());
+    };
+    let mut joined = Vec::new(rt.alloc());
+    for number in 1..201 {
+        if joined.push(Entry::Source(source(number))).is_err() {
+            return Ok(());
+        }
+    }
+    if hear(rt.alloc(), &mut router, GROUP, &joined, &[]) != Ok(true) {
+        return Ok(());
+    }
+    let Ok(form) = NormalForm::of(rt.alloc(), &router.ports) else {
+        return Ok(());
+    };
+    if !is_toward(&form, &router.routes, router.writer.upstream()) {
+        assert!(rt; false);
+        return Ok(());
+    }
+    let messages = match pack(rt.alloc(), &form, &router.writer, &router.routes) {
+        Ok(messages) => messages,
+        Err(fault) => {
+            assert_eq!(rt; fault, FormFault::Memory);
+            assert_eq!(rt; form.groups().count_left(), 1);
+            let Ok(messages) = pack(rt.alloc(), &form, &router.writer, &router.routes) else {
+                assert!(rt; false);
+                return Ok(());
+            };
+            messages
+        }
+    };
+    assert_eq!(rt; messages.count(), 2);
+    assert_eq!(rt; length_at(&messages, 0), 1474);
+    assert_eq!(rt; length_at(&messages, 1), 178);
+    Ok(())
+}

@@ -1,0 +1,303 @@
+//! Bodies with their readings. A body is a message from its byte 4 on.
+
+use pim_addr::{V4, V6};
+use pim_jp::JpKind::{
+    BothLists, Encoding, Family, Flags, Mask, NotGroup, NotSource, SecondStar, Short, Trailing,
+};
+use pim_jp::{
+    Entry, JpKind, JpView, head_length, put_entry, put_group_and_counts, put_head, put_set,
+    set_length,
+};
+use std::test::Fail;
+
+mod changed_bytes;
+mod clashes;
+
+/// Upstream 10.0.0.2, holdtime 210, and 239.1.1.1 with the RP 10.9.9.9 joined.
+const STAR: [u8; 30] = [
+    1, 0, 10, 0, 0, 2, 0, 1, 0, 210, 1, 0, 0, 32, 239, 1, 1, 1, 0, 1, 0, 0, 1, 0, 7, 32, 10, 9, 9,
+    9,
+];
+
+/// The same for IPv6: upstream fe80::2, and ff0e::1 with the RP 2001:db8::9 joined.
+const STAR_V6: [u8; 66] = [
+    2, 0, 0xfe, 0x80, 0, 0, 0, 0, 0, 0, 0, 0, 0, 0, 0, 0, 0, 2, 0, 1, 0, 210, 2, 0, 0, 128, 0xff,
+    0x0e, 0, 0, 0, 0, 0, 0, 0, 0, 0, 0, 0, 0, 0, 1, 0, 1, 0, 0, 2, 0, 7, 128, 0x20, 1, 0x0d, 0xb8,
+    0, 0, 0, 0, 0, 0, 0, 0, 0, 0, 0, 9,
+];
+
+fn fault_v4(body: &[u8]) -> Option<(JpKind, usize)> {
+    let fault = JpView::<V4>::read(body).err()?;
+    Some((fault.kind, fault.at))
+}
+
+fn fault_v6(body: &[u8]) -> Option<(JpKind, usize)> {
+    let fault = JpView::<V6>::read(body).err()?;
+    Some((fault.kind, fault.at))
+}
+
+#[test]
+fn reads_star(rt: HostRuntime) -> Result<(), Fail> {
+    let message = JpView::<V4>::read(&STAR)?;
+    assert_eq!(rt; message.upstream(), [10, 0, 0, 2]);
+    assert_eq!(rt; message.holdtime(), 210);
+    assert_eq!(rt; message.set_count(), 1);
+    let mut sets = message.sets();
+    assert_eq!(rt; sets.count_left(), 1);
+    let set = sets.next().ok_or("one set")?;
+    assert_eq!(rt; sets.count_left(), 0);
+    assert!(rt; sets.next().is_none());
+    assert_eq!(rt; set.group(), [239, 1, 1, 1]);
+    assert_eq!(rt; (set.joined_count(), set.pruned_count()), (1, 0));
+    let mut joined = set.joined();
+    assert_eq!(rt; joined.next(), Some(Entry::Star([10, 9, 9, 9])));
+    assert_eq!(rt; joined.count_left(), 0);
+    assert_eq!(rt; joined.next(), None);
+    assert_eq!(rt; set.pruned().next(), None);
+    Ok(())
+}
+
+#[test]
+fn shows_what_was_read(rt: HostRuntime) -> Result<(), Fail> {
+    let message = JpView::<V4>::read(&STAR)?;
+    let set = message.sets().next().ok_or("one set")?;
+    let sets = message.sets();
+    let joined = set.joined();
+    let rows = [
+        (
+            format!(in rt.alloc(); "{message:?}")?,
+            "JpView { upstream: [10, 0, 0, 2], holdtime: 210, set_count: 1 }",
+        ),
+        (
+            format!(in rt.alloc(); "{set:?}")?,
+            "SetView { group: [239, 1, 1, 1], joined_count: 1, pruned_count: 0 }",
+        ),
+        (
+            format!(in rt.alloc(); "{sets:?}")?,
+            "Sets { count_left: 1 }",
+        ),
+        (
+            format!(in rt.alloc(); "{joined:?}")?,
+            "Entries { count_left: 1 }",
+        ),
+    ];
+    for (shown, want) in rows {
+        assert_eq!(rt; shown.as_str(), want);
+    }
+    Ok(())
+}
+
+#[test]
+fn reads_star_of_ipv6(rt: HostRuntime) -> Result<(), Fail> {
+    let message = JpView::<V6>::read(&STAR_V6)?;
+    let upstream = [0xfe, 0x80, 0, 0, 0, 0, 0, 0, 0, 0, 0, 0, 0, 0, 0, 2];
+    assert_eq!(rt; message.upstream(), upstream);
+    assert_eq!(rt; message.holdtime(), 210);
+    let set = message.sets().next().ok_or("one set")?;
+    assert_eq!(rt;
+        set.group(),
+        [0xff, 0x0e, 0, 0, 0, 0, 0, 0, 0, 0, 0, 0, 0, 0, 0, 1]
+    );
+    let rp = [0x20, 1, 0x0d, 0xb8, 0, 0, 0, 0, 0, 0, 0, 0, 0, 0, 0, 9];
+    assert_eq!(rt; set.joined().next(), Some(Entry::Star(rp)));
+    assert_eq!(rt; set.pruned_count(), 0);
+    assert_eq!(rt; fault_v6(&STAR_V6[..65]), Some((Short, 46)));
+    assert_eq!(rt; fault_v6(&STAR), Some((Family, 0)));
+    Ok(())
+}
+
+#[test]
+fn reads_a_source_in_both_lists(rt: HostRuntime) -> Result<(), Fail> {
+    let body = [
+        1, 0, 10, 0, 0, 2, 0, 1, 0, 210, 1, 0, 0, 32, 239, 1, 1, 1, 0, 1, 0, 1, 1, 0, 4, 32, 192,
+        0, 2, 1, 1, 0, 5, 32, 192, 0, 2, 1,
+    ];
+    let message = JpView::<V4>::read(&body)?;
+    let set = message.sets().next().ok_or("one set")?;
+    assert_eq!(rt; (set.joined_count(), set.pruned_count()), (1, 1));
+    assert_eq!(rt; set.joined().next(), Some(Entry::Source([192, 0, 2, 1])));
+    assert_eq!(rt; set.pruned().next(), Some(Entry::Rpt([192, 0, 2, 1])));
+    Ok(())
+}
+
+#[test]
+fn tells_cuts(rt: HostRuntime) {
+    for length in 0..30 {
+        let at = match length {
+            0..=5 => 0,
+            6..=9 => 6,
+            10..=17 => 10,
+            18..=21 => 18,
+            _ => 22,
+        };
+        assert_eq!(rt;
+            fault_v4(&STAR[..length]),
+            Some((Short, at)),
+            "cut to {length}"
+        );
+    }
+}
+
+#[test]
+fn tells_changed_bytes(rt: HostRuntime) {
+    let rows = [
+        (0, 2, Some((Family, 0))),
+        (1, 1, Some((Encoding, 0))),
+        (6, 255, None),
+        (7, 0, Some((Trailing, 10))),
+        (7, 2, Some((Short, 30))),
+        (10, 2, Some((Family, 10))),
+        (11, 1, Some((Encoding, 10))),
+        (12, 255, None),
+        (13, 24, Some((Mask, 10))),
+        (14, 10, Some((NotGroup, 10))),
+        (19, 0, Some((Trailing, 22))),
+        (19, 2, Some((Short, 30))),
+        (21, 1, Some((Short, 30))),
+        (22, 2, Some((Family, 22))),
+        (23, 1, Some((Encoding, 22))),
+        (24, 0, None),
+        (24, 6, Some((Flags, 22))),
+        (24, 253, None),
+        (25, 24, Some((Mask, 22))),
+        (26, 239, Some((NotSource, 22))),
+    ];
+    for (at, byte, fault) in rows {
+        let mut body = STAR;
+        for (place, old) in body.iter_mut().enumerate() {
+            if place == at {
+                *old = byte;
+            }
+        }
+        assert_eq!(rt; fault_v4(&body), fault, "byte {at} is {byte}");
+    }
+}
+
+/// Bodies whose head and group are those of `STAR`: what stands behind them, and the fault.
+#[test]
+fn tells_of_sets(rt: HostRuntime) -> Result<(), Fail> {
+    let rows: [(&str, &[u8], Option<(JpKind, usize)>); 13] = [
+        (
+            "a byte more",
+            b"\0\x01\0\0\x01\0\x07\x20\x0a\x09\x09\x09\0",
+            Some((Trailing, 30)),
+        ),
+        ("an empty set", b"\0\0\0\0", None),
+        (
+            "a source in both lists",
+            b"\0\x01\0\x01\x01\0\x04\x20\xc0\0\x02\x01\x01\0\x04\x20\xc0\0\x02\x01",
+            Some((BothLists, 30)),
+        ),
+        (
+            "as (S,G,rpt) in both lists",
+            b"\0\x01\0\x01\x01\0\x01\x20\xc0\0\x02\x01\x01\0\x05\x20\xc0\0\x02\x01",
+            Some((BothLists, 30)),
+        ),
+        (
+            "another source in the other list",
+            b"\0\x01\0\x01\x01\0\x04\x20\xc0\0\x02\x01\x01\0\x04\x20\xc0\0\x02\x02",
+            None,
+        ),
+        (
+            "a source twice in one list",
+            b"\0\x02\0\0\x01\0\x04\x20\xc0\0\x02\x01\x01\0\x04\x20\xc0\0\x02\x01",
+            None,
+        ),
+        (
+            "two stars joined",
+            b"\0\x02\0\0\x01\0\x07\x20\x0a\x09\x09\x09\x01\0\x07\x20\x0a\x09\x09\x08",
+            Some((SecondStar, 30)),
+        ),
+        (
+            "a star in each list",
+            b"\0\x01\0\x01\x01\0\x07\x20\x0a\x09\x09\x09\x01\0\x07\x20\x0a\x09\x09\x09",
+            Some((SecondStar, 30)),
+        ),
+        (
+            "a source of 0.0.0.0",
+            b"\0\x01\0\0\x01\0\x04\x20\0\0\0\0",
+            Some((NotSource, 22)),
+        ),
+        (
+            "an RP of 0.0.0.0",
+            b"\0\x01\0\0\x01\0\x07\x20\0\0\0\0",
+            Some((NotSource, 22)),
+        ),
+        (
+            "mask and flags",
+            b"\0\x01\0\0\x01\0\x06\x18\x0a\x09\x09\x09",
+            Some((Mask, 22)),
+        ),
+        (
+            "W alone, and a star behind it",
+            b"\0\x02\0\0\x01\0\x06\x20\x0a\x09\x09\x09\x01\0\x07\x20\x0a\x09\x09\x09",
+            Some((Flags, 22)),
+        ),
+        (
+            "W alone behind a star",
+            b"\0\x02\0\0\x01\0\x07\x20\x0a\x09\x09\x09\x01\0\x06\x20\x0a\x09\x09\x09",
+            Some((Flags, 30)),
+        ),
+    ];
+    for (name, set, fault) in rows {
+        let mut body = Vec::from_slice(rt.alloc(), &STAR[..18])?;
+        body.extend_from_slice(set)?;
+        assert_eq!(rt; fault_v4(&body), fault, "{name}");
+    }
+    Ok(())
+}
+
+#[test]
+fn tells_of_sets_as_a_whole(rt: HostRuntime) {
+    let none = b"\x01\0\x0a\0\0\x02\0\0\0\xd2";
+    assert_eq!(rt; fault_v4(none), None);
+    let twice =
+        b"\x01\0\x0a\0\0\x02\0\x02\0\xd2\x01\0\0\x20\xef\x01\x01\x01\0\0\0\0\x01\0\0\x20\xef\x01\x01\x01\0\0\0\0";
+    assert_eq!(rt; fault_v4(twice), None);
+}
+
+#[test]
+fn writes_star(rt: HostRuntime) {
+    let mut body = [0xff; 30];
+    let (head, set) = body.split_at_mut(head_length::<V4>());
+    put_head::<V4>([10, 0, 0, 2], 1, 210, head);
+    let joined = [Entry::Star([10, 9, 9, 9])];
+    put_set::<V4>([239, 1, 1, 1], &joined, &[], set);
+    assert_eq!(rt; body, STAR);
+}
+
+#[test]
+fn writes_star_of_ipv6(rt: HostRuntime) {
+    let mut body = [0xff; 66];
+    let (head, set) = body.split_at_mut(head_length::<V6>());
+    let upstream = [0xfe, 0x80, 0, 0, 0, 0, 0, 0, 0, 0, 0, 0, 0, 0, 0, 2];
+    put_head::<V6>(upstream, 1, 210, head);
+    let group = [0xff, 0x0e, 0, 0, 0, 0, 0, 0, 0, 0, 0, 0, 0, 0, 0, 1];
+    let joined = [Entry::Star([0x20, 1, 0x0d, 0xb8, 0, 0, 0, 0, 0, 0, 0, 0, 0, 0, 0, 9])];
+    put_set::<V6>(group, &joined, &[], set);
+    assert_eq!(rt; body, STAR_V6);
+}
+
+#[test]
+fn writes_both_lists_in_their_order(rt: HostRuntime) {
+    let mut set = [0xff; 36];
+    assert_eq!(rt; set_length::<V4>(1, 2), 36);
+    let joined = [Entry::Source([192, 0, 2, 1])];
+    let pruned = [Entry::Rpt([192, 0, 2, 1]), Entry::Star([10, 9, 9, 9])];
+    put_set::<V4>([239, 1, 1, 1], &joined, &pruned, &mut set);
+    let want = [
+        1, 0, 0, 32, 239, 1, 1, 1, 0, 1, 0, 2, 1, 0, 4, 32, 192, 0, 2, 1, 1, 0, 5, 32, 192, 0, 2,
+        1, 1, 0, 7, 32, 10, 9, 9, 9,
+    ];
+    assert_eq!(rt; set, want);
+}
+
+#[test]
+fn writes_a_set_part_by_part(rt: HostRuntime) {
+    let mut set = [0xff; 20];
+    let (front, entry) = set.split_at_mut(12);
+    put_group_and_counts::<V4>([239, 1, 1, 1], 1, 0, front);
+    put_entry::<V4>(Entry::Star([10, 9, 9, 9]), entry);
+    let (_, want) = STAR.split_at(10);
+    assert_eq!(rt; set[..], *want);
+}

@@ -1,4 +1,0 @@
-//! Worked examples.
-
-mod again;
-mod mirrored;

@@ -1,0 +1,5 @@
+//! Worked examples.
+
+mod again;
+mod fitting;
+mod mirrored;

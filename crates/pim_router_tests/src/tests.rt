@@ -1,0 +1,236 @@
+//! Worked examples: the group 239.1.1.1 with the RP 10.9.9.9 and the sources 192.0.2.1 and 192.0.2.2, on the ports
+//! 10.0.0.1 and 10.0.1.1. Each is a table of rows that are played one after the other.
+
+mod asking;
+mod comparing;
+mod crowds;
+mod jumps;
+mod lengths;
+mod memory;
+mod packets;
+mod refused;
+mod time;
+mod upstreams;
+mod world;
+
+use pim_addr::{Routes, V4};
+use pim_down::{State, What};
+use pim_frame::{MessageType, all_routers, seal};
+use pim_jp::Entry;
+use pim_router::{Config, PortConfig, Router, Step, Verdict};
+use std::alloc::{AllocError, Global};
+use std::test::Fail;
+
+const RP: [u8; 4] = [10, 9, 9, 9];
+
+const GROUP: [u8; 4] = [239, 1, 1, 1];
+
+const FIRST: [u8; 4] = [192, 0, 2, 1];
+
+const SECOND: [u8; 4] = [192, 0, 2, 2];
+
+/// Two senders on the links of the ports.
+const ANNE: [u8; 4] = [10, 0, 0, 9];
+
+const BERT: [u8; 4] = [10, 0, 0, 8];
+
+/// The address of the first port, to which messages are addressed unless a row says otherwise.
+const OWN: [u8; 4] = [10, 0, 0, 1];
+
+const PORTS: [PortConfig<[u8; 4]>; 2] = [
+    PortConfig {
+        address: OWN,
+        propagation: 500,
+        override_ms: 2500,
+    },
+    PortConfig {
+        address: [10, 0, 1, 1],
+        propagation: 500,
+        override_ms: 2500,
+    },
+];
+
+const JOIN_STAR: Entry<[u8; 4]> = Entry::Star(RP);
+
+const JOIN_FIRST: Entry<[u8; 4]> = Entry::Source(FIRST);
+
+const JOIN_SECOND: Entry<[u8; 4]> = Entry::Source(SECOND);
+
+const RPT_FIRST: Entry<[u8; 4]> = Entry::Rpt(FIRST);
+
+/// The body of a Hello whose sender is kept for ever.
+const FOR_EVER: [u8; 6] = [0, 1, 0, 2, 255, 255];
+
+/// The joined and the pruned list of a set of the group.
+type Lists<'a> = (&'a [Entry<[u8; 4]>], &'a [Entry<[u8; 4]>]);
+
+/// A Join/Prune that comes to the first port.
+#[derive(Clone, Copy)]
+struct Message<'a> {
+    from: [u8; 4],
+    upstream: [u8; 4],
+    holdtime: u16,
+    sets: &'a [Lists<'a>],
+}
+
+/// A row of an example: a call, and what it tells or leaves.
+#[derive(Clone, Copy)]
+enum Row<'a> {
+    /// A Hello with this body comes to the first port.
+    Hello([u8; 4], &'a [u8], Verdict),
+    /// A Join/Prune comes to the first port.
+    Hears(Message<'a>, Verdict),
+    /// These bytes come to this port.
+    Bytes(usize, [u8; 4], &'a [u8], Verdict),
+    /// A run to a moment tells this.
+    Run(u64, Step<[u8; 4]>),
+    /// The present moment.
+    Now(u64),
+    /// The state of one of the group's machines on the first port.
+    State(What<[u8; 4]>, Option<State>),
+    /// The time that is left to one of the group's machines on the first port, in milliseconds.
+    Left(What<[u8; 4]>, u64),
+}
+
+/// A message to the first port's address with the holdtime 210.
+fn from<'a>(from: [u8; 4], sets: &'a [Lists<'a>]) -> Message<'a> {
+    let (upstream, holdtime) = (OWN, 210);
+    Message {
+        from,
+        upstream,
+        holdtime,
+        sets,
+    }
+}
+
+/// A message with this holdtime.
+fn lasting<'a>(holdtime: u16, sets: &'a [Lists<'a>]) -> Message<'a> {
+    let (from, upstream) = (ANNE, OWN);
+    Message {
+        from,
+        upstream,
+        holdtime,
+        sets,
+    }
+}
+
+fn small(number: usize) -> u8 {
+    u8::try_from(number).unwrap_or(0)
+}
+
+fn entry_bytes(entry: Entry<[u8; 4]>) -> [u8; 8] {
+    let (flags, address) = match entry {
+        Entry::Star(rp) => (7, rp),
+        Entry::Source(source) => (4, source),
+        Entry::Rpt(source) => (5, source),
+    };
+    let [a, b, c, d] = address;
+    [1, 0, flags, 32, a, b, c, d]
+}
+
+/// The body of a Join/Prune.
+fn body(alloc: Global, message: &Message<'_>) -> Result<Vec<u8>, AllocError> {
+    let [a, b, c, d] = message.upstream;
+    let [high, low] = message.holdtime.to_be_bytes();
+    let mut bytes = vec![in alloc; 1, 0, a, b, c, d, 0, small(message.sets.len()), high, low]?;
+    for &(joined, pruned) in message.sets {
+        bytes.extend_from_slice(&[1, 0, 0, 32, 239, 1, 1, 1])?;
+        bytes.extend_from_slice(&[0, small(joined.len()), 0, small(pruned.len())])?;
+        for &entry in joined {
+            bytes.extend_from_slice(&entry_bytes(entry))?;
+        }
+        for &entry in pruned {
+            bytes.extend_from_slice(&entry_bytes(entry))?;
+        }
+    }
+    Ok(bytes)
+}
+
+/// Lets a port receive some bytes; `None` where the port isn't there or there are too many bytes.
+fn receive(
+    router: &mut Router<'_, V4>,
+    port: usize,
+    from: [u8; 4],
+    bytes: &[u8],
+) -> Result<Option<Verdict>, AllocError> {
+    if port >= router.port_count() || bytes.len() >= 65_536 {
+        return Ok(None);
+    }
+    let verdict = router.take_packet(port, from, all_routers::<V4>(), bytes)?;
+    Ok(Some(verdict))
+}
+
+/// Lets the first port receive a message with this body.
+fn receive_body(
+    alloc: Global,
+    router: &mut Router<'_, V4>,
+    from: [u8; 4],
+    message_type: MessageType,
+    body: &[u8],
+) -> Result<Option<Verdict>, AllocError> {
+    let mut bytes = vec![in alloc; 0, 0, 0, 0]?;
+    bytes.extend_from_slice(body)?;
+    if bytes.len() < 4 || bytes.len() >= 65_536 {
+        return Ok(None);
+    }
+    seal::<V4>(from, all_routers::<V4>(), message_type, &mut bytes);
+    receive(router, 0, from, &bytes)
+}
+
+/// Whether one of the group's machines on the first port has this time left.
+fn has_left(router: &Router<'_, V4>, what: What<[u8; 4]>, left: u64) -> bool {
+    router.ports().records_on(0).any(|held| {
+        held.key.group == GROUP && held.key.what == what && held.machine.expires_in == Some(left)
+    })
+}
+
+/// How many neighbours a port has; none where it isn't there.
+fn neighbour_count(router: &Router<'_, V4>, port: usize) -> usize {
+    if port >= router.port_count() {
+        return 0;
+    }
+    router.neighbours(port).count()
+}
+
+/// Plays a row: whether it goes as it says.
+fn goes(alloc: Global, router: &mut Router<'_, V4>, row: Row<'_>) -> Result<bool, AllocError> {
+    match row {
+        Row::Hello(from, body, wanted) => {
+            let told = receive_body(alloc, router, from, MessageType::Hello, body)?;
+            Ok(told == Some(wanted))
+        }
+        Row::Hears(message, wanted) => {
+            let bytes = body(alloc, &message)?;
+            let told = receive_body(alloc, router, message.from, MessageType::JoinPrune, &bytes)?;
+            Ok(told == Some(wanted))
+        }
+        Row::Bytes(port, from, bytes, wanted) => {
+            Ok(receive(router, port, from, bytes)? == Some(wanted))
+        }
+        Row::Run(moment, wanted) => {
+            Ok(moment <= 1_000_000_000_000_000 && router.run_to(moment) == wanted)
+        }
+        Row::Now(moment) => Ok(router.now() == moment),
+        Row::State(what, state) => Ok(router.ports().state_of(0, GROUP, what) == state),
+        Row::Left(what, left) => Ok(has_left(router, what, left)),
+    }
+}
+
+/// Plays rows on a new router with this limit of records, up to the first that doesn't go as it says, and tells its
+/// index.
+fn play(alloc: Global, limit: usize, rows: &[Row<'_>]) -> Result<Option<usize>, Fail> {
+    let mut routes = Routes::new(alloc);
+    routes.add_rp([224, 0, 0, 0], 4, RP)?;
+    let config = Config {
+        ports: &PORTS,
+        routes: &routes,
+        limit,
+    };
+    let mut router = Router::new(alloc, &config)?;
+    for (index, row) in rows.iter().enumerate() {
+        if !goes(alloc, &mut router, *row)? {
+            return Ok(Some(index));
+        }
+    }
+    Ok(None)
+}

@@ -1,0 +1,139 @@
+//! What a router asks its upstream neighbour for after packets that its ports took, by the bytes of its messages.
+
+use super::world::{
+    EXCEPT_FIRST, Event, LONE_PRUNE, ONE, ONE_EACH, THREE, TWO, WITHOUT_BOTH, WITHOUT_FIRST, after,
+    are, table,
+};
+use super::{JOIN_FIRST, JOIN_STAR, RPT_FIRST};
+use pim_addr::V4;
+use pim_form::Writer;
+use pim_router::Router;
+use std::alloc::Global;
+use std::test::Fail;
+
+/// The star of the group.
+const STAR: [u8; 34] = [
+    0x23, 0, 0xc4, 0xd4, 1, 0, 10, 0, 0, 2, 0, 1, 0, 210, 1, 0, 0, 32, 239, 1, 1, 1, 0, 1, 0, 0, 1,
+    0, 7, 32, 10, 9, 9, 9,
+];
+
+/// The source 192.0.2.1 of the group.
+const SOURCE: [u8; 34] = [
+    0x23, 0, 0x18, 0xe5, 1, 0, 10, 0, 0, 2, 0, 1, 0, 210, 1, 0, 0, 32, 239, 1, 1, 1, 0, 1, 0, 0, 1,
+    0, 4, 32, 192, 0, 2, 1,
+];
+
+/// What happens, and the one message that is then asked by; none where it has no bytes.
+type Row<'a> = (&'a [Event<'a>], &'a [u8]);
+
+const ROWS: [Row<'static>; 11] = [
+    (&[], &[]),
+    (&[LONE_PRUNE, Event::Passes(0)], &[]),
+    (&[Event::Hears(0, &[JOIN_STAR], &[])], &STAR),
+    // the prunes are pending
+    (&[WITHOUT_FIRST], &STAR),
+    (&[WITHOUT_FIRST, Event::Passes(0)], &EXCEPT_FIRST),
+    // a star that isn't repeated with its prune
+    (
+        &[
+            WITHOUT_FIRST,
+            Event::Passes(10),
+            Event::Hears(0, &[JOIN_STAR], &[]),
+        ],
+        &STAR,
+    ),
+    (
+        &[WITHOUT_FIRST, WITHOUT_BOTH, LONE_PRUNE, Event::Passes(0)],
+        &EXCEPT_FIRST,
+    ),
+    // the first message again
+    (
+        &[
+            WITHOUT_FIRST,
+            WITHOUT_BOTH,
+            LONE_PRUNE,
+            Event::Passes(5_000),
+            WITHOUT_FIRST,
+        ],
+        &EXCEPT_FIRST,
+    ),
+    // another port's star in Prune-Pending
+    (
+        &[
+            WITHOUT_FIRST,
+            Event::Passes(0),
+            Event::Hears(1, &[JOIN_STAR], &[]),
+            Event::Hears(1, &[], &[JOIN_STAR]),
+        ],
+        &STAR,
+    ),
+    // another port's star has ended
+    (
+        &[
+            WITHOUT_FIRST,
+            Event::Hears(1, &[JOIN_STAR], &[]),
+            Event::Hears(1, &[], &[JOIN_STAR]),
+            Event::Passes(0),
+        ],
+        &EXCEPT_FIRST,
+    ),
+    // a source without a star
+    (
+        &[
+            Event::Hears(0, &[JOIN_FIRST], &[RPT_FIRST]),
+            Event::Passes(0),
+        ],
+        &SOURCE,
+    ),
+];
+
+/// Whether a router asks 10.0.0.2 by this message; `None` where something went wrong.
+fn asks(alloc: Global, row: &Row<'_>) -> Option<bool> {
+    let routes = table(alloc, &ONE_EACH)?;
+    let router = after(alloc, &THREE, &routes, row.0)?;
+    let writer = Writer::new(TWO, ONE, 210, 1480).ok()?;
+    let messages = router.canonical(alloc, &writer).ok()?;
+    Some(are(&messages, row.1))
+}
+
+#[test]
+fn asks_for_what_the_ports_want(rt: HostRuntime) -> Result<(), Fail> {
+    for row in ROWS {
+        assert_eq!(rt; asks(rt.alloc(), &row), Some(true));
+    }
+    Ok(())
+}
+
+/// Whether all timers of a router's records end in so many milliseconds.
+fn all_end_in(router: &Router<'_, V4>, millis: u64) -> bool {
+    for record in router.ports().records() {
+        if record.machine.expires_in != Some(millis) {
+            return false;
+        }
+    }
+    true
+}
+
+/// Whether a message that is heard again at 5 s makes its two records last as long as at first, and changes no byte of
+/// what is asked; `None` where something went wrong.
+fn lasts_anew(alloc: Global) -> Option<[bool; 3]> {
+    let routes = table(alloc, &ONE_EACH)?;
+    let events = [
+        WITHOUT_FIRST,
+        Event::Passes(0),
+        Event::Passes(5_000),
+        WITHOUT_FIRST,
+    ];
+    let router = after(alloc, &THREE, &routes, &events)?;
+    let writer = Writer::new(TWO, ONE, 210, 1480).ok()?;
+    let messages = router.canonical(alloc, &writer).ok()?;
+    let two = router.ports().records().count() == 2;
+    let anew = all_end_in(&router, 210_000);
+    Some([two, anew, are(&messages, &EXCEPT_FIRST)])
+}
+
+#[test]
+fn message_heard_again_changes_no_byte(rt: HostRuntime) -> Result<(), Fail> {
+    assert_eq!(rt; lasts_anew(rt.alloc()), Some([true, true, true]));
+    Ok(())
+}

@@ -1,0 +1,185 @@
+//! Whether two routers want the same of an upstream neighbour, worked out by hand.
+
+use super::world::{
+    EXCEPT_FIRST, Event, LONE_PRUNE, ONE, ONE_EACH, Route, SIX, THREE, TWO, WITHOUT_BOTH,
+    WITHOUT_FIRST, after, table,
+};
+use super::{FIRST, GROUP, JOIN_FIRST, JOIN_SECOND, JOIN_STAR, RP};
+use pim_addr::V4;
+use pim_form::{FormFault, Writer};
+use pim_router::same_wants;
+use std::alloc::Global;
+use std::test::Fail;
+
+/// What happened to each of two routers, and whether they then want the same.
+type Pair<'a> = (&'a [Event<'a>], &'a [Event<'a>], bool);
+
+/// The star without 192.0.2.1.
+const ONE_OUT: &[Event<'static>] = &[WITHOUT_FIRST, Event::Passes(0)];
+
+/// The star without both sources.
+const BOTH_OUT: &[Event<'static>] = &[WITHOUT_BOTH, Event::Passes(0)];
+
+/// A prune without a star, which wants nothing.
+const NOTHING: &[Event<'static>] = &[LONE_PRUNE, Event::Passes(0)];
+
+/// All three, on three ports.
+const ALL: &[Event<'static>] = &[WITHOUT_FIRST, WITHOUT_BOTH, LONE_PRUNE, Event::Passes(0)];
+
+const PAIRS: [Pair<'static>; 16] = [
+    (ONE_OUT, ONE_OUT, true),
+    (BOTH_OUT, BOTH_OUT, true),
+    (NOTHING, NOTHING, true),
+    (ONE_OUT, BOTH_OUT, false),
+    (BOTH_OUT, ONE_OUT, false),
+    (ONE_OUT, NOTHING, false),
+    (NOTHING, ONE_OUT, false),
+    (BOTH_OUT, NOTHING, false),
+    (NOTHING, BOTH_OUT, false),
+    (&[], NOTHING, true),
+    (NOTHING, &[], true),
+    (ALL, ONE_OUT, true),
+    (ALL, BOTH_OUT, false),
+    // the prunes are pending, and then they act
+    (
+        &[WITHOUT_FIRST],
+        &[Event::Hears(1, &[JOIN_STAR], &[])],
+        true,
+    ),
+    (&[WITHOUT_FIRST], ONE_OUT, false),
+    // the same source on another port, with another holdtime left
+    (
+        &[Event::Hears(0, &[JOIN_FIRST], &[])],
+        &[Event::Passes(70), Event::Hears(2, &[JOIN_FIRST], &[])],
+        true,
+    ),
+];
+
+/// Whether the two of a pair want the same of 10.0.0.2, each under a table of its own with the same rows; `None` where
+/// something went wrong.
+fn are_same(alloc: Global, pair: &Pair<'_>) -> Option<bool> {
+    let routes = table(alloc, &ONE_EACH)?;
+    let others = table(alloc, &ONE_EACH)?;
+    let a = after(alloc, &THREE, &routes, pair.0)?;
+    let b = after(alloc, &THREE, &others, pair.1)?;
+    let writer = Writer::new(TWO, ONE, 210, 1480).ok()?;
+    same_wants(alloc, &a, &b, &writer).ok()
+}
+
+#[test]
+fn compares_what_is_wanted(rt: HostRuntime) -> Result<(), Fail> {
+    for pair in PAIRS {
+        assert_eq!(rt; are_same(rt.alloc(), &pair), Some(pair.2));
+    }
+    Ok(())
+}
+
+/// The source 192.0.2.1 is reached by another neighbour than the rest.
+const APART: [Route; 3] = [
+    (true, [224, 0, 0, 0], 4, RP),
+    (false, [0, 0, 0, 0], 0, TWO),
+    (false, FIRST, 32, SIX),
+];
+
+/// The same rows, added in another order.
+const APART_AGAIN: [Route; 3] = [
+    (false, FIRST, 32, SIX),
+    (false, [0, 0, 0, 0], 0, TWO),
+    (true, [224, 0, 0, 0], 4, RP),
+];
+
+/// One row leads elsewhere.
+const OTHERWISE: [Route; 3] = [
+    (true, [224, 0, 0, 0], 4, RP),
+    (false, [0, 0, 0, 0], 0, TWO),
+    (false, FIRST, 32, TWO),
+];
+
+/// The table of a router, and what happens to it.
+#[derive(Clone, Copy)]
+struct Side<'a> {
+    rows: &'a [Route],
+    events: &'a [Event<'a>],
+}
+
+/// What is told of two routers with this writer; `None` where something went wrong.
+fn told(
+    alloc: Global,
+    one: Side<'_>,
+    other: Side<'_>,
+    upstream: [u8; 4],
+    budget: usize,
+) -> Option<Result<bool, FormFault<V4>>> {
+    let routes = table(alloc, one.rows)?;
+    let others = table(alloc, other.rows)?;
+    let a = after(alloc, &THREE, &routes, one.events)?;
+    let b = after(alloc, &THREE, &others, other.events)?;
+    let writer = Writer::new(upstream, ONE, 210, budget).ok()?;
+    Some(same_wants(alloc, &a, &b, &writer))
+}
+
+/// Both sources on their own trees, or one.
+const BOTH: &[Event<'static>] = &[Event::Hears(0, &[JOIN_FIRST, JOIN_SECOND], &[])];
+
+const ONLY_SECOND: &[Event<'static>] = &[Event::Hears(0, &[JOIN_SECOND], &[])];
+
+#[test]
+fn compares_what_one_neighbour_is_asked_for(rt: HostRuntime) -> Result<(), Fail> {
+    let one = Side {
+        rows: &APART,
+        events: BOTH,
+    };
+    let other = Side {
+        rows: &APART_AGAIN,
+        events: ONLY_SECOND,
+    };
+    assert_eq!(rt; told(rt.alloc(), one, other, TWO, 1480), Some(Ok(true)));
+    assert_eq!(rt; told(rt.alloc(), one, other, SIX, 1480), Some(Ok(false)));
+    assert_eq!(rt; told(rt.alloc(), one, one, SIX, 1480), Some(Ok(true)));
+    Ok(())
+}
+
+const THIRD_GROUP: [u8; 4] = [239, 1, 1, 3];
+
+const NINTH_GROUP: [u8; 4] = [239, 1, 1, 9];
+
+/// The star of the group fits a message of 70 bytes without four sources, and is too big without five.
+const FITS: &[Event<'static>] = &[Event::Star(GROUP, 4), Event::Passes(0)];
+
+const TOO_BIG: &[Event<'static>] = &[Event::Star(GROUP, 5), Event::Passes(0)];
+
+/// Two stars that are too big, of greater groups.
+const TWO_TOO_BIG: &[Event<'static>] = &[
+    Event::Star(NINTH_GROUP, 5),
+    Event::Star(THIRD_GROUP, 5),
+    Event::Passes(0),
+];
+
+#[test]
+fn tells_faults_in_order(rt: HostRuntime) -> Result<(), Fail> {
+    let side = |rows, events| Side { rows, events };
+    let greater = side(&ONE_EACH, TWO_TOO_BIG);
+    let lesser = side(&ONE_EACH, TOO_BIG);
+    let fitting = side(&ONE_EACH, FITS);
+    let elsewhere = side(&APART, TWO_TOO_BIG);
+    let third = Some(Err(FormFault::TooBig(THIRD_GROUP)));
+    let first = Some(Err(FormFault::TooBig(GROUP)));
+    let tables = Some(Err(FormFault::Tables));
+    assert_eq!(rt; told(rt.alloc(), greater, lesser, TWO, 70), third);
+    assert_eq!(rt; told(rt.alloc(), lesser, greater, TWO, 70), first);
+    assert_eq!(rt; told(rt.alloc(), greater, fitting, TWO, 70), third);
+    assert_eq!(rt; told(rt.alloc(), fitting, greater, TWO, 70), third);
+    assert_eq!(rt; told(rt.alloc(), fitting, fitting, TWO, 70), Some(Ok(true)));
+    assert_eq!(rt; told(rt.alloc(), greater, elsewhere, TWO, 70), tables);
+    assert_eq!(rt;
+        told(
+            rt.alloc(),
+            side(&APART, FITS),
+            side(&OTHERWISE, FITS),
+            TWO,
+            70
+        ),
+        tables
+    );
+    Ok(())
+}

@@ -1,0 +1,89 @@
+//! Many neighbours and many records: up to the limits, and past them.
+
+use super::{ANNE, FOR_EVER, Lists, PORTS, Row, from, goes, neighbour_count, play, receive_body};
+use pim_addr::{Routes, V4};
+use pim_frame::MessageType;
+use pim_hello::Heard;
+use pim_jp::Entry;
+use pim_router::{Config, Router, Store, Verdict};
+use std::alloc::{AllocError, Global};
+use std::test::Fail;
+
+const NEW: Verdict = Verdict::HelloTaken(Heard::New);
+
+const SAME: Verdict = Verdict::HelloTaken(Heard::Same);
+
+const GONE: Verdict = Verdict::HelloTaken(Heard::Gone);
+
+const GOODBYE: [u8; 6] = [0, 1, 0, 2, 0, 0];
+
+/// The first of 1,024 neighbours, and one more.
+const FIRST_OF_ALL: [u8; 4] = [10, 1, 0, 0];
+
+const ONE_MORE: [u8; 4] = [10, 1, 4, 0];
+
+/// Lets the first port hear a Hello of 10.1.0.0 to 10.1.3.255: whether each is told as new.
+fn crowd_comes(alloc: Global, router: &mut Router<'_, V4>) -> Result<bool, AllocError> {
+    for number in 0..1024u16 {
+        let [third, fourth] = number.to_be_bytes();
+        let sender = [10, 1, third, fourth];
+        let told = receive_body(alloc, router, sender, MessageType::Hello, &FOR_EVER)?;
+        if told != Some(NEW) {
+            return Ok(false);
+        }
+    }
+    Ok(true)
+}
+
+#[test]
+fn full_of_neighbours(rt: HostRuntime) -> Result<(), Fail> {
+    let routes = Routes::new(rt.alloc());
+    let config = Config {
+        ports: &PORTS,
+        routes: &routes,
+        limit: 1,
+    };
+    let mut router = Router::new(rt.alloc(), &config)?;
+    assert!(rt; crowd_comes(rt.alloc(), &mut router)?);
+    assert_eq!(rt; neighbour_count(&router, 0), 1024);
+    let rows = [
+        Row::Hello(ONE_MORE, &FOR_EVER, Verdict::Full(Store::Neighbours)),
+        Row::Hello(ONE_MORE, &GOODBYE, GONE),
+        Row::Hello(FIRST_OF_ALL, &FOR_EVER, SAME),
+        Row::Hello(FIRST_OF_ALL, &GOODBYE, GONE),
+        Row::Hello(ONE_MORE, &FOR_EVER, NEW),
+    ];
+    for row in rows {
+        assert!(rt; goes(rt.alloc(), &mut router, row)?);
+    }
+    assert_eq!(rt; neighbour_count(&router, 0), 1024);
+    assert_eq!(rt; neighbour_count(&router, 1), 0);
+    Ok(())
+}
+
+/// Joins of the sources from 10.1.0.`first` to 10.1.0.`last`.
+fn joins(alloc: Global, first: u8, last: u8) -> Result<Vec<Entry<[u8; 4]>>, AllocError> {
+    let mut entries = Vec::new(alloc);
+    for fourth in first..=last {
+        entries.push(Entry::Source([10, 1, 0, fourth]))?;
+    }
+    Ok(entries)
+}
+
+#[test]
+fn each_message_has_room_or_none(rt: HostRuntime) -> Result<(), Fail> {
+    let many = joins(rt.alloc(), 1, 181)?;
+    let few = joins(rt.alloc(), 182, 200)?;
+    let many: [Lists<'_>; 1] = [(&many, &[])];
+    let few: [Lists<'_>; 1] = [(&few, &[])];
+    let full = |needed| Verdict::Full(Store::Records { needed });
+    let rows = [
+        Row::Hello(ANNE, &FOR_EVER, NEW),
+        Row::Hears(from(ANNE, &many), full(181)),
+        Row::Hears(from(ANNE, &few), Verdict::Applied),
+        Row::Hears(from(ANNE, &many), full(200)),
+        Row::Hears(from(ANNE, &few), Verdict::Applied),
+    ];
+    assert_eq!(rt; play(rt.alloc(), 100, &rows)?, None);
+    Ok(())
+}

@@ -1,0 +1,200 @@
+//! How a router's messages fill their budget, and which stars are too big for one.
+
+use super::world::{
+    Event, ONE, ONE_EACH, Set, THREE, TWO, after, hear, neighbour, started, table, take,
+};
+use super::{GROUP, JOIN_STAR};
+use pim_addr::{Family, Routes, V4, V6};
+use pim_form::{FormFault, Messages, Writer};
+use pim_frame::MessageType;
+use pim_jp::Entry;
+use pim_router::{Config, PortConfig, Router, Step};
+use std::alloc::Global;
+use std::test::Fail;
+
+/// How many messages there are, and how long the first two are; 0 where one isn't there.
+type Lengths = (usize, [usize; 2]);
+
+fn length_at(messages: &Messages, index: usize) -> usize {
+    messages.get(index).map_or(0, |message| message.len())
+}
+
+/// How long the messages are by which a router asks.
+pub(super) fn lengths<F: Family>(
+    alloc: Global,
+    router: &Router<'_, F>,
+    writer: &Writer<F>,
+) -> Result<Lengths, FormFault<F>> {
+    let messages = router.canonical(alloc, writer)?;
+    let first = length_at(&messages, 0);
+    let second = length_at(&messages, 1);
+    Ok((messages.count(), [first, second]))
+}
+
+/// What 200 sources of one group are asked for by; `None` where something went wrong.
+fn of_200_sources(alloc: Global) -> Option<Lengths> {
+    let routes = table(alloc, &ONE_EACH)?;
+    let mut router = started(alloc, &THREE, &routes)?;
+    let mut joined = Vec::new(alloc);
+    for number in 1..201 {
+        joined.push(Entry::Source([10, 1, 0, number])).ok()?;
+    }
+    let set = Set {
+        group: GROUP,
+        joined: &joined,
+        pruned: &[],
+    };
+    if hear::<V4>(alloc, &mut router, 0, neighbour(0), &set) != Some(true) {
+        return None;
+    }
+    let writer = Writer::new(TWO, ONE, 210, 1480).ok()?;
+    lengths(alloc, &router, &writer).ok()
+}
+
+/// What 256 stars are asked for by; `None` where something went wrong.
+fn of_256_stars(alloc: Global) -> Option<Lengths> {
+    let routes = table(alloc, &ONE_EACH)?;
+    let mut router = started(alloc, &THREE, &routes)?;
+    for number in 0..=255 {
+        let set = Set {
+            group: [239, 1, 0, number],
+            joined: &[JOIN_STAR],
+            pruned: &[],
+        };
+        if hear::<V4>(alloc, &mut router, 0, neighbour(0), &set) != Some(true) {
+            return None;
+        }
+    }
+    let writer = Writer::new(TWO, ONE, 210, 6000).ok()?;
+    lengths(alloc, &router, &writer).ok()
+}
+
+#[test]
+fn fills_messages(rt: HostRuntime) -> Result<(), Fail> {
+    assert_eq!(rt; of_200_sources(rt.alloc()), Some((2, [1474, 178])));
+    assert_eq!(rt; of_256_stars(rt.alloc()), Some((2, [5114, 34])));
+    Ok(())
+}
+
+/// A budget, how many exceptions the star has, and how long its only message is; none where it is too big.
+type Row = (usize, u8, Option<usize>);
+
+/// What the messages of a star without some sources are, or why there are none.
+type Told<F> = Option<Result<Lengths, FormFault<F>>>;
+
+/// The messages of a star without so many sources; `None` where something went wrong.
+fn of_star(alloc: Global, budget: usize, count: u8) -> Told<V4> {
+    let routes = table(alloc, &ONE_EACH)?;
+    let events = [Event::Star(GROUP, count), Event::Passes(0)];
+    let router = after(alloc, &THREE, &routes, &events)?;
+    let writer = Writer::new(TWO, ONE, 210, budget).ok()?;
+    Some(lengths(alloc, &router, &writer))
+}
+
+#[test]
+fn tells_stars_that_are_too_big(rt: HostRuntime) -> Result<(), Fail> {
+    let rows: [Row; 5] = [
+        (1480, 180, Some(1474)),
+        (1480, 181, None),
+        (70, 0, Some(34)),
+        (70, 4, Some(66)),
+        (70, 5, None),
+    ];
+    for (budget, count, length) in rows {
+        let wanted = match length {
+            Some(length) => Ok((1, [length, 0])),
+            None => Err(FormFault::TooBig(GROUP)),
+        };
+        assert_eq!(rt; of_star(rt.alloc(), budget, count), Some(wanted));
+    }
+    Ok(())
+}
+
+/// The neighbour on the port of IPv6.
+const NEIGHBOUR6: [u8; 16] = [0xfe, 0x80, 0, 0, 0, 0, 0, 0, 0, 0, 0, 0, 0, 0, 0, 9];
+
+/// A source of IPv6: 2001:db8:: and this number.
+fn source6(number: u8) -> [u8; 16] {
+    [32, 1, 13, 184, 0, 0, 0, 0, 0, 0, 0, 0, 0, 0, 0, number]
+}
+
+/// A group of IPv6.
+const GROUP6: [u8; 16] = [255, 62, 0, 0, 0, 0, 0, 0, 0, 0, 0, 0, 0, 0, 0, 1];
+
+/// Its RP.
+const RP6: [u8; 16] = [32, 1, 13, 184, 0, 0, 0, 0, 0, 0, 0, 0, 0, 0, 9, 9];
+
+/// A port of IPv6.
+const PORT6: [PortConfig<[u8; 16]>; 1] = [PortConfig {
+    address: [0xfe, 0x80, 0, 0, 0, 0, 0, 0, 0, 0, 0, 0, 0, 0, 0, 1],
+    propagation: 500,
+    override_ms: 2500,
+}];
+
+/// A table of IPv6 with one RP and one neighbour for all.
+fn table6(alloc: Global) -> Option<Routes<V6>> {
+    let mut routes: Routes<V6> = Routes::new(alloc);
+    let groups = [255, 0, 0, 0, 0, 0, 0, 0, 0, 0, 0, 0, 0, 0, 0, 0];
+    routes.add_rp(groups, 8, RP6).ok()?;
+    routes.add_via([0; 16], 0, source6(2)).ok()?;
+    Some(routes)
+}
+
+/// A router of IPv6 whose port has heard a star without so many sources; `None` where something went wrong.
+fn started6<'a>(
+    alloc: Global,
+    routes: &'a Routes<V6>,
+    ports: &'a [PortConfig<[u8; 16]>],
+    count: u8,
+) -> Option<Router<'a, V6>> {
+    let config = Config {
+        ports,
+        routes,
+        limit: 1000,
+    };
+    let mut router = Router::new(alloc, &config).ok()?;
+    let mut hello = [0, 0, 0, 0, 0, 1, 0, 2, 255, 255];
+    take(&mut router, 0, NEIGHBOUR6, MessageType::Hello, &mut hello)?;
+    let mut pruned = Vec::new(alloc);
+    for number in 0..count {
+        pruned.push(Entry::Rpt(source6(number))).ok()?;
+    }
+    let set = Set {
+        group: GROUP6,
+        joined: &[Entry::Star(RP6)],
+        pruned: &pruned,
+    };
+    if hear::<V6>(alloc, &mut router, 0, NEIGHBOUR6, &set) != Some(true) {
+        return None;
+    }
+    if router.run_to(0) != Step::Reached {
+        return None;
+    }
+    Some(router)
+}
+
+/// The messages of a star of IPv6 without so many sources; `None` where something went wrong.
+fn of_star6(alloc: Global, budget: usize, count: u8) -> Told<V6> {
+    let routes = table6(alloc)?;
+    let router = started6(alloc, &routes, &PORT6, count)?;
+    let writer = Writer::new(source6(2), source6(1), 210, budget).ok()?;
+    Some(lengths(alloc, &router, &writer))
+}
+
+#[test]
+fn tells_stars_of_ipv6_that_are_too_big(rt: HostRuntime) -> Result<(), Fail> {
+    let rows: [Row; 4] = [
+        (1460, 69, Some(1450)),
+        (1460, 70, None),
+        (70, 0, Some(70)),
+        (70, 1, None),
+    ];
+    for (budget, count, length) in rows {
+        let wanted = match length {
+            Some(length) => Ok((1, [length, 0])),
+            None => Err(FormFault::TooBig(GROUP6)),
+        };
+        assert_eq!(rt; of_star6(rt.alloc(), budget, count), Some(wanted));
+    }
+    Ok(())
+}

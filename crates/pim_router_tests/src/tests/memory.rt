@@ -1,0 +1,126 @@
+//! Growths that are refused. Run with each allocation refused in turn (`rt try --test --fail-alloc 1..`).
+
+use super::{OWN, PORTS, RP, receive};
+use pim_addr::{Routes, V4};
+use pim_down::Record;
+use pim_frame::{MessageType, all_routers, seal};
+use pim_hello::{Heard, KnownNeighbour};
+use pim_router::{Config, ConfigFault, Router, Verdict};
+use std::alloc::{AllocError, Global};
+
+/// A Hello with a holdtime of 60 s, without its header.
+const HELLO: [u8; 10] = [0, 0, 0, 0, 0, 1, 0, 2, 0, 60];
+
+/// A Join(S,G) and a Prune(S,G,rpt) of the source 192.0.2.0, without its header.
+const SOURCE: [u8; 42] = [
+    0, 0, 0, 0, 1, 0, 10, 0, 0, 1, 0, 1, 0, 210, 1, 0, 0, 32, 239, 1, 1, 1, 0, 1, 0, 1, 1, 0, 4,
+    32, 192, 0, 2, 0, 1, 0, 5, 32, 192, 0, 2, 0,
+];
+
+/// What a refused call has to leave: the moment, the records and the first port's neighbours.
+#[derive(Debug, PartialEq, Drop)]
+struct Left {
+    moment: u64,
+    records: Vec<Record<[u8; 4]>>,
+    neighbours: Vec<KnownNeighbour<[u8; 4]>>,
+}
+
+fn left_by(alloc: Global, router: &Router<'_, V4>) -> Result<Option<Left>, AllocError> {
+    if router.port_count() == 0 {
+        return Ok(None);
+    }
+    let mut records = Vec::new(alloc);
+    for held in router.ports().records() {
+        records.push(held)?;
+    }
+    let mut neighbours = Vec::new(alloc);
+    for neighbour in router.neighbours(0) {
+        neighbours.push(neighbour)?;
+    }
+    let moment = router.now();
+    Ok(Some(Left {
+        moment,
+        records,
+        neighbours,
+    }))
+}
+
+/// Whether these bytes are told as wanted: at once or, where a growth is refused, with nothing changed and then again.
+fn is_told(
+    alloc: Global,
+    router: &mut Router<'_, V4>,
+    from: [u8; 4],
+    bytes: &[u8],
+    wanted: Verdict,
+) -> Result<bool, AllocError> {
+    let before = left_by(alloc, router)?;
+    if let Ok(told) = receive(router, 0, from, bytes) {
+        return Ok(told == Some(wanted));
+    }
+    let unchanged = left_by(alloc, router)? == before;
+    let Ok(told) = receive(router, 0, from, bytes) else {
+        return Ok(false);
+    };
+    Ok(unchanged && told == Some(wanted))
+}
+
+/// Whether forty neighbours, and a Join/Prune of each, are told as they have to be.
+fn forty_are_told(alloc: Global, router: &mut Router<'_, V4>) -> Result<bool, AllocError> {
+    let mut hello = HELLO;
+    let mut message = SOURCE;
+    for fourth in 0..40 {
+        let from = [10, 0, 0, 100 + fourth];
+        message[33] = fourth + 1;
+        message[41] = fourth + 1;
+        seal::<V4>(from, all_routers::<V4>(), MessageType::Hello, &mut hello);
+        seal::<V4>(
+            from,
+            all_routers::<V4>(),
+            MessageType::JoinPrune,
+            &mut message,
+        );
+        let told = is_told(alloc, router, from, &hello, Verdict::HelloTaken(Heard::New))?
+            && is_told(
+                alloc,
+                router,
+                from,
+                &hello,
+                Verdict::HelloTaken(Heard::Same),
+            )?
+            && is_told(alloc, router, from, &message, Verdict::Applied)?
+            && is_told(alloc, router, from, &message, Verdict::Applied)?;
+        if !told {
+            return Ok(false);
+        }
+    }
+    Ok(true)
+}
+
+/// A router, made at once or, where a growth is refused, at the second time; `None` where it isn't.
+fn made<'a>(alloc: Global, config: &Config<'a, V4>) -> Option<Router<'a, V4>> {
+    match Router::new(alloc, config) {
+        Err(ConfigFault::Memory) => Router::new(alloc, config).ok(),
+        made => made.ok(),
+    }
+}
+
+#[test]
+fn refusals_change_nothing(rt: HostRuntime) {
+    let routes = Routes::new(rt.alloc());
+    let config = Config {
+        ports: &PORTS,
+        routes: &routes,
+        limit: 100,
+    };
+    let Some(mut router) = made(rt.alloc(), &config) else {
+        assert!(rt; false);
+        return;
+    };
+    assert_eq!(rt; router.ports().count_on(0), 0);
+    // where what is left can't be noted down, nothing can be compared
+    let Ok(told) = forty_are_told(rt.alloc(), &mut router) else {
+        return;
+    };
+    assert!(rt; told);
+    assert_eq!(rt; router.ports().count_on(0), 80);
+}

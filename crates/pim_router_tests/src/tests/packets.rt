@@ -1,0 +1,220 @@
+//! Verdicts on packets, and what a router is made from.
+
+use super::{
+    ANNE, BERT, FIRST, FOR_EVER, JOIN_FIRST, JOIN_SECOND, JOIN_STAR, Message, OWN, PORTS,
+    RPT_FIRST, Row, SECOND, from, play,
+};
+use pim_addr::{Routes, V4, V6};
+use pim_down::{State, What};
+use pim_frame::FrameFault;
+use pim_hello::{Heard, HelloFault, HelloKind};
+use pim_jp::{Entry, JpFault, JpKind};
+use pim_router::{Config, ConfigFault, Malformed, PortConfig, Router, Step, Store, Verdict};
+use std::alloc::Global;
+use std::test::Fail;
+
+const NEW: Verdict = Verdict::HelloTaken(Heard::New);
+
+/// A Join(*,G) with an RP that isn't the one known.
+const OTHER_STAR: Entry<[u8; 4]> = Entry::Star([10, 9, 9, 8]);
+
+/// A Join(*,G) for 10.0.0.2, with its checksum.
+const STAR: [u8; 34] = [
+    0x23, 0, 0xc4, 0xd4, 1, 0, 10, 0, 0, 2, 0, 1, 0, 210, 1, 0, 0, 32, 239, 1, 1, 1, 0, 1, 0, 0, 1,
+    0, 7, 32, 10, 9, 9, 9,
+];
+
+#[test]
+fn sender_has_to_be_a_neighbour(rt: HostRuntime) -> Result<(), Fail> {
+    let join = from(ANNE, &[(&[JOIN_STAR], &[])]);
+    let elsewhere = Message {
+        upstream: [10, 0, 0, 2],
+        ..join
+    };
+    let rows = [
+        Row::Hears(join, Verdict::UnknownNeighbour),
+        Row::Bytes(0, ANNE, &STAR, Verdict::UnknownNeighbour),
+        Row::State(What::Star, None),
+        Row::Hello(ANNE, &FOR_EVER, NEW),
+        Row::Hears(elsewhere, Verdict::NotForUs),
+        Row::State(What::Star, None),
+        Row::Hears(join, Verdict::Applied),
+        Row::State(What::Star, Some(State::Join)),
+        Row::Bytes(1, ANNE, &STAR, Verdict::UnknownNeighbour),
+    ];
+    assert_eq!(rt; play(rt.alloc(), 100, &rows)?, None);
+    Ok(())
+}
+
+#[test]
+fn own_packets_and_malformed_ones(rt: HostRuntime) -> Result<(), Fail> {
+    let frame = |fault| Verdict::Malformed(Malformed::Frame(fault));
+    let short = HelloFault {
+        at: 0,
+        kind: HelloKind::Short,
+    };
+    let trailing = JpFault {
+        at: 0,
+        kind: JpKind::Short,
+    };
+    let rows = [
+        Row::Bytes(0, OWN, &[0x23, 0, 0, 0, 1], Verdict::Mine),
+        Row::Bytes(0, OWN, &STAR, Verdict::Mine),
+        Row::Bytes(1, OWN, &STAR, Verdict::UnknownNeighbour),
+        Row::Bytes(0, ANNE, &[0x23, 0, 0, 0, 1], frame(FrameFault::Checksum)),
+        Row::Bytes(0, ANNE, &[0x33, 0, 0, 0], frame(FrameFault::Version(3))),
+        Row::Bytes(0, ANNE, &[0x20], frame(FrameFault::Short)),
+        Row::Bytes(0, ANNE, &[0x25, 0, 0, 0], Verdict::OtherType(5)),
+        Row::Hello(
+            ANNE,
+            &[0, 1, 0],
+            Verdict::Malformed(Malformed::Hello(short)),
+        ),
+        Row::Bytes(
+            0,
+            ANNE,
+            &[0x23, 0, 0xdc, 0xff],
+            Verdict::Malformed(Malformed::JoinPrune(trailing)),
+        ),
+    ];
+    assert_eq!(rt; play(rt.alloc(), 100, &rows)?, None);
+    Ok(())
+}
+
+#[test]
+fn hellos(rt: HostRuntime) -> Result<(), Fail> {
+    let rows = [
+        Row::Hello(ANNE, &[0, 20, 0, 4, 0, 0, 0, 1], NEW),
+        Row::Hello(
+            ANNE,
+            &[0, 20, 0, 4, 0, 0, 0, 1],
+            Verdict::HelloTaken(Heard::Same),
+        ),
+        Row::Hello(
+            ANNE,
+            &[0, 20, 0, 4, 0, 0, 0, 2],
+            Verdict::HelloTaken(Heard::Restarted),
+        ),
+        Row::Hello(ANNE, &[0, 1, 0, 2, 0, 0], Verdict::HelloTaken(Heard::Gone)),
+        Row::Hears(
+            from(ANNE, &[(&[JOIN_STAR], &[])]),
+            Verdict::UnknownNeighbour,
+        ),
+        Row::Hello(BERT, &[0, 1, 0, 2, 0, 0], Verdict::HelloTaken(Heard::Gone)),
+    ];
+    assert_eq!(rt; play(rt.alloc(), 100, &rows)?, None);
+    Ok(())
+}
+
+#[test]
+fn prunes_end_that_are_not_repeated(rt: HostRuntime) -> Result<(), Fail> {
+    let rows = [
+        Row::Hello(ANNE, &FOR_EVER, NEW),
+        Row::Hears(
+            from(ANNE, &[(&[JOIN_STAR], &[RPT_FIRST])]),
+            Verdict::Applied,
+        ),
+        Row::Run(10, Step::Reached),
+        Row::State(What::Rpt(FIRST), Some(State::Prune)),
+        Row::Hears(
+            from(ANNE, &[(&[OTHER_STAR, JOIN_SECOND], &[])]),
+            Verdict::Applied,
+        ),
+        Row::State(What::Star, Some(State::Join)),
+        Row::Left(What::Star, 209_990),
+        Row::State(What::Source(SECOND), Some(State::Join)),
+        Row::Left(What::Source(SECOND), 210_000),
+        Row::State(What::Rpt(FIRST), Some(State::Prune)),
+        Row::Left(What::Rpt(FIRST), 209_990),
+        Row::Hears(from(ANNE, &[(&[JOIN_STAR], &[])]), Verdict::Applied),
+        Row::State(What::Rpt(FIRST), None),
+        Row::State(What::Star, Some(State::Join)),
+    ];
+    assert_eq!(rt; play(rt.alloc(), 100, &rows)?, None);
+    Ok(())
+}
+
+#[test]
+fn full_of_records(rt: HostRuntime) -> Result<(), Fail> {
+    let rows = [
+        Row::Hello(ANNE, &FOR_EVER, NEW),
+        Row::Hears(
+            from(ANNE, &[(&[JOIN_STAR, JOIN_FIRST], &[])]),
+            Verdict::Applied,
+        ),
+        Row::Hears(
+            from(
+                ANNE,
+                &[(&[JOIN_STAR, JOIN_SECOND], &[]), (&[JOIN_SECOND], &[])],
+            ),
+            Verdict::Full(Store::Records { needed: 4 }),
+        ),
+        Row::State(What::Source(SECOND), None),
+        Row::Hears(
+            from(ANNE, &[(&[JOIN_STAR, JOIN_FIRST], &[])]),
+            Verdict::Applied,
+        ),
+    ];
+    assert_eq!(rt; play(rt.alloc(), 2, &rows)?, None);
+    Ok(())
+}
+
+/// The fault of a configuration of these ports, if it has one.
+fn fault(alloc: Global, ports: &[PortConfig<[u8; 4]>], limit: usize) -> Option<ConfigFault> {
+    let routes = Routes::<V4>::new(alloc);
+    let config = Config {
+        ports,
+        routes: &routes,
+        limit,
+    };
+    Router::new(alloc, &config).err()
+}
+
+#[test]
+fn configurations(rt: HostRuntime) -> Result<(), Fail> {
+    let [first, second] = PORTS;
+    let group = PortConfig {
+        address: [224, 0, 0, 1],
+        ..first
+    };
+    let slow = PortConfig {
+        propagation: 32_768,
+        ..first
+    };
+    let alloc = rt.alloc();
+    assert_eq!(rt; fault(alloc, &PORTS, 100_000), None);
+    assert_eq!(rt; fault(alloc, &[], 0), Some(ConfigFault::Ports));
+    assert_eq!(rt; fault(alloc, &[first; 65], 1), Some(ConfigFault::Ports));
+    assert_eq!(rt; fault(alloc, &[first; 64], 1), None);
+    let of_group = ConfigFault::Address { port: 2 };
+    assert_eq!(rt;
+        fault(alloc, &[slow, second, group, group], 0),
+        Some(of_group)
+    );
+    let of_delay = ConfigFault::Delay { port: 1 };
+    assert_eq!(rt; fault(alloc, &[first, slow], 0), Some(of_delay));
+    assert_eq!(rt; fault(alloc, &PORTS, 0), Some(ConfigFault::Limit));
+    assert_eq!(rt; fault(alloc, &PORTS, 100_001), Some(ConfigFault::Limit));
+    Ok(())
+}
+
+#[test]
+fn new_router_of_ipv6(rt: HostRuntime) -> Result<(), Fail> {
+    let routes = Routes::<V6>::new(rt.alloc());
+    let port = PortConfig {
+        address: [0xfe, 0x80, 0, 0, 0, 0, 0, 0, 0, 0, 0, 0, 0, 0, 0, 1],
+        propagation: 500,
+        override_ms: 2500,
+    };
+    let ports = [port];
+    let config = Config {
+        ports: &ports,
+        routes: &routes,
+        limit: 1,
+    };
+    let mut router = Router::new(rt.alloc(), &config)?;
+    assert_eq!(rt; router.port_count(), 1);
+    assert_eq!(rt; (router.now(), router.ports().limit()), (0, 1));
+    assert_eq!(rt; router.run_to(60_000), Step::Refresh);
+    Ok(())
+}

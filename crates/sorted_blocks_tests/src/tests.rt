@@ -1,0 +1,161 @@
+//! A list in blocks of four items beside a plain vector, over some thousands of steps.
+
+ghost use Rattle.std.specs.Ordering.{nat_cmp};
+
+use sorted_blocks::{Blocks, Items, Place, Probe};
+use std::cmp::Ordering;
+use std::test::Fail;
+
+/// The number that is sought.
+#[derive(Drop)]
+struct Number(u32);
+
+impl Probe<u32> for Number {
+    ghost can_compare = { λ _ _. Unit {0} };
+
+    ghost order = { λ number item. nat_cmp item number.0 };
+
+    fn compare(&self, item: &u32) -> Ordering {
+        item.cmp(&self.0)
+    }
+}
+
+/// Whether these are the numbers that are left of the walk.
+fn are_left(walk: Items<'_, u32, 2>, plain: &[u32]) -> bool {
+    let mut left = plain;
+    for item in walk {
+        match left.split_first() {
+            Some((first, rest)) if *first == item => left = rest,
+            _ => return false,
+        }
+    }
+    left.is_empty()
+}
+
+/// Whether the list holds just these numbers, by its places and by its walk.
+fn holds(list: &Blocks<u32, 2>, plain: &[u32]) -> bool {
+    if list.len() != plain.len() {
+        return false;
+    }
+    let mut place = list.first();
+    for wanted in plain {
+        if !list.is_item(place) || list.get(place) != wanted {
+            return false;
+        }
+        place = list.next(place);
+    }
+    !list.is_item(place) && are_left(list.iter(), plain)
+}
+
+/// Whether neighbouring blocks of up to four have more than two items together.
+fn has_few_blocks(list: &Blocks<u32, 2>) -> bool {
+    list.block_count().saturating_sub(1).saturating_mul(3) <= list.len().saturating_mul(2)
+}
+
+/// Puts the number in, or takes it out where it is there; answers the place where it stood or stands. The look-up
+/// begins near a place.
+fn turn(list: &mut Blocks<u32, 2>, plain: &mut Vec<u32>, near: Place, number: u32) -> Place {
+    if list.reserve(1).is_err() || list.room() == 0 {
+        return Place::START;
+    }
+    match (
+        list.find_near(near, &Number(number)),
+        plain.binary_search(&number),
+    ) {
+        (Ok(place), Ok(index)) if index < plain.len() => {
+            let (item, next) = list.remove(place);
+            let _ = plain.remove(index);
+            if item == number { next } else { Place::START }
+        }
+        (Err(place), Err(index)) if index <= plain.len() && plain.len() < 512 => {
+            if !are_left(list.iter_from(place), &plain[index..]) {
+                // An empty list beside it, so that the next comparison fails.
+                plain.clear();
+                return Place::START;
+            }
+            if plain.insert(index, number).is_err() {
+                return Place::START;
+            }
+            list.insert_reserved(place, number)
+        }
+        _ => near,
+    }
+}
+
+/// The next of a row of numbers that look random.
+fn next_random(number: u64) -> u64 {
+    number
+        .wrapping_mul(6_364_136_223_846_793_005)
+        .wrapping_add(1_442_695_040_888_963_407)
+}
+
+#[test]
+fn goes_beside_a_plain_vector(rt: HostRuntime) -> Result<(), Fail> {
+    let Ok(mut plain) = Vec::with_capacity(rt.alloc(), 512) else {
+        return Ok(());
+    };
+    let mut list: Blocks<u32, 2> = Blocks::new(rt.alloc());
+    let mut random = 1u64;
+    let mut near = Place::START;
+    for step in 0..6000u32 {
+        random = next_random(random);
+        let range = if step % 2000 < 1000 { 128 } else { 16 };
+        let number = ((random >> 33) % range) as u32;
+        near = turn(&mut list, &mut plain, near, number);
+        assert!(rt; holds(&list, plain.as_slice()));
+        assert!(rt; has_few_blocks(&list));
+    }
+    Ok(())
+}
+
+#[test]
+fn reserves_for_many(rt: HostRuntime) -> Result<(), Fail> {
+    let mut list: Blocks<u32, 2> = Blocks::new(rt.alloc());
+    if list.reserve(200).is_err() {
+        assert!(rt; holds(&list, &[]));
+        return Ok(());
+    }
+    for number in 0..200u32 {
+        assert!(rt; list.room() > 0);
+        let Err(place) = list.find(&Number(number * 7 % 200)) else {
+            return Ok(());
+        };
+        let _ = list.insert_reserved(place, number * 7 % 200);
+    }
+    assert_eq!(rt; list.len(), 200);
+    let mut place = list.first();
+    for number in 0..200u32 {
+        assert!(rt; list.is_item(place));
+        assert_eq!(rt; *list.get(place), number);
+        place = list.next(place);
+    }
+    Ok(())
+}
+
+#[test]
+fn fits_after_removals(rt: HostRuntime) -> Result<(), Fail> {
+    let mut list: Blocks<u32, 2> = Blocks::new(rt.alloc());
+    if list.reserve_capacity(60).is_err() {
+        assert!(rt; holds(&list, &[]));
+        return Ok(());
+    }
+    let capacity = list.capacity();
+    assert!(rt; capacity >= 60);
+    let mut random = 1u64;
+    for _step in 0..4000u32 {
+        random = next_random(random);
+        let number = ((random >> 33) % 60) as u32;
+        match list.find(&Number(number)) {
+            Ok(place) => {
+                let _ = list.remove(place);
+            }
+            Err(place) => {
+                assert!(rt; list.len() < list.capacity());
+                let _ = list.insert_within(place, number);
+            }
+        }
+        assert_eq!(rt; list.capacity(), capacity);
+        assert!(rt; has_few_blocks(&list));
+    }
+    Ok(())
+}
