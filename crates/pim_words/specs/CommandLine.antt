@@ -66,13 +66,12 @@ bare = record (new_shape (codes "pimtree")) {
   subcommand_required = true;
 }
 
--- with `check` alone
-abbrev pub check_alone : App
-check_alone = with_subcommand (record { top = bare; subs = [] }) check
-
-abbrev pub reading_commands : App
-reading_commands = with_subcommand check_alone replay
+-- with all but `mirror`
+abbrev pub comparing_commands : App
+comparing_commands =
+    with_subcommand (with_subcommand (with_subcommand (record { top = bare; subs = [] }) check) replay)
+    (writing (codes "same"))
 
 -- with all four commands
 abbrev pub pimtree : App
-pimtree = with_subcommand (with_subcommand reading_commands (writing (codes "same"))) (writing (codes "mirror"))
+pimtree = with_subcommand comparing_commands (writing (codes "mirror"))

@@ -1,5 +1,5 @@
 -- What is to be done, by the words.
-use Rattle.std.specs.Prelude.{◌≡◌, ◌⊎◌, List, [], ◌∷◌, ⊤, true, IsSomeAnd, Result, Ok, Err}
+use Rattle.std.specs.Prelude.{◌≡◌, ◌≤◌, ◌⊎◌, List, [], ◌∷◌, ⊤, true, IsSomeAnd, Result, Ok, Err}
 use Rattle.std.specs.declared.alloc.AllocError.{AllocError}
 use Rattle.std.specs.declared.alloc.Global.{Global}
 use Rattle.std.specs.declared.string.String.{String}
@@ -13,7 +13,9 @@ use Rattle.pim_words.specs.declared.task.Kind.{Kind}
 use Rattle.pim_words.specs.declared.task.Plan.{Plan}
 use Rattle.pim_words.specs.declared.task.Plan.TheVariants.{V4, V6}
 use Rattle.pim_words.specs.declared.task.Task.{Task}
-use Rattle.pim_words.specs.declared.task.Task.TheVariants.{Check}
+use Rattle.pim_words.specs.declared.task.Task.TheVariants.{Check, Replay, Same}
+use Rattle.pim_words.specs.declared.task.Captures.{Captures}
+use Rattle.pim_words.specs.declared.task.Writing.{Writing}
 use Rattle.pim_words.specs.Faults.{task_faults}
 use Rattle.pim_words.specs.Given.{kind_name}
 use Rattle.pim_words.specs.Reading.{IsTask, IsUnreadable}
@@ -76,16 +78,26 @@ abbrev pub HasCause : App → List Text → Fault → Type 0
 HasCause app words cause.Memory = ⊤
 HasCause app words fault = IsRefusal app words fault ⊎ HasWrong app words fault
 
--- ---- plans of one message
+-- ---- plans of all commands but `mirror`
 
-abbrev pub IsCheckTask : {A : Type 0} → Task A → Type 0
-IsCheckTask (Check source destination) = ⊤
-IsCheckTask other = ⊥
+-- the router runs on for at most 10^9 milliseconds
+abbrev pub IsBounded : {A : Type 0} → Captures A → Type 0
+IsBounded captures = captures.after_ms ≤ 1000000000
 
--- The plan is to read one message.
-abbrev pub IsCheck : Plan → Type 0
-IsCheck (V4 task) = IsCheckTask task
-IsCheck (V6 task) = IsCheckTask task
+-- the holdtime and the budget of messages that can be written
+abbrev pub IsWritable : {A : Type 0} → Writing A → Type 0
+IsWritable writing = (99 ≤ writing.holdtime) × (70 ≤ writing.budget) × (writing.budget ≤ 65000)
+
+abbrev pub IsComparingTask : {A : Type 0} → Task A → Type 0
+IsComparingTask (Check source destination) = ⊤
+IsComparingTask (Replay captures) = IsBounded captures
+IsComparingTask (Same captures writing) = IsBounded captures × IsWritable writing
+IsComparingTask other = ⊥
+
+-- The plan is to read one message, to replay captures, or to compare what two routers want.
+abbrev pub IsComparing : Plan → Type 0
+IsComparing (V4 task) = IsComparingTask task
+IsComparing (V6 task) = IsComparingTask task
 
 -- ---- refusals
 

@@ -5,7 +5,7 @@ ghost use Rattle.clap.specs.declared.builder.command.Command.TheViews.{out-Comma
 ghost use Rattle.clap.specs.Words.{app_of, shape_of, rule_of, with_rule, with_subcommand};
 ghost use Rattle.pim_words.specs.CommandLine.{text_option, required_option, number_option, words_rule};
 ghost use Rattle.pim_words.specs.CommandLine.{with_run_options, with_addresses, with_writing, check};
-ghost use Rattle.pim_words.specs.CommandLine.{replay, writing, bare, check_alone, reading_commands, pimtree};
+ghost use Rattle.pim_words.specs.CommandLine.{replay, writing, bare, comparing_commands, pimtree};
 
 use clap::builder::ValueParser;
 use clap::{Arg, ArgAction, Command};
@@ -18,10 +18,6 @@ const ABOUT: &str = "Reads PIM sparse mode messages (RFC 7761) and says what the
 const AFTER_HELP: &str =
     "Exit status: 0 where all went well, 1 where `same` tells that the routers differ, 2 for a
 fault, which one line on standard error tells.";
-
-/// How a run ends where `check` is the one command.
-const CHECK_ALONE_AFTER_HELP: &str =
-    "Exit status: 0 where all went well, 2 for a fault, which one line on standard error tells.";
 
 /// What `check` does.
 const CHECK_ABOUT: &str = "What does this message say, or where is it wrong?";
@@ -286,44 +282,39 @@ fn writing_command<'a>(
     with_run_options(alloc, command, word_help)
 }
 
-/// The program without its commands. Its help ends with this text.
-fn bare_command<'a>(alloc: Global, after_help: &'a str) -> Command<'a>
+/// The program without its commands.
+fn bare_command<'a>(alloc: Global) -> Command<'a>
     ensures app { app_of result ≡ record { top = bare; subs = [] } }
     ensures local { (out-Command result).has_globals ≡ false }
 {
     Command::new(alloc, "pimtree")
         .version("0.1.0")
         .about(ABOUT)
-        .after_help(after_help)
+        .after_help(AFTER_HELP)
         .disable_help_subcommand(true)
         .subcommand_required(true)
 }
 
-/// The command line with `check` alone. Its help ends with this text.
-fn with_check<'a>(alloc: Global, after_help: &'a str) -> Result<Command<'a>, AllocError>
-    ensures app { IfOk result (λ c. app_of c ≡ check_alone) }
+/// The command line with its two commands that write no messages.
+fn with_reading<'a>(alloc: Global) -> Result<Command<'a>, AllocError>
+    ensures app { IfOk result (λ c. app_of c
+        ≡ with_subcommand (with_subcommand (record { top = bare; subs = [] }) check) replay) }
     ensures local { IfOk result (λ c. (out-Command c).has_globals ≡ false) }
 {
     let check = check_command(alloc)?;
-    with_command(bare_command(alloc, after_help), check)
-}
-
-/// The command line with its two commands that write nothing.
-fn reading_commands<'a>(alloc: Global) -> Result<Command<'a>, AllocError>
-    ensures app { IfOk result (λ c. app_of c ≡ reading_commands) }
-    ensures local { IfOk result (λ c. (out-Command c).has_globals ≡ false) }
-{
-    let whole = with_check(alloc, AFTER_HELP)?;
+    let whole = with_command(bare_command(alloc), check)?;
     let replay = replay_command(alloc)?;
     with_command(whole, replay)
 }
 
-/// The command line of a program that has `check` alone.
-pub(crate) fn check_alone<'a>(alloc: Global) -> Result<Command<'a>, AllocError>
-    ensures app { IfOk result (λ c. app_of c ≡ check_alone) }
+/// The command line of a program that has all commands but `mirror`.
+pub(crate) fn comparing_commands<'a>(alloc: Global) -> Result<Command<'a>, AllocError>
+    ensures app { IfOk result (λ c. app_of c ≡ comparing_commands) }
     ensures local { IfOk result (λ c. (out-Command c).has_globals ≡ false) }
 {
-    with_check(alloc, CHECK_ALONE_AFTER_HELP)
+    let whole = with_reading(alloc)?;
+    let same = writing_command(alloc, "same", SAME_ABOUT, SAME_AFTER_HELP, SIDED_HELP)?;
+    with_command(whole, same)
 }
 
 /// The whole command line.
@@ -331,9 +322,7 @@ pub(crate) fn command<'a>(alloc: Global) -> Result<Command<'a>, AllocError>
     ensures app { IfOk result (λ c. app_of c ≡ pimtree) }
     ensures local { IfOk result (λ c. (out-Command c).has_globals ≡ false) }
 {
-    let whole = reading_commands(alloc)?;
-    let same = writing_command(alloc, "same", SAME_ABOUT, SAME_AFTER_HELP, SIDED_HELP)?;
-    let whole = with_command(whole, same)?;
+    let whole = comparing_commands(alloc)?;
     let mirror = writing_command(alloc, "mirror", MIRROR_ABOUT, MIRROR_AFTER_HELP, PORT_HELP)?;
     with_command(whole, mirror)
 }

@@ -1,3 +1,5 @@
+pub mod Compared
 pub mod Lines
 pub mod Reports
 pub mod Writes
+pub mod Routers

@@ -4,3 +4,5 @@ pub mod Words
 pub mod Report
 pub mod Ends
 pub mod Telling
+pub mod Replaying
+pub mod Comparing

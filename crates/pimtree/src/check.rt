@@ -2,8 +2,7 @@
 
 ghost use Rattle.std.specs.Prelude.{◌≡◌, ◌≤◌, length, IfOk, IfSome, IfErr, vec_len};
 ghost use Rattle.pim_device.specs.Device.{ConsumesAtMost};
-ghost use Rattle.pim_words.specs.Plan.{IsCheck, IsCheckTask};
-ghost use Rattle.pimtree.specs.Ends.{task_source, task_destination, plan_family, plan_source, plan_destination};
+ghost use Rattle.pimtree.specs.Ends.{IsCheckTask, task_source, task_destination};
 ghost use Rattle.pimtree.specs.Report.{body_report, hello_report, message_report, input_report, read_failures_after};
 ghost use Rattle.pimtree.specs.Report.{write_failures_after};
 ghost use Rattle.pimtree.specs.Report.{Reports, GivesReport, GivesInput, IsReadFault};
@@ -11,11 +10,11 @@ ghost use Rattle.pimtree.specs.Report.{Reports, GivesReport, GivesInput, IsReadF
 use crate::fault::Fault;
 use crate::hello_text::hello_text;
 use crate::text::{message_text, type_text};
-use pim_addr::{Drain, Failed, Family, Feed, V4, V6, read_up_to, write_all};
+use pim_addr::{Drain, Failed, Family, Feed, read_up_to, write_all};
 use pim_frame::{Body, open};
 use pim_hello::Hello;
 use pim_jp::JpView;
-use pim_words::{Plan, Task};
+use pim_words::Task;
 use std::alloc::Global;
 
 /// The most bytes that an input may have.
@@ -124,7 +123,10 @@ pub fn check_into<F: Family, R: Feed, W: Drain>(
 }
 
 /// `check_into` of the message that a task asks for.
-fn check_task<F: Family, R: Feed, W: Drain>(
+///
+/// # Errors
+/// Those of `check_into`.
+pub fn check_task<F: Family, R: Feed, W: Drain>(
     alloc: Global,
     reader: &mut R,
     writer: &mut W,
@@ -142,30 +144,5 @@ fn check_task<F: Family, R: Feed, W: Drain>(
     match task {
         Task::Check { src, dst } => check_into::<F, _, _>(alloc, reader, writer, *src, *dst),
         _ => unreachable!(),
-    }
-}
-
-/// `check_into` of the message that a plan asks for.
-///
-/// # Errors
-/// Those of `check_into`.
-pub fn check_plan<R: Feed, W: Drain>(
-    alloc: Global,
-    reader: &mut R,
-    writer: &mut W,
-    plan: &Plan<'_>,
-) -> Result<u8, Fault<'static>>
-    requires { IsCheck plan.now }
-    ensures report { IfSome (R.remaining reader.old) (λ input.
-        Reports (input_report (plan_family plan.now) (plan_source plan.now) (plan_destination plan.now) input)
-        (W.contents writer.old) (W.contents writer.new) result) }
-    ensures status { IfOk result (λ status. status ≡ 0) }
-    ensures input_read { R.failures reader.new ≡ read_failures_after (R.failures reader.old) result }
-    ensures output { W.failures writer.new ≡ write_failures_after (W.failures writer.old) result }
-    ensures taken { ConsumesAtMost 65537 (R.remaining reader.old) (R.remaining reader.new) }
-{
-    match plan {
-        Plan::V4(task) => check_task::<V4, _, _>(alloc, reader, writer, task),
-        Plan::V6(task) => check_task::<V6, _, _>(alloc, reader, writer, task),
     }
 }

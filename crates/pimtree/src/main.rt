@@ -1,11 +1,22 @@
-//! `pimtree` reads PIM sparse mode messages for a person. Its one command so far is `check`: a message on
-//! standard input is printed, or the fault that it has.
+//! `pimtree` reads PIM sparse mode messages for a person. Its commands so far are `check`: a message on standard input
+//! is printed, or the fault that it has; and `replay`: what became of each packet of a router's captures, and the state
+//! that the router held at the end.
 #![tactic(auto)]
+
+ghost use Rattle.pim_words.specs.Plan.{IsComparingTask};
 
 mod causes;
 mod check;
+mod comparing;
+#[cfg(test)]
+mod examples;
 mod fault;
 mod hello_text;
+#[cfg(test)]
+mod replay_tests;
+mod replaying;
+#[cfg(test)]
+mod same_tests;
 mod telling;
 #[cfg(test)]
 mod tests;
@@ -15,11 +26,13 @@ mod words_tests;
 #[cfg(test)]
 mod writing_tests;
 
-use check::check_plan;
+use check::check_task;
+use comparing::same;
 use fault::Fault;
-use pim_addr::Counted;
-use pim_words::plan_check;
-use std::io::Write;
+use pim_addr::{Counted, Drain, Family, V4, V6};
+use pim_words::{Plan, Task, plan_comparing};
+use replaying::replay;
+use std::io::{BufWriter, Write};
 use std::process::ExitCode;
 use std::{env, io};
 use telling::{FAULTY, tell_into};
@@ -30,14 +43,38 @@ fn words_given(rt: &HostRuntime) -> io::Result<Vec<String>> {
     Ok(words.collect(rt.alloc())?)
 }
 
+/// Does what a task asks for, with standard input, this writer and the files that it names.
+fn run_task<'a, F: Family, W: Drain>(
+    rt: &HostRuntime,
+    task: &Task<'a, F::Addr>,
+    output: &mut W,
+) -> Result<u8, Fault<'a>>
+    requires { IsComparingTask task.now }
+{
+    match task {
+        Task::Check { .. } => {
+            let mut input = Counted::new(rt.stdin());
+            check_task::<F, _, _>(rt.alloc(), &mut input, output, task)
+        }
+        Task::Replay(captures) => replay::<F, W>(rt, captures, output),
+        Task::Same(captures, writing) => same::<F, W>(rt, captures, writing, output),
+        _ => unreachable!(),
+    }
+}
+
 /// Does what the words ask for, with standard input and output.
 fn run<'a>(rt: &HostRuntime, words: &'a [String]) -> Result<u8, Fault<'a>> {
-    let plan = plan_check(rt.alloc(), words)?;
-    let mut output = Counted::new(io::writer(rt));
-    let mut input = Counted::new(rt.stdin());
-    let status = check_plan(rt.alloc(), &mut input, &mut output, &plan)?;
+    let plan = plan_comparing(rt.alloc(), words)?;
+    let Ok(blocks) = BufWriter::new(rt.alloc(), io::writer(rt)) else {
+        return Err(Fault::Memory);
+    };
+    let mut output = Counted::new(blocks);
+    let told = match &plan {
+        Plan::V4(task) => run_task::<V4, _>(rt, task, &mut output),
+        Plan::V6(task) => run_task::<V6, _>(rt, task, &mut output),
+    };
     output.into_inner().flush().map_err(|_| Fault::Output)?;
-    Ok(status)
+    told
 }
 
 /// Tells a fault with standard output and error, and answers the status.

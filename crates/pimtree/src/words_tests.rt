@@ -1,11 +1,11 @@
 //! What the program answers to words.
 
-use crate::check::check_plan;
+use crate::check::check_into;
 use crate::fault::Fault;
 use crate::telling::tell_into;
 use crate::tests::{JOIN_STAR, JOIN_STAR_TEXT, JOIN_STAR_V6, JOIN_STAR_V6_TEXT, bytes_of};
-use pim_addr::{ScriptedDrain, ScriptedFeed};
-use pim_words::plan_check;
+use pim_addr::{ScriptedDrain, ScriptedFeed, V4, V6};
+use pim_words::{Plan, Task, plan_comparing};
 use std::alloc::Global;
 use std::process::Abort;
 use std::test::Fail;
@@ -66,11 +66,12 @@ const ADDRESS_FAULTS: [(&[&str], &str); 6] = [
 ];
 
 /// Words that `clap` refuses, with a part of what it says.
-const MISTAKES: [(&[&str], &str); 12] = [
+const MISTAKES: [(&[&str], &str); 13] = [
     (&[], "requires a subcommand"),
     (&["pimtree"], "requires a subcommand"),
     (&["pimtree", "chec"], "unrecognized subcommand 'chec'"),
-    (&["pimtree", "replay"], "unrecognized subcommand 'replay'"),
+    (&["pimtree", "mirror"], "unrecognized subcommand 'mirror'"),
+    (&["pimtree", "same"], "--own <ADDRESS>"),
     (&["pimtree", "help"], "unrecognized subcommand 'help'"),
     (
         &["pimtree", "--src", "10.0.0.2"],
@@ -130,9 +131,17 @@ fn answer<'a>(
     message: &[u8],
     output: &mut ScriptedDrain,
 ) -> Result<u8, Fault<'a>> {
-    let plan = plan_check(alloc, words)?;
+    let plan = plan_comparing(alloc, words)?;
     let mut input = ScriptedFeed::new(message, 7, usize::MAX);
-    check_plan(alloc, &mut input, output, &plan)
+    match plan {
+        Plan::V4(Task::Check { src, dst }) => {
+            check_into::<V4, _, _>(alloc, &mut input, output, src, dst)
+        }
+        Plan::V6(Task::Check { src, dst }) => {
+            check_into::<V6, _, _>(alloc, &mut input, output, src, dst)
+        }
+        _ => Err(Fault::Output),
+    }
 }
 
 /// Runs the words over this input to the end, as the program does.

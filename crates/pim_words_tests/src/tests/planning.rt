@@ -1,6 +1,6 @@
 //! What is made of words.
 
-use pim_words::{ConfigCause, Fault, Plan, Side, Task, plan, plan_check};
+use pim_words::{ConfigCause, Fault, Plan, Side, Task, plan, plan_comparing};
 use std::alloc::Global;
 use std::test::Fail;
 
@@ -286,7 +286,7 @@ fn ports_are_at_most_64(rt: HostRuntime) -> Result<(), Fail> {
     Ok(())
 }
 
-/// Words of a program that has `check` alone, with the ends of the message that they ask for.
+/// Words of `check`, with the ends of the message that they ask for.
 const ENDS: [(&[&str], &[u8], &[u8]); 4] = [
     (&["p", "check"], &[0; 4], &[224, 0, 0, 13]),
     (
@@ -314,7 +314,7 @@ fn has_ends(plan: &Plan<'_>, from: &[u8], to: &[u8]) -> bool {
 #[test]
 fn options_give_the_ends(rt: HostRuntime) {
     for (words, from, to) in ENDS {
-        let is_so = match plan_check(rt.alloc(), words) {
+        let is_so = match plan_comparing(rt.alloc(), words) {
             Ok(plan) => has_ends(&plan, from, to),
             Err(_) => false,
         };
@@ -386,20 +386,24 @@ fn help_names_units_ranges_and_defaults(rt: HostRuntime) {
     }
 }
 
-/// What a program with `check` alone offers is that.
+/// What a program without `mirror` offers is the rest.
 #[test]
 fn help_offers_what_there_is(rt: HostRuntime) {
     for (words, part, is_there) in [
         (
             ["p", "--help"],
-            "What does this message say, or where is it wrong?",
+            "What state did this router hold, and why?",
             true,
         ),
-        (["p", "--help"], "replay", false),
-        (["p", "--help"], "same", false),
-        (["p", "replay"], "unrecognized subcommand 'replay'", true),
+        (
+            ["p", "--help"],
+            "Do these two routers want the same traffic?",
+            true,
+        ),
+        (["p", "--help"], "mirror", false),
+        (["p", "mirror"], "unrecognized subcommand 'mirror'", true),
     ] {
-        let is_shown = match plan_check(rt.alloc(), &words) {
+        let is_shown = match plan_comparing(rt.alloc(), &words) {
             Ok(_) => false,
             Err(fault) => shows(&fault, part),
         };

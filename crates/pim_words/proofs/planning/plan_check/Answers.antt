@@ -1,8 +1,0 @@
-use Rattle.std.proofs.Common.{map}
-use Rattle.clap.specs.Words.{app_of}
-use Rattle.pim_words.proofs.Offered.{check_planned}
-use Rattle.pim_words.proofs.planning.plan_check.Goals as goal
-
-pub returns-clause-check : goal.returns-clause-check
-returns-clause-check g c =
-    check_planned (app_of c.in-Ok.whole) (map g.S.AsStr.text c.args.words.now) c.plan_by.result c.in-Ok.ensures.app c.plan_by.ensures

@@ -1,0 +1,78 @@
+#!/usr/bin/env python3
+"""Works on one crate over the libraries that a gate left in crates/*/out, which rt itself doesn't take up.
+
+A gate builds each library with its statements alone, and `rt check` builds them all anew. This saves that hour: copy
+crates/NAME/out/rlib of the crates below from the gate's copy, whose sources are the same, and in the crate's folder
+
+    tools/over_gate.py check [--only=FUNCTION ..] [--test] [--allow-holes]
+    tools/over_gate.py edits [NAME.edit ..]     those of must-fail/, or these, of more-must-fail/ too
+    tools/over_gate.py build                    for the crates above, after a check
+    tools/over_gate.py plant [rt plant's flags]
+
+What it answers is no verdict: `rt ci` gives that. It knows the inside of rattle-kit-13b.
+"""
+import importlib.machinery
+import importlib.util
+import os
+import subprocess
+import sys
+import time
+
+BIN = os.path.dirname(os.path.realpath("/usr/local/bin/rt"))
+KEPT = "out/over_gate"
+
+
+def load(name):
+    loader = importlib.machinery.SourceFileLoader(name.replace("-", "_"), f"{BIN}/{name}")
+    module = importlib.util.module_from_spec(importlib.util.spec_from_loader(loader.name, loader))
+    loader.exec_module(module)
+    return module
+
+
+def crate_here(rtlib):
+    rtlib.guarded()
+    rtlib.Crate.cuts_libraries = True
+    top = os.path.dirname(os.path.dirname(os.getcwd()))
+    return next(it for it in rtlib.crates_below(top) if it.folder == os.getcwd())
+
+
+def run(rtlib, crate, verb, flags):
+    words = crate.words(["--jobs", "1", *flags])
+    words += ["--incremental", KEPT]
+    words += ["-o", crate.rlib] if verb == "build" else ["--progress"]
+    os.makedirs(KEPT, exist_ok=True)
+    os.makedirs(os.path.dirname(crate.rlib), exist_ok=True)
+    return subprocess.run([*rtlib.guarded(), rtlib.RATTLE, verb, *words], stdin=subprocess.DEVNULL).returncode
+
+
+def edits(rt, crate, names):
+    folders = ["must-fail", "more-must-fail"]
+    names = names or sorted(it for it in os.listdir("must-fail") if it.endswith(".edit"))
+    failed = 0
+    for name in names:
+        edit = next(f"{os.getcwd()}/{it}/{name}" for it in folders if os.path.isfile(f"{it}/{name}"))
+        begun = time.monotonic()
+        well, text = rt.must_fail(crate, edit, ["--jobs", "1"], f"{os.getcwd()}/{KEPT}")
+        print(f"{time.monotonic() - begun:.0f} s: {text}", flush=True)
+        failed += not well
+    return 1 if failed else 0
+
+
+def main(verb="", *flags):
+    if verb not in ("check", "build", "edits", "plant"):
+        print(__doc__, end="", file=sys.stderr)
+        return 2
+    sys.path.insert(0, BIN)
+    if verb == "plant":
+        plant = load("rt-plant")
+        plant.rt.Crate.is_built = lambda crate: os.path.isdir(crate.rlib)
+        return plant.main(*flags)
+    rt = load("rt")
+    import rtlib
+
+    crate = crate_here(rtlib)
+    return edits(rt, crate, flags) if verb == "edits" else run(rtlib, crate, verb, flags)
+
+
+if __name__ == "__main__":
+    sys.exit(main(*sys.argv[1:]))
