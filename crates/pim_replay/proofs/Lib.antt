@@ -8,3 +8,5 @@ pub mod Texts
 pub mod Taken
 pub mod Underway
 pub mod Written
+pub mod FreshHearings
+pub mod MessageTexts

@@ -7,7 +7,8 @@ use Rattle.pim_router.specs.State.{RouterState}
 use Rattle.pim_replay.specs.declared.replay.ReplayFault.TheVariants.{Capture, Output, Memory}
 use Rattle.pim_replay.specs.declared.same.SameFault.{SameFault}
 use Rattle.pim_replay.specs.declared.same.SameFault.TheVariants.{Replay, TooBig}
-use Rattle.pim_replay.specs.Same.{RunsAll, Compares, Says, WantTheSame}
+use Rattle.pim_replay.specs.Quiet.{RunsAll}
+use Rattle.pim_replay.specs.Same.{Compares, Says, WantTheSame}
 
 module _ {F A N : Type 0} (bytes_of : A → List ℕ) (family : AddressFamily) (after_ms : ℕ) (writing : Writing) (merge merge' : MergeState) (state after : RouterState)
     (other other' : MergeState) (state_of after_of : RouterState) where

@@ -12,3 +12,7 @@ pub mod Report
 pub mod Underway
 pub mod Same
 pub mod Laws
+pub mod FreshHearing
+pub mod MessageText
+pub mod Quiet
+pub mod MirrorText

@@ -14,8 +14,8 @@ use Rattle.pim_replay.specs.declared.replay.ReplayFault.TheVariants.{Capture, Ou
 use Rattle.pim_replay.specs.declared.same.SameFault.{SameFault}
 use Rattle.pim_replay.specs.declared.same.SameFault.TheVariants.{Replay, TooBig}
 use Rattle.pim_replay.specs.Pieces.{line}
-use Rattle.pim_replay.specs.Turn.{Account}
-use Rattle.pim_replay.specs.Report.{TellsAll, StopsAt}
+use Rattle.pim_replay.specs.Quiet.{RunsAll}
+use Rattle.pim_replay.specs.Report.{StopsAt}
 
 -- the word that tells it, and the status
 abbrev pub answer_line : Bool → List ℕ
@@ -25,11 +25,6 @@ answer_line false = line (codes "different")
 abbrev pub answer_status : Bool → ℕ
 answer_status true = 0
 answer_status false = 1
-
--- All turns of the merge were taken, and so much time passed behind them: that is the router then.
-pub record RunsAll (family : AddressFamily) (after_ms : ℕ) (merge : MergeState) (state after : RouterState) : Type 0 where
-  pub account : Account
-  pub tells : TellsAll family after_ms merge account state after
 
 -- what the two routers want of the neighbour is the same for each valid source, each group and both trees
 abbrev pub WantTheSame : AddressFamily → Writing → RouterState → RouterState → Type 0

@@ -5,16 +5,21 @@
 //! by its moment, its records in key order, the groups of the one normal form of what they want, and two counts. A
 //! replay of captures (`replay_into`) writes exactly the report of their merge, which `specs/Report.antt` defines: the
 //! lines of its turns, and the state behind the last; where a capture has a fault, the lines of the turns before it.
-//! Two routers are compared by their replays (`same_into`).
+//! Two routers are compared by their replays (`same_into`). `mirror_into` writes the canonical messages of a replay's
+//! state and that a fresh router which hears them writes the same; it compares them, and they are proved to be.
 #![tactic(auto)]
 
 mod demand_text;
 mod echo_line;
+mod fresh_hearing;
 mod laws;
 mod malformed;
+mod message_text;
+mod mirror_text;
 mod packet_line;
 mod passing;
 mod pieces;
+mod quiet;
 mod record_line;
 mod replay;
 mod said;
@@ -25,8 +30,10 @@ mod turns;
 pub use echo_line::write_echo_line;
 pub use laws::{report_begins_with_its_lines, report_has_one_text};
 pub use malformed::write_malformed_words;
+pub use mirror_text::{MirrorTextFault, mirror_into};
 pub use packet_line::write_packet_line;
 pub use passing::pass_time;
+pub use quiet::replay_quietly;
 pub use record_line::write_record_line;
 pub use replay::{ReplayFault, replay_into};
 pub use same::{SameFault, same_into};

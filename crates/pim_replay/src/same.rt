@@ -5,8 +5,9 @@ ghost use Rattle.pim_capture.specs.Next.{latest_moment};
 ghost use Rattle.pim_form.specs.declared.fault.FormFault.TheVariants as form;
 ghost use Rattle.pim_replay.specs.Same.{Compares, Judges, Says, of_form, failures_of_answer, answer_line, answer_status};
 
-use crate::replay::{ReplayFault, run_on};
-use pim_addr::{Drain, Failed, Family, Feed, write_all};
+use crate::quiet::replay_quietly;
+use crate::replay::ReplayFault;
+use pim_addr::{Drain, Family, Feed, write_all};
 use pim_form::{FormFault, Writer};
 use pim_merge::Merge;
 use pim_router::{Router, same_wants};
@@ -28,22 +29,6 @@ impl<F: Family> From<ReplayFault> for SameFault<F> {
 
     fn from(told: ReplayFault) -> Self {
         SameFault::Replay(told)
-    }
-}
-
-/// A device that takes all and keeps nothing.
-#[derive(Drop)]
-struct Nowhere;
-
-impl Drain for Nowhere {
-    ghost use Rattle.std.specs.Prelude.{None};
-
-    ghost contents = { λ _. None };
-
-    ghost failures = { λ _. 0 };
-
-    fn write(&mut self, bytes: &[u8]) -> Result<usize, Failed> {
-        Ok(bytes.len())
     }
 }
 
@@ -128,9 +113,8 @@ pub fn same_into<F: Family, R: Feed + Drop, W: Drain>(
         F.bytes_of (W.contents writer.old) (W.contents writer.new) result }
     ensures count { W.failures writer.new ≡ failures_of_answer (W.failures writer.old) result }
 {
-    let mut nowhere = Nowhere;
-    run_on::<F, R, Nowhere>(merge_a, router_a, after_ms, &mut nowhere)?;
-    run_on::<F, R, Nowhere>(merge_b, router_b, after_ms, &mut nowhere)?;
+    replay_quietly::<F, R>(merge_a, router_a, after_ms)?;
+    replay_quietly::<F, R>(merge_b, router_b, after_ms)?;
     let same = judge::<F>(alloc, router_a, router_b, by)?;
     say::<F, W>(same, writer)
 }

@@ -11,13 +11,16 @@ use pim_router::{Config, Router};
 use std::alloc::{AllocError, Global};
 
 /// One RP for all groups, and one upstream neighbour for all addresses.
-const ROWS: [Route<[u8; 4]>; 2] = [
+pub(super) const ROWS: [Route<[u8; 4]>; 2] = [
     (true, [224, 0, 0, 0], 4, [10, 9, 9, 9]),
     (false, [0, 0, 0, 0], 0, [10, 0, 0, 2]),
 ];
 
 /// The merge of one capture.
-fn merge_of(alloc: Global, input: Input<'_>) -> Result<Merge<ScriptedFeed<'_>>, AllocError> {
+pub(super) fn merge_of(
+    alloc: Global,
+    input: Input<'_>,
+) -> Result<Merge<ScriptedFeed<'_>>, AllocError> {
     let mut merge = Merge::new(alloc);
     merge.add(
         alloc,

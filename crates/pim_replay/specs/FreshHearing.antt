@@ -1,0 +1,79 @@
+-- A fresh router with one neighbour, the sender, that hears each of its messages once, at the moment 0 and in order.
+use Rattle.std.specs.Prelude.{◌≡◌, ℕ, zero, suc, ◌≤◌, ◌<◌, List, [], ◌∷◌, ◌++◌, length, None, Some, Result, Ok, Err}
+use Rattle.pim_addr.specs.declared.family.AddressFamily.{AddressFamily}
+use Rattle.pim_addr.specs.Routes.{RouteTable}
+use Rattle.pim_form.specs.Messages.{Writing}
+use Rattle.pim_form.specs.NormalForm.{GroupForm}
+use Rattle.pim_form.specs.TooBig.{too_big}
+use Rattle.pim_down.specs.Time.{Downstream}
+use Rattle.pim_fresh.specs.Deliveries.{Delivery}
+use Rattle.pim_mirror.specs.CanonicalMirror.{AsksAgain}
+use Rattle.pim_mirror.specs.Config.{Fresh, newest_first}
+use Rattle.pim_mirror.specs.Headline.{AreMessagesOf, fresh_exchange, all_entries, first_over}
+use Rattle.pim_mirror.specs.declared.mirroring.MirrorFault.{MirrorFault}
+use Rattle.pim_mirror.specs.declared.mirroring.MirrorFault.TheVariants as fault
+use Rattle.pim_router.specs.declared.config.PortConfig.{PortConfig}
+use Rattle.pim_router.specs.State.{Port, RouterState}
+
+abbrev pub delivered_first : ℕ → Delivery
+delivered_first message = record { message = message; moment = 0 }
+
+-- each of so many messages, in order
+unfoldable pub each_once : ℕ → List Delivery
+each_once zero = []
+each_once (suc count) = each_once count ++ delivered_first count ∷ []
+
+-- the port to which the messages are directed, with the delays of RFC 7761, 4.11, in milliseconds
+abbrev pub fresh_port : List ℕ → Port
+fresh_port address = record { address = address; propagation = 500; override_ms = 2500 }
+
+abbrev pub fresh_config : {A : Type 0} → A → PortConfig A
+fresh_config address = record { address = address; propagation = 500; override_ms = 2500 }
+
+abbrev pub fresh_of : RouteTable → Writing → ℕ → List (List ℕ) → Fresh
+fresh_of table writing limit messages = record {
+  ports = fresh_port writing.upstream ∷ [];
+  routes = table;
+  limit = limit;
+  sender = writing.own;
+  others = [];
+  deliveries = each_once (length messages);
+}
+
+module _ (family : AddressFamily) (table : RouteTable) (writing : Writing) where
+  -- The writer sends them under this table: they are the canonical messages of a state, each of whose stars fits a
+  -- message.
+  pub record AreSent (messages : List (List ℕ)) : Type 0 where
+    pub state : Downstream
+    pub asked : AreMessagesOf family table writing state messages
+    pub fitting : too_big family writing.budget asked.form ≡ None
+
+  -- the entries of all messages have room
+  abbrev pub HaveRoom : ℕ → List (List ℕ) → Type 0
+  HaveRoom limit messages = all_entries family table writing messages (fresh_of table writing limit messages) ≤ limit
+
+  -- They haven't: so many units the messages have up to the first one that passes the limit.
+  pub record IsFull (limit : ℕ) (messages : List (List ℕ)) (needed : ℕ) : Type 0 where
+    pub over : limit < all_entries family table writing messages (fresh_of table writing limit messages)
+    pub first : first_over (fresh_exchange family table writing messages (fresh_of table writing limit messages)) limit
+        (newest_first (fresh_of table writing limit messages)) ≡ Some needed
+
+  -- by these messages, and no others, a router asks again
+  pub record IsAgain (messages : List (List ℕ)) (router : RouterState) : Type 0 where
+    pub form : List GroupForm
+    pub fitting : too_big family writing.budget form ≡ None
+    pub routes : router.routes ≡ table
+    pub asks : AsksAgain family table writing form messages router.machines
+
+  -- ---- what the steps answer
+
+  abbrev pub Mirrored : ℕ → List (List ℕ) → Result RouterState MirrorFault → Type 0
+  Mirrored limit messages (Ok router) = HaveRoom limit messages × IsAgain messages router
+  Mirrored limit messages (Err (fault.Full needed)) = IsFull limit messages needed
+  Mirrored limit messages (Err fault.Memory) = Unit {0}
+
+  -- the messages that the fresh router writes
+  abbrev pub HeardAgain : ℕ → List (List ℕ) → Result (List (List ℕ)) MirrorFault → Type 0
+  HeardAgain limit messages (Ok again) = HaveRoom limit messages × (again ≡ messages)
+  HeardAgain limit messages (Err (fault.Full needed)) = IsFull limit messages needed
+  HeardAgain limit messages (Err fault.Memory) = Unit {0}

@@ -1,0 +1,99 @@
+//! What a fresh router writes that hears canonical messages alone.
+
+ghost use Rattle.std.specs.Prelude.{◌≡◌, ◌≤◌, [], ◌∷◌, map, IfOk};
+ghost use Rattle.pim_mirror.specs.Config.{delivery_seen, fresh_seen};
+ghost use Rattle.pim_replay.specs.FreshHearing.{each_once, fresh_config, fresh_of, AreSent, Mirrored, HeardAgain};
+
+use pim_addr::{Family, Routes};
+use pim_form::{FormFault, Messages, Writer};
+use pim_mirror::{
+    Delivery, FreshConfig, MirrorFault, asked_stars_have_rps, canonical_messages_are_short, mirror,
+};
+use pim_router::{PortConfig, Router};
+use std::alloc::{AllocError, Global};
+
+/// The propagation delay of the fresh router's port, in milliseconds (RFC 7761, 4.11).
+const PROPAGATION: u16 = 500;
+
+/// The override delay of the fresh router's port, in milliseconds.
+const OVERRIDE: u16 = 2_500;
+
+/// Each of so many messages comes once, at the moment 0, in order.
+fn each_once(alloc: Global, count: usize) -> Result<Vec<Delivery>, AllocError>
+    ensures { IfOk result (λ deliveries. map delivery_seen deliveries.items ≡ each_once count) }
+{
+    let mut deliveries = Vec::new(alloc);
+    for message in 0..count {
+        deliveries.push(Delivery { message, moment: 0 })?;
+    }
+    Ok(deliveries)
+}
+
+/// The fresh router's only port, at this address.
+fn only_port<A: Copy>(alloc: Global, address: A) -> Result<Vec<PortConfig<A>>, AllocError>
+    ensures { IfOk result (λ ports. ports.items ≡ fresh_config address ∷ []) }
+{
+    let mut ports = Vec::new(alloc);
+    ports.push(PortConfig {
+        address,
+        propagation: PROPAGATION,
+        override_ms: OVERRIDE,
+    })?;
+    Ok(ports)
+}
+
+/// The fresh router that has heard each message once.
+fn mirror_once<'a, F: Family>(
+    alloc: Global,
+    messages: &Messages,
+    by: &Writer<F>,
+    fresh: &FreshConfig<'a, F>,
+) -> Result<Router<'a, F>, MirrorFault>
+    requires sent { AreSent F.family fresh.now.routes.now by.now messages.now }
+    requires once { fresh_seen F.bytes_of fresh.now ≡ fresh_of fresh.now.routes.now by.now fresh.now.limit messages.now }
+    requires least { 1 ≤ fresh.now.limit }
+    requires most { fresh.now.limit ≤ 100000 }
+    ensures { Mirrored F.family fresh.now.routes.now by.now fresh.now.limit messages.now result }
+{
+    canonical_messages_are_short();
+    asked_stars_have_rps();
+    fresh.routes.is_sound();
+    by.is_writing();
+    mirror(alloc, messages, by, fresh)
+}
+
+/// The messages by which a fresh router asks its upstream neighbours that has heard each of these once, at the moment 0
+/// and in order. It knows no other neighbour than their sender, and may hold so many records.
+pub(crate) fn hear_again<F: Family>(
+    alloc: Global,
+    messages: &Messages,
+    by: &Writer<F>,
+    routes: &Routes<F>,
+    limit: usize,
+) -> Result<Messages, MirrorFault>
+    requires sent { AreSent F.family routes.now by.now messages.now }
+    requires least { 1 ≤ limit }
+    requires most { limit ≤ 100000 }
+    ensures { HeardAgain F.family routes.now by.now limit messages.now result }
+{
+    let Ok(deliveries) = each_once(alloc, messages.count()) else {
+        return Err(MirrorFault::Memory);
+    };
+    let Ok(ports) = only_port(alloc, by.upstream()) else {
+        return Err(MirrorFault::Memory);
+    };
+    let fresh = FreshConfig {
+        ports: &ports,
+        routes,
+        limit,
+        sender: by.own(),
+        others: &[],
+        deliveries: &deliveries,
+    };
+    let router = mirror_once(alloc, messages, by, &fresh)?;
+    match router.canonical(alloc, by) {
+        Ok(again) => Ok(again),
+        Err(FormFault::TooBig(_)) => unreachable!(),
+        Err(FormFault::Memory | FormFault::Tables) => Err(MirrorFault::Memory),
+    }
+}

@@ -1,0 +1,48 @@
+//! A replay of which nothing is written.
+
+ghost use Rattle.std.specs.Prelude.{◌≡◌, ◌≤◌, length};
+ghost use Rattle.pim_capture.specs.Next.{latest_moment};
+ghost use Rattle.pim_replay.specs.Quiet.{RunsQuietly};
+
+use crate::replay::{ReplayFault, run_on};
+use pim_addr::{Drain, Failed, Family, Feed};
+use pim_merge::Merge;
+use pim_router::Router;
+
+/// A device that takes all and keeps nothing.
+#[derive(Drop)]
+struct Nowhere;
+
+impl Drain for Nowhere {
+    ghost use Rattle.std.specs.Prelude.{None};
+
+    ghost contents = { λ _. None };
+
+    ghost failures = { λ _. 0 };
+
+    fn write(&mut self, bytes: &[u8]) -> Result<usize, Failed> {
+        Ok(bytes.len())
+    }
+}
+
+/// Replays the captures of a router's ports, one for each port and in their order, until `after_ms` milliseconds behind
+/// the last record, and writes nothing: the router is then as `replay_into` leaves it.
+///
+/// Beside the router it takes the memory of one buffer a capture.
+///
+/// # Errors
+/// `Capture` where the head of a capture is a fault, and `Memory` where a growth is refused; never `Output`.
+pub fn replay_quietly<F: Family, R: Feed + Drop>(
+    merge: &mut Merge<R>,
+    router: &mut Router<'_, F>,
+    after_ms: u64,
+) -> Result<(), ReplayFault>
+    requires ports { length merge.old.lanes ≡ length router.old.ports }
+    requires moment { router.old.machines.moment ≤ latest_moment }
+    requires after { after_ms ≤ 1000000000 }
+    ensures { RunsQuietly F.family after_ms merge.old merge.new router.old router.new result }
+{
+    let mut nowhere = Nowhere;
+    run_on::<F, R, Nowhere>(merge, router, after_ms, &mut nowhere)?;
+    Ok(())
+}
