@@ -2,12 +2,12 @@
 //! neighbour. Three packets stand for a socket, and a printed line for each thing that a daemon sends.
 #![tactic(auto)]
 
-ghost use Rattle.std.specs.Prelude.{◌≡◌, ◌≤◌, ◌^◌, max, OnOk};
+ghost use Rattle.std.specs.Prelude.{◌≡◌, ◌≤◌, ◌<◌, ◌^◌, length, max, OnOk};
 ghost use Rattle.pim_router.specs.State.{setup_of};
 
 use anyhow::Result;
 use pim_addr::{Routes, V4};
-use pim_form::Writer;
+use pim_form::{Messages, Writer};
 use pim_frame::all_routers;
 use pim_router::{Config, PortConfig, Router, Step};
 
@@ -44,16 +44,44 @@ const JOIN_AND_PRUNE: [u8; 42] = [
 /// Packets of the first port, each with the moment at which it came, in milliseconds since the start.
 const PACKETS: [(u64, &[u8]); 3] = [(0, &HELLO), (5, &JOIN), (61_000, &JOIN_AND_PRUNE)];
 
+/// Writes a message, as a daemon would send it.
+fn send(rt: &HostRuntime, message: &[u8]) -> Result<()> {
+    for byte in message {
+        print!(rt; "{byte:02x}")?;
+    }
+    println!(rt; "")?;
+    Ok(())
+}
+
+/// Writes each message.
+fn send_all(rt: &HostRuntime, messages: &Messages) -> Result<()> {
+    for index in 0..messages.count() {
+        send(rt, messages.get(index).unwrap_or(&[]))?;
+    }
+    Ok(())
+}
+
 /// Writes the messages that ask the upstream neighbour for what the router's ports want: to be sent at each Refresh.
 fn ask_upstream(rt: &HostRuntime, router: &Router<'_, V4>, writer: &Writer<V4>) -> Result<()> {
     let messages = router.canonical(rt.alloc(), writer)?;
-    for index in 0..messages.count() {
-        for byte in messages.get(index).unwrap_or(&[]) {
-            print!(rt; "{byte:02x}")?;
+    send_all(rt, &messages)
+}
+
+/// Does what a step asks for.
+fn act(
+    rt: &HostRuntime,
+    router: &Router<'_, V4>,
+    writer: &Writer<V4>,
+    step: Step<[u8; 4]>,
+) -> Result<()> {
+    match step {
+        Step::Reached => Ok(()),
+        Step::Refresh => ask_upstream(rt, router, writer),
+        Step::Echo { port, group, .. } => {
+            println!(rt; "a PruneEcho of {group:?} on {port}")?;
+            Ok(())
         }
-        println!(rt; "")?;
     }
-    Ok(())
 }
 
 /// Lets time pass until this moment: before each packet, and whenever the daemon wakes up.
@@ -65,17 +93,54 @@ fn run(rt: &HostRuntime, router: &mut Router<'_, V4>, writer: &Writer<V4>, until
     loop {
         match router.run_to(until) {
             Step::Reached => return Ok(()),
-            Step::Refresh => ask_upstream(rt, router, writer)?,
-            Step::Echo { port, group, .. } => println!(rt; "a PruneEcho of {group:?} on {port}")?,
+            step => act(rt, router, writer, step)?,
         }
     }
 }
 
-/// A router that knows the RP of all groups and the way to it, with at most 1,000 records a port, hears the packets.
-fn main(rt: HostRuntime) -> Result<()> {
+/// Lets a packet come to the only port.
+fn take(rt: &HostRuntime, router: &mut Router<'_, V4>, moment: u64, packet: &[u8]) -> Result<()>
+    requires port { length router.old.ports ≡ 1 }
+    requires packet { length packet.now < 2 ^ 32 }
+    ensures setup { setup_of router.new ≡ setup_of router.old }
+{
+    // want of memory changes nothing: a daemon would go on, as if the packet had been lost
+    let verdict = router.take_packet(0, SENDER, all_routers::<V4>(), packet)?;
+    println!(rt; "{moment} {verdict:?}")?;
+    Ok(())
+}
+
+/// Lets the packets come, each at its moment.
+fn hear(rt: &HostRuntime, router: &mut Router<'_, V4>, writer: &Writer<V4>) -> Result<()>
+    requires { length router.old.ports ≡ 1 }
+{
+    for (moment, packet) in PACKETS {
+        run(rt, router, writer, moment)?;
+        take(rt, router, moment, packet)?;
+    }
+    // a prune of the only neighbour counts at once
+    run(rt, router, writer, 61_000)
+}
+
+/// Writes what the router's machines are.
+fn tell_records(rt: &HostRuntime, router: &Router<'_, V4>) -> Result<()> {
+    for held in router.ports().records() {
+        println!(rt; "{:?} {:?}", held.key.what, held.machine.state)?;
+    }
+    Ok(())
+}
+
+/// All groups have one RP, and all addresses are reached by one neighbour.
+fn table(rt: &HostRuntime) -> Result<Routes<V4>> {
     let mut routes = Routes::<V4>::new(rt.alloc());
     routes.add_rp([224, 0, 0, 0], 4, [10, 9, 9, 9])?;
     routes.add_via([0; 4], 0, UPSTREAM)?;
+    Ok(routes)
+}
+
+/// A router that knows the RP of all groups and the way to it, with at most 1,000 records a port, hears the packets.
+fn main(rt: HostRuntime) -> Result<()> {
+    let routes = table(&rt)?;
     let config = Config {
         ports: &PORTS,
         routes: &routes,
@@ -83,16 +148,7 @@ fn main(rt: HostRuntime) -> Result<()> {
     };
     let mut router = Router::<V4>::new(rt.alloc(), &config)?;
     let writer = Writer::<V4>::new(UPSTREAM, OWN, 210, 1_460)?;
-    for (moment, packet) in PACKETS {
-        run(&rt, &mut router, &writer, moment)?;
-        // want of memory changes nothing: a daemon would go on, as if the packet had been lost
-        let verdict = router.take_packet(0, SENDER, all_routers::<V4>(), packet)?;
-        println!(rt; "{moment} {verdict:?}")?;
-    }
-    // a prune of the only neighbour counts at once
-    run(&rt, &mut router, &writer, 61_000)?;
-    for held in router.ports().records() {
-        println!(rt; "{:?} {:?}", held.key.what, held.machine.state)?;
-    }
+    hear(&rt, &mut router, &writer)?;
+    tell_records(&rt, &router)?;
     ask_upstream(&rt, &router, &writer)
 }

@@ -1,5 +1,6 @@
-//! Worked examples: the group 239.1.1.1 with the RP 10.9.9.9 and the sources 192.0.2.1 and 192.0.2.2. Each is a table
-//! of rows that are played one after the other.
+//! Worked examples: the group 239.1.1.1 with the RP 10.9.9.9 and the sources 192.0.2.1 and 192.0.2.2. Each is a constant
+//! table of rows that are played one after the other, each by a small helper: a test that makes its calls itself takes
+//! far longer to prove.
 
 mod hearing;
 mod limits;
@@ -15,10 +16,13 @@ use pim_jp::{Entry, JpView};
 use std::alloc::{AllocError, Global};
 use std::test::Fail;
 
+/// A prefix of groups, its length, and the RP to which it leads them.
+type Lead = ([u8; 4], u8, [u8; 4]);
+
 const RP: [u8; 4] = [10, 9, 9, 9];
 
-/// The prefix of all groups, and its length.
-const GROUPS: ([u8; 4], u8) = ([224, 0, 0, 0], 4);
+/// The table that leads all groups to the RP.
+const ONE_RP: [Lead; 1] = [([224, 0, 0, 0], 4, RP)];
 
 const GROUP: [u8; 4] = [239, 1, 1, 1];
 
@@ -50,87 +54,111 @@ const RPT_FIRST: Entry<[u8; 4]> = Entry::Rpt(FIRST);
 
 const RPT_SECOND: Entry<[u8; 4]> = Entry::Rpt(SECOND);
 
-/// The joined and the pruned list of a set of the group.
-type Lists<'a> = (&'a [Entry<[u8; 4]>], &'a [Entry<[u8; 4]>]);
+/// A group, and the joined and the pruned list of its set.
+type Set = (
+    [u8; 4],
+    &'static [Entry<[u8; 4]>],
+    &'static [Entry<[u8; 4]>],
+);
+
+/// A record of the group that is held.
+#[derive(Clone, Copy)]
+enum Held {
+    /// In Join, on a port, for so many milliseconds.
+    Joined(usize, What<[u8; 4]>, u64),
+    /// The (*,G) machine of the first port, in Join for ever.
+    StarForEver,
+    /// The (S,G,rpt) machine of a source, in Prune, on a port, for so many milliseconds.
+    Pruned(usize, [u8; 4], u64),
+    /// A machine of the first port whose prune-pending timer started with several neighbours: when it expires, and when
+    /// that timer ends.
+    Waiting(What<[u8; 4]>, u64, u64),
+}
 
 /// A row of an example: a call, and what it tells or leaves.
 #[derive(Clone, Copy)]
-enum Row<'a> {
-    /// A message is heard on a port.
-    Hear {
-        port: usize,
-        holdtime: u16,
-        timing: Timing,
-        sets: &'a [Lists<'a>],
-    },
-    /// A message on a port is refused, since so many records are needed.
-    Full(usize, &'a [Lists<'a>], usize),
-    /// A run to a moment tells this.
-    Run(u64, Step<[u8; 4]>),
+enum Row {
+    /// A message with the holdtime 210 is heard on a port with one neighbour.
+    Hear(usize, &'static [Set]),
+    /// A message with the holdtime 210 is heard on a port with several neighbours.
+    HearAmong(usize, &'static [Set]),
+    /// A message with this holdtime is heard on the first port.
+    HearFor(u16, Timing, &'static [Set]),
+    /// A message with the holdtime 210 is heard on the first port under this table.
+    HearUnder(&'static [Lead], Timing, &'static [Set]),
+    /// A message with the holdtime 300 is refused on a port, since so many records are needed.
+    Full(usize, &'static [Set], usize),
+    /// A message with the holdtime 210 is refused on the first port under this table, since so many records are needed.
+    FullUnder(&'static [Lead], &'static [Set], usize),
+    /// A run to a moment reaches it.
+    Reach(u64),
+    /// A run to a moment tells an echo of one of the group's machines.
+    Echo(u64, usize, What<[u8; 4]>),
+    /// How the ports begin in print.
+    ShownFrom(&'static str),
+    /// What the ports show in print.
+    Shown(&'static str),
+    /// How the walk through the records begins in print.
+    RecordsShownFrom(&'static str),
     /// The present moment.
     Now(u64),
     /// The next moment at which a timer fires.
     Due(Option<u64>),
     /// The state of one of the group's machines.
     State(usize, What<[u8; 4]>, Option<State>),
+    /// The state of a group's (*,G) machine on the first port.
+    StarOf([u8; 4], Option<State>),
     /// All records that are held.
-    Holds(&'a [Record<[u8; 4]>]),
+    Holds(&'static [Held]),
     /// The records of a port that are held.
-    HoldsOn(usize, &'a [Record<[u8; 4]>]),
+    HoldsOn(usize, &'static [Held]),
+    /// How many records a port holds.
+    Count(usize, usize),
+    /// How many ports there are, and how many records each may have.
+    Sizes(usize, usize),
+    /// The group that comes next on a port.
+    GroupAfter(usize, Option<[u8; 4]>, Option<[u8; 4]>),
+    /// The machine of a group that comes next on the first port.
+    MachineAfter([u8; 4], What<[u8; 4]>, Option<What<[u8; 4]>>),
 }
 
-/// A message with the holdtime 210 is heard on a port with one neighbour.
-fn hear<'a>(port: usize, sets: &'a [Lists<'a>]) -> Row<'a> {
-    let (holdtime, timing) = (210, ALONE);
-    Row::Hear {
-        port,
-        holdtime,
-        timing,
-        sets,
-    }
+/// Rows that are played by so many ports, each with room for so many records.
+#[derive(Clone, Copy)]
+struct Example {
+    name: &'static str,
+    ports: usize,
+    limit: usize,
+    rows: &'static [Row],
 }
 
-/// A message with the holdtime 210 is heard on a port with several neighbours.
-fn hear_among<'a>(port: usize, sets: &'a [Lists<'a>]) -> Row<'a> {
-    let (holdtime, timing) = (210, SEVERAL);
-    Row::Hear {
-        port,
-        holdtime,
-        timing,
-        sets,
-    }
-}
-
-/// A message with this holdtime is heard on the first port.
-fn hear_for<'a>(holdtime: u16, timing: Timing, sets: &'a [Lists<'a>]) -> Row<'a> {
-    let port = 0;
-    Row::Hear {
-        port,
-        holdtime,
-        timing,
-        sets,
-    }
-}
-
-/// A run to a moment reaches it.
-fn reach(moment: u64) -> Row<'static> {
-    Row::Run(moment, Step::Reached)
-}
-
-/// A run to a moment tells an echo of one of the group's machines.
-fn echo(moment: u64, port: usize, what: What<[u8; 4]>) -> Row<'static> {
-    let group = GROUP;
-    Row::Run(moment, Step::Echo { port, group, what })
-}
-
-/// A record of the group.
-fn record(
+/// A message that is heard on a port under a table.
+#[derive(Clone, Copy)]
+struct Heard {
     port: usize,
-    what: What<[u8; 4]>,
-    state: State,
-    expires_in: Option<u64>,
-    pending: Option<Pending>,
-) -> Record<[u8; 4]> {
+    holdtime: u16,
+    timing: Timing,
+    leads: &'static [Lead],
+    sets: &'static [Set],
+}
+
+/// The record that is meant.
+fn record(held: Held) -> Record<[u8; 4]> {
+    let (port, what, state, expires_in, pending) = match held {
+        Held::Joined(port, what, expires_in) => (port, what, State::Join, Some(expires_in), None),
+        Held::StarForEver => (0, What::Star, State::Join, None, None),
+        Held::Pruned(port, source, expires_in) => (
+            port,
+            What::Rpt(source),
+            State::Prune,
+            Some(expires_in),
+            None,
+        ),
+        Held::Waiting(what, expires_in, ends_in) => {
+            let several = true;
+            let pending = Some(Pending { ends_in, several });
+            (0, what, State::PrunePending, Some(expires_in), pending)
+        }
+    };
     let group = GROUP;
     Record {
         key: Key { port, group, what },
@@ -140,33 +168,6 @@ fn record(
             pending,
         },
     }
-}
-
-fn joined(port: usize, what: What<[u8; 4]>, expires_in: u64) -> Record<[u8; 4]> {
-    record(port, what, State::Join, Some(expires_in), None)
-}
-
-fn pruned(port: usize, source: [u8; 4], expires_in: u64) -> Record<[u8; 4]> {
-    record(
-        port,
-        What::Rpt(source),
-        State::Prune,
-        Some(expires_in),
-        None,
-    )
-}
-
-/// A machine of the first port whose prune-pending timer started with several neighbours.
-fn waiting(what: What<[u8; 4]>, expires_in: u64, ends_in: u64) -> Record<[u8; 4]> {
-    let several = true;
-    let pending = Pending { ends_in, several };
-    record(
-        0,
-        what,
-        State::PrunePending,
-        Some(expires_in),
-        Some(pending),
-    )
 }
 
 fn small(number: usize) -> u8 {
@@ -183,12 +184,13 @@ fn entry_bytes(entry: Entry<[u8; 4]>) -> [u8; 8] {
     [1, 0, flags, 32, a, b, c, d]
 }
 
-/// The body of a message to 10.0.0.2 with these sets of the group.
-fn body(alloc: Global, holdtime: u16, sets: &[Lists<'_>]) -> Result<Vec<u8>, AllocError> {
+/// The body of a message to 10.0.0.2 with these sets.
+fn body(alloc: Global, holdtime: u16, sets: &[Set]) -> Result<Vec<u8>, AllocError> {
     let [high, low] = holdtime.to_be_bytes();
     let mut bytes = vec![in alloc; 1, 0, 10, 0, 0, 2, 0, small(sets.len()), high, low]?;
-    for &(joined, pruned) in sets {
-        bytes.extend_from_slice(&[1, 0, 0, 32, 239, 1, 1, 1])?;
+    for &(group, joined, pruned) in sets {
+        let [a, b, c, d] = group;
+        bytes.extend_from_slice(&[1, 0, 0, 32, a, b, c, d])?;
         bytes.extend_from_slice(&[0, small(joined.len()), 0, small(pruned.len())])?;
         for &entry in joined {
             bytes.extend_from_slice(&entry_bytes(entry))?;
@@ -200,12 +202,15 @@ fn body(alloc: Global, holdtime: u16, sets: &[Lists<'_>]) -> Result<Vec<u8>, All
     Ok(bytes)
 }
 
-/// The table that leads all groups to the RP.
-fn one_rp(alloc: Global) -> Result<Routes<V4>, Fail> {
-    let mut routes = Routes::new(alloc);
-    let (prefix, length) = GROUPS;
-    routes.add_rp(prefix, length, RP)?;
-    Ok(routes)
+/// The table of these rows; `None` where one is refused.
+fn table(alloc: Global, leads: &[Lead]) -> Option<Routes<V4>> {
+    let mut routes: Routes<V4> = Routes::new(alloc);
+    for &(prefix, length, rp) in leads {
+        if routes.add_rp(prefix, length, rp).is_err() {
+            return None;
+        }
+    }
+    Some(routes)
 }
 
 /// Hears a body on a port. `None` where the body is no message or the port isn't there.
@@ -223,58 +228,219 @@ fn hear_body(
     Some(ports.hear(port, &message, routes, timing))
 }
 
+/// Hears a message: whether it is answered so.
+fn hears(
+    alloc: Global,
+    ports: &mut Ports<V4>,
+    heard: &Heard,
+    answer: Result<(), HearFault>,
+) -> Result<bool, AllocError> {
+    let bytes = body(alloc, heard.holdtime, heard.sets)?;
+    let Some(routes) = table(alloc, heard.leads) else {
+        return Err(AllocError);
+    };
+    Ok(hear_body(ports, &routes, heard.port, &bytes, heard.timing) == Some(answer))
+}
+
+/// The message that a row is about, and how it is answered.
+fn heard_in(row: Row) -> Option<(Heard, Result<(), HearFault>)> {
+    let heard = Heard {
+        port: 0,
+        holdtime: 210,
+        timing: ALONE,
+        leads: &ONE_RP,
+        sets: &[],
+    };
+    match row {
+        Row::Hear(port, sets) => Some((
+            Heard {
+                port,
+                sets,
+                ..heard
+            },
+            Ok(()),
+        )),
+        Row::HearAmong(port, sets) => {
+            let timing = SEVERAL;
+            Some((
+                Heard {
+                    port,
+                    timing,
+                    sets,
+                    ..heard
+                },
+                Ok(()),
+            ))
+        }
+        Row::HearFor(holdtime, timing, sets) => {
+            Some((
+                Heard {
+                    holdtime,
+                    timing,
+                    sets,
+                    ..heard
+                },
+                Ok(()),
+            ))
+        }
+        Row::HearUnder(leads, timing, sets) => {
+            Some((
+                Heard {
+                    leads,
+                    timing,
+                    sets,
+                    ..heard
+                },
+                Ok(()),
+            ))
+        }
+        Row::Full(port, sets, needed) => {
+            let holdtime = 300;
+            let full = HearFault::Full { needed };
+            Some((
+                Heard {
+                    port,
+                    holdtime,
+                    sets,
+                    ..heard
+                },
+                Err(full),
+            ))
+        }
+        Row::FullUnder(leads, sets, needed) => {
+            let full = HearFault::Full { needed };
+            Some((
+                Heard {
+                    leads,
+                    sets,
+                    ..heard
+                },
+                Err(full),
+            ))
+        }
+        _ => None,
+    }
+}
+
+/// Runs to a moment: whether it tells this.
+fn runs(ports: &mut Ports<V4>, moment: u64, wanted: Step<[u8; 4]>) -> bool {
+    moment <= 1_000_000_000_000_000 && ports.run_to(moment) == wanted
+}
+
+/// Whether the ports begin so in print.
+fn shows_from(alloc: Global, ports: &Ports<V4>, start: &str) -> Result<bool, AllocError> {
+    let text = format!(in alloc; "{ports:?}")?;
+    Ok(text.starts_with(start))
+}
+
+/// Whether the ports show this in print.
+fn shows(alloc: Global, ports: &Ports<V4>, part: &str) -> Result<bool, AllocError> {
+    let text = format!(in alloc; "{ports:?}")?;
+    Ok(text.contains(part))
+}
+
+/// Whether the walk through the records begins so in print.
+fn records_show_from(alloc: Global, ports: &Ports<V4>, start: &str) -> Result<bool, AllocError> {
+    let text = format!(in alloc; "{:?}", ports.records())?;
+    Ok(text.starts_with(start))
+}
+
 /// Whether a walk tells these records.
-fn tells(mut told: Records<'_, V4>, wanted: &[Record<[u8; 4]>]) -> bool {
+fn tells(mut told: Records<'_, V4>, wanted: &[Held]) -> bool {
     for want in wanted {
-        if told.next() != Some(*want) {
+        if told.next() != Some(record(*want)) {
             return false;
         }
     }
     told.next().is_none()
 }
 
-/// Plays a row: whether it goes as it says.
-fn goes(
-    alloc: Global,
-    ports: &mut Ports<V4>,
-    routes: &Routes<V4>,
-    row: Row<'_>,
-) -> Result<bool, AllocError> {
-    match row {
-        Row::Hear {
-            port,
-            holdtime,
-            timing,
-            sets,
-        } => {
-            let bytes = body(alloc, holdtime, sets)?;
-            Ok(hear_body(ports, routes, port, &bytes, timing) == Some(Ok(())))
-        }
-        Row::Full(port, sets, needed) => {
-            let bytes = body(alloc, 300, sets)?;
-            let full = HearFault::Full { needed };
-            Ok(hear_body(ports, routes, port, &bytes, ALONE) == Some(Err(full)))
-        }
-        Row::Run(moment, wanted) => {
-            Ok(moment <= 1_000_000_000_000_000 && ports.run_to(moment) == wanted)
-        }
-        Row::Now(moment) => Ok(ports.now() == moment),
-        Row::Due(due) => Ok(ports.next_due() == due),
-        Row::State(port, what, state) => Ok(ports.state_of(port, GROUP, what) == state),
-        Row::Holds(wanted) => Ok(tells(ports.records(), wanted)),
-        Row::HoldsOn(port, wanted) => {
-            Ok(ports.count_on(port) == wanted.len() && tells(ports.records_on(port), wanted))
-        }
+/// The machine of a group that comes next on the first port.
+fn machine_after(ports: &Ports<V4>, group: [u8; 4], what: What<[u8; 4]>) -> Option<What<[u8; 4]>> {
+    match ports.record_after(0, group, what) {
+        Some(record) => Some(record.key.what),
+        None => None,
     }
 }
 
-/// Plays rows, where all groups have the RP, up to the first that doesn't go as it says, and tells its index.
-fn play(alloc: Global, ports: &mut Ports<V4>, rows: &[Row<'_>]) -> Result<Option<usize>, Fail> {
-    let routes = one_rp(alloc)?;
+/// Whether what a row sees is so.
+fn is_seen(ports: &Ports<V4>, row: Row) -> bool {
+    match row {
+        Row::Now(moment) => ports.now() == moment,
+        Row::Due(due) => ports.next_due() == due,
+        Row::State(port, what, state) => ports.state_of(port, GROUP, what) == state,
+        Row::StarOf(group, state) => ports.state_of(0, group, What::Star) == state,
+        Row::Holds(wanted) => tells(ports.records(), wanted),
+        Row::HoldsOn(port, wanted) => {
+            ports.count_on(port) == wanted.len() && tells(ports.records_on(port), wanted)
+        }
+        Row::Count(port, count) => ports.count_on(port) == count,
+        Row::Sizes(count, limit) => ports.port_count() == count && ports.limit() == limit,
+        Row::GroupAfter(port, group, next) => ports.group_after(port, group) == next,
+        Row::MachineAfter(group, what, next) => machine_after(ports, group, what) == next,
+        _ => false,
+    }
+}
+
+/// Plays a row: whether it goes as it says.
+fn goes(alloc: Global, ports: &mut Ports<V4>, row: Row) -> Result<bool, AllocError> {
+    if let Some((heard, answer)) = heard_in(row) {
+        return hears(alloc, ports, &heard, answer);
+    }
+    match row {
+        Row::Reach(moment) => Ok(runs(ports, moment, Step::Reached)),
+        Row::Echo(moment, port, what) => {
+            let group = GROUP;
+            Ok(runs(ports, moment, Step::Echo { port, group, what }))
+        }
+        Row::ShownFrom(start) => shows_from(alloc, ports, start),
+        Row::Shown(part) => shows(alloc, ports, part),
+        Row::RecordsShownFrom(start) => records_show_from(alloc, ports, start),
+        _ => Ok(is_seen(ports, row)),
+    }
+}
+
+/// Plays an example: its first row that doesn't go as it says.
+fn wrong_row(alloc: Global, example: &Example) -> Result<Option<usize>, AllocError> {
+    let &Example {
+        ports,
+        limit,
+        rows,
+        ..
+    } = example;
+    if ports == 0 || ports > 64 || limit == 0 || limit > 100_000 {
+        return Ok(Some(0));
+    }
+    let mut ports: Ports<V4> = Ports::new(alloc, ports, limit);
     for (index, row) in rows.iter().enumerate() {
-        if !goes(alloc, ports, &routes, *row)? {
+        if !goes(alloc, &mut ports, *row)? {
             return Ok(Some(index));
         }
     }
     Ok(None)
+}
+
+/// The first example with a wrong row, and that row.
+fn wrong(alloc: Global, examples: &[Example]) -> Result<Option<(&'static str, usize)>, AllocError> {
+    for example in examples {
+        if let Some(index) = wrong_row(alloc, example)? {
+            return Ok(Some((example.name, index)));
+        }
+    }
+    Ok(None)
+}
+
+#[test]
+fn examples_go_as_they_say(rt: HostRuntime) -> Result<(), Fail> {
+    let all: [&[Example]; 5] = [
+        &hearing::EXAMPLES,
+        &limits::EXAMPLES,
+        &nexts::EXAMPLES,
+        &running::EXAMPLES,
+        &tables::EXAMPLES,
+    ];
+    for examples in all {
+        assert_eq!(rt; wrong(rt.alloc(), examples)?, None);
+    }
+    Ok(())
 }

@@ -1,127 +1,133 @@
 //! What messages make of the machines.
 
 use super::{
-    ALONE, FIRST, JOIN_SECOND, JOIN_STAR, OTHER_STAR, RPT_FIRST, RPT_SECOND, Row, SECOND, SEVERAL,
-    hear, hear_among, hear_for, joined, play, pruned, reach, waiting,
+    ALONE, Example, FIRST, GROUP, Held, JOIN_SECOND, JOIN_STAR, OTHER_STAR, RPT_FIRST, RPT_SECOND,
+    Row, SECOND, SEVERAL,
 };
-use pim_addr::{Routes, V4, V6};
+use pim_addr::{Routes, V6};
 use pim_down::{Ports, State, What};
 use pim_jp::JpView;
-use std::test::Fail;
+use std::alloc::Global;
 
-#[test]
-fn hears_on_each_port(rt: HostRuntime) -> Result<(), Fail> {
-    let mut ports: Ports<V4> = Ports::new(rt.alloc(), 3, 100);
-    let second = [
-        joined(1, What::Star, 210_000),
-        pruned(1, FIRST, 210_000),
-        pruned(1, SECOND, 210_000),
-    ];
-    let all = [
-        joined(0, What::Star, 210_000),
-        pruned(0, FIRST, 210_000),
-        second[0],
-        second[1],
-        second[2],
-        pruned(2, SECOND, 210_000),
-    ];
-    let rows = [
-        hear(0, &[(&[JOIN_STAR], &[RPT_FIRST])]),
-        hear(1, &[(&[JOIN_STAR], &[RPT_SECOND, RPT_FIRST])]),
-        hear(2, &[(&[], &[RPT_SECOND])]),
-        Row::Due(Some(0)),
-        Row::State(2, What::Rpt(SECOND), Some(State::PrunePending)),
-        reach(0),
-        Row::Holds(&all),
-        Row::HoldsOn(1, &second),
-        Row::HoldsOn(3, &[]),
-        Row::State(2, What::Star, None),
-        Row::State(3, What::Star, None),
-        Row::Due(Some(210_000)),
-    ];
-    assert_eq!(rt; play(rt.alloc(), &mut ports, &rows)?, None);
-    assert_eq!(rt; (ports.port_count(), ports.limit()), (3, 100));
-    Ok(())
-}
-
-#[test]
-fn prunes_end_that_are_not_repeated(rt: HostRuntime) -> Result<(), Fail> {
-    let mut ports: Ports<V4> = Ports::new(rt.alloc(), 1, 100);
-    let star = joined(0, What::Star, 210_000);
-    let rows = [
-        hear(0, &[(&[JOIN_STAR], &[RPT_FIRST])]),
-        reach(0),
-        Row::State(0, What::Rpt(FIRST), Some(State::Prune)),
-        reach(5_000),
-        hear(0, &[(&[JOIN_STAR], &[RPT_FIRST])]),
-        Row::Holds(&[star, pruned(0, FIRST, 210_000)]),
-        reach(5_010),
-        hear(0, &[(&[JOIN_STAR], &[])]),
-        Row::Holds(&[star]),
-    ];
-    assert_eq!(rt; play(rt.alloc(), &mut ports, &rows)?, None);
-    Ok(())
-}
-
-#[test]
-fn passes_over_another_rp(rt: HostRuntime) -> Result<(), Fail> {
-    let mut ports: Ports<V4> = Ports::new(rt.alloc(), 1, 100);
-    let star = joined(0, What::Star, 209_990);
-    let source = joined(0, What::Source(SECOND), 210_000);
-    let rpt = pruned(0, FIRST, 209_990);
-    let rows = [
-        hear(0, &[(&[JOIN_STAR], &[RPT_FIRST])]),
-        reach(10),
-        hear(0, &[(&[OTHER_STAR, JOIN_SECOND], &[])]),
-        Row::Holds(&[star, source, rpt]),
-        // A Prune(*,G) acts whatever its RP, and on the (*,G) machine alone.
-        hear(0, &[(&[], &[OTHER_STAR])]),
-        reach(10),
-        Row::Holds(&[source, rpt]),
-    ];
-    assert_eq!(rt; play(rt.alloc(), &mut ports, &rows)?, None);
-    Ok(())
-}
-
-#[test]
-fn ends_after_the_whole_message(rt: HostRuntime) -> Result<(), Fail> {
-    let mut ports: Ports<V4> = Ports::new(rt.alloc(), 1, 100);
-    let star = joined(0, What::Star, 210_000);
-    let both = [star, pruned(0, FIRST, 210_000)];
-    let rows = [
-        hear(0, &[(&[], &[RPT_FIRST]), (&[JOIN_STAR], &[])]),
-        Row::Holds(&[star]),
-        hear(0, &[(&[JOIN_STAR], &[]), (&[], &[RPT_FIRST])]),
-        Row::State(0, What::Rpt(FIRST), Some(State::PrunePending)),
-        reach(0),
-        Row::Holds(&both),
-        hear(0, &[(&[JOIN_STAR], &[]), (&[], &[RPT_FIRST])]),
-        Row::Holds(&both),
-    ];
-    assert_eq!(rt; play(rt.alloc(), &mut ports, &rows)?, None);
-    Ok(())
-}
-
-#[test]
-fn goes_on_waiting(rt: HostRuntime) -> Result<(), Fail> {
-    let mut ports: Ports<V4> = Ports::new(rt.alloc(), 1, 100);
-    let star = joined(0, What::Star, 210_000);
-    let rows = [
-        hear_among(0, &[(&[], &[RPT_FIRST])]),
-        reach(1_000),
-        hear_for(300, SEVERAL, &[(&[], &[RPT_FIRST])]),
-        Row::Holds(&[waiting(What::Rpt(FIRST), 209_000, 2_000)]),
-        reach(2_000),
-        hear_among(0, &[(&[JOIN_STAR], &[RPT_FIRST])]),
-        Row::Holds(&[star, waiting(What::Rpt(FIRST), 210_000, 1_000)]),
-        reach(3_000),
-        Row::State(0, What::Rpt(FIRST), Some(State::Prune)),
-        hear_among(0, &[(&[RPT_FIRST], &[])]),
-        Row::State(0, What::Rpt(FIRST), None),
-    ];
-    assert_eq!(rt; play(rt.alloc(), &mut ports, &rows)?, None);
-    Ok(())
-}
+pub(super) const EXAMPLES: [Example; 5] = [
+    Example {
+        name: "hears on each port",
+        ports: 3,
+        limit: 100,
+        rows: &[
+            Row::Hear(0, &[(GROUP, &[JOIN_STAR], &[RPT_FIRST])]),
+            Row::Hear(1, &[(GROUP, &[JOIN_STAR], &[RPT_SECOND, RPT_FIRST])]),
+            Row::Hear(2, &[(GROUP, &[], &[RPT_SECOND])]),
+            Row::Due(Some(0)),
+            Row::State(2, What::Rpt(SECOND), Some(State::PrunePending)),
+            Row::Reach(0),
+            Row::Holds(&[
+                Held::Joined(0, What::Star, 210_000),
+                Held::Pruned(0, FIRST, 210_000),
+                Held::Joined(1, What::Star, 210_000),
+                Held::Pruned(1, FIRST, 210_000),
+                Held::Pruned(1, SECOND, 210_000),
+                Held::Pruned(2, SECOND, 210_000),
+            ]),
+            Row::HoldsOn(
+                1,
+                &[
+                    Held::Joined(1, What::Star, 210_000),
+                    Held::Pruned(1, FIRST, 210_000),
+                    Held::Pruned(1, SECOND, 210_000),
+                ],
+            ),
+            Row::HoldsOn(3, &[]),
+            Row::State(2, What::Star, None),
+            Row::State(3, What::Star, None),
+            Row::Due(Some(210_000)),
+            Row::Sizes(3, 100),
+        ],
+    },
+    Example {
+        name: "prunes end that are not repeated",
+        ports: 1,
+        limit: 100,
+        rows: &[
+            Row::Hear(0, &[(GROUP, &[JOIN_STAR], &[RPT_FIRST])]),
+            Row::Reach(0),
+            Row::State(0, What::Rpt(FIRST), Some(State::Prune)),
+            Row::Reach(5_000),
+            Row::Hear(0, &[(GROUP, &[JOIN_STAR], &[RPT_FIRST])]),
+            Row::Holds(&[
+                Held::Joined(0, What::Star, 210_000),
+                Held::Pruned(0, FIRST, 210_000),
+            ]),
+            Row::Reach(5_010),
+            Row::Hear(0, &[(GROUP, &[JOIN_STAR], &[])]),
+            Row::Holds(&[Held::Joined(0, What::Star, 210_000)]),
+        ],
+    },
+    Example {
+        name: "passes over another RP",
+        ports: 1,
+        limit: 100,
+        rows: &[
+            Row::Hear(0, &[(GROUP, &[JOIN_STAR], &[RPT_FIRST])]),
+            Row::Reach(10),
+            Row::Hear(0, &[(GROUP, &[OTHER_STAR, JOIN_SECOND], &[])]),
+            Row::Holds(&[
+                Held::Joined(0, What::Star, 209_990),
+                Held::Joined(0, What::Source(SECOND), 210_000),
+                Held::Pruned(0, FIRST, 209_990),
+            ]),
+            // A Prune(*,G) acts whatever its RP, and on the (*,G) machine alone.
+            Row::Hear(0, &[(GROUP, &[], &[OTHER_STAR])]),
+            Row::Reach(10),
+            Row::Holds(&[
+                Held::Joined(0, What::Source(SECOND), 210_000),
+                Held::Pruned(0, FIRST, 209_990),
+            ]),
+        ],
+    },
+    Example {
+        name: "ends after the whole message",
+        ports: 1,
+        limit: 100,
+        rows: &[
+            Row::Hear(0, &[(GROUP, &[], &[RPT_FIRST]), (GROUP, &[JOIN_STAR], &[])]),
+            Row::Holds(&[Held::Joined(0, What::Star, 210_000)]),
+            Row::Hear(0, &[(GROUP, &[JOIN_STAR], &[]), (GROUP, &[], &[RPT_FIRST])]),
+            Row::State(0, What::Rpt(FIRST), Some(State::PrunePending)),
+            Row::Reach(0),
+            Row::Holds(&[
+                Held::Joined(0, What::Star, 210_000),
+                Held::Pruned(0, FIRST, 210_000),
+            ]),
+            Row::Hear(0, &[(GROUP, &[JOIN_STAR], &[]), (GROUP, &[], &[RPT_FIRST])]),
+            Row::Holds(&[
+                Held::Joined(0, What::Star, 210_000),
+                Held::Pruned(0, FIRST, 210_000),
+            ]),
+        ],
+    },
+    Example {
+        name: "goes on waiting",
+        ports: 1,
+        limit: 100,
+        rows: &[
+            Row::HearAmong(0, &[(GROUP, &[], &[RPT_FIRST])]),
+            Row::Reach(1_000),
+            Row::HearFor(300, SEVERAL, &[(GROUP, &[], &[RPT_FIRST])]),
+            Row::Holds(&[Held::Waiting(What::Rpt(FIRST), 209_000, 2_000)]),
+            Row::Reach(2_000),
+            Row::HearAmong(0, &[(GROUP, &[JOIN_STAR], &[RPT_FIRST])]),
+            Row::Holds(&[
+                Held::Joined(0, What::Star, 210_000),
+                Held::Waiting(What::Rpt(FIRST), 210_000, 1_000),
+            ]),
+            Row::Reach(3_000),
+            Row::State(0, What::Rpt(FIRST), Some(State::Prune)),
+            Row::HearAmong(0, &[(GROUP, &[RPT_FIRST], &[])]),
+            Row::State(0, What::Rpt(FIRST), None),
+        ],
+    },
+];
 
 /// Upstream fe80::2, holdtime 210, and ff0e::1 with the RP 2001:db8::9 joined.
 const STAR_V6: [u8; 66] = [
@@ -130,18 +136,41 @@ const STAR_V6: [u8; 66] = [
     0, 0, 0, 0, 0, 0, 0, 0, 0, 0, 0, 9,
 ];
 
+const GROUP_V6: [u8; 16] = [0xff, 0x0e, 0, 0, 0, 0, 0, 0, 0, 0, 0, 0, 0, 0, 0, 1];
+
+const RP_V6: [u8; 16] = [0x20, 1, 0x0d, 0xb8, 0, 0, 0, 0, 0, 0, 0, 0, 0, 0, 0, 9];
+
+/// Leads all groups to the RP: whether it is taken.
+fn lead(routes: &mut Routes<V6>) -> bool {
+    let prefix = [0xff, 0, 0, 0, 0, 0, 0, 0, 0, 0, 0, 0, 0, 0, 0, 0];
+    routes.add_rp(prefix, 8, RP_V6).is_ok()
+}
+
+/// Hears the message of IPv6: whether it is taken.
+fn hear_star(ports: &mut Ports<V6>, routes: &Routes<V6>) -> bool {
+    let Ok(message) = JpView::<V6>::read(&STAR_V6) else {
+        return false;
+    };
+    ports.port_count() > 0 && ports.hear(0, &message, routes, ALONE) == Ok(())
+}
+
+/// Whether the group's (*,G) machine is in this state, and a timer fires at this moment.
+fn shows(ports: &Ports<V6>, state: Option<State>, due: Option<u64>) -> bool {
+    ports.state_of(0, GROUP_V6, What::Star) == state && ports.next_due() == due
+}
+
+/// Whether the message of IPv6 counts under a table that leads its group to its RP, and not under an empty one.
+fn counts_by_the_table(alloc: Global) -> bool {
+    let mut ports: Ports<V6> = Ports::new(alloc, 1, 1);
+    let mut routes: Routes<V6> = Routes::new(alloc);
+    hear_star(&mut ports, &routes)
+        && shows(&ports, None, None)
+        && lead(&mut routes)
+        && hear_star(&mut ports, &routes)
+        && shows(&ports, Some(State::Join), Some(210_000))
+}
+
 #[test]
-fn hears_of_ipv6(rt: HostRuntime) -> Result<(), Fail> {
-    let mut ports: Ports<V6> = Ports::new(rt.alloc(), 1, 1);
-    let message = JpView::<V6>::read(&STAR_V6)?;
-    let rp = [0x20, 1, 0x0d, 0xb8, 0, 0, 0, 0, 0, 0, 0, 0, 0, 0, 0, 9];
-    let group = [0xff, 0x0e, 0, 0, 0, 0, 0, 0, 0, 0, 0, 0, 0, 0, 0, 1];
-    let mut routes: Routes<V6> = Routes::new(rt.alloc());
-    assert_eq!(rt; ports.hear(0, &message, &routes, ALONE), Ok(()));
-    assert_eq!(rt; ports.next_due(), None);
-    routes.add_rp([0xff, 0, 0, 0, 0, 0, 0, 0, 0, 0, 0, 0, 0, 0, 0, 0], 8, rp)?;
-    assert_eq!(rt; ports.hear(0, &message, &routes, ALONE), Ok(()));
-    assert_eq!(rt; ports.state_of(0, group, What::Star), Some(State::Join));
-    assert_eq!(rt; ports.next_due(), Some(210_000));
-    Ok(())
+fn hears_of_ipv6(rt: HostRuntime) {
+    assert!(rt; counts_by_the_table(rt.alloc()));
 }

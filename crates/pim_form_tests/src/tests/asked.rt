@@ -1,12 +1,12 @@
 //! The messages of one state to each of two upstream neighbours, by their bytes.
 
 use super::packing::EXCEPT_MESSAGE;
-use super::toward::{ROWS, SIX, TWO, heard, table};
+use super::toward::{ROWS, Row, SIX, TWO, heard, table};
 use super::{RP, RPT_FIRST, RPT_SECOND, STAR, alone, hear};
-use pim_addr::V4;
+use pim_addr::{Routes, V4};
 use pim_down::{Ports, Step};
-use pim_form::{NormalForm, Writer, is_toward, normal_again, pack};
-use std::alloc::Global;
+use pim_form::{Messages, NormalForm, Writer, is_toward, normal_again, pack};
+use std::alloc::{AllocError, Global};
 use std::test::Fail;
 
 /// To 10.0.0.2: the source 192.0.2.2 of the first group, and the star of the other.
@@ -22,18 +22,45 @@ const TO_SIX: [u8; 62] = [
     4, 32, 192, 0, 2, 1,
 ];
 
+/// Whether these are one message of these bytes.
+fn is_one(messages: &Messages, bytes: &[u8]) -> bool {
+    messages.count() == 1 && messages.get(0) == Some(bytes)
+}
+
+/// Whether a form is told by one message of these bytes; `None` where it isn't told to this writer's neighbour.
+fn told_by(
+    alloc: Global,
+    form: &NormalForm<V4>,
+    routes: &Routes<V4>,
+    writer: &Writer<V4>,
+    bytes: &[u8],
+) -> Option<bool> {
+    if !is_toward(form, routes, writer.upstream()) {
+        return None;
+    }
+    let messages = pack(alloc, form, writer, routes).ok()?;
+    Some(is_one(&messages, bytes))
+}
+
+/// Whether what these ports ask of this neighbour from this address is one message of these bytes.
+fn ports_tell(
+    alloc: Global,
+    ports: &Ports<V4>,
+    routes: &Routes<V4>,
+    (neighbour, own): ([u8; 4], [u8; 4]),
+    bytes: &[u8],
+) -> Option<bool> {
+    let writer = Writer::<V4>::new(neighbour, own, 210, 1480).ok()?;
+    let form = NormalForm::toward(alloc, ports, routes, neighbour).ok()?;
+    told_by(alloc, &form, routes, &writer, bytes)
+}
+
 /// Whether what is asked of this neighbour from this address is one message of these bytes; `None` where something is
 /// refused.
 fn tells(alloc: Global, neighbour: [u8; 4], own: [u8; 4], bytes: &[u8]) -> Option<bool> {
     let ports = heard(alloc)?;
     let routes = table(alloc, &ROWS)?;
-    let writer = Writer::<V4>::new(neighbour, own, 210, 1480).ok()?;
-    let form = NormalForm::toward(alloc, &ports, &routes, neighbour).ok()?;
-    if !is_toward(&form, &routes, writer.upstream()) {
-        return None;
-    }
-    let messages = pack(alloc, &form, &writer, &routes).ok()?;
-    Some(messages.count() == 1 && messages.get(0) == Some(bytes))
+    ports_tell(alloc, &ports, &routes, (neighbour, own), bytes)
 }
 
 #[test]
@@ -45,43 +72,50 @@ fn asks_each_neighbour_for_its_own(rt: HostRuntime) -> Result<(), Fail> {
     Ok(())
 }
 
+/// Whether a form and the normal form of what it wants are told by one message of these bytes.
+fn both_told(
+    alloc: Global,
+    form: &NormalForm<V4>,
+    routes: &Routes<V4>,
+    writer: &Writer<V4>,
+    bytes: &[u8],
+) -> Option<[bool; 2]> {
+    let again = normal_again(alloc, form).ok()?;
+    let second = told_by(alloc, &again, routes, writer, bytes)?;
+    let first = told_by(alloc, form, routes, writer, bytes)?;
+    Some([first, second])
+}
+
+/// One RP for all groups, and 10.0.0.2 for all addresses.
+const ALL_TO_TWO: [Row; 2] = [(true, [224, 0, 0, 0], 4, RP), (false, [0, 0, 0, 0], 0, TWO)];
+
 /// Whether all that the ports want is told to 10.0.0.2 by one message of these bytes, and the normal form of its normal
 /// form by the same one; `None` where something is refused.
-fn tells_all(alloc: Global, ports: &Ports<V4>, bytes: &[u8]) -> Option<bool> {
-    let rows = [(true, [224, 0, 0, 0], 4, RP), (false, [0, 0, 0, 0], 0, TWO)];
-    let routes = table(alloc, &rows)?;
+fn tells_all(alloc: Global, ports: &Ports<V4>, bytes: &[u8]) -> Option<[bool; 2]> {
+    let routes = table(alloc, &ALL_TO_TWO)?;
     let writer = Writer::<V4>::new(TWO, [10, 0, 0, 1], 210, 1480).ok()?;
     let form = NormalForm::of(alloc, ports).ok()?;
-    let again = normal_again(alloc, &form).ok()?;
-    if !is_toward(&form, &routes, writer.upstream()) {
-        return None;
-    }
-    if !is_toward(&again, &routes, writer.upstream()) {
-        return None;
-    }
-    let messages = pack(alloc, &form, &writer, &routes).ok()?;
-    let others = pack(alloc, &again, &writer, &routes).ok()?;
-    let same = messages.same_bytes(&others);
-    Some(same && messages.count() == 1 && messages.get(0) == Some(bytes))
+    both_told(alloc, &form, &routes, &writer, bytes)
+}
+
+/// What comes to three ports: the star without 192.0.2.1, without both sources, and a prune of 192.0.2.2 without a star.
+fn hear_all(alloc: Global, ports: &mut Ports<V4>) -> Result<bool, AllocError> {
+    let first = hear(alloc, ports, &alone(0, &[STAR], &[RPT_FIRST]))?;
+    let second = hear(alloc, ports, &alone(1, &[STAR], &[RPT_FIRST, RPT_SECOND]))?;
+    let third = hear(alloc, ports, &alone(2, &[], &[RPT_SECOND]))?;
+    Ok(first && second && third)
 }
 
 #[test]
 fn message_heard_again_changes_no_byte(rt: HostRuntime) -> Result<(), Fail> {
     let mut ports: Ports<V4> = Ports::new(rt.alloc(), 3, 100);
-    let first = alone(0, &[STAR], &[RPT_FIRST]);
-    assert!(rt; hear(rt.alloc(), &mut ports, &first)?);
-    assert!(rt;
-        hear(
-            rt.alloc(),
-            &mut ports,
-            &alone(1, &[STAR], &[RPT_FIRST, RPT_SECOND])
-        )?
-    );
-    assert!(rt; hear(rt.alloc(), &mut ports, &alone(2, &[], &[RPT_SECOND]))?);
+    assert!(rt; hear_all(rt.alloc(), &mut ports)?);
     assert_eq!(rt; ports.run_to(0), Step::Reached);
-    assert_eq!(rt; tells_all(rt.alloc(), &ports, &EXCEPT_MESSAGE), Some(true));
+    let told = tells_all(rt.alloc(), &ports, &EXCEPT_MESSAGE);
+    assert_eq!(rt; told, Some([true, true]));
     assert_eq!(rt; ports.run_to(5000), Step::Reached);
-    assert!(rt; hear(rt.alloc(), &mut ports, &first)?);
-    assert_eq!(rt; tells_all(rt.alloc(), &ports, &EXCEPT_MESSAGE), Some(true));
+    assert!(rt; hear(rt.alloc(), &mut ports, &alone(0, &[STAR], &[RPT_FIRST]))?);
+    let again = tells_all(rt.alloc(), &ports, &EXCEPT_MESSAGE);
+    assert_eq!(rt; again, Some([true, true]));
     Ok(())
 }

@@ -137,29 +137,60 @@ fn length_at(messages: &Messages, index: usize) -> usize {
     }
 }
 
+/// Whether messages are none, and are the same as themselves.
+fn are_none(messages: &Messages) -> bool {
+    messages.count() == 0 && messages.get(0).is_none() && messages.same_bytes(messages)
+}
+
+/// Whether messages are one of these bytes.
+fn are_one(messages: &Messages, bytes: &[u8]) -> bool {
+    messages.count() == 1 && messages.get(0) == Some(bytes) && messages.get(1).is_none()
+}
+
+/// Whether the router, which wants nothing yet, tells no messages, and then the star's: not the same ones.
+fn tells_nothing_and_a_star(alloc: Global, router: &mut Router<V4>) -> Option<[bool; 3]> {
+    let nothing = told(alloc, router)?.ok()?;
+    if hear(alloc, router, GROUP, &[Entry::Star(RP)], &[]) != Ok(true) {
+        return None;
+    }
+    let messages = told(alloc, router)?.ok()?;
+    let same = nothing.same_bytes(&messages);
+    Some([are_none(&nothing), same, are_one(&messages, &STAR_MESSAGE)])
+}
+
 #[test]
 fn packs_a_star(rt: HostRuntime) -> Result<(), Fail> {
     let Some(mut router) = router4(rt.alloc(), 1480) else {
         assert!(rt; false);
         return Ok(());
     };
-    let Some(Ok(nothing)) = told(rt.alloc(), &router) else {
-        assert!(rt; false);
-        return Ok(());
-    };
-    assert_eq!(rt; (nothing.count(), nothing.get(0)), (0, None));
-    assert!(rt; nothing.same_bytes(&nothing));
-    let heard = hear(rt.alloc(), &mut router, GROUP, &[Entry::Star(RP)], &[])?;
-    assert!(rt; heard);
-    let Some(Ok(messages)) = told(rt.alloc(), &router) else {
-        assert!(rt; false);
-        return Ok(());
-    };
-    assert!(rt; !nothing.same_bytes(&messages));
-    assert_eq!(rt; messages.count(), 1);
-    assert_eq!(rt; messages.get(0), Some(STAR_MESSAGE.as_slice()));
-    assert_eq!(rt; messages.get(1), None);
+    let are = tells_nothing_and_a_star(rt.alloc(), &mut router);
+    assert_eq!(rt; are, Some([true, false, true]));
     Ok(())
+}
+
+/// Whether the messages of this form are one of these bytes; `None` where the router's neighbour isn't asked for all of
+/// it.
+fn is_told_so(
+    alloc: Global,
+    router: &Router<V4>,
+    form: &NormalForm<V4>,
+    bytes: &[u8],
+) -> Option<bool> {
+    if !is_toward(form, &router.routes, router.writer.upstream()) {
+        return None;
+    }
+    let messages = pack(alloc, form, &router.writer, &router.routes).ok()?;
+    Some(are_one(&messages, bytes))
+}
+
+/// The same of what the router wants, and of the normal form of its normal form.
+fn both_told_so(alloc: Global, router: &Router<V4>, bytes: &[u8]) -> Option<[bool; 2]> {
+    let form = NormalForm::of(alloc, &router.ports).ok()?;
+    let again = normal_again(alloc, &form).ok()?;
+    let second = is_told_so(alloc, router, &again, bytes)?;
+    let first = is_told_so(alloc, router, &form, bytes)?;
+    Some([first, second])
 }
 
 #[test]
@@ -168,28 +199,10 @@ fn packs_a_star_with_an_exception(rt: HostRuntime) -> Result<(), Fail> {
         assert!(rt; false);
         return Ok(());
     };
-    let heard = hear(
-        rt.alloc(),
-        &mut router,
-        GROUP,
-        &[Entry::Star(RP)],
-        &[Entry::Rpt(FIRST)],
-    )?;
-    assert!(rt; heard);
-    let form = NormalForm::of(rt.alloc(), &router.ports)?;
-    let again = normal_again(rt.alloc(), &form)?;
-    for form in [&form, &again] {
-        if !is_toward(form, &router.routes, router.writer.upstream()) {
-            assert!(rt; false);
-            return Ok(());
-        }
-        let Ok(messages) = pack(rt.alloc(), form, &router.writer, &router.routes) else {
-            assert!(rt; false);
-            return Ok(());
-        };
-        assert_eq!(rt; messages.count(), 1);
-        assert_eq!(rt; messages.get(0), Some(EXCEPT_MESSAGE.as_slice()));
-    }
+    let (star, without) = ([Entry::Star(RP)], [Entry::Rpt(FIRST)]);
+    assert!(rt; hear(rt.alloc(), &mut router, GROUP, &star, &without)?);
+    let told = both_told_so(rt.alloc(), &router, &EXCEPT_MESSAGE);
+    assert_eq!(rt; told, Some([true, true]));
     Ok(())
 }
 
@@ -304,6 +317,46 @@ fn tells_faults_in_words(rt: HostRuntime) -> Result<(), Fail> {
     Ok(())
 }
 
+/// Whether this router takes 200 sources.
+fn hear_200(alloc: Global, router: &mut Router<V4>) -> bool {
+    let mut joined = Vec::new(alloc);
+    for number in 1..201 {
+        if joined.push(Entry::Source(source(number))).is_err() {
+            return false;
+        }
+    }
+    hear(alloc, router, GROUP, &joined, &[]) == Ok(true)
+}
+
+/// How many messages a form has, and how long the first two are; why there are none.
+fn packed(
+    alloc: Global,
+    router: &Router<V4>,
+    form: &NormalForm<V4>,
+) -> Result<(usize, [usize; 2]), Refusal> {
+    if !is_toward(form, &router.routes, router.writer.upstream()) {
+        return Err(Refusal::Elsewhere);
+    }
+    match pack(alloc, form, &router.writer, &router.routes) {
+        Ok(messages) => Ok((
+            messages.count(),
+            [length_at(&messages, 0), length_at(&messages, 1)],
+        )),
+        Err(FormFault::Memory) => Err(Refusal::Memory),
+        Err(_) => Err(Refusal::Elsewhere),
+    }
+}
+
+/// Why a form has no messages.
+#[derive(Clone, Copy, Debug, PartialEq, Eq)]
+enum Refusal {
+    Memory,
+    /// It isn't asked of the router's neighbour, or a star is too big.
+    Elsewhere,
+}
+
+const OF_200: (usize, [usize; 2]) = (2, [1474, 178]);
+
 // With each allocation refused in turn (`rt try --test --fail-alloc 1..`): the form is as it was, and the same call,
 // with memory, gives its messages.
 #[test]
@@ -311,36 +364,18 @@ fn refusals_change_nothing(rt: HostRuntime) -> Result<(), Fail> {
     let Some(mut router) = router4(rt.alloc(), 1480) else {
         return Ok(());
     };
-    let mut joined = Vec::new(rt.alloc());
-    for number in 1..201 {
-        if joined.push(Entry::Source(source(number))).is_err() {
-            return Ok(());
-        }
-    }
-    if hear(rt.alloc(), &mut router, GROUP, &joined, &[]) != Ok(true) {
+    if !hear_200(rt.alloc(), &mut router) {
         return Ok(());
     }
     let Ok(form) = NormalForm::of(rt.alloc(), &router.ports) else {
         return Ok(());
     };
-    if !is_toward(&form, &router.routes, router.writer.upstream()) {
-        assert!(rt; false);
-        return Ok(());
+    let first = packed(rt.alloc(), &router, &form);
+    if first == Err(Refusal::Memory) {
+        assert_eq!(rt; form.groups().count_left(), 1);
+        assert_eq!(rt; packed(rt.alloc(), &router, &form), Ok(OF_200));
+    } else {
+        assert_eq!(rt; first, Ok(OF_200));
     }
-    let messages = match pack(rt.alloc(), &form, &router.writer, &router.routes) {
-        Ok(messages) => messages,
-        Err(fault) => {
-            assert_eq!(rt; fault, FormFault::Memory);
-            assert_eq!(rt; form.groups().count_left(), 1);
-            let Ok(messages) = pack(rt.alloc(), &form, &router.writer, &router.routes) else {
-                assert!(rt; false);
-                return Ok(());
-            };
-            messages
-        }
-    };
-    assert_eq!(rt; messages.count(), 2);
-    assert_eq!(rt; length_at(&messages, 0), 1474);
-    assert_eq!(rt; length_at(&messages, 1), 178);
     Ok(())
 }

@@ -87,13 +87,18 @@ const ROWS: [Row<'static>; 11] = [
     ),
 ];
 
-/// Whether a router asks 10.0.0.2 by this message; `None` where something went wrong.
+/// Whether this router asks 10.0.0.2 by this message; `None` where something went wrong.
+fn asks_by(alloc: Global, router: &Router<'_, V4>, message: &[u8]) -> Option<bool> {
+    let writer = Writer::new(TWO, ONE, 210, 1480).ok()?;
+    let messages = router.canonical(alloc, &writer).ok()?;
+    Some(are(&messages, message))
+}
+
+/// Whether a router to which this happened asks 10.0.0.2 by this message; `None` where something went wrong.
 fn asks(alloc: Global, row: &Row<'_>) -> Option<bool> {
     let routes = table(alloc, &ONE_EACH)?;
     let router = after(alloc, &THREE, &routes, row.0)?;
-    let writer = Writer::new(TWO, ONE, 210, 1480).ok()?;
-    let messages = router.canonical(alloc, &writer).ok()?;
-    Some(are(&messages, row.1))
+    asks_by(alloc, &router, row.1)
 }
 
 #[test]
@@ -114,22 +119,26 @@ fn all_end_in(router: &Router<'_, V4>, millis: u64) -> bool {
     true
 }
 
+/// Whether a router holds two records.
+fn has_two(router: &Router<'_, V4>) -> bool {
+    router.ports().records().count() == 2
+}
+
+/// The star without 192.0.2.1 is heard, and again at 5 s.
+const HEARD_AGAIN: [Event<'static>; 4] = [
+    WITHOUT_FIRST,
+    Event::Passes(0),
+    Event::Passes(5_000),
+    WITHOUT_FIRST,
+];
+
 /// Whether a message that is heard again at 5 s makes its two records last as long as at first, and changes no byte of
 /// what is asked; `None` where something went wrong.
 fn lasts_anew(alloc: Global) -> Option<[bool; 3]> {
     let routes = table(alloc, &ONE_EACH)?;
-    let events = [
-        WITHOUT_FIRST,
-        Event::Passes(0),
-        Event::Passes(5_000),
-        WITHOUT_FIRST,
-    ];
-    let router = after(alloc, &THREE, &routes, &events)?;
-    let writer = Writer::new(TWO, ONE, 210, 1480).ok()?;
-    let messages = router.canonical(alloc, &writer).ok()?;
-    let two = router.ports().records().count() == 2;
-    let anew = all_end_in(&router, 210_000);
-    Some([two, anew, are(&messages, &EXCEPT_FIRST)])
+    let router = after(alloc, &THREE, &routes, &HEARD_AGAIN)?;
+    let asks = asks_by(alloc, &router, &EXCEPT_FIRST)?;
+    Some([has_two(&router), all_end_in(&router, 210_000), asks])
 }
 
 #[test]

@@ -5,9 +5,9 @@ use super::world::{
     WITHOUT_FIRST, after, table,
 };
 use super::{FIRST, GROUP, JOIN_FIRST, JOIN_SECOND, JOIN_STAR, RP};
-use pim_addr::V4;
+use pim_addr::{Routes, V4};
 use pim_form::{FormFault, Writer};
-use pim_router::same_wants;
+use pim_router::{Router, same_wants};
 use std::alloc::Global;
 use std::test::Fail;
 
@@ -55,21 +55,18 @@ const PAIRS: [Pair<'static>; 16] = [
     ),
 ];
 
-/// Whether the two of a pair want the same of 10.0.0.2, each under a table of its own with the same rows; `None` where
-/// something went wrong.
-fn are_same(alloc: Global, pair: &Pair<'_>) -> Option<bool> {
-    let routes = table(alloc, &ONE_EACH)?;
-    let others = table(alloc, &ONE_EACH)?;
-    let a = after(alloc, &THREE, &routes, pair.0)?;
-    let b = after(alloc, &THREE, &others, pair.1)?;
-    let writer = Writer::new(TWO, ONE, 210, 1480).ok()?;
-    same_wants(alloc, &a, &b, &writer).ok()
-}
-
 #[test]
 fn compares_what_is_wanted(rt: HostRuntime) -> Result<(), Fail> {
-    for pair in PAIRS {
-        assert_eq!(rt; are_same(rt.alloc(), &pair), Some(pair.2));
+    for (one, other, same) in PAIRS {
+        let one = Side {
+            rows: &ONE_EACH,
+            events: one,
+        };
+        let other = Side {
+            rows: &ONE_EACH,
+            events: other,
+        };
+        assert_eq!(rt; told(rt.alloc(), one, other, TWO, 1480), Some(Ok(same)));
     }
     Ok(())
 }
@@ -102,7 +99,32 @@ struct Side<'a> {
     events: &'a [Event<'a>],
 }
 
-/// What is told of two routers with this writer; `None` where something went wrong.
+/// What is told of two routers; `None` where something went wrong.
+fn told_of(
+    alloc: Global,
+    one: &Router<'_, V4>,
+    other: &Router<'_, V4>,
+    upstream: [u8; 4],
+    budget: usize,
+) -> Option<Result<bool, FormFault<V4>>> {
+    let writer = Writer::new(upstream, ONE, 210, budget).ok()?;
+    Some(same_wants(alloc, one, other, &writer))
+}
+
+/// What is told of two routers under these tables.
+fn told_under(
+    alloc: Global,
+    (routes, events): (&Routes<V4>, &[Event<'_>]),
+    (others, other_events): (&Routes<V4>, &[Event<'_>]),
+    upstream: [u8; 4],
+    budget: usize,
+) -> Option<Result<bool, FormFault<V4>>> {
+    let one = after(alloc, &THREE, routes, events)?;
+    let other = after(alloc, &THREE, others, other_events)?;
+    told_of(alloc, &one, &other, upstream, budget)
+}
+
+/// What is told of two routers with tables of their own, by this writer; `None` where something went wrong.
 fn told(
     alloc: Global,
     one: Side<'_>,
@@ -112,10 +134,13 @@ fn told(
 ) -> Option<Result<bool, FormFault<V4>>> {
     let routes = table(alloc, one.rows)?;
     let others = table(alloc, other.rows)?;
-    let a = after(alloc, &THREE, &routes, one.events)?;
-    let b = after(alloc, &THREE, &others, other.events)?;
-    let writer = Writer::new(upstream, ONE, 210, budget).ok()?;
-    Some(same_wants(alloc, &a, &b, &writer))
+    told_under(
+        alloc,
+        (&routes, one.events),
+        (&others, other.events),
+        upstream,
+        budget,
+    )
 }
 
 /// Both sources on their own trees, or one.

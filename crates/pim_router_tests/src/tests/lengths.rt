@@ -15,6 +15,9 @@ use std::test::Fail;
 /// How many messages there are, and how long the first two are; 0 where one isn't there.
 type Lengths = (usize, [usize; 2]);
 
+/// How long messages are, or why there are none.
+type Told<F> = Option<Result<Lengths, FormFault<F>>>;
+
 fn length_at(messages: &Messages, index: usize) -> usize {
     messages.get(index).map_or(0, |message| message.len())
 }
@@ -31,64 +34,83 @@ pub(super) fn lengths<F: Family>(
     Ok((messages.count(), [first, second]))
 }
 
-/// What 200 sources of one group are asked for by; `None` where something went wrong.
-fn of_200_sources(alloc: Global) -> Option<Lengths> {
-    let routes = table(alloc, &ONE_EACH)?;
-    let mut router = started(alloc, &THREE, &routes)?;
+/// How long the messages of this budget are by which a router asks 10.0.0.2; `None` where something went wrong.
+fn of_router(alloc: Global, router: &Router<'_, V4>, budget: usize) -> Told<V4> {
+    let writer = Writer::new(TWO, ONE, 210, budget).ok()?;
+    Some(lengths(alloc, router, &writer))
+}
+
+/// The sources 10.1.0.1 to 10.1.0.200; `None` where something went wrong.
+fn sources(alloc: Global) -> Option<Vec<Entry<[u8; 4]>>> {
     let mut joined = Vec::new(alloc);
     for number in 1..201 {
         joined.push(Entry::Source([10, 1, 0, number])).ok()?;
     }
+    Some(joined)
+}
+
+/// Lets a router hear 200 sources of one group: whether it took them.
+fn hear_200_sources(alloc: Global, router: &mut Router<'_, V4>) -> Option<bool> {
+    let joined = sources(alloc)?;
     let set = Set {
         group: GROUP,
         joined: &joined,
         pruned: &[],
     };
-    if hear::<V4>(alloc, &mut router, 0, neighbour(0), &set) != Some(true) {
-        return None;
-    }
-    let writer = Writer::new(TWO, ONE, 210, 1480).ok()?;
-    lengths(alloc, &router, &writer).ok()
+    hear::<V4>(alloc, router, 0, neighbour(0), &set)
 }
 
-/// What 256 stars are asked for by; `None` where something went wrong.
-fn of_256_stars(alloc: Global) -> Option<Lengths> {
+/// What 200 sources of one group are asked for by; `None` where something went wrong.
+fn of_200_sources(alloc: Global) -> Told<V4> {
     let routes = table(alloc, &ONE_EACH)?;
     let mut router = started(alloc, &THREE, &routes)?;
+    if hear_200_sources(alloc, &mut router) != Some(true) {
+        return None;
+    }
+    of_router(alloc, &router, 1480)
+}
+
+/// Lets a router hear 256 stars: whether it took them.
+fn hear_256_stars(alloc: Global, router: &mut Router<'_, V4>) -> bool {
     for number in 0..=255 {
         let set = Set {
             group: [239, 1, 0, number],
             joined: &[JOIN_STAR],
             pruned: &[],
         };
-        if hear::<V4>(alloc, &mut router, 0, neighbour(0), &set) != Some(true) {
-            return None;
+        if hear::<V4>(alloc, router, 0, neighbour(0), &set) != Some(true) {
+            return false;
         }
     }
-    let writer = Writer::new(TWO, ONE, 210, 6000).ok()?;
-    lengths(alloc, &router, &writer).ok()
+    true
+}
+
+/// What 256 stars are asked for by; `None` where something went wrong.
+fn of_256_stars(alloc: Global) -> Told<V4> {
+    let routes = table(alloc, &ONE_EACH)?;
+    let mut router = started(alloc, &THREE, &routes)?;
+    if !hear_256_stars(alloc, &mut router) {
+        return None;
+    }
+    of_router(alloc, &router, 6000)
 }
 
 #[test]
 fn fills_messages(rt: HostRuntime) -> Result<(), Fail> {
-    assert_eq!(rt; of_200_sources(rt.alloc()), Some((2, [1474, 178])));
-    assert_eq!(rt; of_256_stars(rt.alloc()), Some((2, [5114, 34])));
+    assert_eq!(rt; of_200_sources(rt.alloc()), Some(Ok((2, [1474, 178]))));
+    assert_eq!(rt; of_256_stars(rt.alloc()), Some(Ok((2, [5114, 34]))));
     Ok(())
 }
 
 /// A budget, how many exceptions the star has, and how long its only message is; none where it is too big.
 type Row = (usize, u8, Option<usize>);
 
-/// What the messages of a star without some sources are, or why there are none.
-type Told<F> = Option<Result<Lengths, FormFault<F>>>;
-
 /// The messages of a star without so many sources; `None` where something went wrong.
 fn of_star(alloc: Global, budget: usize, count: u8) -> Told<V4> {
     let routes = table(alloc, &ONE_EACH)?;
     let events = [Event::Star(GROUP, count), Event::Passes(0)];
     let router = after(alloc, &THREE, &routes, &events)?;
-    let writer = Writer::new(TWO, ONE, 210, budget).ok()?;
-    Some(lengths(alloc, &router, &writer))
+    of_router(alloc, &router, budget)
 }
 
 #[test]
@@ -173,12 +195,17 @@ fn started6<'a>(
     Some(router)
 }
 
+/// How long the messages of this budget are by which a router of IPv6 asks; `None` where something went wrong.
+fn of_router6(alloc: Global, router: &Router<'_, V6>, budget: usize) -> Told<V6> {
+    let writer = Writer::new(source6(2), source6(1), 210, budget).ok()?;
+    Some(lengths(alloc, router, &writer))
+}
+
 /// The messages of a star of IPv6 without so many sources; `None` where something went wrong.
 fn of_star6(alloc: Global, budget: usize, count: u8) -> Told<V6> {
     let routes = table6(alloc)?;
     let router = started6(alloc, &routes, &PORT6, count)?;
-    let writer = Writer::new(source6(2), source6(1), 210, budget).ok()?;
-    Some(lengths(alloc, &router, &writer))
+    of_router6(alloc, &router, budget)
 }
 
 #[test]

@@ -168,6 +168,22 @@ pub(super) fn started<'a>(
     Some(router)
 }
 
+/// Lets the first port hear a group's star without so many sources: whether it went well.
+fn hear_star(
+    alloc: Global,
+    router: &mut Router<'_, V4>,
+    group: [u8; 4],
+    count: u8,
+) -> Option<bool> {
+    let pruned = prunes(alloc, count)?;
+    let set = Set {
+        group,
+        joined: &[JOIN_STAR],
+        pruned: &pruned,
+    };
+    hear::<V4>(alloc, router, 0, neighbour(0), &set)
+}
+
 /// Lets something happen to a router: whether it went well; `None` where a growth is refused.
 fn goes(alloc: Global, router: &mut Router<'_, V4>, event: Event<'_>) -> Option<bool> {
     match event {
@@ -179,19 +195,21 @@ fn goes(alloc: Global, router: &mut Router<'_, V4>, event: Event<'_>) -> Option<
             };
             hear::<V4>(alloc, router, port, neighbour(port), &set)
         }
-        Event::Star(group, count) => {
-            let pruned = prunes(alloc, count)?;
-            let set = Set {
-                group,
-                joined: &[JOIN_STAR],
-                pruned: &pruned,
-            };
-            hear::<V4>(alloc, router, 0, neighbour(0), &set)
-        }
+        Event::Star(group, count) => hear_star(alloc, router, group, count),
         Event::Passes(moment) => {
             Some(moment <= 1_000_000 && router.run_to(moment) == Step::Reached)
         }
     }
+}
+
+/// Lets all this happen to a router: whether it went well.
+fn go(alloc: Global, router: &mut Router<'_, V4>, events: &[Event<'_>]) -> bool {
+    for event in events {
+        if goes(alloc, router, *event) != Some(true) {
+            return false;
+        }
+    }
+    true
 }
 
 /// A router to which all this has happened; `None` where something went wrong.
@@ -202,12 +220,11 @@ pub(super) fn after<'a>(
     events: &[Event<'_>],
 ) -> Option<Router<'a, V4>> {
     let mut router = started(alloc, ports, routes)?;
-    for event in events {
-        if goes(alloc, &mut router, *event) != Some(true) {
-            return None;
-        }
+    if go(alloc, &mut router, events) {
+        Some(router)
+    } else {
+        None
     }
-    Some(router)
 }
 
 /// Whether these messages are one of these bytes, or none where there are no bytes.

@@ -1,5 +1,5 @@
 use Rattle.std.proofs.Common.{◌≡◌, length}
-use Rattle.packets_to_messages.proofs.main.Given as goal
+use Rattle.packets_to_messages.proofs.hear.Given as goal
 
 -- the only port stays
 abbrev pub invariant-loop-moment : goal.invariant-loop-moment
