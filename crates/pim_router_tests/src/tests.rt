@@ -13,7 +13,8 @@ mod time;
 mod upstreams;
 mod world;
 
-use pim_addr::{Routes, V4};
+use crowds::{crowd_comes, receive_sources};
+use pim_addr::{Family, Routes, V4};
 use pim_down::{State, What};
 use pim_frame::{MessageType, all_routers, seal};
 use pim_jp::Entry;
@@ -37,18 +38,19 @@ const BERT: [u8; 4] = [10, 0, 0, 8];
 /// The address of the first port, to which messages are addressed unless a row says otherwise.
 const OWN: [u8; 4] = [10, 0, 0, 1];
 
-const PORTS: [PortConfig<[u8; 4]>; 2] = [
-    PortConfig {
-        address: OWN,
-        propagation: 500,
-        override_ms: 2500,
-    },
-    PortConfig {
-        address: [10, 0, 1, 1],
-        propagation: 500,
-        override_ms: 2500,
-    },
-];
+const FIRST_PORT: PortConfig<[u8; 4]> = PortConfig {
+    address: OWN,
+    propagation: 500,
+    override_ms: 2500,
+};
+
+const SECOND_PORT: PortConfig<[u8; 4]> = PortConfig {
+    address: [10, 0, 1, 1],
+    propagation: 500,
+    override_ms: 2500,
+};
+
+const PORTS: [PortConfig<[u8; 4]>; 2] = [FIRST_PORT, SECOND_PORT];
 
 const JOIN_STAR: Entry<[u8; 4]> = Entry::Star(RP);
 
@@ -78,40 +80,30 @@ struct Message<'a> {
 enum Row<'a> {
     /// A Hello with this body comes to the first port.
     Hello([u8; 4], &'a [u8], Verdict),
-    /// A Join/Prune comes to the first port.
-    Hears(Message<'a>, Verdict),
+    /// A Join/Prune comes to the first port and is for it, with the holdtime 210.
+    Hears([u8; 4], &'a [Lists<'a>], Verdict),
+    /// Anne's Join/Prune comes to the first port and is for it, with this holdtime.
+    Lasting(u16, &'a [Lists<'a>], Verdict),
+    /// Anne's Join/Prune comes to the first port and is for this neighbour, with the holdtime 210.
+    Elsewhere([u8; 4], &'a [Lists<'a>], Verdict),
+    /// Anne's Join/Prune comes to the first port: joins of the sources from 10.1.0.x to 10.1.0.y.
+    Sources(u8, u8, Verdict),
     /// These bytes come to this port.
     Bytes(usize, [u8; 4], &'a [u8], Verdict),
+    /// The first port hears Hellos of 10.1.0.0 to 10.1.3.255, each of which is told as new.
+    Crowd,
     /// A run to a moment tells this.
     Run(u64, Step<[u8; 4]>),
+    /// Runs to a moment tell a Refresh so many times, and then something else.
+    Refreshes(u64, u64),
     /// The present moment.
     Now(u64),
     /// The state of one of the group's machines on the first port.
     State(What<[u8; 4]>, Option<State>),
     /// The time that is left to one of the group's machines on the first port, in milliseconds.
     Left(What<[u8; 4]>, u64),
-}
-
-/// A message to the first port's address with the holdtime 210.
-fn from<'a>(from: [u8; 4], sets: &'a [Lists<'a>]) -> Message<'a> {
-    let (upstream, holdtime) = (OWN, 210);
-    Message {
-        from,
-        upstream,
-        holdtime,
-        sets,
-    }
-}
-
-/// A message with this holdtime.
-fn lasting<'a>(holdtime: u16, sets: &'a [Lists<'a>]) -> Message<'a> {
-    let (from, upstream) = (ANNE, OWN);
-    Message {
-        from,
-        upstream,
-        holdtime,
-        sets,
-    }
+    /// How many neighbours a port has.
+    Neighbours(usize, usize),
 }
 
 fn small(number: usize) -> u8 {
@@ -147,16 +139,16 @@ fn body(alloc: Global, message: &Message<'_>) -> Result<Vec<u8>, AllocError> {
 }
 
 /// Lets a port receive some bytes; `None` where the port isn't there or there are too many bytes.
-fn receive(
-    router: &mut Router<'_, V4>,
+fn receive<F: Family>(
+    router: &mut Router<'_, F>,
     port: usize,
-    from: [u8; 4],
+    from: F::Addr,
     bytes: &[u8],
 ) -> Result<Option<Verdict>, AllocError> {
     if port >= router.port_count() || bytes.len() >= 65_536 {
         return Ok(None);
     }
-    let verdict = router.take_packet(port, from, all_routers::<V4>(), bytes)?;
+    let verdict = router.take_packet(port, from, all_routers::<F>(), bytes)?;
     Ok(Some(verdict))
 }
 
@@ -174,7 +166,73 @@ fn receive_body(
         return Ok(None);
     }
     seal::<V4>(from, all_routers::<V4>(), message_type, &mut bytes);
-    receive(router, 0, from, &bytes)
+    receive::<V4>(router, 0, from, &bytes)
+}
+
+/// Lets the first port receive a Join/Prune.
+fn receive_message(
+    alloc: Global,
+    router: &mut Router<'_, V4>,
+    message: &Message<'_>,
+) -> Result<Option<Verdict>, AllocError> {
+    let bytes = body(alloc, message)?;
+    receive_body(alloc, router, message.from, MessageType::JoinPrune, &bytes)
+}
+
+/// Lets the first port receive Anne's Join/Prune of these sets.
+fn receive_of_anne(
+    alloc: Global,
+    router: &mut Router<'_, V4>,
+    upstream: [u8; 4],
+    holdtime: u16,
+    sets: &[Lists<'_>],
+) -> Result<Option<Verdict>, AllocError> {
+    let message = Message {
+        from: ANNE,
+        upstream,
+        holdtime,
+        sets,
+    };
+    receive_message(alloc, router, &message)
+}
+
+/// Lets the first port receive a Join/Prune that is for it, with the holdtime 210.
+fn receive_sets(
+    alloc: Global,
+    router: &mut Router<'_, V4>,
+    from: [u8; 4],
+    sets: &[Lists<'_>],
+) -> Result<Option<Verdict>, AllocError> {
+    let message = Message {
+        from,
+        upstream: OWN,
+        holdtime: 210,
+        sets,
+    };
+    receive_message(alloc, router, &message)
+}
+
+/// Runs to a moment, if it isn't too far.
+fn run(router: &mut Router<'_, V4>, moment: u64) -> Option<Step<[u8; 4]>> {
+    if moment > 1_000_000_000_000_000 {
+        return None;
+    }
+    Some(router.run_to(moment))
+}
+
+/// How many times runs to a moment tell a Refresh before something else, up to 100,000.
+fn refreshes(router: &mut Router<'_, V4>, moment: u64) -> u64 {
+    for refreshes in 0..100_000u64 {
+        if run(router, moment) != Some(Step::Refresh) {
+            return refreshes;
+        }
+    }
+    100_000
+}
+
+/// The state of one of the group's machines on the first port.
+fn state_of(router: &Router<'_, V4>, what: What<[u8; 4]>) -> Option<State> {
+    router.ports().state_of(0, GROUP, what)
 }
 
 /// Whether one of the group's machines on the first port has this time left.
@@ -192,28 +250,72 @@ fn neighbour_count(router: &Router<'_, V4>, port: usize) -> usize {
     router.neighbours(port).count()
 }
 
+/// Whether a verdict is the one that is wanted.
+fn is(told: Result<Option<Verdict>, AllocError>, wanted: Verdict) -> Result<bool, AllocError> {
+    Ok(told? == Some(wanted))
+}
+
 /// Plays a row: whether it goes as it says.
-fn goes(alloc: Global, router: &mut Router<'_, V4>, row: Row<'_>) -> Result<bool, AllocError> {
-    match row {
+fn goes(alloc: Global, router: &mut Router<'_, V4>, row: &Row<'_>) -> Result<bool, AllocError> {
+    match *row {
         Row::Hello(from, body, wanted) => {
-            let told = receive_body(alloc, router, from, MessageType::Hello, body)?;
-            Ok(told == Some(wanted))
+            is(
+                receive_body(alloc, router, from, MessageType::Hello, body),
+                wanted,
+            )
         }
-        Row::Hears(message, wanted) => {
-            let bytes = body(alloc, &message)?;
-            let told = receive_body(alloc, router, message.from, MessageType::JoinPrune, &bytes)?;
-            Ok(told == Some(wanted))
+        Row::Hears(from, sets, wanted) => is(receive_sets(alloc, router, from, sets), wanted),
+        Row::Lasting(holdtime, sets, wanted) => {
+            is(receive_of_anne(alloc, router, OWN, holdtime, sets), wanted)
+        }
+        Row::Elsewhere(upstream, sets, wanted) => {
+            is(receive_of_anne(alloc, router, upstream, 210, sets), wanted)
+        }
+        Row::Sources(first, last, wanted) => {
+            is(receive_sources(alloc, router, first, last), wanted)
         }
         Row::Bytes(port, from, bytes, wanted) => {
-            Ok(receive(router, port, from, bytes)? == Some(wanted))
+            is(receive::<V4>(router, port, from, bytes), wanted)
         }
-        Row::Run(moment, wanted) => {
-            Ok(moment <= 1_000_000_000_000_000 && router.run_to(moment) == wanted)
-        }
+        Row::Crowd => crowd_comes(alloc, router),
+        Row::Run(moment, wanted) => Ok(run(router, moment) == Some(wanted)),
+        Row::Refreshes(moment, count) => Ok(refreshes(router, moment) == count),
         Row::Now(moment) => Ok(router.now() == moment),
-        Row::State(what, state) => Ok(router.ports().state_of(0, GROUP, what) == state),
+        Row::State(what, state) => Ok(state_of(router, what) == state),
         Row::Left(what, left) => Ok(has_left(router, what, left)),
+        Row::Neighbours(port, count) => Ok(neighbour_count(router, port) == count),
     }
+}
+
+/// Plays rows up to the first that doesn't go as it says, and tells its index.
+fn first_wrong(
+    alloc: Global,
+    router: &mut Router<'_, V4>,
+    rows: &[Row<'_>],
+) -> Result<Option<usize>, AllocError> {
+    for (index, row) in rows.iter().enumerate() {
+        if !goes(alloc, router, row)? {
+            return Ok(Some(index));
+        }
+    }
+    Ok(None)
+}
+
+/// Plays rows on a new router with this table and this limit of records.
+fn play_under(
+    alloc: Global,
+    routes: &Routes<V4>,
+    limit: usize,
+    rows: &[Row<'_>],
+) -> Result<Option<usize>, Fail> {
+    let config = Config {
+        ports: &PORTS,
+        routes,
+        limit,
+    };
+    let mut router = Router::new(alloc, &config)?;
+    let wrong = first_wrong(alloc, &mut router, rows)?;
+    Ok(wrong)
 }
 
 /// Plays rows on a new router with this limit of records, up to the first that doesn't go as it says, and tells its
@@ -221,16 +323,5 @@ fn goes(alloc: Global, router: &mut Router<'_, V4>, row: Row<'_>) -> Result<bool
 fn play(alloc: Global, limit: usize, rows: &[Row<'_>]) -> Result<Option<usize>, Fail> {
     let mut routes = Routes::new(alloc);
     routes.add_rp([224, 0, 0, 0], 4, RP)?;
-    let config = Config {
-        ports: &PORTS,
-        routes: &routes,
-        limit,
-    };
-    let mut router = Router::new(alloc, &config)?;
-    for (index, row) in rows.iter().enumerate() {
-        if !goes(alloc, &mut router, *row)? {
-            return Ok(Some(index));
-        }
-    }
-    Ok(None)
+    play_under(alloc, &routes, limit, rows)
 }

@@ -1,11 +1,11 @@
 //! Many neighbours and many records: up to the limits, and past them.
 
-use super::{ANNE, FOR_EVER, Lists, PORTS, Row, from, goes, neighbour_count, play, receive_body};
+use super::{ANNE, FOR_EVER, OWN, Row, play, play_under, receive_body, receive_of_anne};
 use pim_addr::{Routes, V4};
 use pim_frame::MessageType;
 use pim_hello::Heard;
 use pim_jp::Entry;
-use pim_router::{Config, Router, Store, Verdict};
+use pim_router::{Router, Store, Verdict};
 use std::alloc::{AllocError, Global};
 use std::test::Fail;
 
@@ -23,7 +23,7 @@ const FIRST_OF_ALL: [u8; 4] = [10, 1, 0, 0];
 const ONE_MORE: [u8; 4] = [10, 1, 4, 0];
 
 /// Lets the first port hear a Hello of 10.1.0.0 to 10.1.3.255: whether each is told as new.
-fn crowd_comes(alloc: Global, router: &mut Router<'_, V4>) -> Result<bool, AllocError> {
+pub(super) fn crowd_comes(alloc: Global, router: &mut Router<'_, V4>) -> Result<bool, AllocError> {
     for number in 0..1024u16 {
         let [third, fourth] = number.to_be_bytes();
         let sender = [10, 1, third, fourth];
@@ -35,29 +35,22 @@ fn crowd_comes(alloc: Global, router: &mut Router<'_, V4>) -> Result<bool, Alloc
     Ok(true)
 }
 
+const NEIGHBOURS: [Row<'static>; 9] = [
+    Row::Crowd,
+    Row::Neighbours(0, 1024),
+    Row::Hello(ONE_MORE, &FOR_EVER, Verdict::Full(Store::Neighbours)),
+    Row::Hello(ONE_MORE, &GOODBYE, GONE),
+    Row::Hello(FIRST_OF_ALL, &FOR_EVER, SAME),
+    Row::Hello(FIRST_OF_ALL, &GOODBYE, GONE),
+    Row::Hello(ONE_MORE, &FOR_EVER, NEW),
+    Row::Neighbours(0, 1024),
+    Row::Neighbours(1, 0),
+];
+
 #[test]
 fn full_of_neighbours(rt: HostRuntime) -> Result<(), Fail> {
     let routes = Routes::new(rt.alloc());
-    let config = Config {
-        ports: &PORTS,
-        routes: &routes,
-        limit: 1,
-    };
-    let mut router = Router::new(rt.alloc(), &config)?;
-    assert!(rt; crowd_comes(rt.alloc(), &mut router)?);
-    assert_eq!(rt; neighbour_count(&router, 0), 1024);
-    let rows = [
-        Row::Hello(ONE_MORE, &FOR_EVER, Verdict::Full(Store::Neighbours)),
-        Row::Hello(ONE_MORE, &GOODBYE, GONE),
-        Row::Hello(FIRST_OF_ALL, &FOR_EVER, SAME),
-        Row::Hello(FIRST_OF_ALL, &GOODBYE, GONE),
-        Row::Hello(ONE_MORE, &FOR_EVER, NEW),
-    ];
-    for row in rows {
-        assert!(rt; goes(rt.alloc(), &mut router, row)?);
-    }
-    assert_eq!(rt; neighbour_count(&router, 0), 1024);
-    assert_eq!(rt; neighbour_count(&router, 1), 0);
+    assert_eq!(rt; play_under(rt.alloc(), &routes, 1, &NEIGHBOURS)?, None);
     Ok(())
 }
 
@@ -70,20 +63,27 @@ fn joins(alloc: Global, first: u8, last: u8) -> Result<Vec<Entry<[u8; 4]>>, Allo
     Ok(entries)
 }
 
+/// Lets the first port receive Anne's joins of the sources from 10.1.0.`first` to 10.1.0.`last`.
+pub(super) fn receive_sources(
+    alloc: Global,
+    router: &mut Router<'_, V4>,
+    first: u8,
+    last: u8,
+) -> Result<Option<Verdict>, AllocError> {
+    let joined = joins(alloc, first, last)?;
+    receive_of_anne(alloc, router, OWN, 210, &[(&joined, &[])])
+}
+
+const RECORDS: [Row<'static>; 5] = [
+    Row::Hello(ANNE, &FOR_EVER, NEW),
+    Row::Sources(1, 181, Verdict::Full(Store::Records { needed: 181 })),
+    Row::Sources(182, 200, Verdict::Applied),
+    Row::Sources(1, 181, Verdict::Full(Store::Records { needed: 200 })),
+    Row::Sources(182, 200, Verdict::Applied),
+];
+
 #[test]
 fn each_message_has_room_or_none(rt: HostRuntime) -> Result<(), Fail> {
-    let many = joins(rt.alloc(), 1, 181)?;
-    let few = joins(rt.alloc(), 182, 200)?;
-    let many: [Lists<'_>; 1] = [(&many, &[])];
-    let few: [Lists<'_>; 1] = [(&few, &[])];
-    let full = |needed| Verdict::Full(Store::Records { needed });
-    let rows = [
-        Row::Hello(ANNE, &FOR_EVER, NEW),
-        Row::Hears(from(ANNE, &many), full(181)),
-        Row::Hears(from(ANNE, &few), Verdict::Applied),
-        Row::Hears(from(ANNE, &many), full(200)),
-        Row::Hears(from(ANNE, &few), Verdict::Applied),
-    ];
-    assert_eq!(rt; play(rt.alloc(), 100, &rows)?, None);
+    assert_eq!(rt; play(rt.alloc(), 100, &RECORDS)?, None);
     Ok(())
 }

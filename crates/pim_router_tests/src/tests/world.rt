@@ -1,11 +1,11 @@
 //! Routers to which something happens: their ports, their tables and the packets that they take.
 
-use super::{GROUP, JOIN_STAR, RP, RPT_FIRST, SECOND, small};
+use super::{GROUP, JOIN_STAR, RP, RPT_FIRST, SECOND, receive, run, small};
 use pim_addr::{Family, Routes, V4};
-use pim_form::Messages;
+use pim_form::{FormFault, Messages, Writer};
 use pim_frame::{MessageType, all_routers, seal};
 use pim_jp::{Entry, head_length, put_head, put_set, set_length};
-use pim_router::{Config, PortConfig, Router, Step, Verdict};
+use pim_router::{Config, PortConfig, Router, Step, Verdict, same_wants};
 use std::alloc::Global;
 
 /// The upstream neighbour that is asked.
@@ -91,13 +91,11 @@ pub(super) fn take<F: Family>(
     message_type: MessageType,
     bytes: &mut [u8],
 ) -> Option<Verdict> {
-    if bytes.len() < 4 || bytes.len() >= 65_536 || port >= router.port_count() {
+    if bytes.len() < 4 || bytes.len() >= 65_536 {
         return None;
     }
     seal::<F>(from, all_routers::<F>(), message_type, bytes);
-    router
-        .take_packet(port, from, all_routers::<F>(), bytes)
-        .ok()
+    receive::<F>(router, port, from, bytes).ok()?
 }
 
 /// A message of one set with the holdtime 210, but for its header.
@@ -168,9 +166,25 @@ pub(super) fn started<'a>(
     Some(router)
 }
 
+/// Lets the first port hear the star of a group without the first so many sources of 10.1.0.0: whether it went well.
+pub(super) fn hear_star(
+    alloc: Global,
+    router: &mut Router<'_, V4>,
+    group: [u8; 4],
+    count: u8,
+) -> Option<bool> {
+    let pruned = prunes(alloc, count)?;
+    let set = Set {
+        group,
+        joined: &[JOIN_STAR],
+        pruned: &pruned,
+    };
+    hear::<V4>(alloc, router, 0, neighbour(0), &set)
+}
+
 /// Lets something happen to a router: whether it went well; `None` where a growth is refused.
-fn goes(alloc: Global, router: &mut Router<'_, V4>, event: Event<'_>) -> Option<bool> {
-    match event {
+fn goes(alloc: Global, router: &mut Router<'_, V4>, event: &Event<'_>) -> Option<bool> {
+    match *event {
         Event::Hears(port, joined, pruned) => {
             let set = Set {
                 group: GROUP,
@@ -179,19 +193,19 @@ fn goes(alloc: Global, router: &mut Router<'_, V4>, event: Event<'_>) -> Option<
             };
             hear::<V4>(alloc, router, port, neighbour(port), &set)
         }
-        Event::Star(group, count) => {
-            let pruned = prunes(alloc, count)?;
-            let set = Set {
-                group,
-                joined: &[JOIN_STAR],
-                pruned: &pruned,
-            };
-            hear::<V4>(alloc, router, 0, neighbour(0), &set)
-        }
-        Event::Passes(moment) => {
-            Some(moment <= 1_000_000 && router.run_to(moment) == Step::Reached)
+        Event::Star(group, count) => hear_star(alloc, router, group, count),
+        Event::Passes(moment) => Some(run(router, moment)? == Step::Reached),
+    }
+}
+
+/// Whether all this goes well with a router.
+fn all_go(alloc: Global, router: &mut Router<'_, V4>, events: &[Event<'_>]) -> bool {
+    for event in events {
+        if goes(alloc, router, event) != Some(true) {
+            return false;
         }
     }
+    true
 }
 
 /// A router to which all this has happened; `None` where something went wrong.
@@ -202,16 +216,40 @@ pub(super) fn after<'a>(
     events: &[Event<'_>],
 ) -> Option<Router<'a, V4>> {
     let mut router = started(alloc, ports, routes)?;
-    for event in events {
-        if goes(alloc, &mut router, *event) != Some(true) {
-            return None;
-        }
+    if !all_go(alloc, &mut router, events) {
+        return None;
     }
     Some(router)
 }
 
+/// How a router asks 10.0.0.2 by messages of this budget.
+pub(super) fn writer(budget: usize) -> Option<Writer<V4>> {
+    Writer::new(TWO, ONE, 210, budget).ok()
+}
+
+/// Whether a router asks by this one message, or by none where it has no bytes.
+pub(super) fn asks(
+    alloc: Global,
+    router: &Router<'_, V4>,
+    writer: &Writer<V4>,
+    bytes: &[u8],
+) -> Result<bool, FormFault<V4>> {
+    let messages = router.canonical(alloc, writer)?;
+    Ok(are(&messages, bytes))
+}
+
+/// What is told of the wants of two routers.
+pub(super) fn compared(
+    alloc: Global,
+    a: &Router<'_, V4>,
+    b: &Router<'_, V4>,
+    writer: &Writer<V4>,
+) -> Result<bool, FormFault<V4>> {
+    same_wants(alloc, a, b, writer)
+}
+
 /// Whether these messages are one of these bytes, or none where there are no bytes.
-pub(super) fn are(messages: &Messages, bytes: &[u8]) -> bool {
+fn are(messages: &Messages, bytes: &[u8]) -> bool {
     match messages.get(0) {
         Some(message) => messages.count() == 1 && message == bytes,
         None => bytes.is_empty() && messages.count() == 0,
