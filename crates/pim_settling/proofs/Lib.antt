@@ -1,0 +1,4 @@
+pub mod Fires
+pub mod Turns
+pub mod Events
+pub mod Courses
