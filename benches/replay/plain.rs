@@ -2,8 +2,9 @@
 //!
 //!     plain replay [--rp ADDRESS] [--limit N] [--after MS] ADDRESS@FILE
 //!
-//! It has the steps of the Rattle program: records one by one, each packet judged and heard, each message walked once to
-//! count what it needs and once to hear it. Its machines stand in maps of the standard library, and their timers in a heap.
+//! It has the steps of the Rattle program: records one by one, each packet judged and heard, each message walked once
+//! to count what it needs and once to be heard. Its machines stand in maps of the standard library, and the ends of
+//! their timers in a heap.
 mod address;
 mod fault;
 mod frame;
