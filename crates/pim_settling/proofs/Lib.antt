@@ -2,3 +2,4 @@ pub mod Fires
 pub mod Turns
 pub mod Events
 pub mod Courses
+pub mod Messages
