@@ -3,3 +3,4 @@ pub mod Turns
 pub mod Events
 pub mod Courses
 pub mod Messages
+pub mod Tellings

@@ -46,7 +46,7 @@ module _ (keys : KeysAreToldApart) (port : ℕ) (key : Key (List ℕ)) where
   is_starred events = list_any stars events
 
   -- each event that names the machine joins it, or each prunes it; behind a Join(*,G) that comes to it, one names it
-  pub Tells : Bool → List Event → Type 0
+  unfoldable pub Tells : Bool → List Event → Type 0
   Tells joins [] = Unit {0}
   Tells joins (event ∷ events) = (names event ≡ true → event.joins ≡ joins) × (stars event ≡ true → is_named port key events ≡ true) × Tells joins events
 
