@@ -35,7 +35,7 @@ module _ (laws : Machines) (exchange : Exchange) where
       let was = past_is_on key.what delivery.moment (courses key) (machine_at key before.records) (there.1 key) in
       let heard = heard_on laws.keys exchange.port delivery.moment (starts exchange) (exchange.messages delivery.message) key (courses key) (machine_at key before.records) was in
       let here = subst (λ (m : Option Machine). IsOn key.what delivery.moment (course_heard exchange.port (delivery.moment + (starts exchange).pending.ends_in) (exchange.messages delivery.message) key (courses key)) m)
-          (sym (laws.hears exchange.port (starts exchange) (exchange.messages delivery.message) before.records ends.kept.ascending key)) heard in
+      (sym (laws.hears exchange.port (starts exchange) (exchange.messages delivery.message) before.records ends.kept.ascending key)) heard in
       subst (λ (now : ℕ). IsOn key.what now (course_heard exchange.port (delivery.moment + (starts exchange).pending.ends_in) (exchange.messages delivery.message) key (courses key)) (machine_at key (after_message exchange delivery.message before).records)) (sym there.0) here
 
   module _ (start : Downstream) (courses : Key (List ℕ) → Course) (ascending : IsAscending start.records)

@@ -33,8 +33,7 @@ module _ (now : ℕ) (start : Start) where
   -- a prune-pending timer that starts now
   starts_waiting : (state : State) (expires_in : Option ℕ) (held : Option Machine) → held ≡ machine_in state expires_in (Some start.pending) → (now ≤ ends) × IsPending state (ends - now) held
   starts_waiting state expires_in held e =
-      let left : start.pending.ends_in ≡ ends - now = omega arith in
-      (
+      let left : start.pending.ends_in ≡ ends - now = omega arith in (
         omega arith,
         record {
           expires_in = expires_in;

@@ -4,3 +4,4 @@ pub mod Events
 pub mod Courses
 pub mod Messages
 pub mod Tellings
+pub mod Settling

@@ -27,7 +27,7 @@ pub and_true : (a b : Bool) → (a && b) ≡ true → (a ≡ true) × (b ≡ tru
 and_true true b e = (refl, e)
 and_true false b e = absurd (false≢true e)
 
-or_right : (a b : Bool) → b ≡ true → (a || b) ≡ true
+pub or_right : (a b : Bool) → b ≡ true → (a || b) ≡ true
 or_right true b e = refl
 or_right false b e = e
 
@@ -117,8 +117,8 @@ module _ (keys : KeysAreToldApart) (port : ℕ) (old new : List GroupForm) (grou
         | false ↦ λ n. unnamed what events t only.2
       ] refl
 
-  -- no Join(*,G) comes where no new star is told
-  pub no_star : (what : What (List ℕ)) (events : List Event) → (told Star ≡ Some true → ⊥) → TellsOnly port old new events → is_starred keys port (at what) events ≡ false
+  -- no Join(*,G) comes to (*,G) and (S,G), nor where no new star is told
+  pub no_star : (what : What (List ℕ)) (events : List Event) → (told Star ≡ Some true → is_rpt what ≡ true → ⊥) → TellsOnly port old new events → is_starred keys port (at what) events ≡ false
   unfolding TellsOnly
   no_star what [] t only = refl
   no_star what (event ∷ events) t only =
@@ -127,9 +127,9 @@ module _ (keys : KeysAreToldApart) (port : ℕ) (old new : List GroupForm) (grou
             let parts = star_group what event s in
             let joined = and_true event.joins (is_star event.what) parts.0 in
             let here : told Star ≡ Some true =
-                ap (λ g. told_of (group_in g old) (group_in g new) Star) parts.1
-                ∙ ap (told_of (group_in event.group old) (group_in event.group new)) (sym (star_what event.what joined.1)) ∙ only.0 ∙ ap Some joined.0 in
-            absurd (t here)
+            ap (λ g. told_of (group_in g old) (group_in g new) Star) parts.1
+            ∙ ap (told_of (group_in event.group old) (group_in event.group new)) (sym (star_what event.what joined.1)) ∙ only.0 ∙ ap Some joined.0 in
+            absurd (t here parts.2)
         | false ↦ λ s. no_star what events t only.2
       ] refl
 
@@ -258,7 +258,7 @@ module _ (keys : KeysAreToldApart) (exchange : Exchange) (old new : List GroupFo
     never_named : (delivery : Delivery) → names_here delivery ≡ false
     never_named delivery = unnamed keys exchange.port old new group what (exchange.messages delivery.message) none (only delivery.message)
 
-    pub left_alone : (deliveries : List Delivery) → (told keys exchange.port old new group Star ≡ Some true → ⊥) → course_of exchange here course deliveries ≡ course
+    pub left_alone : (deliveries : List Delivery) → (told keys exchange.port old new group Star ≡ Some true → is_rpt what ≡ true → ⊥) → course_of exchange here course deliveries ≡ course
     unfolding course_of
     left_alone [] t = refl
     left_alone (delivery ∷ earlier) t =

@@ -226,8 +226,7 @@ module _ (keys : KeysAreToldApart) (courses : Key (List ℕ) → Course) (moment
   -- at the moment each machine is past what was due
   pub past : (after : Downstream) → IsEnd Reached after → (after.moment ≡ moment) × ((key : Key (List ℕ)) → IsPast key.what moment (courses key) (machine_at key after.records))
   past after ends =
-      let reached = ends.reached refl in
-      (
+      let reached = ends.reached refl in (
         reached.0,
         λ key.
             past_on key.what moment (courses key) (machine_at key after.records)

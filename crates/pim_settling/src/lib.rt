@@ -3,9 +3,9 @@
 //!
 //! Proved, over the definitions of `pim_down`: as long as no expiry timer ends, each machine goes the course that the entries
 //! which name it give: held, not held, or in Prune-Pending up to a moment and then where that leads. Echoes may be told
-//! meanwhile.
+//! meanwhile. So a port that is settled at one form and hears the change to another one is settled at the other.
 #![tactic(auto)]
 
 mod laws;
 
-pub use laws::courses_are_kept;
+pub use laws::{change_settles, courses_are_kept};
