@@ -13,31 +13,39 @@ use Rattle.pim_change.proofs.Addresses.{same_itself, equal_is, less_apart, great
 
 -- ---- the addresses of two lists in order
 
-all_into : (P : List ℕ → Type 0) (a : List ℕ) (others : List (List ℕ) → List (List ℕ)) → P a → ((ys : List (List ℕ)) → AllByRecursion P ys → AllByRecursion P (others ys))
+all_into : (P : List ℕ → Type 0) (a : List ℕ) (others : List (List ℕ) → List (List ℕ)) → P a
+    → ((ys : List (List ℕ)) → AllByRecursion P ys → AllByRecursion P (others ys))
     → (ys : List (List ℕ)) → AllByRecursion P ys → AllByRecursion P (merged_into itself first_of a others ys)
 unfolding merged_into
 all_into P a others here step [] all = (here, step [] tt)
 all_into P a others here step (b ∷ ys) all =
-    elim (slice_cmp nat_cmp a b) as (λ r. AllByRecursion P (by_order r (a ∷ others (b ∷ ys)) (a ∷ others ys) (b ∷ merged_into itself first_of a others ys))) [
+    elim (slice_cmp nat_cmp a b) as
+    (λ r. AllByRecursion P (by_order r (a ∷ others (b ∷ ys)) (a ∷ others ys)
+    (b ∷ merged_into itself first_of a others ys))) [
       | Less ↦ (here, step (b ∷ ys) all)
       | Equal ↦ (here, step ys all.1)
       | Greater ↦ (all.0, all_into P a others here step ys all.1)
     ]
 
-all_united : (P : List ℕ → Type 0) (xs ys : List (List ℕ)) → AllByRecursion P xs → AllByRecursion P ys → AllByRecursion P (united xs ys)
+all_united : (P : List ℕ → Type 0) (xs ys : List (List ℕ)) → AllByRecursion P xs → AllByRecursion P ys
+    → AllByRecursion P (united xs ys)
 unfolding merged_by
 all_united P [] ys all_x all_y = all_y
-all_united P (x ∷ xs) ys all_x all_y = all_into P x (merged_by itself first_of xs) all_x.0 (λ zs all. all_united P xs zs all_x.1 all) ys all_y
+all_united P (x ∷ xs) ys all_x all_y =
+    all_into P x (merged_by itself first_of xs) all_x.0 (λ zs all. all_united P xs zs all_x.1 all) ys all_y
 
-united_less : (x y : List ℕ) (xs ys : List (List ℕ)) → slice_cmp nat_cmp x y ≡ Less → united (x ∷ xs) (y ∷ ys) ≡ x ∷ united xs (y ∷ ys)
+united_less : (x y : List ℕ) (xs ys : List (List ℕ)) → slice_cmp nat_cmp x y ≡ Less
+    → united (x ∷ xs) (y ∷ ys) ≡ x ∷ united xs (y ∷ ys)
 unfolding merged_by merged_into
 united_less x y xs ys less = rw less refl
 
-united_equal : (x y : List ℕ) (xs ys : List (List ℕ)) → slice_cmp nat_cmp x y ≡ Equal → united (x ∷ xs) (y ∷ ys) ≡ x ∷ united xs ys
+united_equal : (x y : List ℕ) (xs ys : List (List ℕ)) → slice_cmp nat_cmp x y ≡ Equal
+    → united (x ∷ xs) (y ∷ ys) ≡ x ∷ united xs ys
 unfolding merged_by merged_into
 united_equal x y xs ys equal = rw equal refl
 
-united_greater : (x y : List ℕ) (xs ys : List (List ℕ)) → slice_cmp nat_cmp x y ≡ Greater → united (x ∷ xs) (y ∷ ys) ≡ y ∷ united (x ∷ xs) ys
+united_greater : (x y : List ℕ) (xs ys : List (List ℕ)) → slice_cmp nat_cmp x y ≡ Greater
+    → united (x ∷ xs) (y ∷ ys) ≡ y ∷ united (x ∷ xs) ys
 unfolding merged_by merged_into
 united_greater x y xs ys greater = rw greater refl
 
@@ -55,93 +63,126 @@ in_first : (this : GroupForm) (form : List GroupForm) → group_in this.group (t
 unfolding group_in
 in_first this form = rw (same_itself this.group) refl
 
-in_same : (this : GroupForm) (form : List GroupForm) (group : List ℕ) → group ≡ this.group → group_in group (this ∷ form) ≡ this
+in_same : (this : GroupForm) (form : List GroupForm) (group : List ℕ) → group ≡ this.group
+    → group_in group (this ∷ form) ≡ this
 in_same this form group is = subst (λ g. group_in g (this ∷ form) ≡ this) (sym is) (in_first this form)
 
-in_behind : (this : GroupForm) (form : List GroupForm) (group : List ℕ) → slice_cmp nat_cmp this.group group ≡ Less → group_in group (this ∷ form) ≡ group_in group form
+in_behind : (this : GroupForm) (form : List GroupForm) (group : List ℕ) → slice_cmp nat_cmp this.group group ≡ Less
+    → group_in group (this ∷ form) ≡ group_in group form
 unfolding group_in
 in_behind this form group less = rw (less_apart_back this.group group less) refl
 
-in_none : (form : List GroupForm) (group : List ℕ) → AllByRecursion (λ g. slice_cmp nat_cmp group g ≡ Less) (groups_of form) → group_in group form ≡ unwanted group
+in_none : (form : List GroupForm) (group : List ℕ)
+    → AllByRecursion (λ g. slice_cmp nat_cmp group g ≡ Less) (groups_of form) → group_in group form ≡ unwanted group
 unfolding group_in
 in_none [] group below = refl
 in_none (this ∷ form) group below = rw (less_apart group this.group below.0) (in_none form group below.1)
 
 -- ---- the first group of the two, and the others
 
-alike : (f g : List ℕ → List ChangeUnit) (groups : List (List ℕ)) → AllByRecursion (λ a. f a ≡ g a) groups → flat_map f groups ≡ flat_map g groups
+alike : (f g : List ℕ → List ChangeUnit) (groups : List (List ℕ)) → AllByRecursion (λ a. f a ≡ g a) groups
+    → flat_map f groups ≡ flat_map g groups
 alike f g [] all = refl
 alike f g (a ∷ groups) all = λ i. all.0 i ++ alike f g groups all.1 i
 
-each : (P Q : List ℕ → Type 0) → ((a : List ℕ) → P a → Q a) → (groups : List (List ℕ)) → AllByRecursion P groups → AllByRecursion Q groups
+each : (P Q : List ℕ → Type 0) → ((a : List ℕ) → P a → Q a) → (groups : List (List ℕ)) → AllByRecursion P groups
+    → AllByRecursion Q groups
 each P Q step [] all = tt
 each P Q step (a ∷ groups) all = (step a all.0, each P Q step groups all.1)
 
 -- groups above the first of the told ones
-past_old : (old : GroupForm) (olds news : List GroupForm) (groups : List (List ℕ)) → AllByRecursion (λ g. slice_cmp nat_cmp old.group g ≡ Less) groups
+past_old : (old : GroupForm) (olds news : List GroupForm) (groups : List (List ℕ))
+    → AllByRecursion (λ g. slice_cmp nat_cmp old.group g ≡ Less) groups
     → flat_map (change_at (old ∷ olds) news) groups ≡ flat_map (change_at olds news) groups
 past_old old olds news groups above =
     alike (change_at (old ∷ olds) news) (change_at olds news) groups
     (each (λ g. slice_cmp nat_cmp old.group g ≡ Less) (λ g. change_at (old ∷ olds) news g ≡ change_at olds news g)
-    (λ g less. ap (λ (this : GroupForm). about g (group_change this (group_in g news))) (in_behind old olds g less)) groups above)
+    (λ g less. ap (λ (this : GroupForm). about g (group_change this (group_in g news))) (in_behind old olds g less))
+    groups above)
 
-past_new : (new : GroupForm) (olds news : List GroupForm) (groups : List (List ℕ)) → AllByRecursion (λ g. slice_cmp nat_cmp new.group g ≡ Less) groups
+past_new : (new : GroupForm) (olds news : List GroupForm) (groups : List (List ℕ))
+    → AllByRecursion (λ g. slice_cmp nat_cmp new.group g ≡ Less) groups
     → flat_map (change_at olds (new ∷ news)) groups ≡ flat_map (change_at olds news) groups
 past_new new olds news groups above =
     alike (change_at olds (new ∷ news)) (change_at olds news) groups
     (each (λ g. slice_cmp nat_cmp new.group g ≡ Less) (λ g. change_at olds (new ∷ news) g ≡ change_at olds news g)
-    (λ g less. ap (λ (this : GroupForm). about g (group_change (group_in g olds) this)) (in_behind new news g less)) groups above)
+    (λ g less. ap (λ (this : GroupForm). about g (group_change (group_in g olds) this)) (in_behind new news g less))
+    groups above)
 
-old_first : (old : GroupForm) (olds news : List GroupForm) → AreAscending (groups_of (old ∷ olds)) → AllByRecursion (λ g. slice_cmp nat_cmp old.group g ≡ Less) (groups_of news)
-    → flat_map (change_at (old ∷ olds) news) (old.group ∷ united (groups_of olds) (groups_of news)) ≡ about old.group (group_change old (unwanted old.group)) ++ change olds news
+old_first : (old : GroupForm) (olds news : List GroupForm) → AreAscending (groups_of (old ∷ olds))
+    → AllByRecursion (λ g. slice_cmp nat_cmp old.group g ≡ Less) (groups_of news)
+    → flat_map (change_at (old ∷ olds) news) (old.group ∷ united (groups_of olds) (groups_of news)) ≡ about old.group
+    (group_change old (unwanted old.group)) ++ change olds news
 unfolding change IsStrictlySortedBy
 old_first old olds news up above =
     let here : change_at (old ∷ olds) news old.group ≡ about old.group (group_change old (unwanted old.group)) =
     λ i. about old.group (group_change (in_first old olds i) (in_none news old.group above i)) in
-    let behind = past_old old olds news (united (groups_of olds) (groups_of news)) (all_united (λ g. slice_cmp nat_cmp old.group g ≡ Less) (groups_of olds) (groups_of news) up.0 above) in
+    let behind = past_old old olds news (united (groups_of olds) (groups_of news))
+    (all_united (λ g. slice_cmp nat_cmp old.group g ≡ Less) (groups_of olds) (groups_of news) up.0 above) in
     λ i. here i ++ behind i
 
-new_first : (new : GroupForm) (olds news : List GroupForm) → AreAscending (groups_of (new ∷ news)) → AllByRecursion (λ g. slice_cmp nat_cmp new.group g ≡ Less) (groups_of olds)
-    → flat_map (change_at olds (new ∷ news)) (new.group ∷ united (groups_of olds) (groups_of news)) ≡ about new.group (group_change (unwanted new.group) new) ++ change olds news
+new_first : (new : GroupForm) (olds news : List GroupForm) → AreAscending (groups_of (new ∷ news))
+    → AllByRecursion (λ g. slice_cmp nat_cmp new.group g ≡ Less) (groups_of olds)
+    → flat_map (change_at olds (new ∷ news)) (new.group ∷ united (groups_of olds) (groups_of news)) ≡ about new.group
+    (group_change (unwanted new.group) new) ++ change olds news
 unfolding change IsStrictlySortedBy
 new_first new olds news up above =
     let here : change_at olds (new ∷ news) new.group ≡ about new.group (group_change (unwanted new.group) new) =
     λ i. about new.group (group_change (in_none olds new.group above i) (in_first new news i)) in
-    let behind = past_new new olds news (united (groups_of olds) (groups_of news)) (all_united (λ g. slice_cmp nat_cmp new.group g ≡ Less) (groups_of olds) (groups_of news) above up.0) in
+    let behind = past_new new olds news (united (groups_of olds) (groups_of news))
+    (all_united (λ g. slice_cmp nat_cmp new.group g ≡ Less) (groups_of olds) (groups_of news) above up.0) in
     λ i. here i ++ behind i
 
-module _ (old new : GroupForm) (olds news : List GroupForm) (up_old : AreAscending (groups_of (old ∷ olds))) (up_new : AreAscending (groups_of (new ∷ news))) where
-  pub change_less : slice_cmp nat_cmp old.group new.group ≡ Less → change (old ∷ olds) (new ∷ news) ≡ about old.group (group_change old (unwanted old.group)) ++ change olds (new ∷ news)
+module _ (old new : GroupForm) (olds news : List GroupForm) (up_old : AreAscending (groups_of (old ∷ olds)))
+    (up_new : AreAscending (groups_of (new ∷ news))) where
+  pub change_less : slice_cmp nat_cmp old.group new.group ≡ Less
+      → change (old ∷ olds) (new ∷ news) ≡ about old.group (group_change old (unwanted old.group))
+      ++ change olds (new ∷ news)
   unfolding change IsStrictlySortedBy
   change_less less =
-      ap (flat_map (change_at (old ∷ olds) (new ∷ news))) (united_less old.group new.group (groups_of olds) (groups_of news) less)
+      ap (flat_map (change_at (old ∷ olds) (new ∷ news)))
+      (united_less old.group new.group (groups_of olds) (groups_of news) less)
       ∙ old_first old olds (new ∷ news) up_old (less, all_behind old.group new.group (groups_of news) less up_new.0)
 
-  pub change_greater : slice_cmp nat_cmp old.group new.group ≡ Greater → change (old ∷ olds) (new ∷ news) ≡ about new.group (group_change (unwanted new.group) new) ++ change (old ∷ olds) news
+  pub change_greater : slice_cmp nat_cmp old.group new.group ≡ Greater
+      → change (old ∷ olds) (new ∷ news) ≡ about new.group (group_change (unwanted new.group) new)
+      ++ change (old ∷ olds) news
   unfolding change IsStrictlySortedBy
   change_greater greater =
       let less = greater_less old.group new.group greater in
-      ap (flat_map (change_at (old ∷ olds) (new ∷ news))) (united_greater old.group new.group (groups_of olds) (groups_of news) greater)
+      ap (flat_map (change_at (old ∷ olds) (new ∷ news)))
+      (united_greater old.group new.group (groups_of olds) (groups_of news) greater)
       ∙ new_first new (old ∷ olds) news up_new (less, all_behind new.group old.group (groups_of olds) less up_old.0)
 
-  pub change_equal : slice_cmp nat_cmp old.group new.group ≡ Equal → change (old ∷ olds) (new ∷ news) ≡ about new.group (group_change old new) ++ change olds news
+  pub change_equal : slice_cmp nat_cmp old.group new.group ≡ Equal
+      → change (old ∷ olds) (new ∷ news) ≡ about new.group (group_change old new) ++ change olds news
   unfolding change IsStrictlySortedBy
   change_equal equal =
       let same : old.group ≡ new.group = equal_is old.group new.group equal in
       let here : change_at (old ∷ olds) (new ∷ news) old.group ≡ about new.group (group_change old new) =
       λ i. about (same i) (group_change (in_first old olds i) (in_same new news old.group same i)) in
-      let above : AllByRecursion (λ g. slice_cmp nat_cmp old.group g ≡ Less) (united (groups_of olds) (groups_of news)) =
-      all_united (λ g. slice_cmp nat_cmp old.group g ≡ Less) (groups_of olds) (groups_of news) up_old.0 (subst (λ a. AllByRecursion (λ g. slice_cmp nat_cmp a g ≡ Less) (groups_of news)) (sym same) up_new.0) in
-      let above' : AllByRecursion (λ g. slice_cmp nat_cmp new.group g ≡ Less) (united (groups_of olds) (groups_of news)) = subst (λ a. AllByRecursion (λ g. slice_cmp nat_cmp a g ≡ Less) (united (groups_of olds) (groups_of news))) same above in
-      let behind = past_old old olds (new ∷ news) (united (groups_of olds) (groups_of news)) above ∙ past_new new olds news (united (groups_of olds) (groups_of news)) above' in
-      ap (flat_map (change_at (old ∷ olds) (new ∷ news))) (united_equal old.group new.group (groups_of olds) (groups_of news) equal)
+      let above : AllByRecursion (λ g. slice_cmp nat_cmp old.group g ≡ Less)
+      (united (groups_of olds) (groups_of news)) =
+      all_united (λ g. slice_cmp nat_cmp old.group g ≡ Less) (groups_of olds) (groups_of news) up_old.0
+      (subst (λ a. AllByRecursion (λ g. slice_cmp nat_cmp a g ≡ Less) (groups_of news)) (sym same) up_new.0) in
+      let above' : AllByRecursion (λ g. slice_cmp nat_cmp new.group g ≡ Less)
+      (united (groups_of olds) (groups_of news)) =
+      subst (λ a. AllByRecursion (λ g. slice_cmp nat_cmp a g ≡ Less) (united (groups_of olds) (groups_of news)))
+      same above in
+      let behind = past_old old olds (new ∷ news) (united (groups_of olds) (groups_of news)) above
+      ∙ past_new new olds news (united (groups_of olds) (groups_of news)) above' in
+      ap (flat_map (change_at (old ∷ olds) (new ∷ news)))
+      (united_equal old.group new.group (groups_of olds) (groups_of news) equal)
       ∙ (λ i. here i ++ behind i)
 
-pub change_gone : (old : GroupForm) (olds : List GroupForm) → AreAscending (groups_of (old ∷ olds)) → change (old ∷ olds) [] ≡ about old.group (group_change old (unwanted old.group)) ++ change olds []
+pub change_gone : (old : GroupForm) (olds : List GroupForm) → AreAscending (groups_of (old ∷ olds))
+    → change (old ∷ olds) [] ≡ about old.group (group_change old (unwanted old.group)) ++ change olds []
 unfolding change
-change_gone old olds up = ap (flat_map (change_at (old ∷ olds) [])) (united_first old.group (groups_of olds)) ∙ old_first old olds [] up tt
+change_gone old olds up = ap (flat_map (change_at (old ∷ olds) [])) (united_first old.group (groups_of olds))
+    ∙ old_first old olds [] up tt
 
-pub change_came : (new : GroupForm) (news : List GroupForm) → AreAscending (groups_of (new ∷ news)) → change [] (new ∷ news) ≡ about new.group (group_change (unwanted new.group) new) ++ change [] news
+pub change_came : (new : GroupForm) (news : List GroupForm) → AreAscending (groups_of (new ∷ news))
+    → change [] (new ∷ news) ≡ about new.group (group_change (unwanted new.group) new) ++ change [] news
 unfolding change merged_by
 change_came new news up = new_first new [] news up tt
 

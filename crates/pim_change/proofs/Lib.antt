@@ -4,3 +4,8 @@ pub mod Changing
 pub mod Units
 pub mod StarsFit
 pub mod Unchanged
+pub mod Grouping
+pub mod RunSizes
+pub mod SetSteps
+pub mod RunCounts
+pub mod Packed

@@ -16,7 +16,8 @@ or_right : (p q : Bool) → q ≡ true → (p || q) ≡ true
 or_right true q h = refl
 or_right false q h = h
 
-more_listed : (y : List ℕ) (xs ys : List (List ℕ)) → AllByRecursion (λ x. is_listed x ys ≡ true) xs → AllByRecursion (λ x. is_listed x (y ∷ ys) ≡ true) xs
+more_listed : (y : List ℕ) (xs ys : List (List ℕ)) → AllByRecursion (λ x. is_listed x ys ≡ true) xs
+    → AllByRecursion (λ x. is_listed x (y ∷ ys) ≡ true) xs
 more_listed y [] ys all = tt
 more_listed y (x ∷ xs) ys all = (or_right (same_address x y) (is_listed x ys) all.0, more_listed y xs ys all.1)
 
@@ -29,15 +30,19 @@ nothing_lacks xs = none_of xs xs (all_listed xs)
 
 same_star : (star : Option (List (List ℕ))) → star_change star star ≡ []
 same_star None = refl
-same_star (Some exceptions) = λ i. map (told JoinRpt) (nothing_lacks exceptions i) ++ map (told PruneRpt) (nothing_lacks exceptions i)
+same_star (Some exceptions) =
+    λ i. map (told JoinRpt) (nothing_lacks exceptions i) ++ map (told PruneRpt) (nothing_lacks exceptions i)
 
 same_group : (this : GroupForm) → group_change this this ≡ []
-same_group this = λ i. same_star this.star i ++ (map (told JoinSource) (nothing_lacks this.sources i) ++ map (told PruneSource) (nothing_lacks this.sources i))
+same_group this = λ i. same_star this.star i
+    ++ (map (told JoinSource) (nothing_lacks this.sources i) ++ map (told PruneSource) (nothing_lacks this.sources i))
 
-no_units : (f : List ℕ → List ChangeUnit) → ((g : List ℕ) → f g ≡ []) → (groups : List (List ℕ)) → flat_map f groups ≡ []
+no_units : (f : List ℕ → List ChangeUnit) → ((g : List ℕ) → f g ≡ []) → (groups : List (List ℕ))
+    → flat_map f groups ≡ []
 no_units f none [] = refl
 no_units f none (g ∷ groups) = λ i. none g i ++ no_units f none groups i
 
 pub unchanged : (form : List GroupForm) → change form form ≡ []
 unfolding change
-unchanged form = no_units (change_at form form) (λ g. ap (about g) (same_group (group_in g form))) (united (groups_of form) (groups_of form))
+unchanged form = no_units (change_at form form) (λ g. ap (about g) (same_group (group_in g form)))
+    (united (groups_of form) (groups_of form))

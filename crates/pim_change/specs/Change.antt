@@ -1,5 +1,5 @@
--- What moves a neighbour from one demand to the next: the change from the form that it was last told to the form that is
--- wanted now.
+-- What moves a neighbour from one demand to the next: the change from the form that it was last told to the form that
+-- is wanted now.
 use Rattle.std.specs.Prelude.{ℕ, not, List, [], ◌∷◌, ◌++◌, Option, None, Some, map}
 use Rattle.std.specs.List.{filter, flat_map}
 use Rattle.pim_form.specs.NormalForm.{GroupForm, is_listed, groups_of}

@@ -2,3 +2,5 @@ pub mod Change
 pub mod Seen
 pub mod TooBig
 pub mod Laws
+pub mod Told
+pub mod Runs

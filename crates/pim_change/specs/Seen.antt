@@ -16,3 +16,7 @@ module _ {A : Type 0} (bytes_of : A → List ℕ) where
 
   abbrev pub units_seen : List (Unit A) → List ChangeUnit
   units_seen units = map unit_seen units
+
+  -- what units of one group tell
+  abbrev pub tellings_seen : List (Unit A) → List Telling
+  tellings_seen units = map (λ this. telling_seen this.telling) units

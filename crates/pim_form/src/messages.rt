@@ -1,6 +1,6 @@
 //! Messages in one block of bytes.
 
-ghost use Rattle.std.specs.Prelude.{IsTrue, ◌↔◌, ◌≡◌, ◌<◌, true, [], length, slice_get, OnOk};
+ghost use Rattle.std.specs.Prelude.{IsTrue, ◌↔◌, ◌≡◌, ◌<◌, true, [], ◌∷◌, ◌++◌, length, slice_get, OnOk, OnErr};
 ghost use Rattle.pim_down.specs.Known.{known_in};
 ghost use Rattle.pim_form.specs.Added.{IsAdded};
 ghost use Rattle.pim_form.specs.Blocks.{told_bytes};
@@ -46,7 +46,7 @@ impl Model for Messages {
 
 impl Messages {
     /// No messages.
-    pub(crate) fn none(alloc: Global) -> Self
+    pub fn none(alloc: Global) -> Self
         ensures { result ≡ [] }
     {
         Messages {
@@ -81,6 +81,19 @@ impl Messages {
         append_message::<F>(writer, routes, row, pieces, &mut self.bytes)?;
         let end = self.bytes.len();
         self.spans.push(Span { start, end })?;
+        Ok(())
+    }
+
+    /// Adds a message of these bytes behind the others. The only refusal is want of memory; then nothing changes.
+    pub fn push(&mut self, message: &[u8]) -> Result<(), AllocError>
+        ensures ok { OnOk result (self.new ≡ self.old ++ message.now ∷ []) }
+        ensures err { OnErr result (self.new ≡ self.old) }
+    {
+        self.spans.reserve(1)?;
+        let start = self.bytes.len();
+        self.bytes.extend_from_slice(message)?;
+        let end = self.bytes.len();
+        self.spans.push_reserved(Span { start, end });
         Ok(())
     }
 

@@ -165,3 +165,31 @@ fn new_stars_alone_are_too_big(rt: HostRuntime) -> Result<(), Fail> {
     assert_eq!(rt; big(alloc, starred, Wanted::First, 41)?, None);
     Ok(())
 }
+
+// With each allocation refused in turn (`rt try --test --fail-alloc 1..`): the forms are as before, and the same call,
+// with memory, gives the change.
+#[test]
+fn refusals_leave_the_forms(rt: HostRuntime) {
+    let Ok(old) = form(rt.alloc(), Wanted::StarExceptFirst) else {
+        return;
+    };
+    let Ok(new) = form(rt.alloc(), Wanted::StarExceptSecondAndFirst) else {
+        return;
+    };
+    let units = match changed(rt.alloc(), &old, &new) {
+        Ok(units) => units,
+        Err(_) => {
+            assert_eq!(rt; old.groups().count_left(), 1);
+            assert_eq!(rt; new.groups().count_left(), 1);
+            let Ok(units) = changed(rt.alloc(), &old, &new) else {
+                assert!(rt; false);
+                return;
+            };
+            units
+        }
+    };
+    assert_eq!(rt; units.len(), 3);
+    assert_eq!(rt; unit_at(&units, 0), Told::Of(Kind::JoinRpt, FIRST));
+    assert_eq!(rt; unit_at(&units, 1), Told::Of(Kind::PruneRpt, SECOND));
+    assert_eq!(rt; unit_at(&units, 2), Told::Of(Kind::JoinSource, FIRST));
+}

@@ -17,6 +17,20 @@ fn holds_nothing(rt: HostRuntime) -> Result<(), Fail> {
     Ok(())
 }
 
+#[test]
+fn keeps_what_is_pushed(rt: HostRuntime) -> Result<(), Fail> {
+    let mut messages = Messages::none(rt.alloc());
+    messages.push(&[0x23, 0, 0xc4, 0xd4])?;
+    messages.push(&[])?;
+    messages.push(&[0x20])?;
+    assert_eq!(rt; messages.count(), 3);
+    assert_eq!(rt; messages.get(0), Some([0x23, 0, 0xc4, 0xd4].as_slice()));
+    assert_eq!(rt; messages.get(1), Some([0u8; 0].as_slice()));
+    assert_eq!(rt; messages.get(2), Some([0x20].as_slice()));
+    assert_eq!(rt; messages.get(3), None);
+    Ok(())
+}
+
 /// Whether the form wants the first source on its own tree, and all sources but the second on the shared one.
 fn wants_as_heard(form: &NormalForm<V4>) -> bool {
     form.wants(FIRST, GROUP, Tree::Source)

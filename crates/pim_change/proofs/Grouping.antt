@@ -1,0 +1,118 @@
+-- Units of one group that stand together are one set.
+use Rattle.std.proofs.Common.{◌≡◌, ◌∙◌, ℕ, zero, suc, ◌<◌, ◌≤◌, Bool, true, false, List, [], ◌∷◌, ◌++◌}
+use Rattle.std.proofs.Common.{length, map, take, drop, get_or, refl, sym, ap, subst, arith}
+use Rattle.std.proofs.lemmas.List.{length-map}
+use Rattle.std.specs.List.{AllByRecursion}
+use Rattle.pim_form.specs.NormalForm.{same_address}
+use Rattle.pim_change.specs.declared.unit.Unit.{Unit as UnitOf}
+use Rattle.pim_change.specs.Change.{Telling, ChangeUnit, unit_of}
+use Rattle.pim_change.specs.Seen.{telling_seen, tellings_seen, unit_seen, units_seen}
+use Rattle.pim_change.specs.Told.{GroupTellings, tellings_of, set_in_front, in_front, grouped}
+use Rattle.pim_change.proofs.Addresses.{same_itself}
+
+-- sets whose first is of this group
+pub record StartsWith (group : List ℕ) (parts : List GroupTellings) : Type 0 where
+  pub first : GroupTellings
+  pub others : List GroupTellings
+  pub is : parts ≡ first ∷ others
+  pub of_group : first.group ≡ group
+
+set_starts : (b : Bool) (this : ChangeUnit) (first : GroupTellings) (others : List GroupTellings)
+    → StartsWith this.group (set_in_front b this first others)
+set_starts true this first others =
+    record {
+      first = tellings_of this.group (this.telling ∷ first.tellings);
+      others = others;
+      is = refl;
+      of_group =
+          refl;
+    }
+set_starts false this first others =
+    record { first = tellings_of this.group (this.telling ∷ []); others = first ∷ others; is = refl; of_group = refl }
+
+pub starts : (this : ChangeUnit) (parts : List GroupTellings) → StartsWith this.group (in_front this parts)
+starts this [] =
+    record { first = tellings_of this.group (this.telling ∷ []); others = []; is = refl; of_group = refl }
+starts this (first ∷ others) = set_starts (same_address this.group first.group) this first others
+
+-- in front of sets that begin with another group, a unit has a set of its own
+apart : (this : ChangeUnit) (group : List ℕ) (parts : List GroupTellings) → StartsWith group parts
+    → same_address this.group group ≡ false → in_front this parts ≡ tellings_of this.group (this.telling ∷ []) ∷ parts
+apart this group parts start other =
+    let is_other : same_address this.group start.first.group ≡ false =
+    ap (same_address this.group) start.of_group ∙ other in
+    let own : in_front this (start.first ∷ start.others)
+    ≡ tellings_of this.group (this.telling ∷ []) ∷ start.first ∷ start.others =
+    ap (λ (b : Bool). set_in_front b this start.first start.others) is_other in
+    subst (λ (l : List GroupTellings). in_front this l ≡ tellings_of this.group (this.telling ∷ []) ∷ l)
+    (sym start.is) own
+
+module _ {A : Type 0} (bytes_of : A → List ℕ) (group : List ℕ) where
+  -- all these units are of the group
+  abbrev pub AreOfGroup : List (UnitOf A) → Type 0
+  AreOfGroup units = AllByRecursion (λ (this : UnitOf A). bytes_of this.group ≡ group) units
+
+  -- the first of these isn't
+  abbrev pub Leaves : List (UnitOf A) → Type 0
+  Leaves [] = Unit {0}
+  Leaves (this ∷ units) = same_address group (bytes_of this.group) ≡ false
+
+  pub one_more_of_group : (units : List (UnitOf A)) (n : ℕ) (d : UnitOf A) → n < length units → AreOfGroup (take n units)
+      → bytes_of (get_or units n d).group ≡ group → AreOfGroup (take (suc n) units)
+  one_more_of_group [] n d below all is = absurd (omega arith)
+  one_more_of_group (unit ∷ units) zero d below all is = (is, tt)
+  one_more_of_group (unit ∷ units) (suc n) d below all is = (all.0, one_more_of_group units n d (omega arith) all.1 is)
+
+  pub all_of_group : (units : List (UnitOf A)) (n : ℕ) → length units ≤ n → n ≤ length units → AreOfGroup (take n units)
+      → AreOfGroup (take (length units) units)
+  all_of_group units n past within all =
+      subst (λ (k : ℕ). AreOfGroup (take k units)) (omega (arith, past, within)) all
+
+  pub leaves_at : (units : List (UnitOf A)) (n : ℕ) (d : UnitOf A) → n < length units
+      → same_address group (bytes_of (get_or units n d).group) ≡ false → Leaves (drop n units)
+  leaves_at [] n d below is = absurd (omega arith)
+  leaves_at (unit ∷ units) zero d below is = is
+  leaves_at (unit ∷ units) (suc n) d below is = leaves_at units n d (omega arith) is
+
+  pub leaves_none : (units : List (UnitOf A)) (n : ℕ) → n ≡ length units → Leaves (drop n units)
+  leaves_none [] zero all = tt
+  leaves_none [] (suc n) all = absurd (omega arith)
+  leaves_none (unit ∷ units) zero all = absurd (omega arith)
+  leaves_none (unit ∷ units) (suc n) all = leaves_none units n (omega arith)
+
+  joined_first : (telling next : Telling) (of : List ℕ) (tellings : List Telling) (others : List GroupTellings)
+      (units : List ChangeUnit) → of ≡ group
+      → grouped (unit_of group next ∷ units) ≡ tellings_of group tellings ∷ others
+      → grouped (unit_of group telling ∷ unit_of of next ∷ units) ≡ tellings_of group (telling ∷ tellings) ∷ others
+  unfolding grouped
+  joined_first telling next of tellings others units is set =
+      ap (λ (g : List ℕ). grouped (unit_of group telling ∷ unit_of g next ∷ units)) is
+      ∙ ap (in_front (unit_of group telling)) set
+      ∙ ap (λ (b : Bool). set_in_front b (unit_of group telling) (tellings_of group tellings) others)
+      (same_itself group)
+
+  -- a unit and those behind it of the same group are one set, in front of the sets of the others
+  pub one_set : (telling : Telling) (units : List (UnitOf A)) (n : ℕ) → n ≤ length units → AreOfGroup (take n units)
+      → Leaves (drop n units) → grouped (unit_of group telling ∷ units_seen bytes_of units)
+      ≡ tellings_of group (telling ∷ tellings_seen bytes_of (take n units)) ∷ grouped
+      (units_seen bytes_of (drop n units))
+  unfolding grouped
+  one_set telling [] zero below all leaves = refl
+  one_set telling [] (suc n) below all leaves = absurd (omega arith)
+  one_set telling (unit ∷ units) zero below all leaves =
+      apart (unit_of group telling) (bytes_of unit.group) (grouped (units_seen bytes_of (unit ∷ units)))
+      (starts (unit_seen bytes_of unit) (grouped (units_seen bytes_of units))) leaves
+  one_set telling (unit ∷ units) (suc n) below all leaves =
+      joined_first telling (telling_seen bytes_of unit.telling) (bytes_of unit.group)
+      (tellings_seen bytes_of (unit ∷ take n units)) (grouped (units_seen bytes_of (drop n units)))
+      (units_seen bytes_of units) all.0
+      (one_set (telling_seen bytes_of unit.telling) units n (omega arith) all.1 leaves)
+
+-- a list that is seen as this one is as long
+pub short_enough : {A B : Type 0} (f : A → B) (old new : List A) (all : List B) (most : ℕ)
+    → map f new ≡ map f old ++ all
+    → old ≡ [] → length all < most → length new < most
+short_enough f old new all most is none short =
+    let as_long : length new ≡ length all =
+    sym (length-map new f) ∙ ap length (is ∙ ap (λ (l : List _). map f l ++ all) none) in
+    omega (arith, as_long, short)

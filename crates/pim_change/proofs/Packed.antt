@@ -1,0 +1,96 @@
+-- Messages of a packing, one message on.
+use Rattle.std.proofs.Common.{◌≡◌, ◌∙◌, ℕ, zero, suc, ◌+◌, ◌≤◌, ◌<◌, true, List, [], ◌∷◌, ◌++◌, length, map, take, drop}
+use Rattle.std.proofs.Common.{refl, sym, ap, subst, arith, append_assoc, append-nil, length-drop}
+use Rattle.std.specs.List.{flat_map}
+use Rattle.std.proofs.lemmas.List.{take-append-drop, drop-drop, drop_all, map-append}
+use Rattle.pim_addr.specs.declared.family.AddressFamily.{AddressFamily}
+use Rattle.pim_form.specs.Units.{WantUnit}
+use Rattle.pim_form.specs.Packing.{fits, StopsBefore, IsNonempty, joined, AreRuns}
+use Rattle.pim_form.specs.Messages.{Rps, Writing}
+use Rattle.pim_change.specs.declared.unit.Unit.{Unit}
+use Rattle.pim_change.specs.Change.{ChangeUnit}
+use Rattle.pim_change.specs.Seen.{units_seen}
+use Rattle.pim_change.specs.Told.{weights, TellsRun, TellUnits}
+
+joined_weights : (runs : List (List ChangeUnit)) → joined (map weights runs) ≡ weights (flat_map (λ run. run) runs)
+joined_weights [] = refl
+joined_weights (run ∷ runs) =
+    ap (λ (l : List WantUnit). weights run ++ l) (joined_weights runs)
+    ∙ sym (map-append _ run (flat_map (λ run. run) runs))
+
+module _ (family : AddressFamily) (writing : Writing) (rps : Rps) where
+  none_told : TellUnits family writing rps [] []
+  unfolding AreRuns
+  none_told = record { runs = []; packing = record { whole = refl; cut = tt }; told = tt }
+
+  one_more : (units run left : List ChangeUnit) (bytes : List ℕ) (messages : List (List ℕ)) → run ++ left ≡ units
+      → IsNonempty (weights run) → fits family writing.budget (weights run) ≡ true
+      → StopsBefore family writing.budget (weights run) (weights left) → TellsRun family writing rps run bytes
+      → TellUnits family writing rps left messages → TellUnits family writing rps units (bytes ∷ messages)
+  unfolding AreRuns
+  one_more units run left bytes messages is some fitting stops tells others =
+      let behind : weights left ≡ joined (map weights others.runs) =
+      sym (joined_weights others.runs ∙ ap weights others.packing.whole) in
+      record {
+        runs = run ∷ others.runs;
+        packing = record {
+          whole = ap (λ (l : List ChangeUnit). run ++ l) others.packing.whole ∙ is;
+          cut = (
+            some,
+            fitting,
+            subst (StopsBefore family writing.budget (weights run)) behind stops,
+            others.packing.cut,
+          );
+        };
+        told = (tells, others.told);
+      }
+
+  module _ {A : Type 0} (bytes_of : A → List ℕ) (units : List (Unit A)) where
+    seen_cut : (n : ℕ) (left : List (Unit A)) → units_seen bytes_of (take n left) ++ units_seen bytes_of (drop n left)
+        ≡ units_seen bytes_of left
+    seen_cut n left =
+        sym (map-append _ (take n left) (drop n left)) ∙ ap (units_seen bytes_of) (take-append-drop n left)
+
+    nonempty : (n : ℕ) (left : List (Unit A)) → 0 < n → 0 < length left
+        → IsNonempty (weights (units_seen bytes_of (take n left)))
+    nonempty n [] some below = absurd (omega arith)
+    nonempty zero (unit ∷ left) some below = absurd (omega arith)
+    nonempty (suc n) (unit ∷ left) some below = tt
+
+    abbrev pub Goes : ℕ → List (List ℕ) → Type 0
+    Goes start messages = (left : List (List ℕ)) →
+        TellUnits family writing rps (units_seen bytes_of (drop start units)) left →
+        TellUnits family writing rps (units_seen bytes_of units) (messages ++ left)
+
+    pub goes_from : Goes 0 []
+    goes_from = λ left tells. tells
+
+    pub goes_on : (start n : ℕ) (left run : List (Unit A)) (messages more : List (List ℕ)) (bytes : List ℕ)
+        → left ≡ drop start units → run ≡ take n left → start < length units → 0 < n
+        → fits family writing.budget (weights (units_seen bytes_of (take n left))) ≡ true
+        → StopsBefore family writing.budget (weights (units_seen bytes_of (take n left)))
+        (weights (units_seen bytes_of (drop n left)))
+        → TellsRun family writing rps (units_seen bytes_of run) bytes → more ≡ messages ++ bytes ∷ []
+        → Goes start messages → Goes (start + n) more
+    goes_on start n left run messages more bytes is_left is_run below some fitting stops tells is_more goes = λ others told.
+        let long : 0 < length left = omega (arith, ap length is_left, below, length-drop start units) in
+        let behind : drop (start + n) units ≡ drop n left =
+        sym (ap (drop n) is_left ∙ drop-drop n start units) in
+        let these : TellsRun family writing rps (units_seen bytes_of (take n left)) bytes =
+        subst (λ (l : List (Unit A)). TellsRun family writing rps (units_seen bytes_of l) bytes) is_run tells in
+        let here : TellUnits family writing rps (units_seen bytes_of left) (bytes ∷ others) =
+        one_more (units_seen bytes_of left) (units_seen bytes_of (take n left)) (units_seen bytes_of (drop n left)) bytes
+        others (seen_cut n left) (nonempty n left some long) fitting stops these
+        (subst (λ (l : List (Unit A)). TellUnits family writing rps (units_seen bytes_of l) others) behind told) in
+        let all = goes (bytes ∷ others)
+        (subst (λ (l : List (Unit A)). TellUnits family writing rps (units_seen bytes_of l) (bytes ∷ others))
+        is_left here) in
+        subst (λ (l : List (List ℕ)). TellUnits family writing rps (units_seen bytes_of units) l)
+        (sym (append_assoc messages (bytes ∷ []) others) ∙ ap (λ (l : List (List ℕ)). l ++ others) (sym is_more)) all
+
+    pub goes_to : (start : ℕ) (messages : List (List ℕ)) → length units ≤ start → Goes start messages
+        → TellUnits family writing rps (units_seen bytes_of units) messages
+    goes_to start messages all goes =
+        subst (TellUnits family writing rps (units_seen bytes_of units)) (append-nil messages)
+        (goes [] (subst (λ (l : List (Unit A)). TellUnits family writing rps (units_seen bytes_of l) [])
+        (sym (drop_all start units all)) none_told))

@@ -1,0 +1,85 @@
+-- One more set of a run.
+use Rattle.std.proofs.Common.{◌≡◌, ◌∙◌, ℕ, suc, ◌+◌, ◌≤◌, ◌<◌, List, [], ◌∷◌, ◌++◌, length, map, take, drop}
+use Rattle.std.proofs.Common.{get_or, sym, ap, subst, arith, append_assoc, append-nil}
+use Rattle.std.proofs.Math.Numerals.{add-one}
+use Rattle.std.proofs.lemmas.List.{drop_more, drop_all, drop-drop}
+use Rattle.std.specs.List.{flat_map}
+use Rattle.pim_addr.specs.declared.family.AddressFamily.{AddressFamily}
+use Rattle.pim_jp.specs.Message.{GroupSet}
+use Rattle.pim_jp.specs.Canonical.{canonical_set, canonical_sets_length}
+use Rattle.pim_form.specs.Messages.{Rps}
+use Rattle.pim_change.specs.declared.unit.Unit.{Unit}
+use Rattle.pim_change.specs.Change.{Telling, unit_of}
+use Rattle.pim_change.specs.Seen.{telling_seen, tellings_seen, units_seen}
+use Rattle.pim_change.specs.Told.{tellings_of, told_set, told_sets, set_size, grouped}
+
+module _ {A : Type 0} (bytes_of : A → List ℕ) (rps : Rps) (units : List (Unit A)) (start n : ℕ) (d : Unit A)
+    (left behind these : List (Unit A)) (below : start < length units) (is_left : left ≡ drop start units)
+    (is_behind : behind ≡ drop (start + 1) units) (is_these : these ≡ take (n + 1) left)
+    (cut : (telling : Telling)
+    → grouped (unit_of (bytes_of (get_or units start d).group) telling ∷ units_seen bytes_of behind)
+    ≡ tellings_of (bytes_of (get_or units start d).group) (telling ∷ tellings_seen bytes_of (take n behind))
+    ∷ grouped (units_seen bytes_of (drop n behind))) where
+  whole : left ≡ get_or units start d ∷ behind
+  whole = is_left ∙ drop_more units start d below ∙ ap (λ (l : List (Unit A)). get_or units start d ∷ l) (sym is_behind)
+
+  front : these ≡ get_or units start d ∷ take n behind
+  front = is_these ∙ ap (λ (k : ℕ). take k left) (add-one n) ∙ ap (take (suc n)) whole
+
+  others : drop n behind ≡ drop (start + (n + 1)) units
+  others = ap (drop n) is_behind ∙ drop-drop n (start + 1) units ∙ ap (λ (k : ℕ). drop k units) (omega arith)
+
+  this_set : GroupSet
+  this_set = told_set rps (tellings_of (bytes_of (get_or units start d).group) (tellings_seen bytes_of these))
+
+  pub step : told_sets rps (units_seen bytes_of (drop start units))
+      ≡ told_set rps (tellings_of (bytes_of (get_or units start d).group) (tellings_seen bytes_of these))
+      ∷ told_sets rps (units_seen bytes_of (drop (start + (n + 1)) units))
+  step =
+      let first = get_or units start d in
+      ap (λ (l : List (Unit A)). told_sets rps (units_seen bytes_of l)) (sym is_left ∙ whole)
+      ∙ ap (map (told_set rps)) (cut (telling_seen bytes_of first.telling))
+      ∙ ap (λ (l : List (Unit A)). told_set rps (tellings_of (bytes_of first.group) (tellings_seen bytes_of l))
+      ∷ told_sets rps (units_seen bytes_of (drop n behind))) (sym front)
+      ∙ ap (λ (l : List (Unit A)).
+      told_set rps (tellings_of (bytes_of first.group) (tellings_seen bytes_of these))
+      ∷ told_sets rps (units_seen bytes_of l)) others
+
+-- ---- what the sets of a run give, one set on
+
+pub one_longer : (family : AddressFamily) (old new all : ℕ) (sets others : List GroupSet) (this : GroupSet)
+    → sets ≡ this ∷ others → old + canonical_sets_length family sets ≡ all
+    → new ≡ old + set_size family this → new + canonical_sets_length family others ≡ all
+unfolding canonical_sets_length
+one_longer family old new all sets others this is so_far more =
+    let first : old + (set_size family this + canonical_sets_length family others) ≡ all =
+    subst (λ (l : List GroupSet). old + canonical_sets_length family l ≡ all) is so_far in
+    omega (arith, first, more)
+
+pub one_appended : (family : AddressFamily) (old new all : List ℕ) (sets others : List GroupSet) (this : GroupSet)
+    → sets ≡ this ∷ others → old ++ flat_map (canonical_set family) sets ≡ all
+    → new ≡ old ++ canonical_set family this → new ++ flat_map (canonical_set family) others ≡ all
+one_appended family old new all sets others this is so_far more =
+    ap (λ (l : List ℕ). l ++ flat_map (canonical_set family) others) more
+    ∙ append_assoc old (canonical_set family this) (flat_map (canonical_set family) others)
+    ∙ subst (λ (l : List GroupSet). old ++ flat_map (canonical_set family) l ≡ all) is so_far
+
+-- ---- at the end
+
+pub no_sets : {A : Type 0} (bytes_of : A → List ℕ) (rps : Rps) (units : List (Unit A)) (start : ℕ)
+    → length units ≤ start → told_sets rps (units_seen bytes_of (drop start units)) ≡ []
+unfolding grouped
+no_sets bytes_of rps units start all =
+    ap (λ (l : List _). told_sets rps (units_seen bytes_of l)) (drop_all start units all)
+
+pub none_longer : (family : AddressFamily) (old all : ℕ) (sets : List GroupSet) → sets ≡ []
+    → old + canonical_sets_length family sets ≡ all → old ≡ all
+unfolding canonical_sets_length
+none_longer family old all sets none so_far =
+    let at_end : old + 0 ≡ all = subst (λ (l : List GroupSet). old + canonical_sets_length family l ≡ all) none so_far in
+    omega (arith, at_end)
+
+pub none_appended : (family : AddressFamily) (old all : List ℕ) (sets : List GroupSet) → sets ≡ []
+    → old ++ flat_map (canonical_set family) sets ≡ all → old ≡ all
+none_appended family old all sets none so_far =
+    sym (append-nil old) ∙ subst (λ (l : List GroupSet). old ++ flat_map (canonical_set family) l ≡ all) none so_far

@@ -1,0 +1,15 @@
+use Rattle.std.proofs.Common.{◌≡◌, true, take}
+use Rattle.pim_form.specs.Units.{run_groups, run_entries}
+use Rattle.pim_form.specs.Packing.{fits}
+use Rattle.pim_change.specs.Seen.{units_seen}
+use Rattle.pim_change.specs.Told.{weights}
+use Rattle.pim_change.proofs.runs.run_length.Given as goal
+
+-- the units before this one fit, and their groups and entries are counted
+abbrev pub invariant-loop-index : goal.invariant-loop-index
+invariant-loop-index g l =
+    let run = weights (units_seen g.F.Family.bytes_of (take l.index l.units)) in record {
+      fitting : fits g.F.Family.family l.budget run ≡ true;
+      groups : run_groups run ≡ l.groups;
+      entries : run_entries run ≡ l.entries;
+    }

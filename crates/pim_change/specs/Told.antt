@@ -1,0 +1,138 @@
+-- The messages that tell a change: how its units are packed, and how a message of them is spelled.
+use Rattle.std.specs.Prelude.{◌≡◌, ℕ, ◌<◌, ◌^◌, Bool, true, false, List, [], ◌∷◌, Option, None, Some, length, map}
+use Rattle.std.specs.List.{flat_map}
+use Rattle.pim_addr.specs.declared.family.AddressFamily.{AddressFamily}
+use Rattle.pim_frame.specs.Frame.{all_routers}
+use Rattle.pim_frame.specs.Seal.{IsSealed}
+use Rattle.pim_frame.specs.declared.frame.MessageType.TheVariants.{JoinPrune}
+use Rattle.pim_jp.specs.declared.entry.Entry.{Entry}
+use Rattle.pim_jp.specs.declared.entry.Entry.TheVariants.{Star, Source, Rpt}
+use Rattle.pim_jp.specs.Message.{GroupSet, Message}
+use Rattle.pim_jp.specs.Canonical.{canonical, canonical_set_length}
+use Rattle.pim_form.specs.NormalForm.{GroupForm, same_address}
+use Rattle.pim_form.specs.Units.{WantUnit, star_unit, source_unit}
+use Rattle.pim_form.specs.Packing.{AreRuns}
+use Rattle.pim_form.specs.Messages.{Rps, Writing}
+use Rattle.pim_change.specs.declared.unit.Kind.{Kind}
+use Rattle.pim_change.specs.declared.unit.Kind.TheVariants.{JoinRpt, PruneRpt, JoinSource, PruneSource}
+use Rattle.pim_change.specs.Change.{Telling, star_joined, star_pruned, told, ChangeUnit, change}
+
+-- ---- packing, as of the units of a form (RFC 7761, 4.9.5)
+
+-- what a unit weighs in a message: a star with its exceptions as such, any other as one entry of its group
+abbrev pub weight_of : List ℕ → Telling → WantUnit
+weight_of group (star_joined exceptions) = star_unit group exceptions
+weight_of group star_pruned = source_unit group []
+weight_of group (told kind source) = source_unit group source
+
+abbrev pub weight : ChangeUnit → WantUnit
+weight this = weight_of this.group this.telling
+
+abbrev pub weights : List ChangeUnit → List WantUnit
+weights run = map weight run
+
+-- the runs joined together are the units; each is nonempty and fits, and would not with the next unit
+pub record IsPacked (family : AddressFamily) (budget : ℕ) (units : List ChangeUnit) (runs : List (List ChangeUnit)) : Type 0 where
+  pub whole : flat_map (λ run. run) runs ≡ units
+  pub cut : AreRuns family budget (map weights runs)
+
+-- ---- spelling
+
+abbrev pub rp_entry : Option (List ℕ) → List (Entry (List ℕ))
+rp_entry None = []
+rp_entry (Some rp) = Star rp ∷ []
+
+abbrev pub kind_joined : Kind → List ℕ → List (Entry (List ℕ))
+kind_joined JoinRpt source = Rpt source ∷ []
+kind_joined JoinSource source = Source source ∷ []
+kind_joined PruneRpt source = []
+kind_joined PruneSource source = []
+
+abbrev pub kind_pruned : Kind → List ℕ → List (Entry (List ℕ))
+kind_pruned JoinRpt source = []
+kind_pruned JoinSource source = []
+kind_pruned PruneRpt source = Rpt source ∷ []
+kind_pruned PruneSource source = Source source ∷ []
+
+abbrev pub excepted_entries : List (List ℕ) → List (Entry (List ℕ))
+excepted_entries exceptions = map (λ source. Rpt source) exceptions
+
+abbrev pub joined_entries : Option (List ℕ) → Telling → List (Entry (List ℕ))
+joined_entries rp (star_joined exceptions) = rp_entry rp
+joined_entries rp star_pruned = []
+joined_entries rp (told kind source) = kind_joined kind source
+
+abbrev pub pruned_entries : Option (List ℕ) → Telling → List (Entry (List ℕ))
+pruned_entries rp (star_joined exceptions) = excepted_entries exceptions
+pruned_entries rp star_pruned = rp_entry rp
+pruned_entries rp (told kind source) = kind_pruned kind source
+
+-- what is told of a group in one message
+pub record GroupTellings : Type 0 where
+  pub group : List ℕ
+  pub tellings : List Telling
+
+abbrev pub tellings_of : List ℕ → List Telling → GroupTellings
+tellings_of group tellings = record { group = group; tellings = tellings }
+
+-- a unit in front of sets: told in the first of them, or in a set of its own
+abbrev pub set_in_front : Bool → ChangeUnit → GroupTellings → List GroupTellings → List GroupTellings
+set_in_front true this first others = tellings_of this.group (this.telling ∷ first.tellings) ∷ others
+set_in_front false this first others = tellings_of this.group (this.telling ∷ []) ∷ first ∷ others
+
+abbrev pub in_front : ChangeUnit → List GroupTellings → List GroupTellings
+in_front this [] = tellings_of this.group (this.telling ∷ []) ∷ []
+in_front this (first ∷ others) = set_in_front (same_address this.group first.group) this first others
+
+-- units of one group that stand together are told in one set
+unfoldable pub grouped : List ChangeUnit → List GroupTellings
+grouped [] = []
+grouped (this ∷ units) = in_front this (grouped units)
+
+abbrev pub told_set : Rps → GroupTellings → GroupSet
+told_set rps this = record {
+  group = this.group;
+  joined = flat_map (joined_entries (rps this.group)) this.tellings;
+  pruned = flat_map (pruned_entries (rps this.group)) this.tellings;
+}
+
+abbrev pub told_sets : Rps → List ChangeUnit → List GroupSet
+told_sets rps run = map (told_set rps) (grouped run)
+
+-- how many bytes it has
+abbrev pub set_size : AddressFamily → GroupSet → ℕ
+set_size family set = canonical_set_length family (length set.joined) (length set.pruned)
+
+-- its counts of entries have 16 bits
+abbrev pub IsShort : GroupSet → Type 0
+IsShort set = (length set.joined < 2 ^ 16) × (length set.pruned < 2 ^ 16)
+
+abbrev pub told_message : Writing → Rps → List ChangeUnit → Message
+told_message writing rps run = record {
+  upstream = writing.upstream;
+  holdtime = writing.holdtime;
+  sets = told_sets rps run;
+}
+
+-- These bytes tell the run: one set a group, spelled canonically and sealed for ALL-PIM-ROUTERS.
+abbrev pub TellsRun : AddressFamily → Writing → Rps → List ChangeUnit → List ℕ → Type 0
+TellsRun family writing rps run bytes =
+    IsSealed family writing.own (all_routers family) JoinPrune (canonical family (told_message writing rps run)) bytes
+
+abbrev pub TellRuns : AddressFamily → Writing → Rps → List (List ChangeUnit) → List (List ℕ) → Type 0
+TellRuns family writing rps [] [] = Unit {0}
+TellRuns family writing rps [] (bytes ∷ messages) = ⊥
+TellRuns family writing rps (run ∷ runs) [] = ⊥
+TellRuns family writing rps (run ∷ runs) (bytes ∷ messages) =
+    TellsRun family writing rps run bytes × TellRuns family writing rps runs messages
+
+-- these messages tell the units: one for each run of a packing of them, in order
+pub record TellUnits (family : AddressFamily) (writing : Writing) (rps : Rps) (units : List ChangeUnit)
+    (messages : List (List ℕ)) : Type 0 where
+  pub runs : List (List ChangeUnit)
+  pub packing : IsPacked family writing.budget units runs
+  pub told : TellRuns family writing rps runs messages
+
+-- the messages of the change between two forms
+abbrev pub TellChange : AddressFamily → Writing → Rps → List GroupForm → List GroupForm → List (List ℕ) → Type 0
+TellChange family writing rps old new messages = TellUnits family writing rps (change old new) messages

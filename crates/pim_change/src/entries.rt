@@ -1,0 +1,151 @@
+//! The entries by which a group is told.
+
+ghost use Rattle.std.specs.Prelude.{◌≡◌, ◌++◌, map, OnOk};
+ghost use Rattle.std.specs.List.{flat_map};
+ghost use Rattle.pim_down.specs.Known.{known_in};
+ghost use Rattle.pim_jp.specs.Seen.{entry_seen};
+ghost use Rattle.pim_change.specs.Seen.{telling_seen, tellings_seen};
+ghost use Rattle.pim_change.specs.Told.{rp_entry, kind_joined, kind_pruned, excepted_entries, joined_entries};
+ghost use Rattle.pim_change.specs.Told.{pruned_entries};
+
+use crate::unit::{Kind, Telling, Unit};
+use pim_addr::{Family, Routes};
+use pim_jp::Entry;
+use std::alloc::AllocError;
+
+/// Adds the star entry of a group, with the RP to which the table leads it, if there is one.
+fn push_rp<F: Family>(
+    entries: &mut Vec<Entry<F::Addr>>,
+    routes: &Routes<F>,
+    group: F::Addr,
+) -> Result<(), AllocError>
+    ensures { OnOk result (map (entry_seen F.bytes_of) entries.new.items
+        ≡ map (entry_seen F.bytes_of) entries.old.items ++ rp_entry (known_in F.family routes.now (F.bytes_of group))) }
+{
+    if let Some(address) = routes.rp_of(group) {
+        entries.push(Entry::Star(address))?;
+    }
+    Ok(())
+}
+
+/// Adds what is joined of one source.
+fn push_kind_joined<F: Family>(
+    entries: &mut Vec<Entry<F::Addr>>,
+    kind: Kind,
+    source: F::Addr,
+) -> Result<(), AllocError>
+    ensures { OnOk result (map (entry_seen F.bytes_of) entries.new.items
+        ≡ map (entry_seen F.bytes_of) entries.old.items ++ kind_joined kind (F.bytes_of source)) }
+{
+    match kind {
+        Kind::JoinRpt => entries.push(Entry::Rpt(source))?,
+        Kind::JoinSource => entries.push(Entry::Source(source))?,
+        Kind::PruneRpt => {}
+        Kind::PruneSource => {}
+    }
+    Ok(())
+}
+
+/// Adds what is pruned of one source.
+fn push_kind_pruned<F: Family>(
+    entries: &mut Vec<Entry<F::Addr>>,
+    kind: Kind,
+    source: F::Addr,
+) -> Result<(), AllocError>
+    ensures { OnOk result (map (entry_seen F.bytes_of) entries.new.items
+        ≡ map (entry_seen F.bytes_of) entries.old.items ++ kind_pruned kind (F.bytes_of source)) }
+{
+    match kind {
+        Kind::JoinRpt => {}
+        Kind::JoinSource => {}
+        Kind::PruneRpt => entries.push(Entry::Rpt(source))?,
+        Kind::PruneSource => entries.push(Entry::Source(source))?,
+    }
+    Ok(())
+}
+
+/// Adds the exceptions of a star.
+fn push_excepted<F: Family>(
+    entries: &mut Vec<Entry<F::Addr>>,
+    exceptions: &[F::Addr],
+) -> Result<(), AllocError>
+    ensures { OnOk result (map (entry_seen F.bytes_of) entries.new.items
+        ≡ map (entry_seen F.bytes_of) entries.old.items ++ excepted_entries (map F.bytes_of exceptions.now)) }
+{
+    for &source in exceptions {
+        entries.push(Entry::Rpt(source))?;
+    }
+    Ok(())
+}
+
+/// Adds what a telling joins.
+fn push_joined<F: Family>(
+    entries: &mut Vec<Entry<F::Addr>>,
+    routes: &Routes<F>,
+    group: F::Addr,
+    telling: &Telling<'_, F::Addr>,
+) -> Result<(), AllocError>
+    ensures { OnOk result (map (entry_seen F.bytes_of) entries.new.items
+        ≡ map (entry_seen F.bytes_of) entries.old.items
+        ++ joined_entries (known_in F.family routes.now (F.bytes_of group)) (telling_seen F.bytes_of telling.now)) }
+{
+    match telling {
+        Telling::JoinStar(_) => push_rp::<F>(entries, routes, group),
+        Telling::PruneStar => Ok(()),
+        Telling::Of(kind, source) => push_kind_joined::<F>(entries, *kind, *source),
+    }
+}
+
+/// Adds what a telling prunes.
+fn push_pruned<F: Family>(
+    entries: &mut Vec<Entry<F::Addr>>,
+    routes: &Routes<F>,
+    group: F::Addr,
+    telling: &Telling<'_, F::Addr>,
+) -> Result<(), AllocError>
+    ensures { OnOk result (map (entry_seen F.bytes_of) entries.new.items
+        ≡ map (entry_seen F.bytes_of) entries.old.items
+        ++ pruned_entries (known_in F.family routes.now (F.bytes_of group)) (telling_seen F.bytes_of telling.now)) }
+{
+    match telling {
+        Telling::JoinStar(exceptions) => push_excepted::<F>(entries, exceptions),
+        Telling::PruneStar => push_rp::<F>(entries, routes, group),
+        Telling::Of(kind, source) => push_kind_pruned::<F>(entries, *kind, *source),
+    }
+}
+
+/// Adds what these units of a group join.
+pub(crate) fn push_all_joined<F: Family>(
+    entries: &mut Vec<Entry<F::Addr>>,
+    routes: &Routes<F>,
+    group: F::Addr,
+    units: &[Unit<'_, F::Addr>],
+) -> Result<(), AllocError>
+    ensures { OnOk result (map (entry_seen F.bytes_of) entries.new.items
+        ≡ map (entry_seen F.bytes_of) entries.old.items
+        ++ flat_map (joined_entries (known_in F.family routes.now (F.bytes_of group)))
+        (tellings_seen F.bytes_of units.now)) }
+{
+    for unit in units {
+        push_joined::<F>(entries, routes, group, &unit.telling)?;
+    }
+    Ok(())
+}
+
+/// Adds what these units of a group prune.
+pub(crate) fn push_all_pruned<F: Family>(
+    entries: &mut Vec<Entry<F::Addr>>,
+    routes: &Routes<F>,
+    group: F::Addr,
+    units: &[Unit<'_, F::Addr>],
+) -> Result<(), AllocError>
+    ensures { OnOk result (map (entry_seen F.bytes_of) entries.new.items
+        ≡ map (entry_seen F.bytes_of) entries.old.items
+        ++ flat_map (pruned_entries (known_in F.family routes.now (F.bytes_of group)))
+        (tellings_seen F.bytes_of units.now)) }
+{
+    for unit in units {
+        push_pruned::<F>(entries, routes, group, &unit.telling)?;
+    }
+    Ok(())
+}

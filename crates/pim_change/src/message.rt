@@ -1,0 +1,151 @@
+//! The message that tells a run of units.
+
+ghost use Rattle.std.specs.Prelude.{◌≡◌, ◌≤◌, ◌<◌, ◌^◌, ◌+◌, ◌++◌, ◌∷◌, true, length, map, take, drop, OnOk, IfOk};
+ghost use Rattle.std.specs.List.{AllByRecursion, flat_map};
+ghost use Rattle.pim_down.specs.Known.{known_in};
+ghost use Rattle.pim_frame.specs.Frame.{all_routers};
+ghost use Rattle.pim_frame.specs.Seal.{IsSealed};
+ghost use Rattle.pim_frame.specs.declared.frame.MessageType.TheVariants.{JoinPrune};
+ghost use Rattle.pim_jp.specs.Canonical.{canonical_set, canonical_set_length, canonical_sets_length};
+ghost use Rattle.pim_jp.specs.Canonical.{canonical_head, canonical_head_length};
+ghost use Rattle.pim_jp.specs.Seen.{set_seen};
+ghost use Rattle.pim_form.specs.Packing.{fits};
+ghost use Rattle.pim_change.specs.Seen.{tellings_seen, units_seen};
+ghost use Rattle.pim_change.specs.Change.{Telling, unit_of};
+ghost use Rattle.pim_change.specs.Told.{IsShort, tellings_of, told_set, told_sets, set_size, grouped, weights, TellsRun};
+
+use crate::entries::{push_all_joined, push_all_pruned};
+use crate::unit::Unit;
+use pim_addr::{Family, Routes};
+use pim_form::Writer;
+use pim_frame::{MessageType, all_routers, seal};
+use pim_jp::{Entry, head_length, put_head, put_set, set_length};
+use std::alloc::{AllocError, Global};
+
+/// Appends the set of a group with these entries. The only refusal is want of memory.
+fn append_entries<F: Family>(
+    alloc: Global,
+    group: F::Addr,
+    joined: &[Entry<F::Addr>],
+    pruned: &[Entry<F::Addr>],
+    bytes: &mut Vec<u8>,
+) -> Result<(), AllocError>
+    requires joined { length joined.now < 2 ^ 16 }
+    requires pruned { length pruned.now < 2 ^ 16 }
+    ensures appended { OnOk result (bytes.new.items
+        ≡ bytes.old.items ++ canonical_set F.family (set_seen F.bytes_of group joined.now pruned.now)) }
+    ensures longer { OnOk result (length bytes.new.items ≡ length bytes.old.items
+        + canonical_set_length F.family (length joined.now) (length pruned.now)) }
+{
+    let length = set_length::<F>(joined.len() as u16, pruned.len() as u16);
+    let mut set = vec![in alloc; 0u8; length]?;
+    put_set::<F>(group, joined, pruned, &mut set);
+    bytes.extend_from_slice(&set)
+}
+
+/// Appends the set that tells these units of a group.
+fn append_set<F: Family>(
+    alloc: Global,
+    routes: &Routes<F>,
+    group: F::Addr,
+    units: &[Unit<'_, F::Addr>],
+    bytes: &mut Vec<u8>,
+) -> Result<(), AllocError>
+    requires { IsShort (told_set (known_in F.family routes.now)
+        (tellings_of (F.bytes_of group) (tellings_seen F.bytes_of units.now))) }
+    ensures appended { OnOk result (bytes.new.items ≡ bytes.old.items ++ canonical_set F.family
+        (told_set (known_in F.family routes.now)
+        (tellings_of (F.bytes_of group) (tellings_seen F.bytes_of units.now)))) }
+    ensures longer { OnOk result (length bytes.new.items ≡ length bytes.old.items
+        + set_size F.family (told_set (known_in F.family routes.now)
+        (tellings_of (F.bytes_of group) (tellings_seen F.bytes_of units.now)))) }
+{
+    let mut joined = Vec::new(alloc);
+    push_all_joined::<F>(&mut joined, routes, group, units)?;
+    let mut pruned = Vec::new(alloc);
+    push_all_pruned::<F>(&mut pruned, routes, group, units)?;
+    append_entries::<F>(alloc, group, &joined, &pruned, bytes)
+}
+
+/// How many units at the front are of this group.
+fn front_length<F: Family>(units: &[Unit<'_, F::Addr>], group: F::Addr) -> usize
+    ensures within { result ≤ length units.now }
+    ensures cut { (telling : Telling) → grouped (unit_of (F.bytes_of group) telling ∷ units_seen F.bytes_of units.now)
+        ≡ tellings_of (F.bytes_of group) (telling ∷ tellings_seen F.bytes_of (take result units.now))
+        ∷ grouped (units_seen F.bytes_of (drop result units.now)) }
+{
+    for (index, unit) in units.iter().enumerate() {
+        if group != unit.group {
+            return index;
+        }
+    }
+    units.len()
+}
+
+/// Appends the sets that tell a run of units, and answers how many there are.
+fn append_sets<F: Family>(
+    alloc: Global,
+    routes: &Routes<F>,
+    units: &[Unit<'_, F::Addr>],
+    bytes: &mut Vec<u8>,
+) -> Result<u8, AllocError>
+    requires short { AllByRecursion IsShort (told_sets (known_in F.family routes.now) (units_seen F.bytes_of units.now)) }
+    requires groups { length (told_sets (known_in F.family routes.now) (units_seen F.bytes_of units.now)) ≤ 255 }
+    ensures appended { OnOk result (bytes.new.items ≡ bytes.old.items ++ flat_map (canonical_set F.family)
+        (told_sets (known_in F.family routes.now) (units_seen F.bytes_of units.now))) }
+    ensures longer { OnOk result (length bytes.new.items ≡ length bytes.old.items + canonical_sets_length F.family
+        (told_sets (known_in F.family routes.now) (units_seen F.bytes_of units.now))) }
+    ensures counted { IfOk result (λ count.
+        count ≡ length (told_sets (known_in F.family routes.now) (units_seen F.bytes_of units.now))) }
+{
+    let mut start = 0;
+    let mut count = 0;
+    while start < units.len() {
+        let group = units[start].group;
+        let (_, left) = units.split_at(start);
+        let (_, behind) = units.split_at(start + 1);
+        let length = front_length::<F>(behind, group) + 1;
+        let (these, _) = left.split_at(length);
+        append_set::<F>(alloc, routes, group, these, bytes)?;
+        start += length;
+        count += 1;
+    }
+    Ok(count)
+}
+
+/// Writes the head of a message in front of its sets, and seals it from the writer's own address to ALL-PIM-ROUTERS.
+fn finish<F: Family>(writer: &Writer<F>, sets: u8, bytes: &mut [u8])
+    requires room { 4 + canonical_head_length F.family ≤ length bytes.old }
+    requires counted { length bytes.old < 2 ^ 32 }
+    ensures { IsSealed F.family writer.now.own (all_routers F.family) JoinPrune
+        (canonical_head F.family writer.now.upstream sets writer.now.holdtime
+        ++ drop (4 + canonical_head_length F.family) bytes.old) bytes.new }
+{
+    let (_, body) = bytes.split_at_mut(4);
+    let (head, _) = body.split_at_mut(head_length::<F>());
+    put_head::<F>(writer.upstream(), sets, writer.holdtime(), head);
+    seal::<F>(
+        writer.own(),
+        all_routers::<F>(),
+        MessageType::JoinPrune,
+        bytes,
+    );
+}
+
+/// The message that tells a run of units, which fits the writer's budget. The only refusal is want of memory.
+pub(crate) fn message<F: Family>(
+    alloc: Global,
+    writer: &Writer<F>,
+    routes: &Routes<F>,
+    units: &[Unit<'_, F::Addr>],
+) -> Result<Vec<u8>, AllocError>
+    requires { fits F.family writer.now.budget (weights (units_seen F.bytes_of units.now)) ≡ true }
+    ensures { IfOk result (λ bytes. TellsRun F.family writer.now (known_in F.family routes.now)
+        (units_seen F.bytes_of units.now) bytes.items) }
+{
+    writer.is_writing();
+    let mut bytes = vec![in alloc; 0u8; 4 + head_length::<F>()]?;
+    let sets = append_sets::<F>(alloc, routes, units, &mut bytes)?;
+    finish::<F>(writer, sets, &mut bytes);
+    Ok(bytes)
+}

@@ -1,0 +1,93 @@
+//! How many units of a change a message holds.
+
+ghost use Rattle.std.specs.Prelude.{◌≡◌, ◌≤◌, ◌<◌, ◌+◌, ◌*◌, true, not, None, List, length, take, drop};
+ghost use Rattle.pim_form.specs.Units.{WantUnit, empty_message_size, empty_set_size, entry_size, unit_entries};
+ghost use Rattle.pim_form.specs.Units.{run_groups, run_entries, is_of_group};
+ghost use Rattle.pim_form.specs.Packing.{fits, StopsBefore};
+ghost use Rattle.pim_change.specs.Seen.{telling_seen, unit_seen, units_seen};
+ghost use Rattle.pim_change.specs.TooBig.{telling_fits, too_big};
+ghost use Rattle.pim_change.specs.Told.{weight, weights};
+ghost use Rattle.pim_change.specs.Runs.{last_group};
+
+use crate::unit::{Telling, Unit};
+use pim_addr::{Family, group_length, source_length};
+use pim_jp::head_length;
+
+/// How many groups a message may have.
+const MOST_GROUPS: usize = 255;
+
+/// The bytes of a message with so many groups and entries.
+fn message_size<F: Family>(groups: usize, entries: usize) -> usize
+    requires groups { groups ≤ 255 }
+    requires entries { entries ≤ 200000 }
+    ensures { result ≡ empty_message_size F.family + groups * empty_set_size F.family + entries * entry_size F.family }
+{
+    let head = head_length::<F>() + 4;
+    let set = group_length::<F>() + 4;
+    head + groups * set + entries * source_length::<F>()
+}
+
+/// Whether a run of so many groups and entries fits a message of this budget.
+fn has_room<F: Family>(groups: usize, entries: usize, budget: usize) -> bool
+    requires { entries ≤ 200000 }
+    ensures { (run : List WantUnit) → run_groups run ≡ groups → run_entries run ≡ entries →
+        fits F.family budget run ≡ result }
+{
+    if MOST_GROUPS < groups {
+        return false;
+    }
+    message_size::<F>(groups, entries) <= budget
+}
+
+/// How many entries a unit has that fits a message of this budget alone.
+fn entry_count<F: Family>(unit: &Unit<'_, F::Addr>, budget: usize) -> usize
+    requires most { budget ≤ 65000 }
+    requires fits { telling_fits F.family budget (F.bytes_of unit.now.group) (telling_seen F.bytes_of unit.now.telling)
+        ≡ true }
+    ensures count { result ≡ unit_entries (weight (unit_seen F.bytes_of unit.now)) }
+    ensures small { result ≤ 65000 }
+{
+    match &unit.telling {
+        Telling::JoinStar(exceptions) => exceptions.len() + 1,
+        Telling::PruneStar => 1,
+        Telling::Of(_, _) => 1,
+    }
+}
+
+/// Whether a unit of this group begins a set behind those that stand before this place.
+fn begins_set<F: Family>(units: &[Unit<'_, F::Addr>], index: usize, group: F::Addr) -> bool
+    requires { index < length units.now }
+    ensures { result ≡ not (is_of_group (last_group None (weights (units_seen F.bytes_of (take index units.now))))
+        (F.bytes_of group)) }
+{
+    if index == 0 {
+        return true;
+    }
+    units[index - 1].group != group
+}
+
+/// How many of these units, from the first on, the next message holds: as many as fit its budget and 255 groups.
+pub(crate) fn run_length<F: Family>(units: &[Unit<'_, F::Addr>], budget: usize) -> usize
+    requires some { 0 < length units.now }
+    requires least { 70 ≤ budget }
+    requires most { budget ≤ 65000 }
+    requires alone { too_big F.family budget (units_seen F.bytes_of units.now) ≡ None }
+    ensures within { result ≤ length units.now }
+    ensures some { 0 < result }
+    ensures fits { fits F.family budget (weights (units_seen F.bytes_of (take result units.now))) ≡ true }
+    ensures stops { StopsBefore F.family budget (weights (units_seen F.bytes_of (take result units.now)))
+        (weights (units_seen F.bytes_of (drop result units.now))) }
+{
+    let mut groups = 0;
+    let mut entries = 0;
+    for (index, unit) in units.iter().enumerate() {
+        let more_groups = groups + usize::from(begins_set::<F>(units, index, unit.group));
+        let more_entries = entries + entry_count::<F>(unit, budget);
+        if !has_room::<F>(more_groups, more_entries, budget) {
+            return index;
+        }
+        groups = more_groups;
+        entries = more_entries;
+    }
+    units.len()
+}
