@@ -4,7 +4,7 @@
 mod heard;
 mod written;
 
-use super::again::{ASKED, OTHER, UP, UPSTREAM, WRITER, reach, started, take};
+use super::again::{ASKED, UP, UPSTREAM, WRITER, reach, started, take};
 use super::mirrored::{OTHERS, mirrored};
 use pim_addr::{Family, Routes, V4, V6};
 use pim_form::{Messages, Writer};
@@ -64,6 +64,7 @@ struct Scene<'a, A> {
 }
 
 /// How the messages come to the upstream neighbour.
+#[derive(Clone, Copy)]
 struct Course<'a> {
     deliveries: &'a [Delivery],
     /// How many of the messages, the first ones, came at 0.
@@ -514,5 +515,281 @@ fn mirrors_of_one_message_write_it_again(rt: HostRuntime) -> Result<(), Fail> {
         &OF_ONE_MESSAGE,
     );
     assert_eq!(rt; among, None);
+    Ok(())
+}
+
+/// States that two messages tell.
+const OF_TWO_MESSAGES: [State<'static>; 3] = [
+    (
+        1480,
+        &[Event::Hears(0, heard::SOURCES_200)],
+        &[written::SOURCES_181, written::SOURCES_19],
+    ),
+    // a message has 255 groups at most
+    (
+        6000,
+        &[
+            Event::Hears(0, heard::STARS_255),
+            Event::Hears(0, heard::STAR_AFTER_255),
+        ],
+        &[written::STARS_255, written::STAR_AFTER_255],
+    ),
+    (
+        70,
+        &[Event::Hears(0, THREE_GROUPS), Event::Passes(0)],
+        &[
+            written::FIRST_OF_THREE_GROUPS,
+            written::LAST_OF_THREE_GROUPS,
+        ],
+    ),
+];
+
+const THREE_GROUPS: Spelled<'static> = Spelled {
+    front: &ASKED,
+    run: None,
+};
+
+#[test]
+fn mirrors_of_two_messages_write_them_again(rt: HostRuntime) -> Result<(), Fail> {
+    let alone = wrong::<V4>(
+        rt.alloc(),
+        &ONE_UPSTREAM,
+        &[],
+        &TWO_MESSAGES,
+        &OF_TWO_MESSAGES,
+    );
+    assert_eq!(rt; alone, None);
+    let among = wrong::<V4>(
+        rt.alloc(),
+        &ONE_UPSTREAM,
+        &OTHERS,
+        &TWO_MESSAGES,
+        &OF_TWO_MESSAGES,
+    );
+    assert_eq!(rt; among, None);
+    Ok(())
+}
+
+#[test]
+fn second_message_is_left_when_the_first_one_is_missed(rt: HostRuntime) -> Result<(), Fail> {
+    let course = ONE_AFTER_THE_OTHER;
+    let alone = wrong::<V4>(rt.alloc(), &ONE_UPSTREAM, &[], &course, &OF_TWO_MESSAGES);
+    assert_eq!(rt; alone, None);
+    let among = wrong::<V4>(
+        rt.alloc(),
+        &ONE_UPSTREAM,
+        &OTHERS,
+        &course,
+        &OF_TWO_MESSAGES,
+    );
+    assert_eq!(rt; among, None);
+    Ok(())
+}
+
+/// States that ask for nothing: no records, and prunes without a star.
+const OF_NOTHING: [State<'static>; 2] = [
+    (1480, &[], &[]),
+    (
+        1480,
+        &[
+            Event::Hears(2, heard::LONE_PRUNE_ON_THIRD),
+            Event::Passes(0),
+        ],
+        &[],
+    ),
+];
+
+const NO_MESSAGE: Course<'static> = Course {
+    deliveries: &[],
+    at_once: 0,
+};
+
+#[test]
+fn mirrors_of_nothing_write_nothing(rt: HostRuntime) -> Result<(), Fail> {
+    let alone = wrong::<V4>(rt.alloc(), &ONE_UPSTREAM, &[], &NO_MESSAGE, &OF_NOTHING);
+    assert_eq!(rt; alone, None);
+    let among = wrong::<V4>(rt.alloc(), &ONE_UPSTREAM, &OTHERS, &NO_MESSAGE, &OF_NOTHING);
+    assert_eq!(rt; among, None);
+    Ok(())
+}
+
+/// Two RPs, and two upstream neighbours, of which the nearer RP and most sources are reached by the second.
+const TWO_UPSTREAMS: [Route<[u8; 4]>; 6] = [
+    (true, [239, 1, 0, 0], 16, [10, 9, 9, 9]),
+    (true, [239, 1, 1, 0], 24, [10, 8, 8, 8]),
+    (false, [0, 0, 0, 0], 0, UPSTREAM),
+    (false, [10, 8, 0, 0], 16, SECOND_UPSTREAM),
+    (false, [192, 0, 2, 0], 24, SECOND_UPSTREAM),
+    (false, [192, 0, 2, 2], 32, UPSTREAM),
+];
+
+const SECOND_UPSTREAM: [u8; 4] = [10, 0, 0, 6];
+
+const SECOND_LINK: [PortConfig<[u8; 4]>; 1] = [PortConfig {
+    address: SECOND_UPSTREAM,
+    propagation: 500,
+    override_ms: 2500,
+}];
+
+const TOWARD_TWO: Scene<'static, [u8; 4]> = Scene {
+    routes: &TWO_UPSTREAMS,
+    ports: &PORTS,
+    neighbours: &NEIGHBOURS,
+    upstream: UPSTREAM,
+    link: &UP,
+    own: WRITER,
+};
+
+const TOWARD_SIX: Scene<'static, [u8; 4]> = Scene {
+    routes: &TWO_UPSTREAMS,
+    ports: &PORTS,
+    neighbours: &NEIGHBOURS,
+    upstream: SECOND_UPSTREAM,
+    link: &SECOND_LINK,
+    own: [10, 0, 0, 5],
+};
+
+/// The same state, as either upstream neighbour is asked for it.
+const OF_TWO: [State<'static>; 1] = [(
+    1480,
+    &[Event::Hears(0, heard::OF_TWO_NEIGHBOURS), Event::Passes(0)],
+    &[written::TO_TWO],
+)];
+
+const OF_SIX: [State<'static>; 1] = [(
+    1480,
+    &[Event::Hears(0, heard::OF_TWO_NEIGHBOURS), Event::Passes(0)],
+    &[written::TO_SIX],
+)];
+
+#[test]
+fn mirrors_of_either_neighbour_write_what_it_is_asked(rt: HostRuntime) -> Result<(), Fail> {
+    assert_eq!(rt;
+        wrong::<V4>(rt.alloc(), &TOWARD_TWO, &[], &ONE_MESSAGE, &OF_TWO),
+        None
+    );
+    assert_eq!(rt;
+        wrong::<V4>(rt.alloc(), &TOWARD_TWO, &OTHERS, &ONE_MESSAGE, &OF_TWO),
+        None
+    );
+    assert_eq!(rt;
+        wrong::<V4>(rt.alloc(), &TOWARD_SIX, &[], &ONE_MESSAGE, &OF_SIX),
+        None
+    );
+    assert_eq!(rt;
+        wrong::<V4>(rt.alloc(), &TOWARD_SIX, &OTHERS, &ONE_MESSAGE, &OF_SIX),
+        None
+    );
+    Ok(())
+}
+
+const WRITER6: [u8; 16] = [0xfe, 0x80, 0, 0, 0, 0, 0, 0, 0, 0, 0, 0, 0, 0, 0, 1];
+
+const UPSTREAM6: [u8; 16] = [0xfe, 0x80, 0, 0, 0, 0, 0, 0, 0, 0, 0, 0, 0, 0, 0, 2];
+
+const RP6: [u8; 16] = [32, 1, 13, 184, 0, 0, 0, 0, 0, 0, 0, 0, 0, 0, 0, 9];
+
+/// A router of IPv6 with one port and its neighbour.
+const SCENE6: Scene<'static, [u8; 16]> = Scene {
+    routes: &[
+        (
+            true,
+            [255, 0, 0, 0, 0, 0, 0, 0, 0, 0, 0, 0, 0, 0, 0, 0],
+            8,
+            RP6,
+        ),
+        (false, [0; 16], 0, UPSTREAM6),
+    ],
+    ports: &[PortConfig {
+        address: [0xfe, 0x80, 0, 0, 0, 0, 0, 0, 0, 0, 0, 0, 0, 0, 0, 10],
+        propagation: 500,
+        override_ms: 2500,
+    }],
+    neighbours: &[(0, [0xfe, 0x80, 0, 0, 0, 0, 0, 0, 0, 0, 0, 0, 0, 0, 0, 11])],
+    upstream: UPSTREAM6,
+    link: &[PortConfig {
+        address: UPSTREAM6,
+        propagation: 500,
+        override_ms: 2500,
+    }],
+    own: WRITER6,
+};
+
+/// Another neighbour of IPv6, for ever, that doesn't tell its delays.
+const OTHERS6: [OtherNeighbour<[u8; 16]>; 1] = [OtherNeighbour {
+    address: [0xfe, 0x80, 0, 0, 0, 0, 0, 0, 0, 0, 0, 0, 0, 0, 0, 3],
+    hello: Parameters {
+        holdtime: Some(0xffff),
+        lan: None,
+        priority: None,
+        generation: None,
+    },
+}];
+
+/// States of IPv6 that one message tells.
+const OF_ONE_MESSAGE6: [State<'static>; 6] = [
+    (1460, &[Event::Hears(0, heard::STAR6)], &[written::STAR6]),
+    (
+        1460,
+        &[Event::Hears(0, heard::EXCEPT_ONE6), Event::Passes(0)],
+        &[written::EXCEPT_ONE6],
+    ),
+    (
+        1460,
+        &[Event::Hears(0, heard::EXCEPT6), Event::Passes(0)],
+        &[written::EXCEPT6],
+    ),
+    (
+        1460,
+        &[Event::Hears(0, heard::SOURCES6)],
+        &[written::SOURCES6],
+    ),
+    (
+        1460,
+        &[Event::Hears(0, heard::TWO_STARS6)],
+        &[written::TWO_STARS6],
+    ),
+    (
+        1460,
+        &[Event::Hears(0, heard::EXCEPT_69_6), Event::Passes(0)],
+        &[written::EXCEPT_69_6],
+    ),
+];
+
+/// Two stars in messages of 70 bytes.
+const OF_TWO_MESSAGES6: [State<'static>; 1] = [(
+    70,
+    &[Event::Hears(0, heard::TWO_STARS6)],
+    &[written::STAR6, written::OTHER_STAR6],
+)];
+
+#[test]
+fn mirrors_of_ipv6_write_their_message_again(rt: HostRuntime) -> Result<(), Fail> {
+    let alone = wrong::<V6>(rt.alloc(), &SCENE6, &[], &ONE_MESSAGE, &OF_ONE_MESSAGE6);
+    assert_eq!(rt; alone, None);
+    let among = wrong::<V6>(
+        rt.alloc(),
+        &SCENE6,
+        &OTHERS6,
+        &ONE_MESSAGE,
+        &OF_ONE_MESSAGE6,
+    );
+    assert_eq!(rt; among, None);
+    Ok(())
+}
+
+#[test]
+fn mirrors_of_ipv6_write_two_messages_again(rt: HostRuntime) -> Result<(), Fail> {
+    let both = wrong::<V6>(
+        rt.alloc(),
+        &SCENE6,
+        &OTHERS6,
+        &TWO_MESSAGES,
+        &OF_TWO_MESSAGES6,
+    );
+    assert_eq!(rt; both, None);
+    let course = ONE_AFTER_THE_OTHER;
+    let second = wrong::<V6>(rt.alloc(), &SCENE6, &[], &course, &OF_TWO_MESSAGES6);
+    assert_eq!(rt; second, None);
     Ok(())
 }
