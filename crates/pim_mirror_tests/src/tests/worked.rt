@@ -2,16 +2,24 @@
 //! millisecond before its first records end, and no longer when they end.
 
 mod heard;
+mod scenes;
+mod states;
 mod written;
 
-use super::again::{ASKED, UP, UPSTREAM, WRITER, reach, started, take};
+use super::again::{reach, started, take};
 use super::mirrored::{OTHERS, mirrored};
 use pim_addr::{Family, Routes, V4, V6};
 use pim_form::{Messages, Writer};
 use pim_frame::MessageType;
-use pim_hello::Parameters;
 use pim_mirror::{Delivery, FreshConfig, OtherNeighbour};
 use pim_router::{PortConfig, Router, Verdict};
+use scenes::{
+    NO_MESSAGE, ONE_AFTER_THE_OTHER, ONE_MESSAGE, ONE_UPSTREAM, OTHERS6, SCENE6, TOWARD_SIX,
+    TOWARD_TWO, TWO_MESSAGES,
+};
+use states::{
+    OF_NOTHING, OF_ONE_MESSAGE, OF_ONE_MESSAGE6, OF_SIX, OF_TWO, OF_TWO_MESSAGES, OF_TWO_MESSAGES6,
+};
 use std::alloc::Global;
 use std::test::Fail;
 
@@ -298,205 +306,6 @@ fn wrong<F: Family>(
     None
 }
 
-/// The ports of a router of IPv4, with a neighbour each.
-const PORTS: [PortConfig<[u8; 4]>; 3] = [
-    PortConfig {
-        address: [10, 1, 0, 1],
-        propagation: 500,
-        override_ms: 2500,
-    },
-    PortConfig {
-        address: [10, 1, 1, 1],
-        propagation: 500,
-        override_ms: 2500,
-    },
-    PortConfig {
-        address: [10, 1, 2, 1],
-        propagation: 500,
-        override_ms: 2500,
-    },
-];
-
-const NEIGHBOURS: [(usize, [u8; 4]); 3] = [
-    (0, [10, 1, 0, 9]),
-    (1, [10, 1, 1, 9]),
-    (2, [10, 1, 2, 9]),
-];
-
-/// One RP for all groups, and one neighbour for all addresses.
-const ONE_UPSTREAM: Scene<'static, [u8; 4]> = Scene {
-    routes: &[
-        (true, [224, 0, 0, 0], 4, [10, 9, 9, 9]),
-        (false, [0, 0, 0, 0], 0, UPSTREAM),
-    ],
-    ports: &PORTS,
-    neighbours: &NEIGHBOURS,
-    upstream: UPSTREAM,
-    link: &UP,
-    own: WRITER,
-};
-
-/// Messages that come at 0, in order; and two of which the second comes at 1 s.
-const ONE_MESSAGE: Course<'static> = Course {
-    deliveries: &[Delivery {
-        message: 0,
-        moment: 0,
-    }],
-    at_once: 1,
-};
-
-const TWO_MESSAGES: Course<'static> = Course {
-    deliveries: &[
-        Delivery {
-            message: 0,
-            moment: 0,
-        },
-        Delivery {
-            message: 1,
-            moment: 0,
-        },
-    ],
-    at_once: 2,
-};
-
-const ONE_AFTER_THE_OTHER: Course<'static> = Course {
-    deliveries: &[
-        Delivery {
-            message: 0,
-            moment: 0,
-        },
-        Delivery {
-            message: 1,
-            moment: 1_000,
-        },
-    ],
-    at_once: 1,
-};
-
-/// States that one message of at most 1,480 bytes tells.
-const OF_ONE_MESSAGE: [State<'static>; 15] = [
-    (1480, &[Event::Hears(0, heard::STAR)], &[written::STAR]),
-    // prunes that act, on three ports, one of them without a star
-    (
-        1480,
-        &[
-            Event::Hears(0, heard::EXCEPT_FIRST),
-            Event::Hears(1, heard::EXCEPT_BOTH_ON_SECOND),
-            Event::Hears(2, heard::LONE_PRUNE_ON_THIRD),
-            Event::Passes(0),
-        ],
-        &[written::EXCEPT_FIRST],
-    ),
-    // the same, and the first message again
-    (
-        1480,
-        &[
-            Event::Hears(0, heard::EXCEPT_FIRST),
-            Event::Hears(1, heard::EXCEPT_BOTH_ON_SECOND),
-            Event::Hears(2, heard::LONE_PRUNE_ON_THIRD),
-            Event::Passes(5_000),
-            Event::Hears(0, heard::EXCEPT_FIRST),
-        ],
-        &[written::EXCEPT_FIRST],
-    ),
-    // a prune that is pending
-    (
-        1480,
-        &[Event::Hears(0, heard::EXCEPT_FIRST)],
-        &[written::STAR],
-    ),
-    // a star that isn't repeated with its prune
-    (
-        1480,
-        &[
-            Event::Hears(0, heard::EXCEPT_FIRST),
-            Event::Passes(10),
-            Event::Hears(0, heard::STAR),
-        ],
-        &[written::STAR],
-    ),
-    // another port's star in Prune-Pending
-    (
-        1480,
-        &[
-            Event::Hears(0, heard::EXCEPT_FIRST),
-            Event::Passes(0),
-            Event::Hears(1, heard::STAR_ON_SECOND),
-            Event::Hears(1, heard::PRUNED_ON_SECOND),
-        ],
-        &[written::STAR],
-    ),
-    (
-        1480,
-        &[Event::Hears(0, heard::EXCEPT_BOTH), Event::Passes(0)],
-        &[written::EXCEPT_BOTH],
-    ),
-    // an RP that isn't the one known
-    (
-        1480,
-        &[
-            Event::Hears(0, heard::EXCEPT_FIRST),
-            Event::Passes(0),
-            Event::Hears(0, heard::SECOND_UNDER_OTHER_RP),
-        ],
-        &[written::STAR_AND_SECOND_EXCEPT_FIRST],
-    ),
-    // a prune without a star
-    (
-        1480,
-        &[
-            Event::Hears(0, heard::SOURCE_AND_LONE_PRUNE),
-            Event::Passes(0),
-        ],
-        &[written::FIRST_SOURCE],
-    ),
-    (
-        1480,
-        &[
-            Event::Hears(2, heard::SECOND_AND_LONE_PRUNE_ON_THIRD),
-            Event::Hears(0, heard::FIRST_SOURCE),
-        ],
-        &[written::BOTH_SOURCES],
-    ),
-    (
-        1480,
-        &[
-            Event::Hears(1, heard::STAR_ON_SECOND),
-            Event::Hears(0, heard::STAR_AND_BOTH),
-        ],
-        &[written::STAR_AND_BOTH],
-    ),
-    (
-        1480,
-        &[
-            Event::Hears(0, heard::STAR_AND_FIRST_EXCEPT_SECOND),
-            Event::Passes(0),
-        ],
-        &[written::STAR_AND_FIRST_EXCEPT_SECOND],
-    ),
-    // a star on one port, sources on the others
-    (
-        1480,
-        &[
-            Event::Hears(0, heard::FIRST_SOURCE),
-            Event::Hears(1, heard::EXCEPT_SECOND_ON_SECOND),
-            Event::Hears(2, heard::SECOND_AND_LONE_PRUNE_ON_THIRD),
-            Event::Passes(0),
-        ],
-        &[written::STAR_AND_BOTH_EXCEPT_SECOND],
-    ),
-    (
-        1480,
-        &[Event::Hears(0, heard::TWO_STARS)],
-        &[written::TWO_STARS],
-    ),
-    (
-        1480,
-        &[Event::Hears(0, heard::EXCEPT_180), Event::Passes(0)],
-        &[written::EXCEPT_180],
-    ),
-];
-
 #[test]
 fn mirrors_of_one_message_write_it_again(rt: HostRuntime) -> Result<(), Fail> {
     let alone = wrong::<V4>(
@@ -517,37 +326,6 @@ fn mirrors_of_one_message_write_it_again(rt: HostRuntime) -> Result<(), Fail> {
     assert_eq!(rt; among, None);
     Ok(())
 }
-
-/// States that two messages tell.
-const OF_TWO_MESSAGES: [State<'static>; 3] = [
-    (
-        1480,
-        &[Event::Hears(0, heard::SOURCES_200)],
-        &[written::SOURCES_181, written::SOURCES_19],
-    ),
-    // a message has 255 groups at most
-    (
-        6000,
-        &[
-            Event::Hears(0, heard::STARS_255),
-            Event::Hears(0, heard::STAR_AFTER_255),
-        ],
-        &[written::STARS_255, written::STAR_AFTER_255],
-    ),
-    (
-        70,
-        &[Event::Hears(0, THREE_GROUPS), Event::Passes(0)],
-        &[
-            written::FIRST_OF_THREE_GROUPS,
-            written::LAST_OF_THREE_GROUPS,
-        ],
-    ),
-];
-
-const THREE_GROUPS: Spelled<'static> = Spelled {
-    front: &ASKED,
-    run: None,
-};
 
 #[test]
 fn mirrors_of_two_messages_write_them_again(rt: HostRuntime) -> Result<(), Fail> {
@@ -586,24 +364,6 @@ fn second_message_is_left_when_the_first_one_is_missed(rt: HostRuntime) -> Resul
     Ok(())
 }
 
-/// States that ask for nothing: no records, and prunes without a star.
-const OF_NOTHING: [State<'static>; 2] = [
-    (1480, &[], &[]),
-    (
-        1480,
-        &[
-            Event::Hears(2, heard::LONE_PRUNE_ON_THIRD),
-            Event::Passes(0),
-        ],
-        &[],
-    ),
-];
-
-const NO_MESSAGE: Course<'static> = Course {
-    deliveries: &[],
-    at_once: 0,
-};
-
 #[test]
 fn mirrors_of_nothing_write_nothing(rt: HostRuntime) -> Result<(), Fail> {
     let alone = wrong::<V4>(rt.alloc(), &ONE_UPSTREAM, &[], &NO_MESSAGE, &OF_NOTHING);
@@ -612,55 +372,6 @@ fn mirrors_of_nothing_write_nothing(rt: HostRuntime) -> Result<(), Fail> {
     assert_eq!(rt; among, None);
     Ok(())
 }
-
-/// Two RPs, and two upstream neighbours, of which the nearer RP and most sources are reached by the second.
-const TWO_UPSTREAMS: [Route<[u8; 4]>; 6] = [
-    (true, [239, 1, 0, 0], 16, [10, 9, 9, 9]),
-    (true, [239, 1, 1, 0], 24, [10, 8, 8, 8]),
-    (false, [0, 0, 0, 0], 0, UPSTREAM),
-    (false, [10, 8, 0, 0], 16, SECOND_UPSTREAM),
-    (false, [192, 0, 2, 0], 24, SECOND_UPSTREAM),
-    (false, [192, 0, 2, 2], 32, UPSTREAM),
-];
-
-const SECOND_UPSTREAM: [u8; 4] = [10, 0, 0, 6];
-
-const SECOND_LINK: [PortConfig<[u8; 4]>; 1] = [PortConfig {
-    address: SECOND_UPSTREAM,
-    propagation: 500,
-    override_ms: 2500,
-}];
-
-const TOWARD_TWO: Scene<'static, [u8; 4]> = Scene {
-    routes: &TWO_UPSTREAMS,
-    ports: &PORTS,
-    neighbours: &NEIGHBOURS,
-    upstream: UPSTREAM,
-    link: &UP,
-    own: WRITER,
-};
-
-const TOWARD_SIX: Scene<'static, [u8; 4]> = Scene {
-    routes: &TWO_UPSTREAMS,
-    ports: &PORTS,
-    neighbours: &NEIGHBOURS,
-    upstream: SECOND_UPSTREAM,
-    link: &SECOND_LINK,
-    own: [10, 0, 0, 5],
-};
-
-/// The same state, as either upstream neighbour is asked for it.
-const OF_TWO: [State<'static>; 1] = [(
-    1480,
-    &[Event::Hears(0, heard::OF_TWO_NEIGHBOURS), Event::Passes(0)],
-    &[written::TO_TWO],
-)];
-
-const OF_SIX: [State<'static>; 1] = [(
-    1480,
-    &[Event::Hears(0, heard::OF_TWO_NEIGHBOURS), Event::Passes(0)],
-    &[written::TO_SIX],
-)];
 
 #[test]
 fn mirrors_of_either_neighbour_write_what_it_is_asked(rt: HostRuntime) -> Result<(), Fail> {
@@ -682,86 +393,6 @@ fn mirrors_of_either_neighbour_write_what_it_is_asked(rt: HostRuntime) -> Result
     );
     Ok(())
 }
-
-const WRITER6: [u8; 16] = [0xfe, 0x80, 0, 0, 0, 0, 0, 0, 0, 0, 0, 0, 0, 0, 0, 1];
-
-const UPSTREAM6: [u8; 16] = [0xfe, 0x80, 0, 0, 0, 0, 0, 0, 0, 0, 0, 0, 0, 0, 0, 2];
-
-const RP6: [u8; 16] = [32, 1, 13, 184, 0, 0, 0, 0, 0, 0, 0, 0, 0, 0, 0, 9];
-
-/// A router of IPv6 with one port and its neighbour.
-const SCENE6: Scene<'static, [u8; 16]> = Scene {
-    routes: &[
-        (
-            true,
-            [255, 0, 0, 0, 0, 0, 0, 0, 0, 0, 0, 0, 0, 0, 0, 0],
-            8,
-            RP6,
-        ),
-        (false, [0; 16], 0, UPSTREAM6),
-    ],
-    ports: &[PortConfig {
-        address: [0xfe, 0x80, 0, 0, 0, 0, 0, 0, 0, 0, 0, 0, 0, 0, 0, 10],
-        propagation: 500,
-        override_ms: 2500,
-    }],
-    neighbours: &[(0, [0xfe, 0x80, 0, 0, 0, 0, 0, 0, 0, 0, 0, 0, 0, 0, 0, 11])],
-    upstream: UPSTREAM6,
-    link: &[PortConfig {
-        address: UPSTREAM6,
-        propagation: 500,
-        override_ms: 2500,
-    }],
-    own: WRITER6,
-};
-
-/// Another neighbour of IPv6, for ever, that doesn't tell its delays.
-const OTHERS6: [OtherNeighbour<[u8; 16]>; 1] = [OtherNeighbour {
-    address: [0xfe, 0x80, 0, 0, 0, 0, 0, 0, 0, 0, 0, 0, 0, 0, 0, 3],
-    hello: Parameters {
-        holdtime: Some(0xffff),
-        lan: None,
-        priority: None,
-        generation: None,
-    },
-}];
-
-/// States of IPv6 that one message tells.
-const OF_ONE_MESSAGE6: [State<'static>; 6] = [
-    (1460, &[Event::Hears(0, heard::STAR6)], &[written::STAR6]),
-    (
-        1460,
-        &[Event::Hears(0, heard::EXCEPT_ONE6), Event::Passes(0)],
-        &[written::EXCEPT_ONE6],
-    ),
-    (
-        1460,
-        &[Event::Hears(0, heard::EXCEPT6), Event::Passes(0)],
-        &[written::EXCEPT6],
-    ),
-    (
-        1460,
-        &[Event::Hears(0, heard::SOURCES6)],
-        &[written::SOURCES6],
-    ),
-    (
-        1460,
-        &[Event::Hears(0, heard::TWO_STARS6)],
-        &[written::TWO_STARS6],
-    ),
-    (
-        1460,
-        &[Event::Hears(0, heard::EXCEPT_69_6), Event::Passes(0)],
-        &[written::EXCEPT_69_6],
-    ),
-];
-
-/// Two stars in messages of 70 bytes.
-const OF_TWO_MESSAGES6: [State<'static>; 1] = [(
-    70,
-    &[Event::Hears(0, heard::TWO_STARS6)],
-    &[written::STAR6, written::OTHER_STAR6],
-)];
 
 #[test]
 fn mirrors_of_ipv6_write_their_message_again(rt: HostRuntime) -> Result<(), Fail> {
