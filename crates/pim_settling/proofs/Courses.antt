@@ -1,5 +1,5 @@
 -- The courses of machines, by induction on the deliveries.
-use Rattle.std.proofs.Common.{◌≡◌, ℕ, ◌+◌, List, [], ◌∷◌, Option, sym, subst}
+use Rattle.std.proofs.Common.{ℕ, ◌+◌, List, [], ◌∷◌, Option, sym, subst}
 use Rattle.pim_down.specs.declared.key.Key.{Key}
 use Rattle.pim_down.specs.declared.machine.Machine.{Machine}
 use Rattle.pim_down.specs.declared.step.Step.TheVariants.{Reached}
@@ -12,7 +12,7 @@ use Rattle.pim_fresh.specs.Hearing.{after_message}
 use Rattle.pim_settling.specs.Course.{Course, IsOn, course_heard}
 use Rattle.pim_settling.specs.Hearing.{Passes, Hears, course_of}
 use Rattle.pim_settling.specs.Laws.{CoursesAreKept}
-use Rattle.pim_settling.proofs.Turns.{IsKept, IsEnd, arrives, past, past_is_on}
+use Rattle.pim_settling.proofs.Turns.{IsEnd, arrives, past, past_is_on}
 use Rattle.pim_settling.proofs.Events.{heard_on}
 
 -- the laws of the machines that this rests on

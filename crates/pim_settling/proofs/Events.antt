@@ -10,10 +10,9 @@ use Rattle.pim_down.specs.declared.machine.State.{State}
 use Rattle.pim_down.specs.declared.machine.State.TheVariants.{Join, PrunePending, Prune, PruneTmp, PrunePendingTmp}
 use Rattle.pim_down.specs.declared.machine.Machine.{Machine}
 use Rattle.pim_down.specs.Key.{same_key}
-use Rattle.pim_down.specs.Tables.{Start, machine_in, greater, on_join, on_prune, on_star_join, on_rpt_join, on_rpt_prune, on_end}
+use Rattle.pim_down.specs.Tables.{Start, machine_in, greater, on_join, on_prune, on_star_join, on_rpt_prune, on_end}
 use Rattle.pim_down.specs.Hearing.{Event, key_of, on_own, is_rpt, is_star_join, is_rpt_on, is_rpt_of, on_rpts, effect, effects, at_end, heard_at}
 use Rattle.pim_down.specs.Laws.{KeysAreToldApart}
-use Rattle.pim_fresh.specs.Expected.{asked_state}
 use Rattle.pim_settling.specs.Course.{Course, absent, stays, waits, IsHeld, IsPending, IsOnBy, IsOn, pruned, excepted, named, Within, after_event, after_events, at_the_end, course_heard}
 
 -- ---- a machine within a message

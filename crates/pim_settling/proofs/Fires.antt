@@ -1,7 +1,6 @@
 -- What is left of the records where a timer fires, or a millisecond passes.
-use Rattle.std.proofs.Common.{◌≡◌, ℕ, ◌-◌, Bool, true, false, cond, List, [], ◌∷◌, ◌++◌, map, Option, None, Some, option_map, refl, sym, ap, subst, ◌∙◌}
+use Rattle.std.proofs.Common.{◌≡◌, ℕ, Bool, true, false, cond, List, [], ◌∷◌, ◌++◌, map, Option, None, Some, option_map, refl, sym, ap, subst, ◌∙◌}
 use Rattle.std.specs.Ordering.{is_eq}
-use Rattle.std.proofs.lemmas.Bool.{false≢true}
 use Rattle.pim_down.specs.declared.key.Key.{Key}
 use Rattle.pim_down.specs.declared.machine.Machine.{Machine}
 use Rattle.pim_down.specs.declared.machine.Record.{Record}

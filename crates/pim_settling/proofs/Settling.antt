@@ -1,5 +1,5 @@
 -- A port that hears a change is settled at the form that is wanted now.
-use Rattle.std.proofs.Common.{◌≡◌, ◌⊎◌, inl, inr, ℕ, ◌+◌, ◌-◌, ◌≤◌, ◌<◌, Bool, true, false, cond, ◌&&◌, ◌||◌, not, List, [], ◌∷◌, Option, None, Some, eqb, refl, sym, ap, subst, ◌∙◌, arith}
+use Rattle.std.proofs.Common.{◌≡◌, ◌⊎◌, inl, inr, ℕ, ◌+◌, ◌-◌, ◌≤◌, Bool, true, false, cond, ◌||◌, not, List, [], ◌∷◌, Option, None, Some, eqb, refl, sym, ap, subst, ◌∙◌, arith}
 use Rattle.std.specs.List.{list_any, AllByRecursion}
 use Rattle.std.specs.Option.{is_some}
 use Rattle.std.proofs.lemmas.Bool.{false≢true, eqb-true}
@@ -15,22 +15,21 @@ use Rattle.pim_down.specs.declared.machine.Record.{Record}
 use Rattle.pim_down.specs.Key.{same_key}
 use Rattle.pim_down.specs.Hearing.{is_rpt}
 use Rattle.pim_down.specs.Records.{machine_at, state_of_machine}
-use Rattle.pim_down.specs.Sound.{IsSound, IsReal, has_state, is_pending}
+use Rattle.pim_down.specs.Sound.{IsReal, has_state, is_pending}
 use Rattle.pim_down.specs.Tables.{machine_in}
-use Rattle.pim_down.specs.Time.{Downstream}
 use Rattle.pim_down.specs.Laws.{KeysAreToldApart}
 use Rattle.pim_form.specs.NormalForm.{GroupForm, is_listed}
-use Rattle.pim_form.specs.Settled.{group_in, joins_if, prunes_if, rpt_settles, machine_settles, IsSettledAt}
+use Rattle.pim_form.specs.Settled.{group_in, joins_if, prunes_if, rpt_settles, machine_settles}
 use Rattle.pim_fresh.specs.Exchange.{Exchange, is_named}
 use Rattle.pim_fresh.specs.Deliveries.{Delivery, is_delivered, final_moment}
 use Rattle.pim_fresh.specs.Expected.{asked_state}
-use Rattle.pim_settling.specs.Course.{Course, absent, stays, waits, IsHeld, IsPending, IsOn, IsPast, named}
-use Rattle.pim_settling.specs.Hearing.{Hears, course_of}
-use Rattle.pim_settling.specs.Telling.{told_if, rpt_told, told_of, Came, TellsChange}
+use Rattle.pim_settling.specs.Course.{Course, absent, stays, waits, IsHeld, IsOn, IsPast, named}
+use Rattle.pim_settling.specs.Hearing.{course_of}
+use Rattle.pim_settling.specs.Telling.{told_if, rpt_told, TellsChange}
 use Rattle.pim_settling.specs.Laws.{ChangeSettles}
 use Rattle.pim_settling.proofs.Courses.{Machines, courses_are_kept}
 use Rattle.pim_settling.proofs.Messages.{is_starred}
-use Rattle.pim_settling.proofs.Tellings.{or_right, at, told, star_comes, IsReached, names_here, comes_here, reached, left_alone, star_ends}
+use Rattle.pim_settling.proofs.Tellings.{or_right, at, told, star_comes, IsReached, comes_here, reached, left_alone, star_ends}
 
 -- ---- the course of a machine that is held
 

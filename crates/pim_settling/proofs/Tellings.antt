@@ -1,5 +1,5 @@
 -- What deliveries that tell a change make of a machine's course.
-use Rattle.std.proofs.Common.{◌≡◌, ◌⊎◌, inl, inr, ℕ, ◌+◌, ◌≤◌, Bool, true, false, cond, ◌&&◌, ◌||◌, List, [], ◌∷◌, Option, None, Some, eqb, refl, sym, ap, subst, ◌∙◌, arith, max}
+use Rattle.std.proofs.Common.{◌≡◌, ℕ, ◌+◌, ◌≤◌, Bool, true, false, cond, ◌&&◌, ◌||◌, List, [], ◌∷◌, Option, None, Some, eqb, refl, sym, ap, subst, ◌∙◌, arith}
 use Rattle.std.specs.List.{list_any}
 use Rattle.std.specs.Option.{is_some}
 use Rattle.std.specs.Prelude.{nat_eq}
@@ -9,18 +9,17 @@ use Rattle.std.proofs.lemmas.Bool.{false≢true, eq-eqb, eqb-true}
 use Rattle.pim_down.specs.declared.key.What.{What}
 use Rattle.pim_down.specs.declared.key.What.TheVariants.{Star, Source, Rpt}
 use Rattle.pim_down.specs.declared.key.Key.{Key}
-use Rattle.pim_down.specs.declared.event.Timing.{Timing}
 use Rattle.pim_down.specs.Key.{same_key}
-use Rattle.pim_down.specs.Hearing.{Event, key_of, is_rpt, is_star, is_rpt_on, is_rpt_of, is_star_join, start_of}
+use Rattle.pim_down.specs.Hearing.{Event, key_of, is_rpt, is_star, is_rpt_on, is_rpt_of, is_star_join}
 use Rattle.pim_down.specs.Laws.{KeysAreToldApart}
 use Rattle.pim_form.specs.NormalForm.{GroupForm, is_listed}
 use Rattle.pim_form.specs.Rows.{exceptions_of}
 use Rattle.pim_form.specs.Settled.{group_in}
 use Rattle.pim_fresh.specs.Exchange.{Exchange, starts, is_named}
 use Rattle.pim_fresh.specs.Deliveries.{Delivery, is_delivered, final_moment}
-use Rattle.pim_settling.specs.Course.{Course, absent, stays, waits, named, course_heard}
+use Rattle.pim_settling.specs.Course.{Course, absent, named}
 use Rattle.pim_settling.specs.Hearing.{course_of}
-use Rattle.pim_settling.specs.Telling.{told_if, rpt_told, told_of, rpt_at, ExceptionsFollow, TellsOnly, Came, TellsChange}
+use Rattle.pim_settling.specs.Telling.{told_if, rpt_told, told_of, ExceptionsFollow, TellsOnly}
 use Rattle.pim_settling.proofs.Messages.{absorbs, or_false, Tells, stars, is_starred, unstarred, heard_named, heard_other, heard_starred}
 
 pub and_true : (a b : Bool) → (a && b) ≡ true → (a ≡ true) × (b ≡ true)

@@ -1,7 +1,6 @@
 -- What the answer of `clap` says of the words.
-use Rattle.std.proofs.Common.{◌≡◌, ◌≤◌, ◌⊎◌, inl, inr, ℕ, Bool, true, false, cond, List, [], ◌∷◌, Option, None, Some, refl, sym, ◌∙◌, ap, subst, option_map, codes, Result, Ok, Err, MatchResult, IfOk}
+use Rattle.std.proofs.Common.{◌≡◌, ◌≤◌, ℕ, Bool, true, false, cond, List, [], ◌∷◌, Option, None, Some, refl, sym, ap, subst, option_map, Result, Ok, Err, MatchResult, IfOk}
 use Rattle.std.specs.Prelude.{find, IsSomeAnd}
-use Rattle.std.specs.Str.{bytes_eq}
 use Rattle.std.specs.List.{AllByRecursion}
 use Rattle.clap.specs.Words.{App, Row, Text, built, fault_of, subcommand_of}
 use Rattle.clap.specs.Walk.{answers_to, stop_after}
@@ -20,7 +19,7 @@ use Rattle.pim_words.specs.declared.task.Task.{Task}
 use Rattle.pim_words.specs.declared.task.Task.TheVariants as task
 use Rattle.pim_words.specs.declared.task.Writing.{Writing}
 use Rattle.pim_words.specs.CommandLine.{pimtree}
-use Rattle.pim_words.specs.Given.{IsKnown, kind_name}
+use Rattle.pim_words.specs.Given.{IsKnown}
 use Rattle.pim_words.specs.Plan.{HasCause, IsBounded, IsLimited, IsWritable, IsInRange, IsPlanInRange, IsTaskOf, IsPlanOfTask, Plans}
 use Rattle.pim_words.specs.Reading.{IsTask, IsWriting}
 use Rattle.pim_words.specs.Seen.{IsGiven, IsOffered}
