@@ -5,7 +5,7 @@
 #
 # The Rattle source is called main.rt.in, since the gate takes each file that ends in .rt for a crate's.
 #
-#   benches/run.sh NAME [ARGUMENT..]        NAME is a folder beside this script
+#   benches/run.sh NAME [ARGUMENT..]        NAME is a folder beside this script, but for replay, which has its own run.sh
 set -eu
 
 name=$1

@@ -3,3 +3,4 @@
 mod again;
 mod fitting;
 mod mirrored;
+mod worked;

@@ -1,7 +1,6 @@
 -- What the answer of `clap` says of the words.
-use Rattle.std.proofs.Common.{◌≡◌, ◌≤◌, ◌⊎◌, inl, inr, ℕ, Bool, true, false, cond, List, [], ◌∷◌, Option, None, Some, refl, sym, ◌∙◌, ap, subst, option_map, codes, Result, Ok, Err, MatchResult, IfOk}
+use Rattle.std.proofs.Common.{◌≡◌, ◌≤◌, ℕ, Bool, true, false, cond, List, [], ◌∷◌, Option, None, Some, refl, sym, ap, subst, option_map, Result, Ok, Err, MatchResult, IfOk}
 use Rattle.std.specs.Prelude.{find, IsSomeAnd}
-use Rattle.std.specs.Str.{bytes_eq}
 use Rattle.std.specs.List.{AllByRecursion}
 use Rattle.clap.specs.Words.{App, Row, Text, built, fault_of, subcommand_of}
 use Rattle.clap.specs.Walk.{answers_to, stop_after}
@@ -11,21 +10,23 @@ use Rattle.pim_addr.specs.declared.family.AddressFamily.{AddressFamily}
 use Rattle.pim_addr.specs.declared.family.AddressFamily.TheVariants.{Ipv4, Ipv6}
 use Rattle.pim_words.specs.declared.addresses.Address.{Address}
 use Rattle.pim_words.specs.declared.fault.Fault.{Fault}
+use Rattle.pim_words.specs.declared.task.Captures.{Captures}
 use Rattle.pim_words.specs.declared.task.Kind.{Kind}
 use Rattle.pim_words.specs.declared.task.Kind.TheVariants.{Check, Replay, Same, Mirror}
 use Rattle.pim_words.specs.declared.task.Plan.{Plan}
 use Rattle.pim_words.specs.declared.task.Plan.TheVariants.{V4, V6}
 use Rattle.pim_words.specs.declared.task.Task.{Task}
 use Rattle.pim_words.specs.declared.task.Task.TheVariants as task
-use Rattle.pim_words.specs.CommandLine.{pimtree, comparing_commands}
-use Rattle.pim_words.specs.Given.{IsKnown, kind_name}
-use Rattle.pim_words.specs.Plan.{HasCause, IsComparing, IsComparingTask, IsTaskOf, IsPlanOfTask, Plans}
-use Rattle.pim_words.specs.Reading.{IsTask}
+use Rattle.pim_words.specs.declared.task.Writing.{Writing}
+use Rattle.pim_words.specs.CommandLine.{pimtree}
+use Rattle.pim_words.specs.Given.{IsKnown}
+use Rattle.pim_words.specs.Plan.{HasCause, IsBounded, IsLimited, IsWritable, IsInRange, IsPlanInRange, IsTaskOf, IsPlanOfTask, Plans}
+use Rattle.pim_words.specs.Reading.{IsTask, IsWriting}
 use Rattle.pim_words.specs.Seen.{IsGiven, IsOffered}
-use Rattle.pim_words.specs.Typed.{IsPlanFor, SameTask}
+use Rattle.pim_words.specs.Typed.{IsPlanFor, SameCaptures, SameTask, SameWriting}
 use Rattle.pim_words.proofs.Numbers.{has_numbers}
 
--- ---- the two command lines
+-- ---- the command line
 
 pub whole : IsOffered pimtree
 unfolding clap_on_literals
@@ -34,19 +35,6 @@ whole = record {
   simple = refl;
   free = refl;
   known = ((Check, refl), ((Replay, refl), ((Same, refl), ((Mirror, refl), tt))));
-  limit = refl;
-  after = refl;
-  holdtime = refl;
-  budget = refl;
-}
-
-pub comparing : IsOffered comparing_commands
-unfolding clap_on_literals
-comparing = record {
-  required = refl;
-  simple = refl;
-  free = refl;
-  known = ((Check, refl), ((Replay, refl), ((Same, refl), tt)));
   limit = refl;
   after = refl;
   holdtime = refl;
@@ -75,57 +63,55 @@ module _ (P : Text → Type 0) where
 pub given : (a : App) (words : List Text) (met : Text × List Row) → IsOffered a → fault_of a words ≡ [] → subcommand_of a words ≡ Some met → IsGiven met
 given a words met offered none found = (met_named IsKnown a words met offered.known found, has_numbers a offered words met none found)
 
--- ---- the plan where there is no `mirror`
+-- ---- the numbers of a plan are in their ranges
 
-abbrev IsComparingName : Text → Type 0
-IsComparingName name = (name ≡ codes "check") ⊎ (name ≡ codes "replay") ⊎ (name ≡ codes "same")
+writable : (rows : List Row) (writing : Writing Address) → IsWriting rows writing → IsWritable writing
+writable rows writing is = (is.holdtime.least, is.budget.least, is.budget.most)
 
-all_comparing : AllByRecursion (λ (s : Shape). IsComparingName s.name) (built comparing_commands).subs
-unfolding clap_on_literals
-all_comparing = (inl refl, (inr (inl refl), (inr (inr refl), tt)))
+task_in_range : (kind : Kind) (rows : List Row) (asked : Task Address) → IsTask kind rows asked → IsInRange asked
+task_in_range Check rows (task.Check source destination) is = tt
+task_in_range Check rows other is = absurd is
+task_in_range Replay rows (task.Replay captures) is = (is.1.after.most, (is.1.limit.least, is.1.limit.most))
+task_in_range Replay rows other is = absurd is
+task_in_range Same rows (task.Same captures writing) is = (is.0.1.after.most, (is.0.1.limit.least, is.0.1.limit.most), writable rows writing is.1)
+task_in_range Same rows other is = absurd is
+task_in_range Mirror rows (task.Mirror captures writing) is = (is.0.1.after.most, (is.0.1.limit.least, is.0.1.limit.most), writable rows writing is.1)
+task_in_range Mirror rows other is = absurd is
 
-told_apart : (one name : Text) → bytes_eq one name ≡ false → name ≡ one → bytes_eq name name ≡ true → ⊥
-told_apart one name other same self = let crossed : bytes_eq one name ≡ true = subst (λ n. bytes_eq n name ≡ true) same self in absurd cc
+module _ {A : Type 0} (family : AddressFamily) (bytes_of : A → List ℕ) where
+  same_bounded : (typed : Captures A) (asked : Captures Address) → IsBounded asked → SameCaptures family bytes_of typed asked → IsBounded typed
+  same_bounded typed asked is same = subst (λ (n : ℕ). n ≤ 1000000000) (sym same.after) is
 
-unknown_name : (name : Text) → bytes_eq (codes "check") name ≡ false → bytes_eq (codes "replay") name ≡ false → bytes_eq (codes "same") name ≡ false → bytes_eq name name ≡ true → IsComparingName name → ⊥
-unknown_name name one two three self (inl same) = told_apart (codes "check") name one same self
-unknown_name name one two three self (inr (inl same)) = told_apart (codes "replay") name two same self
-unknown_name name one two three self (inr (inr same)) = told_apart (codes "same") name three same self
+  same_limited : (typed : Captures A) (asked : Captures Address) → IsLimited asked → SameCaptures family bytes_of typed asked → IsLimited typed
+  same_limited typed asked is same = (subst (λ (n : ℕ). 1 ≤ n) (sym same.limit) is.0, subst (λ (n : ℕ). n ≤ 100000) (sym same.limit) is.1)
 
-comparing_task : (kind : Kind) (rows : List Row) (asked : Task Address) → IsComparingName (kind_name kind) → IsTask kind rows asked → IsComparingTask asked
-comparing_task Check rows (task.Check source destination) named is = tt
-comparing_task Check rows other named is = absurd is
-comparing_task Replay rows (task.Replay captures) named is = is.1.after.most
-comparing_task Replay rows other named is = absurd is
-comparing_task Same rows (task.Same captures writing) named is = (is.0.1.after.most, (is.1.holdtime.least, is.1.budget.least, is.1.budget.most))
-comparing_task Same rows other named is = absurd is
-comparing_task Mirror rows asked named is = absurd (unknown_name (codes "mirror") refl refl refl refl named)
+  same_writable : (typed : Writing A) (asked : Writing Address) → IsWritable asked → SameWriting family bytes_of typed asked → IsWritable typed
+  same_writable typed asked is same = (
+    subst (λ (n : ℕ). 99 ≤ n) (sym same.holdtime) is.0,
+    subst (λ (n : ℕ). 70 ≤ n) (sym same.budget) is.1,
+    subst (λ (n : ℕ). n ≤ 65000) (sym same.budget) is.2,
+  )
 
-same_comparing : {A : Type 0} (family : AddressFamily) (bytes_of : A → List ℕ) (typed : Task A) (asked : Task Address) → IsComparingTask asked → SameTask family bytes_of typed asked → IsComparingTask typed
-same_comparing family bytes_of (task.Check a b) asked is same = tt
-same_comparing family bytes_of (task.Replay typed) (task.Replay captures) is same = subst (λ (n : ℕ). n ≤ 1000000000) (sym same.after) is
-same_comparing family bytes_of (task.Replay typed) other is same = absurd same
-same_comparing family bytes_of (task.Same typed how) (task.Same captures writing) is same = (
-  subst (λ (n : ℕ). n ≤ 1000000000) (sym same.0.after) is.0,
-  (subst (λ (n : ℕ). 99 ≤ n) (sym same.1.holdtime) is.1.0, subst (λ (n : ℕ). 70 ≤ n) (sym same.1.budget) is.1.1, subst (λ (n : ℕ). n ≤ 65000) (sym same.1.budget) is.1.2),
-)
-same_comparing family bytes_of (task.Same typed how) other is same = absurd same
-same_comparing family bytes_of (task.Mirror captures writing) (task.Mirror c w) is same = is
-same_comparing family bytes_of (task.Mirror captures writing) other is same = absurd same
+  same_in_range : (typed : Task A) (asked : Task Address) → IsInRange asked → SameTask family bytes_of typed asked → IsInRange typed
+  same_in_range (task.Check a b) asked is same = tt
+  same_in_range (task.Replay typed) (task.Replay captures) is same = (same_bounded typed captures is.0 same, same_limited typed captures is.1 same)
+  same_in_range (task.Replay typed) other is same = absurd same
+  same_in_range (task.Same typed how) (task.Same captures writing) is same =
+      (same_bounded typed captures is.0 same.0, same_limited typed captures is.1 same.0, same_writable how writing is.2 same.1)
+  same_in_range (task.Same typed how) other is same = absurd same
+  same_in_range (task.Mirror typed how) (task.Mirror captures writing) is same =
+      (same_bounded typed captures is.0 same.0, same_limited typed captures is.1 same.0, same_writable how writing is.2 same.1)
+  same_in_range (task.Mirror typed how) other is same = absurd same
 
-plan_compares : (plan : Plan) (asked : Task Address) → IsComparingTask asked → IsPlanFor plan asked → IsComparing plan
-plan_compares (V4 typed) asked is same = same_comparing Ipv4 (λ address. address) typed asked is same
-plan_compares (V6 typed) asked is same = same_comparing Ipv6 (λ address. address) typed asked is same
+plan_in_range : (plan : Plan) (asked : Task Address) → IsInRange asked → IsPlanFor plan asked → IsPlanInRange plan
+plan_in_range (V4 typed) asked is same = same_in_range Ipv4 (λ address. address) typed asked is same
+plan_in_range (V6 typed) asked is same = same_in_range Ipv6 (λ address. address) typed asked is same
 
-is_comparing : (met : Option (Text × List Row)) (plan : Plan) → ((m : Text × List Row) → met ≡ Some m → IsComparingName m.0)
-    → IsSomeAnd met (λ m. (asked : Task Address) × IsTaskOf m asked × IsPlanOfTask asked plan) → IsComparing plan
-is_comparing None plan named is = absurd is
-is_comparing (Some m) plan named (asked, (kind, name, read), made) =
-    plan_compares plan asked (comparing_task kind m.1 asked (subst IsComparingName name (named m refl)) read) made.1
+met_in_range : (met : Option (Text × List Row)) (plan : Plan)
+    → IsSomeAnd met (λ m. (asked : Task Address) × IsTaskOf m asked × IsPlanOfTask asked plan) → IsPlanInRange plan
+met_in_range None plan is = absurd is
+met_in_range (Some m) plan (asked, (kind, name, read), made) = plan_in_range plan asked (task_in_range kind m.1 asked read) made.1
 
-only_comparing : (words : List Text) (plan : Plan) → Plans comparing_commands words plan → IsComparing plan
-only_comparing words plan is = is_comparing (subcommand_of comparing_commands words) plan (λ m found. met_named IsComparingName comparing_commands words m all_comparing found) is.1
-
-pub comparing_planned : (app : App) (words : List Text) (r : Result Plan Fault) → app ≡ comparing_commands → MatchResult r (Plans app words) (HasCause app words) → IfOk r IsComparing
-comparing_planned app words (Ok plan) same is = only_comparing words plan (subst (λ (a : App). Plans a words plan) same is)
-comparing_planned app words (Err fault) same is = tt
+pub planned_in_range : (app : App) (words : List Text) (r : Result Plan Fault) → MatchResult r (Plans app words) (HasCause app words) → IfOk r IsPlanInRange
+planned_in_range app words (Ok plan) is = met_in_range (subcommand_of app words) plan is.1
+planned_in_range app words (Err fault) is = tt

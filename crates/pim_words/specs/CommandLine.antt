@@ -66,12 +66,11 @@ bare = record (new_shape (codes "pimtree")) {
   subcommand_required = true;
 }
 
--- with all but `mirror`
-abbrev pub comparing_commands : App
-comparing_commands =
-    with_subcommand (with_subcommand (with_subcommand (record { top = bare; subs = [] }) check) replay)
-    (writing (codes "same"))
+-- with the two commands that write no messages
+abbrev pub reading_commands : App
+reading_commands = with_subcommand (with_subcommand (record { top = bare; subs = [] }) check) replay
 
 -- with all four commands
 abbrev pub pimtree : App
-pimtree = with_subcommand comparing_commands (writing (codes "mirror"))
+pimtree =
+    with_subcommand (with_subcommand reading_commands (writing (codes "same"))) (writing (codes "mirror"))

@@ -13,7 +13,7 @@ use Rattle.pim_words.specs.declared.task.Kind.{Kind}
 use Rattle.pim_words.specs.declared.task.Plan.{Plan}
 use Rattle.pim_words.specs.declared.task.Plan.TheVariants.{V4, V6}
 use Rattle.pim_words.specs.declared.task.Task.{Task}
-use Rattle.pim_words.specs.declared.task.Task.TheVariants.{Check, Replay, Same}
+use Rattle.pim_words.specs.declared.task.Task.TheVariants.{Check, Replay, Same, Mirror}
 use Rattle.pim_words.specs.declared.task.Captures.{Captures}
 use Rattle.pim_words.specs.declared.task.Writing.{Writing}
 use Rattle.pim_words.specs.Faults.{task_faults}
@@ -78,26 +78,30 @@ abbrev pub HasCause : App → List Text → Fault → Type 0
 HasCause app words cause.Memory = ⊤
 HasCause app words fault = IsRefusal app words fault ⊎ HasWrong app words fault
 
--- ---- plans of all commands but `mirror`
+-- ---- the ranges of a plan's numbers
 
 -- the router runs on for at most 10^9 milliseconds
 abbrev pub IsBounded : {A : Type 0} → Captures A → Type 0
 IsBounded captures = captures.after_ms ≤ 1000000000
 
+-- a port holds at least one record and at most 100,000
+abbrev pub IsLimited : {A : Type 0} → Captures A → Type 0
+IsLimited captures = (1 ≤ captures.limit) × (captures.limit ≤ 100000)
+
 -- the holdtime and the budget of messages that can be written
 abbrev pub IsWritable : {A : Type 0} → Writing A → Type 0
 IsWritable writing = (99 ≤ writing.holdtime) × (70 ≤ writing.budget) × (writing.budget ≤ 65000)
 
-abbrev pub IsComparingTask : {A : Type 0} → Task A → Type 0
-IsComparingTask (Check source destination) = ⊤
-IsComparingTask (Replay captures) = IsBounded captures
-IsComparingTask (Same captures writing) = IsBounded captures × IsWritable writing
-IsComparingTask other = ⊥
+abbrev pub IsInRange : {A : Type 0} → Task A → Type 0
+IsInRange (Check source destination) = ⊤
+IsInRange (Replay captures) = IsBounded captures × IsLimited captures
+IsInRange (Same captures writing) = IsBounded captures × IsLimited captures × IsWritable writing
+IsInRange (Mirror captures writing) = IsBounded captures × IsLimited captures × IsWritable writing
 
--- The plan is to read one message, to replay captures, or to compare what two routers want.
-abbrev pub IsComparing : Plan → Type 0
-IsComparing (V4 task) = IsComparingTask task
-IsComparing (V6 task) = IsComparingTask task
+-- The numbers of the plan are in their ranges.
+abbrev pub IsPlanInRange : Plan → Type 0
+IsPlanInRange (V4 task) = IsInRange task
+IsPlanInRange (V6 task) = IsInRange task
 
 -- ---- refusals
 

@@ -5,7 +5,7 @@ ghost use Rattle.clap.specs.declared.builder.command.Command.TheViews.{out-Comma
 ghost use Rattle.clap.specs.Words.{app_of, shape_of, rule_of, with_rule, with_subcommand};
 ghost use Rattle.pim_words.specs.CommandLine.{text_option, required_option, number_option, words_rule};
 ghost use Rattle.pim_words.specs.CommandLine.{with_run_options, with_addresses, with_writing, check};
-ghost use Rattle.pim_words.specs.CommandLine.{replay, writing, bare, comparing_commands, pimtree};
+ghost use Rattle.pim_words.specs.CommandLine.{replay, writing, bare, reading_commands, pimtree};
 
 use clap::builder::ValueParser;
 use clap::{Arg, ArgAction, Command};
@@ -296,9 +296,8 @@ fn bare_command<'a>(alloc: Global) -> Command<'a>
 }
 
 /// The command line with its two commands that write no messages.
-fn with_reading<'a>(alloc: Global) -> Result<Command<'a>, AllocError>
-    ensures app { IfOk result (λ c. app_of c
-        ≡ with_subcommand (with_subcommand (record { top = bare; subs = [] }) check) replay) }
+fn reading_commands<'a>(alloc: Global) -> Result<Command<'a>, AllocError>
+    ensures app { IfOk result (λ c. app_of c ≡ reading_commands) }
     ensures local { IfOk result (λ c. (out-Command c).has_globals ≡ false) }
 {
     let check = check_command(alloc)?;
@@ -307,22 +306,14 @@ fn with_reading<'a>(alloc: Global) -> Result<Command<'a>, AllocError>
     with_command(whole, replay)
 }
 
-/// The command line of a program that has all commands but `mirror`.
-pub(crate) fn comparing_commands<'a>(alloc: Global) -> Result<Command<'a>, AllocError>
-    ensures app { IfOk result (λ c. app_of c ≡ comparing_commands) }
-    ensures local { IfOk result (λ c. (out-Command c).has_globals ≡ false) }
-{
-    let whole = with_reading(alloc)?;
-    let same = writing_command(alloc, "same", SAME_ABOUT, SAME_AFTER_HELP, SIDED_HELP)?;
-    with_command(whole, same)
-}
-
 /// The whole command line.
 pub(crate) fn command<'a>(alloc: Global) -> Result<Command<'a>, AllocError>
     ensures app { IfOk result (λ c. app_of c ≡ pimtree) }
     ensures local { IfOk result (λ c. (out-Command c).has_globals ≡ false) }
 {
-    let whole = comparing_commands(alloc)?;
+    let whole = reading_commands(alloc)?;
+    let same = writing_command(alloc, "same", SAME_ABOUT, SAME_AFTER_HELP, SIDED_HELP)?;
+    let whole = with_command(whole, same)?;
     let mirror = writing_command(alloc, "mirror", MIRROR_ABOUT, MIRROR_AFTER_HELP, PORT_HELP)?;
     with_command(whole, mirror)
 }

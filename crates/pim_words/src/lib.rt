@@ -15,6 +15,6 @@ mod typed;
 
 pub use addresses::Address;
 pub use fault::{ConfigCause, Fault, Refusal, Side};
-pub use planning::{plan, plan_comparing};
+pub use planning::plan;
 pub use table::given_table;
 pub use task::{Captures, Kind, Plan, Port, Task, Writing};

@@ -5,15 +5,15 @@ ghost use Rattle.clap.specs.declared.builder.command.Command.TheViews.{out-Comma
 ghost use Rattle.clap.specs.Words.{found_of, rows_of, subcommand_rows_of, subcommand_of, takes, fault_of, FailsBy};
 ghost use Rattle.clap.specs.Words.{app_of, kind_of};
 ghost use Rattle.pim_addr.specs.declared.family.AddressFamily.TheVariants.{Ipv4};
-ghost use Rattle.pim_words.specs.CommandLine.{pimtree, comparing_commands};
+ghost use Rattle.pim_words.specs.CommandLine.{pimtree};
 ghost use Rattle.pim_words.specs.Faults.{are_in};
 ghost use Rattle.pim_words.specs.Given.{IsKnown, kind_name};
 ghost use Rattle.pim_words.specs.Plan.{IsTaskOf, IsUnreadableOf, IsPlanOfTask, IsWrongTask, Plans, HasCause};
-ghost use Rattle.pim_words.specs.Plan.{IsComparing};
+ghost use Rattle.pim_words.specs.Plan.{IsPlanInRange};
 ghost use Rattle.pim_words.specs.Seen.{IsGiven, IsOffered};
 
 use crate::addresses::Address;
-use crate::commands::{command, comparing_commands};
+use crate::commands::command;
 use crate::fault::{Fault, refusal_fault};
 use crate::judging::judge;
 use crate::reading::read_task;
@@ -132,25 +132,11 @@ fn plan_by<'a, S: AsStr>(
 /// the version); `Address` of the options, in the order in which help tells them; `Word` and `Address` of the words, in
 /// order; `Family`; `NoPort` of a, then of b; `WriterAddress`; `Config` of a, then of b: `Ports`, `Address`, `Rp`.
 pub fn plan<'a, S: AsStr>(alloc: Global, words: &'a [S]) -> Result<Plan<'a>, Fault<'a>>
-    ensures { MatchResult result (Plans pimtree (map S.text words.entry.now))
+    ensures plan { MatchResult result (Plans pimtree (map S.text words.entry.now))
         (HasCause pimtree (map S.text words.entry.now)) }
+    ensures range { IfOk result IsPlanInRange }
 {
     let Ok(whole) = command(alloc) else {
-        return Err(Fault::Memory);
-    };
-    plan_by(alloc, whole, words)
-}
-
-/// `plan` for a program that has all commands but `mirror`, which its help says too.
-///
-/// # Errors
-/// Those of `plan`.
-pub fn plan_comparing<'a, S: AsStr>(alloc: Global, words: &'a [S]) -> Result<Plan<'a>, Fault<'a>>
-    ensures plan { MatchResult result (Plans comparing_commands (map S.text words.entry.now))
-        (HasCause comparing_commands (map S.text words.entry.now)) }
-    ensures comparing { IfOk result IsComparing }
-{
-    let Ok(whole) = comparing_commands(alloc) else {
         return Err(Fault::Memory);
     };
     plan_by(alloc, whole, words)

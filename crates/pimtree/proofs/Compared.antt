@@ -1,4 +1,4 @@
--- The writer of a plan's values, and what is told of two new routers' comparison.
+-- What is told of two new routers' comparison.
 use Rattle.std.proofs.Common.{◌≡◌, ◌≤◌, inr, refl, sym, ap, subst, ◌∙◌, ℕ, ◌+◌, Bool, true, false, ◌||◌, nat_lt, List, [], ◌∷◌, ◌++◌, map, Option, Result, Ok, Err}
 use Rattle.std.specs.Prelude.{MatchResult}
 use Rattle.std.proofs.lemmas.Bool.{le-ltb}
@@ -19,25 +19,10 @@ use Rattle.pim_router.specs.State.{RouterState, Setup, new_router}
 use Rattle.pimtree.specs.declared.fault.Fault.{Fault}
 use Rattle.pimtree.specs.declared.fault.Fault.TheVariants as of_run
 use Rattle.pimtree.specs.Replaying.{config_fault, IsUnmade, IsFirstCause}
-use Rattle.pimtree.specs.Comparing.{compared, Told, causes, IsWriterOf, IsCompared, ComparesNew}
+use Rattle.pimtree.specs.Comparing.{compared, Told, causes, IsCompared, ComparesNew}
+use Rattle.pimtree.specs.Writing.{IsWriterOf}
 use Rattle.pimtree.specs.Report.{write_failures_after}
 use Rattle.pimtree.proofs.Routers.{capture_is_read}
-
--- ---- the writer
-
-judged_by : (bad short out : Bool) (value : Writing) (result : Result Writing WriterFault) → short ≡ false → out ≡ false
-    → result ≡ judged (fault_if bad of_writer.Address ++ fault_if short of_writer.Holdtime ++ fault_if out of_writer.Budget) value
-    → MatchResult result (λ w. (w ≡ value) × (bad ≡ false)) (λ fault. (fault ≡ of_writer.Address) × (bad ≡ true))
-judged_by true short out value result is_short is_out is = rw (is) (refl, refl)
-judged_by false short out value result is_short is_out is = rw (is, is_short, is_out) (refl, refl)
-
-pub written_by : (family : AddressFamily) (writing : Writing) (result : Result Writing WriterFault) → 99 ≤ writing.holdtime → 70 ≤ writing.budget → writing.budget ≤ 65000
-    → result ≡ judged (writer_faults family writing) writing
-    → MatchResult result (λ w. (w ≡ writing) × (has_bad_address family writing ≡ false)) (λ fault. (fault ≡ of_writer.Address) × (has_bad_address family writing ≡ true))
-written_by family writing result long least most is =
-    let inside : (nat_lt writing.budget 70 || nat_lt 65000 writing.budget) ≡ false = rw (le-ltb writing.budget 70 least, le-ltb 65000 writing.budget most) refl in
-    judged_by (has_bad_address family writing) (nat_lt writing.holdtime 99) (nat_lt writing.budget 70 || nat_lt 65000 writing.budget) writing result
-    (le-ltb writing.holdtime 99 long) inside is
 
 -- ---- the first cause
 
@@ -53,14 +38,14 @@ pub a_unmade : (family : AddressFamily) (writing : Writing) (a b : Setup) (fault
     → IsFirstCause (causes family writing a b) fault
 a_unmade family writing a b fault fine is = rw (fine) (first_of_a (config_faults family a) (config_faults family b) fault is)
 
-first_of_b : (bs : List ConfigFault) (fault : Fault) → IsUnmade bs fault → IsFirstCause (map config_fault bs) fault
-first_of_b bs of_run.Memory is = tt
-first_of_b [] other is = absurd is
-first_of_b (first ∷ others) other is = is
+pub first_cause : (faults : List ConfigFault) (fault : Fault) → IsUnmade faults fault → IsFirstCause (map config_fault faults) fault
+first_cause faults of_run.Memory is = tt
+first_cause [] other is = absurd is
+first_cause (first ∷ others) other is = is
 
 pub b_unmade : (family : AddressFamily) (writing : Writing) (a b : Setup) (fault : Fault) → has_bad_address family writing ≡ false → config_faults family a ≡ []
     → IsUnmade (config_faults family b) fault → IsFirstCause (causes family writing a b) fault
-b_unmade family writing a b fault fine none is = rw (fine, none) (first_of_b (config_faults family b) fault is)
+b_unmade family writing a b fault fine none is = rw (fine, none) (first_cause (config_faults family b) fault is)
 
 -- ---- the answer
 

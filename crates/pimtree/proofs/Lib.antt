@@ -1,4 +1,5 @@
 pub mod Compared
+pub mod Mirrored
 pub mod Lines
 pub mod Reports
 pub mod Writes

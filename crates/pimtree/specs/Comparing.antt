@@ -1,5 +1,5 @@
 -- The comparison that a task asks for: its two routers, and what is answered and written of their captures.
-use Rattle.std.specs.Prelude.{◌≡◌, ◌⊎◌, ℕ, cond, Bool, true, false, List, [], ◌∷◌, ◌++◌, map, filter, Option, Result, Ok, Err}
+use Rattle.std.specs.Prelude.{◌≡◌, ◌⊎◌, ℕ, cond, Bool, List, ◌++◌, map, filter, Option, Result, Ok, Err}
 use Rattle.pim_addr.specs.Routes.{RouteTable}
 use Rattle.pim_addr.specs.declared.family.AddressFamily.{AddressFamily}
 use Rattle.pim_form.specs.Messages.{Writing}
@@ -17,7 +17,8 @@ use Rattle.pim_words.specs.Faults.{is_side}
 use Rattle.pim_words.specs.Typed.{address_in}
 use Rattle.pimtree.specs.declared.fault.Fault.{Fault}
 use Rattle.pimtree.specs.declared.fault.Fault.TheVariants.{TooBig}
-use Rattle.pimtree.specs.Replaying.{config_of, config_fault, replay_fault, writer_told, IsFirstCause}
+use Rattle.pimtree.specs.Replaying.{config_of, config_fault, replay_fault, IsFirstCause}
+use Rattle.pimtree.specs.Writing.{writer_causes}
 
 -- the port is one of this router
 abbrev pub is_of : {A : Type 0} → Side → Port A → Bool
@@ -42,20 +43,9 @@ module _ {F A N : Type 0} (family : AddressFamily) (bytes_of : A → List ℕ) w
   compared (Ok status) = Ok status
   compared (Err fault) = Err (same_fault fault)
 
--- ---- what the messages are written by
-
--- It is this writer, whose two addresses are different valid sources; or they aren't.
-abbrev pub IsWriterOf : AddressFamily → Writing → Result Writing Fault → Type 0
-IsWriterOf family writing (Ok writer) = (writer ≡ writing) × (has_bad_address family writing ≡ false)
-IsWriterOf family writing (Err fault) = (fault ≡ writer_told) × (has_bad_address family writing ≡ true)
-
 -- ---- two new routers' comparison
 
 -- what is wrong with the writer, then with router a, then with router b
-abbrev pub writer_causes : Bool → List Fault
-writer_causes true = writer_told ∷ []
-writer_causes false = []
-
 abbrev pub causes : AddressFamily → Writing → Setup → Setup → List Fault
 causes family writing a b =
     writer_causes (has_bad_address family writing)

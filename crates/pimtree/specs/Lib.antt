@@ -6,3 +6,5 @@ pub mod Ends
 pub mod Telling
 pub mod Replaying
 pub mod Comparing
+pub mod Mirroring
+pub mod Writing

@@ -3,19 +3,18 @@
 ghost use Rattle.std.specs.Prelude.{◌≡◌, ◌+◌, length, map, filter, IfOk};
 ghost use Rattle.pim_form.specs.Seen.{writing_seen};
 ghost use Rattle.pim_words.specs.Plan.{IsBounded, IsWritable};
-ghost use Rattle.pim_words.specs.Typed.{address_in};
 ghost use Rattle.pimtree.specs.Replaying.{config_of};
-ghost use Rattle.pimtree.specs.Comparing.{same_fault, compared, is_of, one_of, side_setup, IsWriterOf, ComparesNew};
+ghost use Rattle.pimtree.specs.Comparing.{same_fault, compared, is_of, one_of, side_setup, ComparesNew};
 ghost use Rattle.pimtree.specs.Report.{write_failures_after};
 
 use crate::fault::Fault;
 use crate::replaying::{config, open_port, replay_fault, router_of, table};
-use pim_addr::{AddressFamily, Counted, Drain, Family, Feed, Routes};
-use pim_form::{Writer, WriterFault};
+use crate::writing::{address_of, writer_of};
+use pim_addr::{Counted, Drain, Family, Feed, Routes};
 use pim_merge::Merge;
 use pim_replay::{SameFault, same_into};
 use pim_router::PortConfig;
-use pim_words::{Address, Captures, Port, Side, Writing};
+use pim_words::{Captures, Port, Side, Writing};
 use std::alloc::{AllocError, Global};
 use std::fs::File;
 use std::io::BufReader;
@@ -27,24 +26,6 @@ pub struct Pair<R: Feed + Drop> {
     pub a: Merge<R>,
     /// Those of router b.
     pub b: Merge<R>,
-}
-
-/// The address, as faults tell it.
-fn address_of<F: Family>(address: F::Addr) -> Address
-    ensures { result ≡ address_in F.family (F.bytes_of address) }
-{
-    match F::family() {
-        AddressFamily::Ipv4 => {
-            let mut bytes = [0; 4];
-            F::put(address, &mut bytes);
-            Address::V4(bytes)
-        }
-        AddressFamily::Ipv6 => {
-            let mut bytes = [0; 16];
-            F::put(address, &mut bytes);
-            Address::V6(bytes)
-        }
-    }
 }
 
 /// A fault of a comparison.
@@ -92,25 +73,6 @@ fn side_configs<A: Copy>(
         }
     }
     Ok(configs)
-}
-
-/// By what the messages are written.
-fn writer_of<F: Family>(writing: &Writing<F::Addr>) -> Result<Writer<F>, Fault<'static>>
-    requires { IsWritable writing.now }
-    ensures { IsWriterOf F.family
-        (writing_seen F.bytes_of writing.now.upstream writing.now.own writing.now.holdtime writing.now.budget)
-        result }
-{
-    match Writer::<F>::new(
-        writing.upstream,
-        writing.own,
-        writing.holdtime,
-        writing.budget,
-    ) {
-        Ok(writer) => Ok(writer),
-        Err(WriterFault::Address) => Err(Fault::Words(pim_words::Fault::WriterAddress)),
-        Err(WriterFault::Holdtime | WriterFault::Budget) => unreachable!(),
-    }
 }
 
 /// Adds the capture that this reader gives to those of a router.

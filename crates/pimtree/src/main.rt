@@ -1,10 +1,13 @@
-//! `pimtree` reads PIM sparse mode messages for a person. Its commands so far are `check`: a message on standard input
-//! is printed, or the fault that it has; and `replay`: what became of each packet of a router's captures, and the state
-//! that the router held at the end.
+//! `pimtree` reads PIM sparse mode messages for a person. `check` prints a message on standard input, or the fault that it
+//! has; `replay` what became of each packet of a router's captures, and the state that the router held at the end; `same`
+//! whether two routers wanted the same traffic; and `mirror` the messages that make a fresh router want what this one
+//! wanted.
 #![tactic(auto)]
 
-ghost use Rattle.pim_words.specs.Plan.{IsComparingTask};
+ghost use Rattle.pim_words.specs.Plan.{IsInRange};
 
+#[cfg(test)]
+mod captures;
 mod causes;
 mod check;
 mod comparing;
@@ -12,6 +15,9 @@ mod comparing;
 mod examples;
 mod fault;
 mod hello_text;
+#[cfg(test)]
+mod mirror_tests;
+mod mirroring;
 #[cfg(test)]
 mod replay_tests;
 mod replaying;
@@ -23,14 +29,16 @@ mod tests;
 mod text;
 #[cfg(test)]
 mod words_tests;
+mod writing;
 #[cfg(test)]
 mod writing_tests;
 
 use check::check_task;
 use comparing::same;
 use fault::Fault;
+use mirroring::mirror;
 use pim_addr::{Counted, Drain, Family, V4, V6};
-use pim_words::{Plan, Task, plan_comparing};
+use pim_words::{Plan, Task, plan};
 use replaying::replay;
 use std::io::{BufWriter, Write};
 use std::process::ExitCode;
@@ -49,7 +57,7 @@ fn run_task<'a, F: Family, W: Drain>(
     task: &Task<'a, F::Addr>,
     output: &mut W,
 ) -> Result<u8, Fault<'a>>
-    requires { IsComparingTask task.now }
+    requires { IsInRange task.now }
 {
     match task {
         Task::Check { .. } => {
@@ -58,13 +66,13 @@ fn run_task<'a, F: Family, W: Drain>(
         }
         Task::Replay(captures) => replay::<F, W>(rt, captures, output),
         Task::Same(captures, writing) => same::<F, W>(rt, captures, writing, output),
-        _ => unreachable!(),
+        Task::Mirror(captures, writing) => mirror::<F, W>(rt, captures, writing, output),
     }
 }
 
 /// Does what the words ask for, with standard input and output.
 fn run<'a>(rt: &HostRuntime, words: &'a [String]) -> Result<u8, Fault<'a>> {
-    let plan = plan_comparing(rt.alloc(), words)?;
+    let plan = plan(rt.alloc(), words)?;
     let Ok(blocks) = BufWriter::new(rt.alloc(), io::writer(rt)) else {
         return Err(Fault::Memory);
     };

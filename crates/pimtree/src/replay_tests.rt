@@ -7,7 +7,7 @@ use crate::telling::tell_into;
 use crate::tests::bytes_of;
 use pim_addr::{Drain, Family, ScriptedDrain, ScriptedFeed, V4, V6};
 use pim_merge::Merge;
-use pim_words::{Captures, Plan, Task, plan_comparing};
+use pim_words::{Captures, Plan, Task, plan};
 use std::alloc::Global;
 use std::process::Abort;
 use std::test::Fail;
@@ -15,7 +15,7 @@ use std::test::Fail;
 pub(super) const NEVER: usize = usize::MAX;
 
 /// A Hello from 10.0.0.9 at 100 s, and 5 ms later its Join of the star of 239.1.1.1, to 10.0.0.2.
-pub(super) const CAPTURE: &str = "d4c3b2a1 02000400 00000000 00000000 00000400 65000000
+const CAPTURE: &str = "d4c3b2a1 02000400 00000000 00000000 00000400 65000000
     64000000 00000000 1e000000 1e000000
     4500001e 00000000 01670000 0a000009 e000000d 20000000 00010002 dffc
     64000000 88130000 36000000 36000000
@@ -137,7 +137,7 @@ fn answer<'a>(
     most: usize,
     output: &mut ScriptedDrain,
 ) -> Result<u8, Fault<'a>> {
-    let plan = plan_comparing(alloc, words)?;
+    let plan = plan(alloc, words)?;
     match &plan {
         Plan::V4(Task::Replay(captures)) => { replayed::<V4>(alloc, captures, bytes, most, output) }
         Plan::V6(Task::Replay(captures)) => { replayed::<V6>(alloc, captures, bytes, most, output) }

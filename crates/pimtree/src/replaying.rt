@@ -40,7 +40,10 @@ pub fn config<A: Copy>(port: &Port<'_, A>) -> PortConfig<A>
 }
 
 /// The configurations of a router's ports.
-fn configs<A: Copy>(alloc: Global, ports: &[Port<'_, A>]) -> Result<Vec<PortConfig<A>>, AllocError>
+pub fn configs<A: Copy>(
+    alloc: Global,
+    ports: &[Port<'_, A>],
+) -> Result<Vec<PortConfig<A>>, AllocError>
     ensures { IfOk result (λ configs. configs.items ≡ map config_of ports.now) }
 {
     let mut configs = Vec::new(alloc);
@@ -165,7 +168,7 @@ pub fn open_port<'a, A>(
 }
 
 /// Opens the capture of each port, in order.
-fn open_all<'a, A>(
+pub fn open_all<'a, A>(
     rt: &HostRuntime,
     ports: &[Port<'a, A>],
 ) -> Result<Merge<Counted<BufReader<File>>>, Fault<'a>>

@@ -5,7 +5,7 @@ use crate::fault::Fault;
 use crate::telling::tell_into;
 use crate::tests::{JOIN_STAR, JOIN_STAR_TEXT, JOIN_STAR_V6, JOIN_STAR_V6_TEXT, bytes_of};
 use pim_addr::{ScriptedDrain, ScriptedFeed, V4, V6};
-use pim_words::{Plan, Task, plan_comparing};
+use pim_words::{Plan, Task, plan};
 use std::alloc::Global;
 use std::process::Abort;
 use std::test::Fail;
@@ -70,7 +70,7 @@ const MISTAKES: [(&[&str], &str); 13] = [
     (&[], "requires a subcommand"),
     (&["pimtree"], "requires a subcommand"),
     (&["pimtree", "chec"], "unrecognized subcommand 'chec'"),
-    (&["pimtree", "mirror"], "unrecognized subcommand 'mirror'"),
+    (&["pimtree", "mirror"], "--upstream <ADDRESS>"),
     (&["pimtree", "same"], "--own <ADDRESS>"),
     (&["pimtree", "help"], "unrecognized subcommand 'help'"),
     (
@@ -131,7 +131,7 @@ fn answer<'a>(
     message: &[u8],
     output: &mut ScriptedDrain,
 ) -> Result<u8, Fault<'a>> {
-    let plan = plan_comparing(alloc, words)?;
+    let plan = plan(alloc, words)?;
     let mut input = ScriptedFeed::new(message, 7, usize::MAX);
     match plan {
         Plan::V4(Task::Check { src, dst }) => {

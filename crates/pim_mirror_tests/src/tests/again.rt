@@ -1,6 +1,6 @@
 //! What a router is asked for, and what one asks for again that heard it by canonical messages alone.
 
-use pim_addr::{Routes, V4};
+use pim_addr::{Family, Routes, V4};
 use pim_form::{Messages, Writer};
 use pim_frame::{MessageType, all_routers, seal};
 use pim_router::{Config, PortConfig, Router, Step, Verdict};
@@ -33,7 +33,7 @@ pub(super) const UP: [PortConfig<[u8; 4]>; 1] = [PortConfig {
 
 /// To 10.1.0.1, with holdtime 210: the star of 239.1.1.1 except 192.0.2.1, two sources of 239.1.2.1, and the star of
 /// 239.1.3.1. Two messages of 70 bytes tell it.
-const ASKED: [u8; 90] = [
+pub(super) const ASKED: [u8; 90] = [
     0, 0, 0, 0, 1, 0, 10, 1, 0, 1, 0, 3, 0, 210, 1, 0, 0, 32, 239, 1, 1, 1, 0, 1, 0, 1, 1, 0, 7,
     32, 10, 9, 9, 9, 1, 0, 5, 32, 192, 0, 2, 1, 1, 0, 0, 32, 239, 1, 2, 1, 0, 2, 0, 0, 1, 0, 4, 32,
     192, 0, 2, 1, 1, 0, 4, 32, 192, 0, 2, 2, 1, 0, 0, 32, 239, 1, 3, 1, 0, 1, 0, 0, 1, 0, 7, 32,
@@ -48,50 +48,65 @@ pub(super) fn table(alloc: Global) -> Option<Routes<V4>> {
     Some(routes)
 }
 
-/// Lets the first port take a message from this neighbour; `None` where there is no port or memory is wanting.
-fn take(
-    router: &mut Router<'_, V4>,
-    from: [u8; 4],
+/// Lets a port take a message from this neighbour; `None` where there is no such port or memory is wanting.
+pub(super) fn take<F: Family>(
+    router: &mut Router<'_, F>,
+    port: usize,
+    from: F::Addr,
     message_type: MessageType,
     bytes: &mut [u8],
 ) -> Option<Verdict> {
     if bytes.len() < 4 || bytes.len() >= 65_536 {
         return None;
     }
-    seal::<V4>(from, all_routers::<V4>(), message_type, bytes);
-    deliver(router, from, bytes)
+    seal::<F>(from, all_routers::<F>(), message_type, bytes);
+    deliver(router, port, from, bytes)
 }
 
 /// The same of a message that is sealed.
-fn deliver(router: &mut Router<'_, V4>, from: [u8; 4], bytes: &[u8]) -> Option<Verdict> {
-    if router.port_count() == 0 || bytes.len() >= 65_536 {
+fn deliver<F: Family>(
+    router: &mut Router<'_, F>,
+    port: usize,
+    from: F::Addr,
+    bytes: &[u8],
+) -> Option<Verdict> {
+    if port >= router.port_count() || bytes.len() >= 65_536 {
         return None;
     }
-    router.take_packet(0, from, all_routers::<V4>(), bytes).ok()
+    router
+        .take_packet(port, from, all_routers::<F>(), bytes)
+        .ok()
 }
 
-/// A router with this port that knows these neighbours for ever.
-fn started<'a>(
+/// Lets a port know this neighbour for ever.
+fn greet<F: Family>(router: &mut Router<'_, F>, port: usize, neighbour: F::Addr) -> bool {
+    let mut hello = [0, 0, 0, 0, 0, 1, 0, 2, 255, 255];
+    take(router, port, neighbour, MessageType::Hello, &mut hello).is_some()
+}
+
+/// A router with these ports that knows these neighbours, each on its port, for ever.
+pub(super) fn started<'a, F: Family>(
     alloc: Global,
-    ports: &'a [PortConfig<[u8; 4]>],
-    routes: &'a Routes<V4>,
-    neighbours: &[[u8; 4]],
-) -> Option<Router<'a, V4>> {
+    ports: &'a [PortConfig<F::Addr>],
+    routes: &'a Routes<F>,
+    neighbours: &[(usize, F::Addr)],
+) -> Option<Router<'a, F>> {
     let config = Config {
         ports,
         routes,
         limit: 1000,
     };
     let mut router = Router::new(alloc, &config).ok()?;
-    for &neighbour in neighbours {
-        let mut hello = [0, 0, 0, 0, 0, 1, 0, 2, 255, 255];
-        take(&mut router, neighbour, MessageType::Hello, &mut hello)?;
+    for &(port, neighbour) in neighbours {
+        if !greet(&mut router, port, neighbour) {
+            return None;
+        }
     }
     Some(router)
 }
 
 /// Runs to a moment through its refreshes: whether no echo is told.
-pub(super) fn reach(router: &mut Router<'_, V4>, moment: u64) -> bool {
+pub(super) fn reach<F: Family>(router: &mut Router<'_, F>, moment: u64) -> bool {
     if moment > 1_000_000 {
         return false;
     }
@@ -112,8 +127,9 @@ pub(super) fn asked_for(
     message: &mut [u8],
 ) -> Option<Messages> {
     let routes = table(alloc)?;
-    let mut router = started(alloc, &DOWN, &routes, &[BELOW])?;
-    if take(&mut router, BELOW, MessageType::JoinPrune, message)? != Verdict::Applied {
+    let mut router = started(alloc, &DOWN, &routes, &[(0, BELOW)])?;
+    let verdict = take(&mut router, 0, BELOW, MessageType::JoinPrune, message)?;
+    if verdict != Verdict::Applied {
         return None;
     }
     if !reach(&mut router, 0) {
@@ -131,13 +147,13 @@ fn asks_again(alloc: Global, deliveries: &[(usize, u64)], moment: u64) -> Option
         return None;
     }
     let routes = table(alloc)?;
-    let mut router = started(alloc, &UP, &routes, &[WRITER, OTHER])?;
+    let mut router = started(alloc, &UP, &routes, &[(0, WRITER), (0, OTHER)])?;
     for &(index, at) in deliveries {
         let bytes = messages.get(index)?;
         if !reach(&mut router, at) {
             return None;
         }
-        if deliver(&mut router, WRITER, bytes)? != Verdict::Applied {
+        if deliver(&mut router, 0, WRITER, bytes)? != Verdict::Applied {
             return None;
         }
     }

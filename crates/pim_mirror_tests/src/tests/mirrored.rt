@@ -1,7 +1,7 @@
 //! What a fresh router is that heard canonical messages alone, at its final moment.
 
 use super::again::{OTHER, UP, UPSTREAM, WRITER, asked_for, reach, table};
-use pim_addr::{Routes, V4};
+use pim_addr::{Family, Routes, V4};
 use pim_form::{Messages, Writer};
 use pim_hello::Parameters;
 use pim_mirror::{Delivery, FreshConfig, MirrorFault, OtherNeighbour, are_short, fits, mirror};
@@ -10,7 +10,7 @@ use std::alloc::Global;
 use std::test::Fail;
 
 /// Another neighbour, for ever, that doesn't tell its delays: the override interval is 3,000 ms.
-const OTHERS: [OtherNeighbour<[u8; 4]>; 1] = [OtherNeighbour {
+pub(super) const OTHERS: [OtherNeighbour<[u8; 4]>; 1] = [OtherNeighbour {
     address: OTHER,
     hello: Parameters {
         holdtime: Some(0xffff),
@@ -85,12 +85,12 @@ fn deliveries(alloc: Global, rows: &[(usize, u64)]) -> Option<Vec<Delivery>> {
 
 /// What the mirror answers; `None` where it doesn't fit. Where a growth is refused, it is what it answers when it is
 /// called again.
-fn mirrored<'a>(
+pub(super) fn mirrored<'a, F: Family>(
     alloc: Global,
     messages: &Messages,
-    writer: &Writer<V4>,
-    fresh: &FreshConfig<'a, V4>,
-) -> Option<Result<Router<'a, V4>, MirrorFault>> {
+    writer: &Writer<F>,
+    fresh: &FreshConfig<'a, F>,
+) -> Option<Result<Router<'a, F>, MirrorFault>> {
     if !fits(messages, writer, fresh.routes, fresh) {
         return None;
     }

@@ -1,6 +1,6 @@
 //! What is made of words.
 
-use pim_words::{ConfigCause, Fault, Plan, Side, Task, plan, plan_comparing};
+use pim_words::{ConfigCause, Fault, Plan, Side, Task, plan};
 use std::alloc::Global;
 use std::test::Fail;
 
@@ -314,7 +314,7 @@ fn has_ends(plan: &Plan<'_>, from: &[u8], to: &[u8]) -> bool {
 #[test]
 fn options_give_the_ends(rt: HostRuntime) {
     for (words, from, to) in ENDS {
-        let is_so = match plan_comparing(rt.alloc(), words) {
+        let is_so = match plan(rt.alloc(), words) {
             Ok(plan) => has_ends(&plan, from, to),
             Err(_) => false,
         };
@@ -323,7 +323,7 @@ fn options_give_the_ends(rt: HostRuntime) {
 }
 
 /// Requests for help, with a part of the answer.
-const HELP: [(&[&str], &str); 14] = [
+const HELP: [(&[&str], &str); 15] = [
     (
         &["p", "--help"],
         "What does this message say, or where is it wrong?",
@@ -335,6 +335,10 @@ const HELP: [(&[&str], &str); 14] = [
     (
         &["p", "--help"],
         "Do these two routers want the same traffic?",
+    ),
+    (
+        &["p", "--help"],
+        "Which messages make a fresh router want what this router wants?",
     ),
     (
         &["p", "check", "--help"],
@@ -383,30 +387,5 @@ fn help_names_units_ranges_and_defaults(rt: HostRuntime) {
             Err(fault) => shows(&fault, part),
         };
         assert!(rt; is_shown);
-    }
-}
-
-/// What a program without `mirror` offers is the rest.
-#[test]
-fn help_offers_what_there_is(rt: HostRuntime) {
-    for (words, part, is_there) in [
-        (
-            ["p", "--help"],
-            "What state did this router hold, and why?",
-            true,
-        ),
-        (
-            ["p", "--help"],
-            "Do these two routers want the same traffic?",
-            true,
-        ),
-        (["p", "--help"], "mirror", false),
-        (["p", "mirror"], "unrecognized subcommand 'mirror'", true),
-    ] {
-        let is_shown = match plan_comparing(rt.alloc(), &words) {
-            Ok(_) => false,
-            Err(fault) => shows(&fault, part),
-        };
-        assert_eq!(rt; is_shown, is_there);
     }
 }

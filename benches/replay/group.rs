@@ -1,0 +1,115 @@
+//! The machines of a group.
+use crate::address::Address;
+use crate::join_prune::Entry;
+use crate::machine::{on_join, on_prune, on_rpt_prune, on_star_join, Machine, Start};
+use std::collections::btree_map::{self, BTreeMap};
+
+/// Which of a group's machines it is.
+#[derive(Clone, Copy, PartialEq, Eq, PartialOrd, Ord)]
+pub enum What<A> {
+    Star,
+    Source(A),
+    Rpt(A),
+}
+
+pub struct Group<A> {
+    pub star: Option<Machine>,
+    pub sources: BTreeMap<A, Machine>,
+    pub rpts: BTreeMap<A, Machine>,
+}
+
+/// A machine before and after something has changed it.
+pub struct Change {
+    pub before: Option<Machine>,
+    pub after: Option<Machine>,
+}
+
+/// Changes one of these machines.
+fn change_in<A: Ord>(
+    machines: &mut BTreeMap<A, Machine>,
+    source: A,
+    next: impl FnOnce(Option<Machine>) -> Option<Machine>,
+) -> Change {
+    match machines.entry(source) {
+        btree_map::Entry::Vacant(place) => {
+            let after = next(None);
+            if let Some(machine) = after {
+                place.insert(machine);
+            }
+            Change { before: None, after }
+        }
+        btree_map::Entry::Occupied(mut place) => {
+            let before = Some(*place.get());
+            let after = next(before);
+            match after {
+                Some(machine) => drop(place.insert(machine)),
+                None => drop(place.remove()),
+            }
+            Change { before, after }
+        }
+    }
+}
+
+impl<A> What<A> {
+    /// The machine that an entry is about.
+    pub fn of(entry: Entry<A>) -> Self {
+        match entry {
+            Entry::Star(_) => What::Star,
+            Entry::Source(source) => What::Source(source),
+            Entry::Rpt(source) => What::Rpt(source),
+        }
+    }
+
+    pub fn is_rpt(&self) -> bool {
+        matches!(self, What::Rpt(_))
+    }
+}
+
+impl<A: Address> Group<A> {
+    pub fn new() -> Self {
+        Group { star: None, sources: BTreeMap::new(), rpts: BTreeMap::new() }
+    }
+
+    pub fn is_empty(&self) -> bool {
+        self.star.is_none() && self.sources.is_empty() && self.rpts.is_empty()
+    }
+
+    pub fn get(&self, what: What<A>) -> Option<&Machine> {
+        match what {
+            What::Star => self.star.as_ref(),
+            What::Source(source) => self.sources.get(&source),
+            What::Rpt(source) => self.rpts.get(&source),
+        }
+    }
+
+    pub fn change(&mut self, what: What<A>, next: impl FnOnce(Option<Machine>) -> Option<Machine>) -> Change {
+        match what {
+            What::Star => {
+                let before = self.star;
+                self.star = next(before);
+                Change { before, after: self.star }
+            }
+            What::Source(source) => change_in(&mut self.sources, source, next),
+            What::Rpt(source) => change_in(&mut self.rpts, source, next),
+        }
+    }
+
+    pub fn hear_join(&mut self, what: What<A>, start: Start) -> Change {
+        if what == What::Star {
+            self.rpts.values_mut().for_each(on_star_join);
+        }
+        self.change(what, |held| if what.is_rpt() { None } else { on_join(held, start) })
+    }
+
+    pub fn hear_prune(&mut self, what: What<A>, start: Start) -> Change {
+        let next = if what.is_rpt() { on_rpt_prune } else { on_prune };
+        self.change(what, |held| next(held, start))
+    }
+
+    /// The end of a message that names the group. The answer is how many machines end.
+    pub fn end_message(&mut self) -> usize {
+        let count = self.rpts.len();
+        self.rpts.retain(|_, machine| !machine.is_temporary());
+        count - self.rpts.len()
+    }
+}

@@ -1,0 +1,46 @@
+#!/bin/sh
+# Replays one capture by pimtree and by plain Rust, three times each and by turns: tells whether the reports are byte-equal, and
+# how many Join/Prune packets each takes a second in the best of its runs. capture.rs says what is in the capture.
+#
+#   benches/replay/run.sh PIMTREE [PACKETS]        PIMTREE is the built program; 100,000 packets unless said
+set -eu
+
+pimtree=$1
+packets=${2:-100000}
+here=$(cd "$(dirname "$0")" && pwd)
+work=$(mktemp -d)
+trap 'rm -rf "$work"' EXIT
+
+for program in capture plain; do
+    rustc --edition 2021 -O -C target-cpu=x86-64-v2 -o "$work/$program" "$here/$program.rs"
+done
+"$work/capture" "$packets" "$work/bench.pcap"
+
+# Runs a program, and keeps its report and how many nanoseconds it took: run NAME PROGRAM
+run() {
+    start=$(date +%s%N)
+    "$2" replay --rp 10.9.9.9 --limit 100000 "10.0.0.2@$work/bench.pcap" > "$work/$1.report"
+    end=$(date +%s%N)
+    echo $((end - start)) >> "$work/$1.times"
+}
+
+for turn in 1 2 3; do
+    run pimtree "$pimtree"
+    run plain "$work/plain"
+    cmp "$work/pimtree.report" "$work/plain.report"
+done
+echo "reports of $(wc -l < "$work/plain.report") lines, byte-equal"
+
+# Tells the runs of a program: tell NAME
+tell() {
+    awk -v name="$1" -v packets="$packets" '
+        NR == 1 || $1 < best { best = $1 }
+        { runs = runs sprintf(" %.2f", $1 / 1e9) }
+        END { printf "%s: %d packets a second, runs of%s s\n", name, packets * 1e9 / best, runs }' "$work/$1.times"
+}
+
+tell pimtree
+tell plain
+awk 'FNR == 1 || $1 < best[FILENAME] { best[FILENAME] = $1 }
+    END { printf "pimtree takes %.2f times as long as plain Rust\n", best[ARGV[1]] / best[ARGV[2]] }' \
+    "$work/pimtree.times" "$work/plain.times"

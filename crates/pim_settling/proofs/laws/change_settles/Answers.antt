@@ -1,0 +1,12 @@
+use Rattle.pim_settling.proofs.Courses.{Machines}
+use Rattle.pim_settling.proofs.Settling.{change_settles}
+use Rattle.pim_settling.proofs.laws.change_settles.Goals as goal
+
+pub returns : goal.returns
+returns c =
+    let laws : Machines = record {
+      keys = c.keys_are_told_apart.ensures;
+      order = c.hearing_keeps_the_order.ensures;
+      hears = c.hearing_acts_at_each_key.ensures;
+    } in
+    change_settles laws

@@ -1,0 +1,33 @@
+-- What becomes of machines that hear messages.
+use Rattle.std.specs.Prelude.{◌≡◌, ℕ, ◌≤◌, List}
+use Rattle.pim_addr.specs.declared.family.AddressFamily.{AddressFamily}
+use Rattle.pim_down.specs.declared.key.Key.{Key}
+use Rattle.pim_down.specs.Records.{IsAscending, machine_at}
+use Rattle.pim_down.specs.Sound.{IsSound}
+use Rattle.pim_down.specs.Time.{Downstream}
+use Rattle.pim_form.specs.NormalForm.{GroupForm}
+use Rattle.pim_form.specs.Settled.{IsSettledAt}
+use Rattle.pim_fresh.specs.Exchange.{Exchange}
+use Rattle.pim_fresh.specs.Deliveries.{Delivery, final_moment}
+use Rattle.pim_settling.specs.Course.{Course, IsOn, IsPast}
+use Rattle.pim_settling.specs.Hearing.{Hears, course_of}
+use Rattle.pim_settling.specs.Telling.{TellsChange}
+
+-- Each machine goes the course that the deliveries make of its own.
+abbrev pub CoursesAreKept : Type 0
+CoursesAreKept = (exchange : Exchange) (start after : Downstream) (deliveries : List Delivery) (moment : ℕ)
+    (courses : Key (List ℕ) → Course) → IsAscending start.records →
+    ((key : Key (List ℕ)) → IsOn key.what start.moment (courses key) (machine_at key start.records)) →
+    Hears exchange start deliveries moment after →
+    (after.moment ≡ moment)
+    × ((key : Key (List ℕ)) → IsPast key.what moment (course_of exchange key (courses key) deliveries)
+    (machine_at key after.records))
+
+-- A port that is settled at one form and hears the messages that tell the change to another one, in any order and however
+-- often each comes, is settled at the other one from the final moment of these deliveries on.
+abbrev pub ChangeSettles : Type 0
+ChangeSettles = (family : AddressFamily) (exchange : Exchange) (old new : List GroupForm) (start after : Downstream)
+    (deliveries : List Delivery) (moment : ℕ) → IsSound family start → IsSettledAt exchange.port old start.records →
+    TellsChange exchange old new deliveries → Hears exchange start deliveries moment after →
+    final_moment exchange.timing.override_ms deliveries ≤ moment →
+    (after.moment ≡ moment) × IsSettledAt exchange.port new after.records

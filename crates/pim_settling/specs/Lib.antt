@@ -1,0 +1,4 @@
+pub mod Course
+pub mod Hearing
+pub mod Telling
+pub mod Laws
