@@ -8,3 +8,4 @@ pub mod Time
 pub mod Course
 pub mod Laws
 pub mod Canonical
+pub mod Change

@@ -6,10 +6,12 @@
 //! of milliseconds over the neighbours, the downstream machines and the refreshes; a run stops at an echo and at a
 //! refresh, and between calls no neighbour's time is over. What a router tells over a list of packets and moments, its
 //! course, is a function of the list. `canonical` gives the messages by which an upstream neighbour is asked for what
-//! the ports want of it, and `same_wants` tells whether two routers under one table want the same of it.
+//! the ports want of it, `triggered` those that move it there from what it was last told, and `same_wants` tells whether
+//! two routers under one table want the same of it.
 #![tactic(auto)]
 
 mod canonical;
+mod change;
 mod config;
 mod laws;
 mod router;

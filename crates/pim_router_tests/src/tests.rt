@@ -2,6 +2,7 @@
 //! 10.0.0.1 and 10.0.1.1. Each is a table of rows that are played one after the other.
 
 mod asking;
+mod changing;
 mod comparing;
 mod crowds;
 mod jumps;

