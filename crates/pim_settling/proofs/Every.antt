@@ -1,6 +1,6 @@
 -- All that is told of a change is named by the message of some run.
-use Rattle.std.proofs.Common.{◌≡◌, ℕ, zero, suc, ◌<◌, Bool, true, false, cond, not, ◌&&◌, ◌||◌, List, [], ◌∷◌, ◌++◌, map, length, Option, None, Some, refl, sym, ap, subst, ◌∙◌, arith}
-use Rattle.std.specs.List.{AllByRecursion, filter, flat_map, list_any}
+use Rattle.std.proofs.Common.{◌≡◌, ℕ, suc, ◌<◌, Bool, true, false, cond, not, ◌&&◌, ◌||◌, List, [], ◌∷◌, ◌++◌, map, length, Option, None, Some, refl, sym, ap, subst, ◌∙◌, arith}
+use Rattle.std.specs.List.{flat_map, list_any}
 use Rattle.std.specs.Option.{is_some}
 use Rattle.std.specs.declared.cmp.Ordering.{Ordering}
 use Rattle.std.specs.declared.cmp.Ordering.TheVariants.{Less, Equal, Greater}
@@ -13,7 +13,7 @@ use Rattle.pim_down.specs.declared.key.What.{What}
 use Rattle.pim_down.specs.declared.key.What.TheVariants.{Star, Source, Rpt}
 use Rattle.pim_down.specs.declared.key.Key.{Key}
 use Rattle.pim_down.specs.Key.{same_key}
-use Rattle.pim_down.specs.Hearing.{Event, is_known, event, entry_events, list_events, set_events, key_of}
+use Rattle.pim_down.specs.Hearing.{Event, is_known, event, list_events, key_of}
 use Rattle.pim_down.specs.Laws.{KeysAreToldApart}
 use Rattle.pim_form.specs.Messages.{Rps}
 use Rattle.pim_form.specs.NormalForm.{GroupForm, same_address, is_listed, groups_of}
@@ -24,9 +24,9 @@ use Rattle.pim_fresh.specs.Exchange.{is_named}
 use Rattle.pim_change.specs.declared.unit.Kind.{Kind}
 use Rattle.pim_change.specs.declared.unit.Kind.TheVariants.{JoinRpt, PruneRpt, JoinSource, PruneSource}
 use Rattle.pim_change.specs.Change.{Telling, star_joined, star_pruned, told, lacking, star_change, sources_change, group_change, ChangeUnit, unit_of, change_at, change}
-use Rattle.pim_change.specs.Told.{rp_entry, excepted_entries, GroupTellings, tellings_of, set_in_front, in_front, grouped, told_set}
+use Rattle.pim_change.specs.Told.{rp_entry, GroupTellings, set_in_front, in_front, grouped}
 use Rattle.pim_settling.specs.Runs.{run_events, run_at, HaveRps}
-use Rattle.pim_settling.specs.Telling.{told_if, rpt_told, told_of, rpt_at}
+use Rattle.pim_settling.specs.Telling.{told_if, rpt_told, told_of}
 use Rattle.pim_settling.proofs.Units.{itself, told_here}
 use Rattle.pim_settling.proofs.Only.{or_left, or_second, joined_of, pruned_of, all_joined, all_pruned, first_joined, first_pruned, excepted_named, events_of_sets}
 
@@ -287,8 +287,8 @@ module _ (keys : KeysAreToldApart) (rps : Rps) (old new : List GroupForm) (port 
   change_names what joins t =
       any_flat (names_unit (key_for what)) (change_at old new) (same_address group) (united (groups_of old) (groups_of new))
       (λ g s.
-          subst (λ (h : List ℕ). list_any (names_unit (key_for what)) (change_at old new h) ≡ true) (same_text group g (sym s))
-          (any_map (names_unit (key_for what)) (unit_of group) (group_change (group_in group old) (group_in group new)) (group_named what joins t)))
+      subst (λ (h : List ℕ). list_any (names_unit (key_for what)) (change_at old new h) ≡ true) (same_text group g (sym s))
+      (any_map (names_unit (key_for what)) (unit_of group) (group_change (group_in group old) (group_in group new)) (group_named what joins t)))
       (either_listed group old new what joins t)
 
   -- ---- the message of a run
@@ -340,7 +340,7 @@ module _ (keys : KeysAreToldApart) (rps : Rps) (old new : List GroupForm) (port 
           | true ↦ λ s.
               let same : this.group ≡ first.group = same_text this.group first.group (sym s) in
               elim (is_named port key (set_events_here first.group first.tellings)) as (λ c. is_named port key (set_events_here first.group first.tellings) ≡ c → (c || is_named port key (events_here sets)) ≡ true
-                  → is_named port key (set_events_here this.group (this.telling ∷ first.tellings) ++ events_here sets) ≡ true) [
+              → is_named port key (set_events_here this.group (this.telling ∷ first.tellings) ++ events_here sets) ≡ true) [
                 | true ↦ λ t m.
                     any_left names (set_events_here this.group (this.telling ∷ first.tellings)) (events_here sets)
                     (set_more this.group this.telling first.tellings (ap (λ g. is_named port key (set_events_here g first.tellings)) same ∙ t))

@@ -1,33 +1,27 @@
 -- The message of a run tells nothing but the change, and behind a Join(*,G) each exception of the new star.
 use Rattle.std.proofs.Common.{◌≡◌, ℕ, Bool, true, false, cond, not, ◌&&◌, ◌||◌, List, [], ◌∷◌, ◌++◌, map, Option, None, Some, refl, sym, ap, subst, ◌∙◌}
-use Rattle.std.specs.List.{AllByRecursion, flat_map, list_any}
+use Rattle.std.specs.List.{AllByRecursion, flat_map}
 use Rattle.std.specs.Option.{is_some}
-use Rattle.std.specs.Prelude.{nat_eq}
-use Rattle.std.specs.Cmp.Lexicographic.{pointwise, same_text}
+use Rattle.std.specs.Cmp.Lexicographic.{same_text}
 use Rattle.std.proofs.lemmas.Bool.{false≢true}
 use Rattle.std.proofs.lemmas.Grind.{flat_map-append}
 use Rattle.std.proofs.lemmas.List.Folds.{list_any-append}
 use Rattle.std.proofs.Common.{append_assoc}
-use Rattle.pim_jp.specs.declared.entry.Entry.{Entry}
-use Rattle.pim_jp.specs.declared.entry.Entry.TheVariants as entry
-use Rattle.pim_jp.specs.Message.{GroupSet}
-use Rattle.pim_down.specs.declared.key.What.{What}
-use Rattle.pim_down.specs.declared.key.What.TheVariants.{Star, Source, Rpt}
+use Rattle.pim_down.specs.declared.key.What.TheVariants.{Star, Rpt}
 use Rattle.pim_down.specs.declared.key.Key.{Key}
 use Rattle.pim_down.specs.Key.{same_key}
-use Rattle.pim_down.specs.Hearing.{Event, is_known, event, entry_events, list_events, set_events, key_of, is_star, is_star_join}
+use Rattle.pim_down.specs.Hearing.{Event, is_known, event, entry_events, list_events, set_events, key_of, is_star_join}
 use Rattle.pim_down.specs.Laws.{KeysAreToldApart}
 use Rattle.pim_form.specs.Messages.{Rps}
 use Rattle.pim_form.specs.NormalForm.{GroupForm, same_address, is_listed}
 use Rattle.pim_form.specs.Rows.{exceptions_of}
 use Rattle.pim_form.specs.Settled.{group_in}
 use Rattle.pim_fresh.specs.Exchange.{is_named}
-use Rattle.pim_change.specs.declared.unit.Kind.{Kind}
 use Rattle.pim_change.specs.declared.unit.Kind.TheVariants.{JoinRpt, PruneRpt, JoinSource, PruneSource}
 use Rattle.pim_change.specs.Change.{Telling, star_joined, star_pruned, told, ChangeUnit}
-use Rattle.pim_change.specs.Told.{rp_entry, kind_joined, kind_pruned, excepted_entries, joined_entries, pruned_entries, GroupTellings, tellings_of, set_in_front, in_front, grouped, told_set, told_sets}
+use Rattle.pim_change.specs.Told.{rp_entry, excepted_entries, joined_entries, pruned_entries, GroupTellings, set_in_front, in_front, grouped, told_set}
 use Rattle.pim_settling.specs.Runs.{run_events}
-use Rattle.pim_settling.specs.Telling.{told_if, rpt_told, told_of, IsTold, rpt_at, ExceptionsFollow, TellsOnly}
+use Rattle.pim_settling.specs.Telling.{told_if, rpt_told, IsTold, rpt_at, ExceptionsFollow, TellsOnly}
 use Rattle.pim_settling.proofs.Units.{all_append, itself, or_true, told_here, Says, UnitSays}
 
 pub or_left : (a b : Bool) → a ≡ true → (a || b) ≡ true

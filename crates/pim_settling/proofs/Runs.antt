@@ -1,12 +1,9 @@
 -- The messages of the runs of a change tell exactly the change.
-use Rattle.std.proofs.Common.{◌≡◌, ℕ, List, sym, ap, subst, ◌∙◌}
-use Rattle.pim_down.specs.declared.key.What.{What}
-use Rattle.pim_down.specs.declared.key.Key.{Key}
-use Rattle.pim_down.specs.Hearing.{Event}
+use Rattle.std.proofs.Common.{sym, ap, subst, ◌∙◌}
 use Rattle.pim_down.specs.Laws.{KeysAreToldApart}
 use Rattle.pim_fresh.specs.Exchange.{is_named}
-use Rattle.pim_settling.specs.Runs.{run_events, run_at}
-use Rattle.pim_settling.specs.Telling.{TellsOnly, TellsChange}
+use Rattle.pim_settling.specs.Runs.{run_at}
+use Rattle.pim_settling.specs.Telling.{TellsOnly}
 use Rattle.pim_settling.specs.Laws.{RunsTellTheChange}
 use Rattle.pim_settling.proofs.Units.{runs_say}
 use Rattle.pim_settling.proofs.Only.{run_tells_only}

@@ -1,19 +1,16 @@
 -- What the units of a change say is told.
 use Rattle.std.proofs.Common.{◌≡◌, ℕ, zero, suc, Bool, true, false, cond, not, ◌||◌, List, [], ◌∷◌, ◌++◌, map, Option, None, Some, refl, sym, ap, subst, ◌∙◌}
-use Rattle.std.specs.List.{AllByRecursion, filter, flat_map, list_any}
+use Rattle.std.specs.List.{AllByRecursion, filter, flat_map}
 use Rattle.std.specs.Option.{is_some}
-use Rattle.std.specs.Prelude.{nat_eq}
-use Rattle.std.specs.Cmp.Lexicographic.{pointwise, lists_equiv}
+use Rattle.std.specs.Cmp.Lexicographic.{lists_equiv}
 use Rattle.std.specs.Cmp.{nat_eq_equiv}
-use Rattle.std.proofs.lemmas.Bool.{false≢true}
 use Rattle.pim_down.specs.declared.key.What.{What}
 use Rattle.pim_down.specs.declared.key.What.TheVariants.{Star, Source, Rpt}
 use Rattle.pim_form.specs.NormalForm.{GroupForm, same_address, is_listed, groups_of}
 use Rattle.pim_form.specs.Merge.{united}
 use Rattle.pim_form.specs.Settled.{group_in}
-use Rattle.pim_change.specs.declared.unit.Kind.{Kind}
 use Rattle.pim_change.specs.declared.unit.Kind.TheVariants.{JoinRpt, PruneRpt, JoinSource, PruneSource}
-use Rattle.pim_change.specs.Change.{Telling, star_joined, star_pruned, told, lacking, star_change, sources_change, group_change, ChangeUnit, unit_of, about, change_at, change}
+use Rattle.pim_change.specs.Change.{Telling, star_joined, star_pruned, told, lacking, star_change, sources_change, group_change, ChangeUnit, unit_of, change_at, change}
 use Rattle.pim_settling.specs.Runs.{run_at}
 use Rattle.pim_settling.specs.Telling.{told_if, rpt_told, told_of}
 
