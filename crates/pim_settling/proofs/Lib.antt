@@ -9,3 +9,4 @@ pub mod Units
 pub mod Only
 pub mod Every
 pub mod Runs
+pub mod Read
