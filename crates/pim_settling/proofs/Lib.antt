@@ -10,3 +10,4 @@ pub mod Only
 pub mod Every
 pub mod Runs
 pub mod Read
+pub mod Wanting

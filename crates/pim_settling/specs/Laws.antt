@@ -7,8 +7,9 @@ use Rattle.pim_down.specs.Records.{IsAscending, machine_at}
 use Rattle.pim_down.specs.Sound.{IsSound}
 use Rattle.pim_down.specs.Time.{Downstream}
 use Rattle.pim_form.specs.Messages.{Rps, Writing, IsWriting, HaveRps}
-use Rattle.pim_form.specs.NormalForm.{GroupForm, IsNormal}
+use Rattle.pim_form.specs.NormalForm.{GroupForm, IsNormal, IsFormOf}
 use Rattle.pim_form.specs.Settled.{IsSettledAt}
+use Rattle.pim_form.specs.Wants.{wants}
 use Rattle.pim_change.specs.Change.{ChangeUnit, change}
 use Rattle.pim_change.specs.Told.{TellChange}
 use Rattle.pim_fresh.specs.Exchange.{Exchange}
@@ -55,3 +56,8 @@ ToldChangeSettles = (family : AddressFamily) (writing : Writing) (rps : Rps) (ol
     IsSound family start → IsSettledAt exchange.port old start.records →
     Hears exchange start deliveries moment after → final_moment exchange.timing.override_ms deliveries ≤ moment →
     (after.moment ≡ moment) × IsSettledAt exchange.port new after.records
+
+-- A router of one port that is settled at a normal form wants exactly what the form means: it is the form of its demand.
+abbrev pub SettledWants : Type 0
+SettledWants = (family : AddressFamily) (form : List GroupForm) (state : Downstream) → IsNormal family form →
+    state.ports ≡ 1 → IsSettledAt 0 form state.records → IsFormOf family (wants state) form

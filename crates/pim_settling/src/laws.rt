@@ -1,6 +1,7 @@
 //! What the definitions say together. Nothing here is to be called.
 
 ghost use Rattle.pim_settling.specs.Laws.{CoursesAreKept, ChangeSettles, RunsTellTheChange, ToldChangeSettles};
+ghost use Rattle.pim_settling.specs.Laws.{SettledWants};
 
 /// A port whose machines each go some course hears messages, and no expiry timer ends meanwhile: then each machine goes
 /// the course that these make of its own, and no prune-pending timer is due.
@@ -40,3 +41,8 @@ pub fn told_change_settles()
     pim_down::hearing_acts_at_each_key();
     pim_change::change_is_read();
 }
+
+/// A port that is settled at a normal form, the only one of its router, wants exactly what the form means.
+pub fn settled_wants()
+    ensures { SettledWants }
+{}

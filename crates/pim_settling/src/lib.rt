@@ -9,4 +9,6 @@
 
 mod laws;
 
-pub use laws::{change_settles, courses_are_kept, runs_tell_the_change, told_change_settles};
+pub use laws::{
+    change_settles, courses_are_kept, runs_tell_the_change, settled_wants, told_change_settles,
+};
