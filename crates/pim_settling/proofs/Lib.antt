@@ -5,3 +5,7 @@ pub mod Courses
 pub mod Messages
 pub mod Tellings
 pub mod Settling
+pub mod Units
+pub mod Only
+pub mod Every
+pub mod Runs

@@ -1,16 +1,20 @@
 -- What becomes of machines that hear messages.
 use Rattle.std.specs.Prelude.{◌≡◌, ℕ, ◌≤◌, List}
+use Rattle.std.specs.List.{flat_map}
 use Rattle.pim_addr.specs.declared.family.AddressFamily.{AddressFamily}
 use Rattle.pim_down.specs.declared.key.Key.{Key}
 use Rattle.pim_down.specs.Records.{IsAscending, machine_at}
 use Rattle.pim_down.specs.Sound.{IsSound}
 use Rattle.pim_down.specs.Time.{Downstream}
+use Rattle.pim_form.specs.Messages.{Rps}
 use Rattle.pim_form.specs.NormalForm.{GroupForm}
 use Rattle.pim_form.specs.Settled.{IsSettledAt}
+use Rattle.pim_change.specs.Change.{ChangeUnit, change}
 use Rattle.pim_fresh.specs.Exchange.{Exchange}
 use Rattle.pim_fresh.specs.Deliveries.{Delivery, final_moment}
 use Rattle.pim_settling.specs.Course.{Course, IsOn, IsPast}
 use Rattle.pim_settling.specs.Hearing.{Hears, course_of}
+use Rattle.pim_settling.specs.Runs.{AreHeard, AllCame, HaveRps}
 use Rattle.pim_settling.specs.Telling.{TellsChange}
 
 -- Each machine goes the course that the deliveries make of its own.
@@ -31,3 +35,9 @@ ChangeSettles = (family : AddressFamily) (exchange : Exchange) (old new : List G
     TellsChange exchange old new deliveries → Hears exchange start deliveries moment after →
     final_moment exchange.timing.override_ms deliveries ≤ moment →
     (after.moment ≡ moment) × IsSettledAt exchange.port new after.records
+
+-- The messages of the units of a change, in runs as they are packed, tell exactly that change, each once or more often.
+abbrev pub RunsTellTheChange : Type 0
+RunsTellTheChange = (rps : Rps) (old new : List GroupForm) (runs : List (List ChangeUnit)) (exchange : Exchange)
+    (deliveries : List Delivery) → flat_map (λ run. run) runs ≡ change old new → HaveRps rps old → HaveRps rps new →
+    AreHeard rps runs exchange → AllCame runs deliveries → TellsChange exchange old new deliveries

@@ -1,6 +1,6 @@
 //! What the definitions say together. Nothing here is to be called.
 
-ghost use Rattle.pim_settling.specs.Laws.{CoursesAreKept, ChangeSettles};
+ghost use Rattle.pim_settling.specs.Laws.{CoursesAreKept, ChangeSettles, RunsTellTheChange};
 
 /// A port whose machines each go some course hears messages, and no expiry timer ends meanwhile: then each machine goes
 /// the course that these make of its own, and no prune-pending timer is due.
@@ -20,4 +20,11 @@ pub fn change_settles()
     pim_down::keys_are_told_apart();
     pim_down::hearing_keeps_the_order();
     pim_down::hearing_acts_at_each_key();
+}
+
+/// The messages of a change, however its units are cut into runs, tell exactly the change.
+pub fn runs_tell_the_change()
+    ensures { RunsTellTheChange }
+{
+    pim_down::keys_are_told_apart();
 }

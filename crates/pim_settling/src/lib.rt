@@ -8,4 +8,4 @@
 
 mod laws;
 
-pub use laws::{change_settles, courses_are_kept};
+pub use laws::{change_settles, courses_are_kept, runs_tell_the_change};

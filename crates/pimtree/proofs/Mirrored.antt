@@ -36,6 +36,13 @@ retold (Err (of_mirror.Replay told)) = Err (of_mirror.Replay told)
 retold (Err (of_mirror.TooBig group)) = Err (of_mirror.TooBig group)
 retold (Err (of_mirror.Full needed)) = Err (of_mirror.Full needed)
 
+made_so : {A : Type 0} (family : AddressFamily) (bytes_of : A → List ℕ) (after_ms limit : ℕ) (merge merge' : MergeState) (old new : Option (List ℕ)) (by writing : Writing) (setup : Setup) (router after : RouterState)
+    (told : Told A) → by ≡ writing → router ≡ new_router setup → TellsMirror family after_ms by limit merge merge' router after bytes_of old new told
+    → TellsMirror family after_ms writing limit merge merge' (new_router setup) after bytes_of old new told
+made_so family bytes_of after_ms limit merge merge' old new by writing setup router after told same made is =
+    subst (λ (w : Writing). TellsMirror family after_ms w limit merge merge' (new_router setup) after bytes_of old new told) same
+    (subst (λ (s : RouterState). TellsMirror family after_ms by limit merge merge' s after bytes_of old new told) made is)
+
 module _ {F A N : Type 0} (family : AddressFamily) (bytes_of : A → List ℕ) (after_ms limit : ℕ) (merge merge' : MergeState) (old new : Option (List ℕ)) where
   same_told : (told : Result ℕ (MirrorTextFault F A N)) → mirrored family bytes_of told ≡ mirrored family bytes_of (retold told)
   same_told (Ok status) = refl
@@ -53,20 +60,13 @@ module _ {F A N : Type 0} (family : AddressFamily) (bytes_of : A → List ℕ) (
   mirrors_retold writing router after (Err (of_mirror.Replay of_replay.Output)) is = is
   mirrors_retold writing router after (Err (of_mirror.Replay of_replay.Memory)) is = is
 
-  made_so : (by writing : Writing) (setup : Setup) (router after : RouterState) (told : Told A) → by ≡ writing → router ≡ new_router setup
-      → TellsMirror family after_ms by limit merge merge' router after bytes_of old new told
-      → TellsMirror family after_ms writing limit merge merge' (new_router setup) after bytes_of old new told
-  made_so by writing setup router after told same made is =
-      subst (λ (w : Writing). TellsMirror family after_ms w limit merge merge' (new_router setup) after bytes_of old new told) same
-      (subst (λ (s : RouterState). TellsMirror family after_ms by limit merge merge' s after bytes_of old new told) made is)
-
   is_mirrored : (by writing : Writing) (setup : Setup) (router after : RouterState) (told : Result ℕ (MirrorTextFault F A N)) → by ≡ writing → router ≡ new_router setup
       → TellsMirror family after_ms by limit merge merge' router after bytes_of old new told
       → IsMirrored family bytes_of after_ms limit writing merge merge' setup old new (mirrored family bytes_of told)
   is_mirrored by writing setup router after told same made is = record {
     after = after;
     told = retold told;
-    mirrors = made_so by writing setup router after (retold told) same made (mirrors_retold by router after told is);
+    mirrors = made_so family bytes_of after_ms limit merge merge' old new by writing setup router after (retold told) same made (mirrors_retold by router after told is);
     answer = same_told told;
   }
 

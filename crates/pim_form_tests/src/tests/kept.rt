@@ -3,7 +3,7 @@
 use super::{FIRST, GROUP, JOIN_FIRST, RPT_SECOND, SECOND, STAR, alone, hear};
 use pim_addr::V4;
 use pim_down::Ports;
-use pim_form::{NormalForm, Tree, normal_again};
+use pim_form::{Messages, NormalForm, Tree, normal_again};
 use std::test::Fail;
 
 #[test]

@@ -120,6 +120,22 @@ pub(super) fn reach<F: Family>(router: &mut Router<'_, F>, moment: u64) -> bool 
     false
 }
 
+/// The messages of a router under this table that was asked for this at 0.
+fn asked_under(
+    alloc: Global,
+    routes: &Routes<V4>,
+    writer: &Writer<V4>,
+    message: &mut [u8],
+) -> Option<Messages> {
+    let mut router = started(alloc, &DOWN, routes, &[(0, BELOW)])?;
+    let verdict = take(&mut router, 0, BELOW, MessageType::JoinPrune, message);
+    if verdict == Some(Verdict::Applied) && reach(&mut router, 0) {
+        router.canonical(alloc, writer).ok()
+    } else {
+        None
+    }
+}
+
 /// The messages by which the writer asks its upstream neighbour for what it was asked for by this message.
 pub(super) fn asked_for(
     alloc: Global,
@@ -127,41 +143,63 @@ pub(super) fn asked_for(
     message: &mut [u8],
 ) -> Option<Messages> {
     let routes = table(alloc)?;
-    let mut router = started(alloc, &DOWN, &routes, &[(0, BELOW)])?;
-    let verdict = take(&mut router, 0, BELOW, MessageType::JoinPrune, message)?;
-    if verdict != Verdict::Applied {
-        return None;
+    asked_under(alloc, &routes, writer, message)
+}
+
+/// Lets the upstream neighbour hear these deliveries: whether each message is applied at its moment.
+fn hear_all(router: &mut Router<'_, V4>, messages: &Messages, deliveries: &[(usize, u64)]) -> bool {
+    for &(index, at) in deliveries {
+        let Some(bytes) = messages.get(index) else {
+            return false;
+        };
+        if !reach(router, at) {
+            return false;
+        }
+        if deliver(router, 0, WRITER, bytes) != Some(Verdict::Applied) {
+            return false;
+        }
     }
-    if !reach(&mut router, 0) {
-        return None;
+    true
+}
+
+/// Whether a router asks by these messages; `None` where memory is wanting.
+fn asks_by(
+    alloc: Global,
+    router: &Router<'_, V4>,
+    writer: &Writer<V4>,
+    messages: &Messages,
+) -> Option<bool> {
+    let again = router.canonical(alloc, writer).ok()?;
+    Some(messages.same_bytes(&again))
+}
+
+/// Whether the upstream neighbour asks by these messages at this moment, after these deliveries of them.
+fn asks_after(
+    alloc: Global,
+    (routes, writer): (&Routes<V4>, &Writer<V4>),
+    messages: &Messages,
+    deliveries: &[(usize, u64)],
+    moment: u64,
+) -> Option<bool> {
+    let mut router = started(alloc, &UP, routes, &[(0, WRITER), (0, OTHER)])?;
+    if hear_all(&mut router, messages, deliveries) && reach(&mut router, moment) {
+        asks_by(alloc, &router, writer, messages)
+    } else {
+        None
     }
-    router.canonical(alloc, writer).ok()
 }
 
 /// Whether the upstream neighbour asks for the same again at this moment, after these deliveries of the two messages.
 fn asks_again(alloc: Global, deliveries: &[(usize, u64)], moment: u64) -> Option<bool> {
     let writer = Writer::<V4>::new(UPSTREAM, WRITER, 210, 70).ok()?;
+    let routes = table(alloc)?;
     let mut message = ASKED;
     let messages = asked_for(alloc, &writer, &mut message)?;
-    if messages.count() != 2 {
-        return None;
+    if messages.count() == 2 {
+        asks_after(alloc, (&routes, &writer), &messages, deliveries, moment)
+    } else {
+        None
     }
-    let routes = table(alloc)?;
-    let mut router = started(alloc, &UP, &routes, &[(0, WRITER), (0, OTHER)])?;
-    for &(index, at) in deliveries {
-        let bytes = messages.get(index)?;
-        if !reach(&mut router, at) {
-            return None;
-        }
-        if deliver(&mut router, 0, WRITER, bytes)? != Verdict::Applied {
-            return None;
-        }
-    }
-    if !reach(&mut router, moment) {
-        return None;
-    }
-    let again = router.canonical(alloc, &writer).ok()?;
-    Some(messages.same_bytes(&again))
 }
 
 /// The second message comes first, and once more.

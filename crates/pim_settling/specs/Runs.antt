@@ -1,0 +1,34 @@
+-- The messages of a change as what a port hears: one for each run of its units.
+use Rattle.std.specs.Prelude.{◌≡◌, ℕ, zero, suc, ◌<◌, true, List, [], ◌∷◌, length}
+use Rattle.std.specs.Option.{is_some}
+use Rattle.std.specs.List.{flat_map}
+use Rattle.pim_down.specs.Hearing.{Event, set_events}
+use Rattle.pim_form.specs.Messages.{Rps}
+use Rattle.pim_form.specs.NormalForm.{GroupForm}
+use Rattle.pim_form.specs.Settled.{group_in}
+use Rattle.pim_change.specs.Change.{ChangeUnit}
+use Rattle.pim_change.specs.Told.{told_sets}
+use Rattle.pim_fresh.specs.Exchange.{Exchange}
+use Rattle.pim_fresh.specs.Deliveries.{Delivery, is_delivered}
+
+-- the events of the message that tells a run, where the port knows the same RPs
+abbrev pub run_events : Rps → List ChangeUnit → List Event
+run_events rps run = flat_map (set_events rps) (told_sets rps run)
+
+-- the run of this number; none behind the last one
+unfoldable pub run_at : ℕ → List (List ChangeUnit) → List ChangeUnit
+run_at number [] = []
+run_at zero (run ∷ runs) = run
+run_at (suc number) (run ∷ runs) = run_at number runs
+
+-- each message has the events of its run
+abbrev pub AreHeard : Rps → List (List ChangeUnit) → Exchange → Type 0
+AreHeard rps runs exchange = (number : ℕ) → exchange.messages number ≡ run_events rps (run_at number runs)
+
+-- the message of each run came
+abbrev pub AllCame : List (List ChangeUnit) → List Delivery → Type 0
+AllCame runs deliveries = (number : ℕ) → number < length runs → is_delivered number deliveries ≡ true
+
+-- an RP is known of the group of each star
+abbrev pub HaveRps : Rps → List GroupForm → Type 0
+HaveRps rps form = (group : List ℕ) → is_some (group_in group form).star ≡ true → is_some (rps group) ≡ true
