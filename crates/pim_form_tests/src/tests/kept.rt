@@ -4,6 +4,7 @@ use super::{FIRST, GROUP, JOIN_FIRST, RPT_SECOND, SECOND, STAR, alone, hear};
 use pim_addr::V4;
 use pim_down::Ports;
 use pim_form::{Messages, NormalForm, Tree, normal_again};
+use std::alloc::{AllocError, Global};
 use std::test::Fail;
 
 #[test]
@@ -17,17 +18,28 @@ fn holds_nothing(rt: HostRuntime) -> Result<(), Fail> {
     Ok(())
 }
 
-#[test]
-fn keeps_what_is_pushed(rt: HostRuntime) -> Result<(), Fail> {
-    let mut messages = Messages::none(rt.alloc());
+/// Messages that were pushed one by one.
+fn pushed(alloc: Global) -> Result<Messages, AllocError> {
+    let mut messages = Messages::none(alloc);
     messages.push(&[0x23, 0, 0xc4, 0xd4])?;
     messages.push(&[])?;
     messages.push(&[0x20])?;
+    Ok(messages)
+}
+
+/// Whether the message with this number has these bytes.
+fn is_at(messages: &Messages, index: usize, bytes: &[u8]) -> bool {
+    messages.get(index) == Some(bytes)
+}
+
+#[test]
+fn keeps_what_is_pushed(rt: HostRuntime) -> Result<(), Fail> {
+    let messages = pushed(rt.alloc())?;
     assert_eq!(rt; messages.count(), 3);
-    assert_eq!(rt; messages.get(0), Some([0x23, 0, 0xc4, 0xd4].as_slice()));
-    assert_eq!(rt; messages.get(1), Some([0u8; 0].as_slice()));
-    assert_eq!(rt; messages.get(2), Some([0x20].as_slice()));
-    assert_eq!(rt; messages.get(3), None);
+    assert!(rt; is_at(&messages, 0, &[0x23, 0, 0xc4, 0xd4]));
+    assert!(rt; is_at(&messages, 1, &[]));
+    assert!(rt; is_at(&messages, 2, &[0x20]));
+    assert!(rt; messages.get(3).is_none());
     Ok(())
 }
 
