@@ -9,3 +9,7 @@ pub mod RunSizes
 pub mod SetSteps
 pub mod RunCounts
 pub mod Packed
+pub mod Sorted
+pub mod OneStar
+pub mod Spelled
+pub mod ReadBack

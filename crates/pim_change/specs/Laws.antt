@@ -1,8 +1,36 @@
 -- The words of the laws in `src/laws.rt`.
-use Rattle.std.specs.Prelude.{◌≡◌, List, []}
-use Rattle.pim_form.specs.NormalForm.{GroupForm}
-use Rattle.pim_change.specs.Change.{change}
+use Rattle.std.specs.Prelude.{◌≡◌, ℕ, List, [], ◌∷◌}
+use Rattle.std.specs.List.{flat_map}
+use Rattle.pim_addr.specs.declared.family.AddressFamily.{AddressFamily}
+use Rattle.pim_form.specs.Laws.{IsReadAs}
+use Rattle.pim_form.specs.Messages.{Rps, Writing, IsWriting, HaveRps}
+use Rattle.pim_form.specs.NormalForm.{GroupForm, IsNormal}
+use Rattle.pim_change.specs.Change.{ChangeUnit, change}
+use Rattle.pim_change.specs.Told.{told_message, TellChange}
 
 -- Where the demand is as it was told, nothing is told.
 abbrev pub EqualFormsChangeNothing : Type 0
 EqualFormsChangeNothing = (form : List GroupForm) → change form form ≡ []
+
+-- each of these byte lists, sent by the writer, is read as the message of the run beside it
+unfoldable pub AreReadAsRuns : AddressFamily → Writing → Rps → List (List ChangeUnit) → List (List ℕ) → Type 0
+AreReadAsRuns family writing rps [] [] = Unit {0}
+AreReadAsRuns family writing rps [] (bytes ∷ messages) = ⊥
+AreReadAsRuns family writing rps (run ∷ runs) [] = ⊥
+AreReadAsRuns family writing rps (run ∷ runs) (bytes ∷ messages) =
+    IsReadAs family writing.own bytes (told_message writing rps run) × AreReadAsRuns family writing rps runs messages
+
+-- they are read as the messages of runs of the change
+pub record IsReadAsChange (family : AddressFamily) (writing : Writing) (rps : Rps) (old new : List GroupForm)
+    (messages : List (List ℕ)) : Type 0 where
+  pub runs : List (List ChangeUnit)
+  pub whole : flat_map (λ run. run) runs ≡ change old new
+  pub read : AreReadAsRuns family writing rps runs messages
+
+-- The messages of the change between two normal forms, whose stars have RPs, are opened and read without a fault as the
+-- messages of its runs.
+abbrev pub ChangeIsRead : Type 0
+ChangeIsRead = (family : AddressFamily) (writing : Writing) (rps : Rps) (old new : List GroupForm)
+    (messages : List (List ℕ)) → IsWriting family writing → IsNormal family old → IsNormal family new →
+    HaveRps family rps old → HaveRps family rps new → TellChange family writing rps old new messages →
+    IsReadAsChange family writing rps old new messages

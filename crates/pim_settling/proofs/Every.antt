@@ -25,7 +25,7 @@ use Rattle.pim_change.specs.declared.unit.Kind.{Kind}
 use Rattle.pim_change.specs.declared.unit.Kind.TheVariants.{JoinRpt, PruneRpt, JoinSource, PruneSource}
 use Rattle.pim_change.specs.Change.{Telling, star_joined, star_pruned, told, lacking, star_change, sources_change, group_change, ChangeUnit, unit_of, change_at, change}
 use Rattle.pim_change.specs.Told.{rp_entry, GroupTellings, set_in_front, in_front, grouped}
-use Rattle.pim_settling.specs.Runs.{run_events, run_at, HaveRps}
+use Rattle.pim_settling.specs.Runs.{run_events, run_at, KnowRps}
 use Rattle.pim_settling.specs.Telling.{told_if, rpt_told, told_of}
 use Rattle.pim_settling.proofs.Units.{itself, told_here}
 use Rattle.pim_settling.proofs.Only.{or_left, or_second, joined_of, pruned_of, all_joined, all_pruned, first_joined, first_pruned, excepted_named, events_of_sets}
@@ -177,7 +177,7 @@ module _ (group : List ℕ) where
 
 -- ---- what is told is named
 
-module _ (keys : KeysAreToldApart) (rps : Rps) (old new : List GroupForm) (port : ℕ) (stars_old : HaveRps rps old) (stars_new : HaveRps rps new) (group : List ℕ) where
+module _ (keys : KeysAreToldApart) (rps : Rps) (old new : List GroupForm) (port : ℕ) (stars_old : KnowRps rps old) (stars_new : KnowRps rps new) (group : List ℕ) where
   abbrev key_for : What (List ℕ) → Key (List ℕ)
   key_for what = record { port = port; group = group; what = what }
 

@@ -9,3 +9,5 @@ pub mod Units
 pub mod Only
 pub mod Every
 pub mod Runs
+pub mod Read
+pub mod Wanting

@@ -6,15 +6,17 @@ use Rattle.pim_down.specs.declared.key.Key.{Key}
 use Rattle.pim_down.specs.Records.{IsAscending, machine_at}
 use Rattle.pim_down.specs.Sound.{IsSound}
 use Rattle.pim_down.specs.Time.{Downstream}
-use Rattle.pim_form.specs.Messages.{Rps}
-use Rattle.pim_form.specs.NormalForm.{GroupForm}
+use Rattle.pim_form.specs.Messages.{Rps, Writing, IsWriting, HaveRps}
+use Rattle.pim_form.specs.NormalForm.{GroupForm, IsNormal, IsFormOf}
 use Rattle.pim_form.specs.Settled.{IsSettledAt}
+use Rattle.pim_form.specs.Wants.{wants}
 use Rattle.pim_change.specs.Change.{ChangeUnit, change}
+use Rattle.pim_change.specs.Told.{TellChange}
 use Rattle.pim_fresh.specs.Exchange.{Exchange}
 use Rattle.pim_fresh.specs.Deliveries.{Delivery, final_moment}
 use Rattle.pim_settling.specs.Course.{Course, IsOn, IsPast}
 use Rattle.pim_settling.specs.Hearing.{Hears, course_of}
-use Rattle.pim_settling.specs.Runs.{AreHeard, AllCame, HaveRps}
+use Rattle.pim_settling.specs.Runs.{AreHeard, AllCame, KnowRps, AreEventsOf, EachCame}
 use Rattle.pim_settling.specs.Telling.{TellsChange}
 
 -- Each machine goes the course that the deliveries make of its own.
@@ -39,5 +41,23 @@ ChangeSettles = (family : AddressFamily) (exchange : Exchange) (old new : List G
 -- The messages of the units of a change, in runs as they are packed, tell exactly that change, each once or more often.
 abbrev pub RunsTellTheChange : Type 0
 RunsTellTheChange = (rps : Rps) (old new : List GroupForm) (runs : List (List ChangeUnit)) (exchange : Exchange)
-    (deliveries : List Delivery) → flat_map (λ run. run) runs ≡ change old new → HaveRps rps old → HaveRps rps new →
+    (deliveries : List Delivery) → flat_map (λ run. run) runs ≡ change old new → KnowRps rps old → KnowRps rps new →
     AreHeard rps runs exchange → AllCame runs deliveries → TellsChange exchange old new deliveries
+
+-- A neighbour of one port, settled at the form that it was last told, that hears the messages of the change to another one, in
+-- any order and however often, each at least once, and nothing else, is settled at the other one from the final moment of
+-- these deliveries on, as long as no expiry timer ends; echoes may be told.
+abbrev pub ToldChangeSettles : Type 0
+ToldChangeSettles = (family : AddressFamily) (writing : Writing) (rps : Rps) (old new : List GroupForm)
+    (messages : List (List ℕ)) (exchange : Exchange) (start after : Downstream) (deliveries : List Delivery)
+    (moment : ℕ) → IsWriting family writing → IsNormal family old → IsNormal family new →
+    HaveRps family rps old → HaveRps family rps new → TellChange family writing rps old new messages →
+    AreEventsOf family writing.own rps messages exchange.messages → EachCame messages deliveries →
+    IsSound family start → IsSettledAt exchange.port old start.records →
+    Hears exchange start deliveries moment after → final_moment exchange.timing.override_ms deliveries ≤ moment →
+    (after.moment ≡ moment) × IsSettledAt exchange.port new after.records
+
+-- A router of one port that is settled at a normal form wants exactly what the form means: it is the form of its demand.
+abbrev pub SettledWants : Type 0
+SettledWants = (family : AddressFamily) (form : List GroupForm) (state : Downstream) → IsNormal family form →
+    state.ports ≡ 1 → IsSettledAt 0 form state.records → IsFormOf family (wants state) form

@@ -2,7 +2,10 @@
 use Rattle.std.specs.Prelude.{◌≡◌, ℕ, zero, suc, ◌<◌, true, List, [], ◌∷◌, length}
 use Rattle.std.specs.Option.{is_some}
 use Rattle.std.specs.List.{flat_map}
-use Rattle.pim_down.specs.Hearing.{Event, set_events}
+use Rattle.pim_addr.specs.declared.family.AddressFamily.{AddressFamily}
+use Rattle.pim_jp.specs.Message.{Message}
+use Rattle.pim_down.specs.Hearing.{Event, set_events, events_of}
+use Rattle.pim_form.specs.Laws.{IsReadAs}
 use Rattle.pim_form.specs.Messages.{Rps}
 use Rattle.pim_form.specs.NormalForm.{GroupForm}
 use Rattle.pim_form.specs.Settled.{group_in}
@@ -30,5 +33,18 @@ abbrev pub AllCame : List (List ChangeUnit) → List Delivery → Type 0
 AllCame runs deliveries = (number : ℕ) → number < length runs → is_delivered number deliveries ≡ true
 
 -- an RP is known of the group of each star
-abbrev pub HaveRps : Rps → List GroupForm → Type 0
-HaveRps rps form = (group : List ℕ) → is_some (group_in group form).star ≡ true → is_some (rps group) ≡ true
+abbrev pub KnowRps : Rps → List GroupForm → Type 0
+KnowRps rps form = (group : List ℕ) → is_some (group_in group form).star ≡ true → is_some (rps group) ≡ true
+
+-- ---- from the bytes
+
+-- The events of each message are those of what its bytes, sent from this source, are read as.
+unfoldable pub AreEventsOf : AddressFamily → List ℕ → Rps → List (List ℕ) → (ℕ → List Event) → Type 0
+AreEventsOf family source rps [] events = (number : ℕ) → events number ≡ []
+AreEventsOf family source rps (bytes ∷ messages) events =
+    ((said : Message) → IsReadAs family source bytes said → events 0 ≡ events_of rps said)
+    × AreEventsOf family source rps messages (λ number. events (suc number))
+
+-- each message came
+abbrev pub EachCame : List (List ℕ) → List Delivery → Type 0
+EachCame messages deliveries = (number : ℕ) → number < length messages → is_delivered number deliveries ≡ true

@@ -3,9 +3,12 @@
 //!
 //! Proved, over the definitions of `pim_down`: as long as no expiry timer ends, each machine goes the course that the entries
 //! which name it give: held, not held, or in Prune-Pending up to a moment and then where that leads. Echoes may be told
-//! meanwhile. So a port that is settled at one form and hears the change to another one is settled at the other.
+//! meanwhile. So a port that is settled at one form and hears the change to another one is settled at the other;
+//! and the messages that tell a change, read from their bytes, tell exactly that.
 #![tactic(auto)]
 
 mod laws;
 
-pub use laws::{change_settles, courses_are_kept, runs_tell_the_change};
+pub use laws::{
+    change_settles, courses_are_kept, runs_tell_the_change, settled_wants, told_change_settles,
+};

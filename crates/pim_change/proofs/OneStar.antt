@@ -1,0 +1,184 @@
+-- A change tells at most one star of each group, and so does each set of its messages.
+use Rattle.std.proofs.Common.{◌≡◌, ℕ, ◌+◌, ◌≤◌, Bool, true, false, cond, ◌&&◌, List, [], ◌∷◌, ◌++◌, map, Option, None, Some, refl, sym, ap, subst, ◌∙◌, arith}
+use Rattle.std.specs.List.{AllByRecursion, flat_map}
+use Rattle.pim_jp.specs.declared.entry.Entry.{Entry}
+use Rattle.pim_jp.specs.Spelling.{star_count}
+use Rattle.pim_form.specs.NormalForm.{GroupForm, same_address, groups_of}
+use Rattle.pim_form.specs.Merge.{united}
+use Rattle.pim_form.specs.Settled.{group_in}
+use Rattle.pim_change.specs.declared.unit.Kind.{Kind}
+use Rattle.pim_change.specs.declared.unit.Kind.TheVariants.{JoinRpt, PruneRpt, JoinSource, PruneSource}
+use Rattle.pim_change.specs.Change.{Telling, star_joined, star_pruned, told, lacking, star_change, sources_change, group_change, ChangeUnit, unit_of, change_at, change}
+use Rattle.pim_change.specs.Told.{rp_entry, excepted_entries, joined_entries, pruned_entries, GroupTellings, tellings_of, set_in_front, in_front, grouped, told_set}
+use Rattle.pim_change.proofs.Addresses.{same_itself, same_is}
+use Rattle.pim_change.proofs.Sorted.{Ascend, united_sorted, one_if, count, count_append, count_flat, count_once}
+
+unfoldable pub is_star : Telling → Bool
+is_star (star_joined exceptions) = true
+is_star star_pruned = true
+is_star (told kind source) = false
+
+abbrev of_star : List ℕ → ChangeUnit → Bool
+of_star group this = is_star this.telling && same_address group this.group
+
+-- ---- a change
+
+no_stars : (kind : Kind) (sources : List (List ℕ)) → count is_star (map (told kind) sources) ≡ 0
+unfolding count is_star
+no_stars kind [] = refl
+no_stars kind (x ∷ xs) = let rest = no_stars kind xs in omega (arith, rest)
+
+star_once : (before wanted : Option (List (List ℕ))) → count is_star (star_change before wanted) ≤ 1
+unfolding count is_star
+star_once None None = omega arith
+star_once None (Some exceptions) = omega arith
+star_once (Some excepted) None = omega arith
+star_once (Some excepted) (Some exceptions) =
+    let both = count_append is_star (map (told JoinRpt) (lacking excepted exceptions)) (map (told PruneRpt) (lacking exceptions excepted)) in
+    let one = no_stars JoinRpt (lacking excepted exceptions) in
+    let other = no_stars PruneRpt (lacking exceptions excepted) in
+    omega (arith, both, one, other)
+
+group_once : (old new : GroupForm) → count is_star (group_change old new) ≤ 1
+group_once old new =
+    let both = count_append is_star (star_change old.star new.star) (sources_change old.sources new.sources) in
+    let sources = count_append is_star (map (told JoinSource) (lacking new.sources old.sources)) (map (told PruneSource) (lacking old.sources new.sources)) in
+    let one = no_stars JoinSource (lacking new.sources old.sources) in
+    let other = no_stars PruneSource (lacking old.sources new.sources) in
+    let star = star_once old.star new.star in
+    omega (arith, both, sources, one, other, star)
+
+and_false : (a : Bool) → (a && false) ≡ false
+and_false true = refl
+and_false false = refl
+
+and_true : (a : Bool) → (a && true) ≡ a
+and_true true = refl
+and_true false = refl
+
+of_group : (g h : List ℕ) (b : Bool) (tellings : List Telling) → same_address g h ≡ b → count (of_star g) (map (unit_of h) tellings) ≡ cond b (count is_star tellings) 0
+unfolding count
+of_group g h true [] s = refl
+of_group g h false [] s = refl
+of_group g h true (t ∷ tellings) s =
+    let here = ap (λ b. one_if (is_star t && b)) s ∙ ap one_if (and_true (is_star t)) in
+    let rest = of_group g h true tellings s in
+    omega (arith, here, rest)
+of_group g h false (t ∷ tellings) s =
+    let here = ap (λ b. one_if (is_star t && b)) s ∙ ap one_if (and_false (is_star t)) in
+    let rest = of_group g h false tellings s in
+    omega (arith, here, rest)
+
+at_once : (old new : List GroupForm) (g h : List ℕ) → count (of_star g) (change_at old new h) ≤ cond (same_address g h) 1 0
+at_once old new g h = by (same_address g h) refl
+  where
+    by : (b : Bool) → same_address g h ≡ b → count (of_star g) (change_at old new h) ≤ cond b 1 0
+    by true s =
+        let is = of_group g h true (group_change (group_in h old) (group_in h new)) s in
+        let once = group_once (group_in h old) (group_in h new) in
+        omega (arith, is, once)
+    by false s = let is = of_group g h false (group_change (group_in h old) (group_in h new)) s in omega (arith, is)
+
+change_once : (old new : List GroupForm) (g : List ℕ) → Ascend (groups_of old) → Ascend (groups_of new) → count (of_star g) (change old new) ≤ 1
+unfolding change
+change_once old new g up_old up_new =
+    let each = count_flat (of_star g) (change_at old new) (same_address g) (united (groups_of old) (groups_of new)) (λ h. at_once old new g h) in
+    let once = count_once g (united (groups_of old) (groups_of new)) (united_sorted (groups_of old) (groups_of new) up_old up_new) in
+    omega (arith, each, once)
+
+-- ---- a run
+
+abbrev pub HasOneStar : List ChangeUnit → Type 0
+HasOneStar run = (g : List ℕ) → count (of_star g) run ≤ 1
+
+runs_once : (runs : List (List ChangeUnit)) → ((g : List ℕ) → count (of_star g) (flat_map (λ run. run) runs) ≤ 1) → AllByRecursion HasOneStar runs
+runs_once [] each = tt
+runs_once (run ∷ runs) each = (
+  λ g. let both = count_append (of_star g) run (flat_map (λ r. r) runs) in let all = each g in omega (arith, both, all),
+  runs_once runs (λ g. let both = count_append (of_star g) run (flat_map (λ r. r) runs) in let all = each g in omega (arith, both, all)),
+)
+
+pub runs_have_one_star : (old new : List GroupForm) (runs : List (List ChangeUnit)) → Ascend (groups_of old) → Ascend (groups_of new) → flat_map (λ run. run) runs ≡ change old new → AllByRecursion HasOneStar runs
+runs_have_one_star old new runs up_old up_new whole =
+    runs_once runs (λ g. let n = ap (count (of_star g)) whole in let once = change_once old new g up_old up_new in omega (arith, n, once))
+
+-- ---- its sets
+
+abbrev Few : List ChangeUnit → GroupTellings → Type 0
+Few run set = count is_star set.tellings ≤ count (of_star set.group) run
+
+few_more : (this : ChangeUnit) (run : List ChangeUnit) (sets : List GroupTellings) → AllByRecursion (Few run) sets → AllByRecursion (Few (this ∷ run)) sets
+unfolding count
+few_more this run [] few = tt
+few_more this run (set ∷ sets) few = (omega (arith, few.0), few_more this run sets few.1)
+
+own_few : (this : ChangeUnit) (run : List ChangeUnit) (tellings : List Telling) → count is_star tellings ≤ count (of_star this.group) run → Few (this ∷ run) (tellings_of this.group (this.telling ∷ tellings))
+unfolding count
+own_few this run tellings few =
+    let own : (is_star this.telling && same_address this.group this.group) ≡ is_star this.telling = ap (λ b. is_star this.telling && b) (same_itself this.group) ∙ and_true (is_star this.telling) in
+    let here = ap one_if own in
+    omega (arith, here, few)
+
+front_few : (this : ChangeUnit) (run : List ChangeUnit) (sets : List GroupTellings) → AllByRecursion (Few run) sets → AllByRecursion (Few (this ∷ run)) (in_front this sets)
+unfolding count
+front_few this run [] few = (own_few this run [] (omega arith), tt)
+front_few this run (first ∷ sets) few =
+    elim (same_address this.group first.group) as (λ b. same_address this.group first.group ≡ b → AllByRecursion (Few (this ∷ run)) (set_in_front b this first sets)) [
+      | true ↦ λ s. (own_few this run first.tellings (subst (λ (g : List ℕ). count is_star first.tellings ≤ count (of_star g) run) (sym (same_is this.group first.group s)) few.0), few_more this run sets few.1)
+      | false ↦ λ s. (own_few this run [] (omega arith), few_more this run (first ∷ sets) few)
+    ] refl
+
+grouped_few : (run : List ChangeUnit) → AllByRecursion (Few run) (grouped run)
+unfolding grouped
+grouped_few [] = tt
+grouped_few (this ∷ run) = front_few this run (grouped run) (grouped_few run)
+
+-- ---- entries
+
+stars_append : (one other : List (Entry (List ℕ))) → star_count (one ++ other) ≡ star_count one + star_count other
+unfolding star_count
+stars_append [] other = omega arith
+stars_append (x ∷ one) other = let rest = stars_append one other in omega (arith, rest)
+
+no_rpts : (sources : List (List ℕ)) → star_count (excepted_entries sources) ≡ 0
+unfolding star_count
+no_rpts [] = refl
+no_rpts (x ∷ xs) = let rest = no_rpts xs in omega (arith, rest)
+
+rp_few : (rp : Option (List ℕ)) → star_count (rp_entry rp) ≤ 1
+unfolding star_count
+rp_few None = omega arith
+rp_few (Some address) = omega arith
+
+telling_few : (rp : Option (List ℕ)) (telling : Telling) → star_count (joined_entries rp telling) + star_count (pruned_entries rp telling) ≤ cond (is_star telling) 1 0
+unfolding star_count is_star
+telling_few rp (star_joined exceptions) = let none = no_rpts exceptions in let one = rp_few rp in omega (arith, none, one)
+telling_few rp star_pruned = let one = rp_few rp in omega (arith, one)
+telling_few rp (told JoinRpt source) = omega arith
+telling_few rp (told PruneRpt source) = omega arith
+telling_few rp (told JoinSource source) = omega arith
+telling_few rp (told PruneSource source) = omega arith
+
+tellings_few : (rp : Option (List ℕ)) (tellings : List Telling) → star_count (flat_map (joined_entries rp) tellings) + star_count (flat_map (pruned_entries rp) tellings) ≤ count is_star tellings
+unfolding count star_count
+tellings_few rp [] = omega arith
+tellings_few rp (t ∷ tellings) =
+    let joined = stars_append (joined_entries rp t) (flat_map (joined_entries rp) tellings) in
+    let pruned = stars_append (pruned_entries rp t) (flat_map (pruned_entries rp) tellings) in
+    let first = telling_few rp t in
+    let rest = tellings_few rp tellings in
+    omega (arith, joined, pruned, first, rest)
+
+abbrev pub HasFewStars : (List ℕ → Option (List ℕ)) → GroupTellings → Type 0
+HasFewStars rps set = star_count ((told_set rps set).joined ++ (told_set rps set).pruned) ≤ 1
+
+sets_few : (rps : List ℕ → Option (List ℕ)) (run : List ChangeUnit) (sets : List GroupTellings) → HasOneStar run → AllByRecursion (Few run) sets → AllByRecursion (HasFewStars rps) sets
+sets_few rps run [] one few = tt
+sets_few rps run (set ∷ sets) one few =
+    let both = stars_append (told_set rps set).joined (told_set rps set).pruned in
+    let most = tellings_few (rps set.group) set.tellings in
+    let once = one set.group in
+    (omega (arith, both, most, few.0, once), sets_few rps run sets one few.1)
+
+pub one_star_a_set : (rps : List ℕ → Option (List ℕ)) (run : List ChangeUnit) → HasOneStar run → AllByRecursion (HasFewStars rps) (grouped run)
+one_star_a_set rps run one = sets_few rps run (grouped run) one (grouped_few run)
