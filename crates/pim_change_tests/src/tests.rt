@@ -1,5 +1,6 @@
 //! Worked examples: the group 239.1.1.1 with the RP 10.9.9.9 and the sources 192.0.2.1 and 192.0.2.2.
 
+mod ipv6;
 mod messages;
 mod units;
 
