@@ -1,5 +1,6 @@
 -- Which course a machine goes that hears Joins and Prunes, whatever its expiry timer says (RFC 7761, figures 2 to 4).
-use Rattle.std.specs.Prelude.{◌≡◌, ◌⊎◌, ℕ, ◌-◌, ◌≤◌, ◌<◌, Bool, true, false, if◌then◌else◌, List, [], ◌∷◌, Option, None, Some}
+use Rattle.std.specs.Prelude.{◌≡◌, ◌⊎◌, ℕ, ◌-◌, ◌≤◌, ◌<◌, Bool, true, false, if◌then◌else◌}
+use Rattle.std.specs.Prelude.{List, [], ◌∷◌, Option, None, Some}
 use Rattle.pim_down.specs.declared.key.What.{What}
 use Rattle.pim_down.specs.declared.key.What.TheVariants.{Star, Source, Rpt}
 use Rattle.pim_down.specs.declared.key.Key.{Key}
@@ -85,8 +86,8 @@ named false Star ends course = pruned ends course
 named false (Source source) ends course = pruned ends course
 named false (Rpt source) ends course = excepted ends course
 
--- Within a message: whether a Join(*,G) came to an (S,G,rpt) machine, and no entry that names it since. At the end of the
--- message such a machine goes.
+-- Within a message: whether a Join(*,G) came to an (S,G,rpt) machine, and no entry that names it since. At the end of
+-- the message such a machine goes.
 pub record Within : Type 0 where
   pub course : Course
   pub starred : Bool

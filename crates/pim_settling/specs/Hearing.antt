@@ -36,7 +36,8 @@ pub record Goes (Before : Downstream → Type 0) (exchange : Exchange) (message 
   pub was : Before before
   pub passes : Passes moment (after_message exchange message before) after
 
--- From the machines at the start, these deliveries, the newest first, and the time up to the moment leave these machines.
+-- From the machines at the start, these deliveries, the newest first, and the time up to the moment leave these
+-- machines.
 unfoldable pub Hears : Exchange → Downstream → List Delivery → ℕ → Downstream → Type 0
 Hears exchange start [] moment after = Passes moment start after
 Hears exchange start (delivery ∷ earlier) moment after =

@@ -29,8 +29,8 @@ CoursesAreKept = (exchange : Exchange) (start after : Downstream) (deliveries : 
     × ((key : Key (List ℕ)) → IsPast key.what moment (course_of exchange key (courses key) deliveries)
     (machine_at key after.records))
 
--- A port that is settled at one form and hears the messages that tell the change to another one, in any order and however
--- often each comes, is settled at the other one from the final moment of these deliveries on.
+-- A port that is settled at one form and hears the messages that tell the change to another one, in any order and
+-- however often each comes, is settled at the other one from the final moment of these deliveries on.
 abbrev pub ChangeSettles : Type 0
 ChangeSettles = (family : AddressFamily) (exchange : Exchange) (old new : List GroupForm) (start after : Downstream)
     (deliveries : List Delivery) (moment : ℕ) → IsSound family start → IsSettledAt exchange.port old start.records →
@@ -44,9 +44,9 @@ RunsTellTheChange = (rps : Rps) (old new : List GroupForm) (runs : List (List Ch
     (deliveries : List Delivery) → flat_map (λ run. run) runs ≡ change old new → KnowRps rps old → KnowRps rps new →
     AreHeard rps runs exchange → AllCame runs deliveries → TellsChange exchange old new deliveries
 
--- A neighbour of one port, settled at the form that it was last told, that hears the messages of the change to another one, in
--- any order and however often, each at least once, and nothing else, is settled at the other one from the final moment of
--- these deliveries on, as long as no expiry timer ends; echoes may be told.
+-- A neighbour of one port, settled at the form that it was last told, that hears the messages of the change to another
+-- one, in any order and however often, each at least once, and nothing else, is settled at the other one from the final
+-- moment of these deliveries on, as long as no expiry timer ends; echoes may be told.
 abbrev pub ToldChangeSettles : Type 0
 ToldChangeSettles = (family : AddressFamily) (writing : Writing) (rps : Rps) (old new : List GroupForm)
     (messages : List (List ℕ)) (exchange : Exchange) (start after : Downstream) (deliveries : List Delivery)
@@ -57,7 +57,8 @@ ToldChangeSettles = (family : AddressFamily) (writing : Writing) (rps : Rps) (ol
     Hears exchange start deliveries moment after → final_moment exchange.timing.override_ms deliveries ≤ moment →
     (after.moment ≡ moment) × IsSettledAt exchange.port new after.records
 
--- A router of one port that is settled at a normal form wants exactly what the form means: it is the form of its demand.
+-- A router of one port that is settled at a normal form wants exactly what the form means: it is the form of its
+-- demand.
 abbrev pub SettledWants : Type 0
 SettledWants = (family : AddressFamily) (form : List GroupForm) (state : Downstream) → IsNormal family form →
     state.ports ≡ 1 → IsSettledAt 0 form state.records → IsFormOf family (wants state) form

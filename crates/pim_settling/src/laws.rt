@@ -13,8 +13,8 @@ pub fn courses_are_kept()
     pim_down::hearing_acts_at_each_key();
 }
 
-/// A port that is settled at one form hears the messages of the change to another one, in any order and however often each
-/// comes, while no expiry timer ends: from the final moment of these deliveries on it is settled at the other form.
+/// A port that is settled at one form hears the messages of the change to another one, in any order and however often
+/// each comes, while no expiry timer ends: from the final moment of these deliveries on it is settled at the other form.
 pub fn change_settles()
     ensures { ChangeSettles }
 {
@@ -30,9 +30,9 @@ pub fn runs_tell_the_change()
     pim_down::keys_are_told_apart();
 }
 
-/// A neighbour of one port that is settled at the form which it was last told hears the messages of the change to another
-/// one, as `triggered` of `pim_change` gives them, in any order and however often, each at least once and nothing else,
-/// while no expiry timer ends: from the final moment of these deliveries on it is settled at the other form.
+/// A neighbour of one port that is settled at the form which it was last told hears the messages of the change to
+/// another one, as `triggered` of `pim_change` gives them, in any order and however often, each at least once and
+/// nothing else, while no expiry timer ends: from the final moment of these deliveries on it is settled at the other.
 pub fn told_change_settles()
     ensures { ToldChangeSettles }
 {

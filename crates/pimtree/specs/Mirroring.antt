@@ -39,16 +39,16 @@ abbrev pub Told : Type 0 → Type 0
 Told A = Result ℕ (MirrorTextFault (Unit {0}) A (Unit {0}))
 
 -- A new router of this set-up is replayed and mirrored, and the engine's answer is told so.
-pub record IsMirrored {A : Type 0} (family : AddressFamily) (bytes_of : A → List ℕ) (after_ms limit : ℕ) (writing : Writing)
-    (merge merge' : MergeState) (setup : Setup) (old new : Option (List ℕ)) (result : Result ℕ Fault) : Type 0 where
+pub record IsMirrored {A : Type 0} (family : AddressFamily) (bytes_of : A → List ℕ) (after_ms limit : ℕ)
+    (writing : Writing) (merge merge' : MergeState) (setup : Setup) (old new : Option (List ℕ)) (result : Result ℕ Fault) : Type 0 where
   pub after : RouterState
   pub told : Told A
   pub mirrors : TellsMirror family after_ms writing limit merge merge' (new_router setup) after bytes_of old new told
   pub answer : result ≡ mirrored family bytes_of told
 
 -- It is mirrored, or there is no writer or no router, and nothing is written.
-abbrev pub MirrorsNew : {A : Type 0} → AddressFamily → (A → List ℕ) → ℕ → ℕ → Writing → MergeState → MergeState → Setup →
-    Option (List ℕ) → Option (List ℕ) → Result ℕ Fault → Type 0
+abbrev pub MirrorsNew : {A : Type 0} → AddressFamily → (A → List ℕ) → ℕ → ℕ → Writing → MergeState → MergeState →
+    Setup → Option (List ℕ) → Option (List ℕ) → Result ℕ Fault → Type 0
 MirrorsNew family bytes_of after_ms limit writing merge merge' setup old new (Ok status) =
     IsMirrored family bytes_of after_ms limit writing merge merge' setup old new (Ok status)
 MirrorsNew family bytes_of after_ms limit writing merge merge' setup old new (Err fault) =

@@ -1,7 +1,7 @@
-//! `pimtree` reads PIM sparse mode messages for a person. `check` prints a message on standard input, or the fault that it
-//! has; `replay` what became of each packet of a router's captures, and the state that the router held at the end; `same`
-//! whether two routers wanted the same traffic; and `mirror` the messages that make a fresh router want what this one
-//! wanted.
+//! `pimtree` reads PIM sparse mode messages for a person. `check` prints a message on standard input, or the fault that
+//! it has; `replay` what became of each packet of a router's captures, and the state that the router held at the end;
+//! `same` whether two routers wanted the same traffic; and `mirror` the messages that make a fresh router want what this
+//! one wanted.
 #![tactic(auto)]
 
 ghost use Rattle.pim_words.specs.Plan.{IsInRange};
