@@ -40,7 +40,8 @@ Told A = Result ℕ (MirrorTextFault (Unit {0}) A (Unit {0}))
 
 -- A new router of this set-up is replayed and mirrored, and the engine's answer is told so.
 pub record IsMirrored {A : Type 0} (family : AddressFamily) (bytes_of : A → List ℕ) (after_ms limit : ℕ)
-    (writing : Writing) (merge merge' : MergeState) (setup : Setup) (old new : Option (List ℕ)) (result : Result ℕ Fault) : Type 0 where
+    (writing : Writing) (merge merge' : MergeState) (setup : Setup) (old new : Option (List ℕ))
+    (result : Result ℕ Fault) : Type 0 where
   pub after : RouterState
   pub told : Told A
   pub mirrors : TellsMirror family after_ms writing limit merge merge' (new_router setup) after bytes_of old new told
