@@ -17,7 +17,7 @@ use Rattle.pim_words.specs.declared.task.Captures.{Captures}
 use Rattle.pim_words.specs.declared.task.Port.{Port}
 use Rattle.pim_words.specs.declared.task.Writing.{Writing}
 use Rattle.pim_words.specs.declared.task.Task.{Task}
-use Rattle.pim_words.specs.declared.task.Task.TheVariants.{Check, Replay, Same, Mirror}
+use Rattle.pim_words.specs.declared.task.Task.TheVariants.{Check, Replay, Same, Mirror, Change}
 
 -- ---- addresses
 
@@ -50,6 +50,7 @@ are_in family (Check source destination) = is_in family source && is_in family d
 are_in family (Replay captures) = are_captures_in family captures
 are_in family (Same captures writing) = are_captures_in family captures && is_writing_in family writing
 are_in family (Mirror captures writing) = are_captures_in family captures && is_writing_in family writing
+are_in family (Change captures writing) = are_captures_in family captures && is_writing_in family writing
 
 -- ---- what is wrong
 
@@ -87,13 +88,18 @@ router_faults side captures =
     (Config config.Address)
     ++ fault_if (option_map_or (λ rp. not (is_valid rp)) captures.rp false) (Config config.Rp)
 
+-- the same of two routers and of a writer
+abbrev pub faults_of_two : Captures Address → Writing Address → List Fault
+faults_of_two captures writing =
+    no_port_faults captures ++ (writer_faults writing ++ (router_faults A captures ++ router_faults B captures))
+
 -- the same of the routers and the writer of a task
 abbrev pub setting_faults : Task Address → List Fault
 setting_faults (Check source destination) = []
 setting_faults (Replay captures) = router_faults A captures
-setting_faults (Same captures writing) =
-    no_port_faults captures ++ (writer_faults writing ++ (router_faults A captures ++ router_faults B captures))
+setting_faults (Same captures writing) = faults_of_two captures writing
 setting_faults (Mirror captures writing) = writer_faults writing ++ router_faults A captures
+setting_faults (Change captures writing) = faults_of_two captures writing
 
 abbrev pub task_faults : Task Address → List Fault
 task_faults task = family_faults task ++ setting_faults task

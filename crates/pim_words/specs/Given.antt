@@ -3,7 +3,7 @@ use Rattle.std.specs.Prelude.{◌≡◌, ◌≤◌, ℕ, Bool, true, false, List
 use Rattle.std.specs.Str.Parse.{IsNumeral, digits_value, without_leading_plus}
 use Rattle.clap.specs.Words.{Row, Text, first_of, all_of}
 use Rattle.pim_words.specs.declared.task.Kind.{Kind}
-use Rattle.pim_words.specs.declared.task.Kind.TheVariants.{Check, Replay, Same, Mirror}
+use Rattle.pim_words.specs.declared.task.Kind.TheVariants.{Check, Replay, Same, Mirror, Change}
 
 -- the value of an option, or its default where the words have none
 abbrev pub option_or : Text → Text → List Row → Text
@@ -38,14 +38,16 @@ kind_name Check = codes "check"
 kind_name Replay = codes "replay"
 kind_name Same = codes "same"
 kind_name Mirror = codes "mirror"
+kind_name Change = codes "change"
 
 -- a name that a command has
 abbrev pub IsKnown : Text → Type 0
 IsKnown name = (kind : Kind) × (name ≡ kind_name kind)
 
--- The command compares two routers, so that each word is marked with its own.
+-- The command has two routers, so that each word is marked with its own.
 abbrev pub is_sided : Kind → Bool
 is_sided Same = true
+is_sided Change = true
 is_sided other = false
 
 -- the text of the RP, where one is given

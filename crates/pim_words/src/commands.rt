@@ -52,6 +52,10 @@ const SAME_ABOUT: &str = "Do these two routers want the same traffic?";
 /// What `mirror` does.
 const MIRROR_ABOUT: &str = "Which messages make a fresh router want what this router wants?";
 
+/// What `change` does.
+const CHANGE_ABOUT: &str =
+    "Which messages tell the upstream neighbour of the change from what a wants to what b wants?";
+
 /// What `--rp` is, where it has to be given.
 const RP_HELP: &str = "Address of the rendezvous point of all groups";
 
@@ -120,6 +124,16 @@ digits. All addresses are of one family.
 
 Example:
   pimtree mirror --rp 10.9.9.9 --upstream 10.0.0.3 --own 10.0.0.1 10.0.0.2@examples/lan.pcap";
+
+/// What is to be known of `change`, and an example.
+const CHANGE_AFTER_HELP: &str =
+    "A FILE is a classic pcap file of the packets on one port. Each message is a line of hexadecimal
+digits. `agrees` tells that a fresh router which wants what a wants, and hears them, wants what b
+wants. All addresses are of one family.
+
+Example:
+  pimtree change --rp 10.9.9.9 --upstream 10.0.0.3 --own 10.0.0.1 a=10.0.0.2@examples/lan.pcap \
+b=10.0.0.2@examples/lost.pcap";
 
 /// An option that takes one text, which help calls by this name.
 fn text_option<'a>(alloc: Global, name: &'a str, value: &'a str, help: &'a str) -> Arg<'a>
@@ -315,5 +329,7 @@ pub(crate) fn command<'a>(alloc: Global) -> Result<Command<'a>, AllocError>
     let same = writing_command(alloc, "same", SAME_ABOUT, SAME_AFTER_HELP, SIDED_HELP)?;
     let whole = with_command(whole, same)?;
     let mirror = writing_command(alloc, "mirror", MIRROR_ABOUT, MIRROR_AFTER_HELP, PORT_HELP)?;
-    with_command(whole, mirror)
+    let whole = with_command(whole, mirror)?;
+    let change = writing_command(alloc, "change", CHANGE_ABOUT, CHANGE_AFTER_HELP, SIDED_HELP)?;
+    with_command(whole, change)
 }

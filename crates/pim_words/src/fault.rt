@@ -6,7 +6,7 @@ ghost use Rattle.pim_words.specs.Plan.{refusal_fault};
 use clap::error::ErrorKind;
 use std::alloc::AllocError;
 
-/// One of the two routers that a command compares.
+/// One of the two routers of a command that has two.
 #[derive(Clone, Copy, Debug, PartialEq, Eq)]
 pub enum Side {
     /// The one whose words begin with `a=`, and the router of a command that has one alone.

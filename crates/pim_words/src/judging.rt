@@ -5,7 +5,7 @@ ghost use Rattle.std.specs.List.{list_any};
 ghost use Rattle.std.specs.Option.{option_map_or};
 ghost use Rattle.pim_addr.specs.Faults.{judged};
 ghost use Rattle.pim_words.specs.Faults.{is_valid, is_same, is_of, port_count, no_port_faults, writer_faults};
-ghost use Rattle.pim_words.specs.Faults.{router_faults, setting_faults};
+ghost use Rattle.pim_words.specs.Faults.{router_faults, faults_of_two, setting_faults};
 
 use crate::addresses::Address;
 use crate::fault::{ConfigCause, Fault, Side};
@@ -142,12 +142,11 @@ fn judge_routers(captures: &Captures<'_, Address>) -> Result<(), Fault<'static>>
 }
 
 /// Looks at two routers and at how they write.
-fn judge_same(
+fn judge_two(
     captures: &Captures<'_, Address>,
     writing: Writing<Address>,
 ) -> Result<(), Fault<'static>>
-    ensures { result ≡ judged (no_port_faults captures.now ++ (writer_faults writing
-        ++ (router_faults Side.A captures.now ++ router_faults Side.B captures.now))) tt }
+    ensures { result ≡ judged (faults_of_two captures.now writing) tt }
 {
     judge_ports(captures)?;
     judge_writer(writing)?;
@@ -172,7 +171,9 @@ pub(crate) fn judge(task: &Task<'_, Address>) -> Result<(), Fault<'static>>
     match task {
         Task::Check { .. } => Ok(()),
         Task::Replay(captures) => judge_router(Side::A, captures),
-        Task::Same(captures, writing) => judge_same(captures, *writing),
+        Task::Same(captures, writing) | Task::Change(captures, writing) => {
+            judge_two(captures, *writing)
+        }
         Task::Mirror(captures, writing) => judge_mirror(captures, *writing),
     }
 }

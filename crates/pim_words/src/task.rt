@@ -59,6 +59,8 @@ pub enum Task<'a, A> {
     Same(Captures<'a, A>, Writing<A>),
     /// To tell the messages that make a fresh router want what a router wants.
     Mirror(Captures<'a, A>, Writing<A>),
+    /// To tell the messages by which an upstream neighbour of router a learns to send what router b wants.
+    Change(Captures<'a, A>, Writing<A>),
 }
 
 /// What is asked for, with all its addresses of one family.
@@ -81,4 +83,6 @@ pub enum Kind {
     Same,
     /// `mirror`
     Mirror,
+    /// `change`
+    Change,
 }
