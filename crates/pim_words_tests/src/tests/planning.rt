@@ -9,8 +9,10 @@ use std::test::Fail;
 enum Shown<'a> {
     /// The values of a command with captures: its ports, whether it has an RP, its limit and what it runs on.
     Captures(usize, bool, usize, u64),
-    /// A holdtime and a budget.
+    /// A holdtime and a budget of `same`.
     Writing(u16, usize),
+    /// A holdtime and a budget of `change`, and how many ports it has.
+    Change(u16, usize, usize),
     /// `check` over IPv4, or over IPv6.
     Check(bool),
     /// A fault without a word.
@@ -51,6 +53,9 @@ fn shown_task<'a, A>(task: &Task<'a, A>, is_ipv6: bool) -> Shown<'a> {
             captures.after_ms,
         ),
         Task::Same(_, writing) => Shown::Writing(writing.holdtime, writing.budget),
+        Task::Change(captures, writing) => {
+            Shown::Change(writing.holdtime, writing.budget, captures.ports.len())
+        }
     }
 }
 
@@ -69,8 +74,19 @@ const S: &[&str] = &[
     "10.0.0.1",
 ];
 
+const C: &[&str] = &[
+    "p",
+    "change",
+    "--rp",
+    "10.9.9.9",
+    "--upstream",
+    "10.0.0.2",
+    "--own",
+    "10.0.0.1",
+];
+
 /// Words behind `pimtree`, with what is made of them.
-const ROWS: [(&[&str], Shown<'static>); 34] = [
+const ROWS: [(&[&str], Shown<'static>); 38] = [
     (&["p", "check"], Shown::Check(false)),
     (
         &["p", "check", "--src", "fe80::1", "--dst", "ff02::d"],
@@ -125,6 +141,37 @@ const ROWS: [(&[&str], Shown<'static>); 34] = [
     ),
     (S, Shown::NoPort(Side::A)),
     (&["p", "same", "--rp", "10.9.9.9", A], Shown::Clap),
+    (C, Shown::NoPort(Side::A)),
+    (&["p", "change", "--rp", "10.9.9.9", A], Shown::Clap),
+    (
+        &[
+            "p",
+            "change",
+            "--rp",
+            "10.9.9.9",
+            "--upstream",
+            "10.0.0.2",
+            "--own",
+            "10.0.0.2",
+            "a=10.0.0.2@x",
+            "b=10.0.0.2@x",
+        ],
+        Shown::WriterAddress,
+    ),
+    (
+        &[
+            "p",
+            "change",
+            "--own",
+            "z",
+            "--upstream",
+            "y",
+            "--rp",
+            "x",
+            "w",
+        ],
+        Shown::Address("x"),
+    ),
     (
         &[
             "p",
@@ -244,6 +291,60 @@ const SAME_ROWS: [(&[&str], Shown<'static>); 11] = [
     ),
 ];
 
+/// Words behind those of `change`, with what is made of them.
+const CHANGE_ROWS: [(&[&str], Shown<'static>); 13] = [
+    (
+        &["a=10.0.0.2@a.pcap", "b=10.0.0.2@a.pcap"],
+        Shown::Change(210, 1460, 2),
+    ),
+    (
+        &[
+            "b=10.0.0.2@x",
+            "a=10.0.0.2@y",
+            "--holdtime",
+            "99",
+            "--budget",
+            "70",
+            "b=10.0.1.2@z",
+        ],
+        Shown::Change(99, 70, 3),
+    ),
+    (
+        &[
+            "--routes",
+            "r",
+            "--limit=1",
+            "--after",
+            "5",
+            "a=10.0.0.2@y",
+            "b=1.1.1.1@x",
+        ],
+        Shown::Change(210, 1460, 2),
+    ),
+    (
+        &["--holdtime", "98", "a=10.0.0.2@y", "b=10.0.0.2@x"],
+        Shown::Clap,
+    ),
+    (
+        &["--budget", "69", "a=10.0.0.2@y", "b=10.0.0.2@x"],
+        Shown::Clap,
+    ),
+    (
+        &["--limit", "0", "a=10.0.0.2@y", "b=10.0.0.2@x"],
+        Shown::Clap,
+    ),
+    (&["a=10.0.0.2@a.pcap"], Shown::NoPort(Side::B)),
+    (&["b=10.0.0.2@a.pcap"], Shown::NoPort(Side::A)),
+    (&["b=10.0.0.300@x"], Shown::Address("b=10.0.0.300@x")),
+    (&["10.0.0.2@x"], Shown::Word("10.0.0.2@x")),
+    (&["b=10.0.0.2"], Shown::Word("b=10.0.0.2")),
+    (&["a=10.0.0.2@x", "b=fe80::2@x"], Shown::Family),
+    (
+        &["a=10.0.0.2@x", "b=224.0.0.1@x"],
+        Shown::Config(ConfigCause::Address),
+    ),
+];
+
 /// What is made of these words.
 fn made<'a>(alloc: Global, words: &'a [&'a str]) -> Shown<'a> {
     match plan(alloc, words) {
@@ -264,6 +365,16 @@ fn words_make_plans_and_faults(rt: HostRuntime) {
 fn words_of_two_routers_make_plans_and_faults(rt: HostRuntime) -> Result<(), Fail> {
     for (words, shown) in SAME_ROWS {
         let mut all = Vec::from_slice(rt.alloc(), S)?;
+        all.extend_from_slice(words)?;
+        assert_eq!(rt; made(rt.alloc(), &all), shown);
+    }
+    Ok(())
+}
+
+#[test]
+fn words_of_a_change_make_plans_and_faults(rt: HostRuntime) -> Result<(), Fail> {
+    for (words, shown) in CHANGE_ROWS {
+        let mut all = Vec::from_slice(rt.alloc(), C)?;
         all.extend_from_slice(words)?;
         assert_eq!(rt; made(rt.alloc(), &all), shown);
     }
@@ -323,7 +434,7 @@ fn options_give_the_ends(rt: HostRuntime) {
 }
 
 /// Requests for help, with a part of the answer.
-const HELP: [(&[&str], &str); 15] = [
+const HELP: [(&[&str], &str); 18] = [
     (
         &["p", "--help"],
         "What does this message say, or where is it wrong?",
@@ -339,6 +450,10 @@ const HELP: [(&[&str], &str); 15] = [
     (
         &["p", "--help"],
         "Which messages make a fresh router want what this router wants?",
+    ),
+    (
+        &["p", "--help"],
+        "Which messages tell the upstream neighbour of the change from what a wants to what b wants?",
     ),
     (
         &["p", "check", "--help"],
@@ -368,6 +483,14 @@ const HELP: [(&[&str], &str); 15] = [
     (
         &["p", "mirror", "--help"],
         "10.0.0.1 10.0.0.2@examples/lan.pcap",
+    ),
+    (
+        &["p", "change", "--help"],
+        "a=ADDRESS@FILE or b=ADDRESS@FILE",
+    ),
+    (
+        &["p", "change", "--help"],
+        "a=10.0.0.2@examples/lan.pcap b=10.0.0.2@examples/lost.pcap",
     ),
 ];
 
