@@ -1,0 +1,6 @@
+//! Worked examples.
+
+mod echoes;
+mod pairs;
+mod states;
+mod world;
