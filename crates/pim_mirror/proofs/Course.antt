@@ -27,12 +27,16 @@ use Rattle.pim_mirror.specs.CanonicalPackets.{packet_of, HearsWriter, IsHeard}
 use Rattle.pim_mirror.specs.Laws.{CanonicalMessagesTellForm, CanonicalPacketIsHeard, RouterLeavesItsPort, DeliveryIsTaken}
 use Rattle.pim_mirror.proofs.RouterRuns.{reaches_as}
 
-leaves_limit : RunKeepsItsBounds → (exchange : Exchange) (ports limit : ℕ) (deliveries : List Delivery) (moment : ℕ) (after : Downstream) → Leaves exchange ports limit deliveries moment after → after.limit ≡ limit
+pub leaves_bounds : RunKeepsItsBounds → (exchange : Exchange) (ports limit : ℕ) (deliveries : List Delivery) (moment : ℕ) (after : Downstream) → Leaves exchange ports limit deliveries moment after
+    → (after.ports ≡ ports) × (after.limit ≡ limit)
 unfolding Leaves
-leaves_limit bounds exchange ports limit [] moment after leaves = (bounds moment (fresh ports limit) after Reached leaves).1
-leaves_limit bounds exchange ports limit (delivery ∷ earlier) moment after leaves =
-    (bounds moment (after_message exchange delivery.message leaves.before) after Reached leaves.runs).1
-    ∙ leaves_limit bounds exchange ports limit earlier delivery.moment leaves.before leaves.was
+leaves_bounds bounds exchange ports limit [] moment after leaves =
+    let here = bounds moment (fresh ports limit) after Reached leaves in
+    (here.0, here.1)
+leaves_bounds bounds exchange ports limit (delivery ∷ earlier) moment after leaves =
+    let here = bounds moment (after_message exchange delivery.message leaves.before) after Reached leaves.runs in
+    let before = leaves_bounds bounds exchange ports limit earlier delivery.moment leaves.before leaves.was in
+    (here.0 ∙ before.0, here.1 ∙ before.1)
 
 -- earlier deliveries have no more units
 pub fewer_units : (exchange : Exchange) (limit : ℕ) (delivery : Delivery) (earlier : List Delivery) → length (units_of exchange (delivery ∷ earlier)) ≤ limit → length (units_of exchange earlier) ≤ limit
@@ -73,7 +77,7 @@ module _ (tells : CanonicalMessagesTellForm) (heard : CanonicalPacketIsHeard) (n
       let here = packet_heard delivery.message before same within hears in
       let count : needed 0 before.machines.records (exchange.messages delivery.message) ≡ length (units_of exchange (delivery ∷ earlier)) =
       needs exchange 1 limit delivery earlier before.machines (tells family writing (known_in family routes) form messages 0 timing is_writing is have are).once timely leaves in
-      let room : before.machines.limit ≡ limit = leaves_limit bounds exchange 1 limit earlier delivery.moment before.machines leaves in
+      let room : before.machines.limit ≡ limit = (leaves_bounds bounds exchange 1 limit earlier delivery.moment before.machines leaves).1 in
       record {
         applied = λ few. here.applied (omega (arith, count, room, few));
         full = λ many. here.full (omega (arith, count, room, many)) ∙ ap (λ (n : ℕ). (Full (Records n), before)) count;

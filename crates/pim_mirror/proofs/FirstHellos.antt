@@ -19,7 +19,7 @@ use Rattle.pim_router.specs.Packets.{Packet, own_address, neighbours_on, timing_
 use Rattle.pim_router.specs.State.{Port, RouterState, new_router, refresh_period}
 use Rattle.pim_router.specs.declared.verdict.Verdict.{Verdict}
 use Rattle.pim_mirror.specs.Config.{Neighbour, Fresh, first_port, port_of, sender_hello, neighbours, interval_of, end_of, setup_of}
-use Rattle.pim_mirror.specs.Fits.{Fits}
+use Rattle.pim_mirror.specs.Fits.{Fits, OthersStay}
 use Rattle.pim_mirror.specs.CanonicalCourse.{Lasts}
 use Rattle.pim_mirror.specs.Hellos.{AreHellosFrom, timing_of, HasMet}
 use Rattle.pim_mirror.specs.HelloLaws.{HellosAreHeard}
@@ -181,20 +181,20 @@ module _ (fresh : Fresh) where
   only_port [] = refl
   only_port (port ∷ ports) = refl
 
+  lasts : (last : ℕ) (entries : List Entry) → AllLast last entries → Lasts last (knowing fresh entries)
+  unfolding AllLast
+  lasts last entries all = record {
+    by_then = zero-le;
+    now = (refl, tt);
+    left = (subst (λ (n : ℕ). AllLast n entries) (none_passed last) all, tt);
+  }
+    where
+      none_passed : (n : ℕ) → n ≡ n - 0
+      none_passed n = omega arith
+
   module _ (writing : Writing) (entries : List Entry) (last : AllLast (end_of fresh) entries) where
     stay : (without_ended (record { moment = 0; entries = entries })).entries ≡ entries
     stay = all_stay (end_of fresh) entries last
-
-    lasts : Lasts (end_of fresh) (knowing fresh entries)
-    unfolding AllLast
-    lasts = record {
-      by_then = zero-le;
-      now = (refl, tt);
-      left = (subst (λ (n : ℕ). AllLast n entries) (none_passed (end_of fresh)) last, tt);
-    }
-      where
-        none_passed : (n : ℕ) → n ≡ n - 0
-        none_passed n = omega arith
 
     timing_is : override_interval (port_of fresh).propagation (port_of fresh).override_ms (hellos_in entries) ≡ interval_of fresh → length entries ≡ length (neighbours fresh)
         → timing_of fresh ≡ timing_on 0 (knowing fresh entries)
@@ -203,13 +203,13 @@ module _ (fresh : Fresh) where
         (sym interval ∙ ap₂ (λ (port : Port) (es : List Entry). override_interval port.propagation port.override_ms (hellos_in es)) (sym (only_port fresh.ports)) (sym stay))
         (sym count ∙ ap length (sym stay))
 
-    met : (port_of fresh).address ≡ writing.upstream → is_known writing.own entries ≡ true
+    met : ((end : ℕ) → OthersStay fresh end → AllLast end entries) → (port_of fresh).address ≡ writing.upstream → is_known writing.own entries ≡ true
         → override_interval (port_of fresh).propagation (port_of fresh).override_ms (hellos_in entries) ≡ interval_of fresh → length entries ≡ length (neighbours fresh)
         → HasMet writing fresh (knowing fresh entries)
-    met address known interval count = record {
+    met all address known interval count = record {
       nothing = refl;
       routes = refl;
-      lasts = lasts;
+      lasts = λ end others. lasts end entries (all end others);
       hears = record {
         own = ap (λ (port : Port). port.address) (only_port fresh.ports) ∙ address;
         known = ap (is_known writing.own) stay ∙ known;
@@ -230,7 +230,7 @@ hellos_are_heard family messages writing table fresh hellos told after is_writin
     (can fits own) apart (none_last (end_of fresh)) (omega (arith, fits.others_count)) in
     let entries : List Entry = all_inserted [] (map kept (neighbours fresh)) in
     subst (HasMet writing fresh) (sym end)
-    (met fresh writing entries (lasting fits apart) fits.address
+    (met fresh writing entries (lasting apart (end_of fresh) fits.others_stay) (lasting apart) fits.address
     (known_all writing.own [] (map kept (neighbours fresh)) apart ∙ known_first fits)
     (interval_all (port_of fresh).propagation (port_of fresh).override_ms [] (map kept (neighbours fresh)) apart ∙ ap (override_interval (port_of fresh).propagation (port_of fresh).override_ms) (hellos_kept (neighbours fresh)))
     (count_all [] (map kept (neighbours fresh)) apart ∙ count_kept (neighbours fresh)))
@@ -248,8 +248,8 @@ hellos_are_heard family messages writing table fresh hellos told after is_writin
     none_last : (end : ℕ) → AllLast end []
     none_last end = tt
 
-    lasting : Fits messages writing table fresh → AreApart [] (map kept (neighbours fresh)) → AllLast (end_of fresh) (all_inserted [] (map kept (neighbours fresh)))
-    lasting fits apart = each_holds (λ (entry : Entry). IsShorter (end_of fresh) entry.1.left) [] (map kept (neighbours fresh)) apart tt (tt, each_lasts (end_of fresh) fresh.others fits.others_stay)
+    lasting : AreApart [] (map kept (neighbours fresh)) → (last : ℕ) → OthersStay fresh last → AllLast last (all_inserted [] (map kept (neighbours fresh)))
+    lasting apart last others = each_holds (λ (entry : Entry). IsShorter last entry.1.left) [] (map kept (neighbours fresh)) apart tt (tt, each_lasts last fresh.others others)
 
     known_first : Fits messages writing table fresh → is_known writing.own (map kept (neighbours fresh) ++ []) ≡ true
     known_first fits =

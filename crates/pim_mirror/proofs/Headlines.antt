@@ -5,7 +5,7 @@ use Rattle.pim_addr.specs.Routes.{RouteTable, IsRouteTable}
 use Rattle.pim_down.specs.declared.step.Step.{Step as Fires}
 use Rattle.pim_down.specs.declared.step.Step.TheVariants as fires
 use Rattle.pim_down.specs.Known.{known_in}
-use Rattle.pim_down.specs.Laws.{RunHasOneEnd}
+use Rattle.pim_down.specs.Laws.{RunHasOneEnd, RunKeepsItsBounds}
 use Rattle.pim_down.specs.Time.{Downstream, Runs as MachineRuns}
 use Rattle.pim_form.specs.Messages.{Writing, IsWriting}
 use Rattle.pim_form.specs.Laws.{OneNormalForm}
@@ -19,14 +19,14 @@ use Rattle.pim_router.specs.Course.{Telling, takes, IsCourse}
 use Rattle.pim_router.specs.Packets.{Packet}
 use Rattle.pim_router.specs.State.{RouterState, new_router}
 use Rattle.pim_mirror.specs.Config.{Fresh, newest_first, end_of, setup_of}
-use Rattle.pim_mirror.specs.Fits.{expiry_of}
+use Rattle.pim_mirror.specs.Fits.{OthersStay, expiry_of}
 use Rattle.pim_mirror.specs.CanonicalExchange.{exchange_in, TellsForm}
 use Rattle.pim_mirror.specs.Hellos.{timing_of}
 use Rattle.pim_mirror.specs.HelloLaws.{WrittenHellosAreRead, HellosAreHeard}
 use Rattle.pim_mirror.specs.Laws.{AskedStarsHaveRps, CanonicalMessagesTellForm, HeardMessagesAreAskedAgain, RouterLeavesItsPort, CourseHearsAll, DeliveryIsTaken}
-use Rattle.pim_mirror.specs.Headline.{AreMessagesOf, fresh_exchange, HearsAlone, IsInWindow, IsAt, MirrorsForm, NormalisingTwiceIsOnce, RoomIsForTheUnits, FreshRouterMirrors, FreshRouterTellsNoEcho, Headline}
+use Rattle.pim_mirror.specs.Headline.{AreMessagesOf, fresh_exchange, HearsAlone, IsInWindow, IsAt, MirrorsForm, NormalisingTwiceIsOnce, RoomIsForTheUnits, FreshRouterMirrors, FreshRouterTellsNoEcho, KnowsItsWriter, FreshRouterKnowsTheWriter, Headline}
 use Rattle.pim_mirror.proofs.Begun.{Begun, begun}
-use Rattle.pim_mirror.proofs.Course.{fresh_quiet}
+use Rattle.pim_mirror.proofs.Course.{fresh_quiet, leaves_bounds}
 use Rattle.pim_mirror.proofs.FormHeld.{holds_the_form}
 use Rattle.pim_mirror.proofs.Quiet.{IsQuiet, quiet_as, all_quiet}
 use Rattle.pim_mirror.proofs.Rooms.{within}
@@ -92,11 +92,20 @@ module _ (laws : Laws) (family : AddressFamily) (table : RouteTable) (writing : 
 
   left : Left
   left =
-      let heard = laws.course_hears family writing asked.form messages (timing_of fresh) fresh.limit (end_of fresh) first.start deliveries (end_of fresh) first.said router is_writing asked.is.normal first.have first.messages_are first.met.nothing first.are_of hears.fits.timely room_here (omega arith) first.met.lasts first.met.hears first.course in
+      let heard = laws.course_hears family writing asked.form messages (timing_of fresh) fresh.limit (end_of fresh) first.start deliveries (end_of fresh) first.said router is_writing asked.is.normal first.have first.messages_are first.met.nothing first.are_of hears.fits.timely room_here (omega arith) (first.met.lasts (end_of fresh) hears.fits.others_stay) first.met.hears first.course in
       let there = laws.leaves_port family writing asked.form messages (timing_of fresh) fresh.limit first.start deliveries (end_of fresh) router is_writing asked.is.normal first.have first.messages_are first.met.nothing first.are_of hears.fits.timely room_here heard.0 in
       record {
         leaves = subst (λ (t : RouteTable). Leaves (exchange_in family (known_in family t) writing 0 (timing_of fresh) messages) 1 fresh.limit deliveries (end_of fresh) router.machines) first.routes there.0;
         routes = there.1 ∙ first.routes;
+      }
+
+  knows_its_writer : RunKeepsItsBounds → (last : ℕ) → end_of fresh ≤ last → OthersStay fresh last → KnowsItsWriter writing fresh last router
+  knows_its_writer bounds last later others =
+      let heard = laws.course_hears family writing asked.form messages (timing_of fresh) fresh.limit last first.start deliveries (end_of fresh) first.said router is_writing asked.is.normal first.have first.messages_are first.met.nothing first.are_of hears.fits.timely room_here later (first.met.lasts last others) first.met.hears first.course in
+      record {
+        one_port = (leaves_bounds bounds exchange 1 fresh.limit deliveries (end_of fresh) router.machines left.leaves).0;
+        lasts = heard.1;
+        hears = heard.2;
       }
 
   tells_no_echo : DeliveryIsTaken → NoEchoIsTold → EveryHearingReaches → RunHasOneEnd → IsQuiet hears.course.told
@@ -105,7 +114,7 @@ module _ (laws : Laws) (family : AddressFamily) (table : RouteTable) (writing : 
       (laws.tell family writing (known_in family first.start.routes) asked.form messages 0 (timing_of fresh) is_writing asked.is.normal first.have first.messages_are).once in
       quiet_as hears.course.told first.told first.said first.joined
       (hellos_quiet family hears.course.hellos first.told (new_router (setup_of fresh)) first.start first.hellos)
-      (all_quiet taken laws.leaves_port laws.course_hears no_echo family writing asked.form messages (timing_of fresh) fresh.limit (end_of fresh) first.start is_writing asked.is.normal first.have first.messages_are once first.met.nothing first.met.lasts first.met.hears
+      (all_quiet taken laws.leaves_port laws.course_hears no_echo family writing asked.form messages (timing_of fresh) fresh.limit (end_of fresh) first.start is_writing asked.is.normal first.have first.messages_are once first.met.nothing (first.met.lasts (end_of fresh) hears.fits.others_stay) first.met.hears
       (fresh_quiet reaching one_end (exchange_in family (known_in family first.start.routes) writing 0 (timing_of fresh) messages) fresh.limit once first.start.machines first.met.nothing)
       deliveries (end_of fresh) first.said router first.are_of hears.fits.timely room_here (omega arith) first.course)
 
@@ -131,6 +140,10 @@ fresh_router_mirrors laws again span_is family table writing state messages fres
 pub tells_no_echo_before : Laws → DeliveryIsTaken → NoEchoIsTold → EveryHearingReaches → RunHasOneEnd → FreshRouterTellsNoEcho
 tells_no_echo_before laws taken no_echo reaching one_end family table writing state messages fresh router sound is_writing asked hears =
     tells_no_echo laws family table writing state messages fresh router sound is_writing asked hears taken no_echo reaching one_end
+
+pub knows_the_writer : Laws → RunKeepsItsBounds → FreshRouterKnowsTheWriter
+knows_the_writer laws bounds family table writing state messages fresh router last sound is_writing asked hears later others =
+    knows_its_writer laws family table writing state messages fresh router sound is_writing asked hears bounds last later others
 
 -- ---- the headline
 

@@ -114,16 +114,14 @@ module _ (goes_on : CourseGoesOn) (every : EveryListHasACourse) (family : Addres
 
   -- ---- the whole course
 
-  pub mirror_ends : (messages : List (List ℕ)) (fresh : Fresh) (met heard now : RouterState) →
+  pub mirror_ends : (messages : List (List ℕ)) (fresh : Fresh) (met now : RouterState) →
       PassesHellos family (neighbours fresh) (new_router (setup_of fresh)) met →
-      Passes family (flat_map (delivery_inputs family messages fresh.sender) fresh.deliveries) met (Ok tt) heard →
-      HasReached (end_of fresh) heard now → Mirrors family messages fresh (Ok now)
-  mirror_ends messages fresh met heard now hellos deliveries reached =
-      let inputs = flat_map (delivery_inputs family messages fresh.sender) fresh.deliveries in
-      let all = then_passes goes_on every family (map (λ packet. takes packet) hellos.hellos) (inputs ++ runs_to (end_of fresh) ∷ [])
-      (new_router (setup_of fresh)) met now (Ok tt) hellos.passes
-      (then_passes goes_on every family inputs (runs_to (end_of fresh) ∷ []) met heard now (Ok tt) deliveries
-      (reached_passes family (end_of fresh) heard now reached)) in record {
+      Passes family (flat_map (delivery_inputs family messages fresh.sender) fresh.deliveries ++ runs_to (end_of fresh) ∷ []) met (Ok tt) now →
+      Mirrors family messages fresh (Ok now)
+  mirror_ends messages fresh met now hellos deliveries =
+      let all = then_passes goes_on every family (map (λ packet. takes packet) hellos.hellos)
+      (flat_map (delivery_inputs family messages fresh.sender) fresh.deliveries ++ runs_to (end_of fresh) ∷ [])
+      (new_router (setup_of fresh)) met now (Ok tt) hellos.passes deliveries in record {
         hellos = hellos.hellos;
         are_hellos = hellos.are_hellos;
         told = all.told;
@@ -133,14 +131,13 @@ module _ (goes_on : CourseGoesOn) (every : EveryListHasACourse) (family : Addres
 
   pub mirror_stops : (messages : List (List ℕ)) (fresh : Fresh) (met now : RouterState) (told : MirrorFault) →
       PassesHellos family (neighbours fresh) (new_router (setup_of fresh)) met →
-      Passes family (flat_map (delivery_inputs family messages fresh.sender) fresh.deliveries) met (Err told) now →
+      Passes family (flat_map (delivery_inputs family messages fresh.sender) fresh.deliveries ++ runs_to (end_of fresh) ∷ []) met (Err told) now →
       Mirrors family messages fresh (Err told)
   mirror_stops messages fresh met now fault.Memory hellos deliveries = tt
   mirror_stops messages fresh met now (fault.Full needed) hellos deliveries =
-      let inputs = flat_map (delivery_inputs family messages fresh.sender) fresh.deliveries in
-      let all = then_passes goes_on every family (map (λ packet. takes packet) hellos.hellos) (inputs ++ runs_to (end_of fresh) ∷ [])
-      (new_router (setup_of fresh)) met now (Err (fault.Full needed)) hellos.passes
-      (then_stops goes_on every family inputs (runs_to (end_of fresh) ∷ []) met now (fault.Full needed) deliveries) in (
+      let all = then_passes goes_on every family (map (λ packet. takes packet) hellos.hellos)
+      (flat_map (delivery_inputs family messages fresh.sender) fresh.deliveries ++ runs_to (end_of fresh) ∷ [])
+      (new_router (setup_of fresh)) met now (Err (fault.Full needed)) hellos.passes deliveries in (
         all.after,
         record {
           hellos = hellos.hellos;

@@ -1,4 +1,4 @@
--- The packet of a canonical message is heard.
+-- A packet whose bytes are read as a message is heard, and so is that of a canonical message.
 use Rattle.std.proofs.Common.{◌≡◌, ◌∙◌, ℕ, zero, suc, ◌<◌, Bool, true, false, not, nat_lt, List, [], ◌∷◌, ◌++◌, map, get_or, length, refl, sym, ap, subst, arith}
 use Rattle.std.proofs.lemmas.Bool.{lt-ltb, le-ltb}
 use Rattle.pim_addr.specs.Faults.{fault_if}
@@ -20,11 +20,11 @@ use Rattle.pim_router.specs.declared.verdict.Verdict.{Verdict}
 use Rattle.pim_router.specs.declared.verdict.Verdict.TheVariants as verdict
 use Rattle.pim_router.specs.declared.verdict.Malformed.TheVariants as malformed
 use Rattle.pim_router.specs.declared.verdict.Store.TheVariants as store
-use Rattle.pim_router.specs.Packets.{causes, received, own_address, knows, unless, body_causes, message_causes, room_causes, body_taken, message_taken}
+use Rattle.pim_router.specs.Packets.{Packet, causes, received, own_address, knows, timing_on, unless, body_causes, message_causes, room_causes, body_taken, message_taken}
 use Rattle.pim_router.specs.State.{RouterState, with_machines}
 use Rattle.pim_mirror.specs.CanonicalExchange.{message_in, events_at, AreReadAs}
-use Rattle.pim_mirror.specs.CanonicalPackets.{packet_of, HearsWriter, heard_exchange, needed_records, IsHeard}
-use Rattle.pim_mirror.specs.Laws.{CanonicalMessagesTellParts, MessagesAreRead, CanonicalPacketIsHeard}
+use Rattle.pim_mirror.specs.CanonicalPackets.{HearsWriter, heard_exchange, needed_records, IsHeard}
+use Rattle.pim_mirror.specs.Laws.{CanonicalMessagesTellParts, MessagesAreRead, CanonicalPacketIsHeard, ReadPacketIsHeard}
 use Rattle.pim_mirror.proofs.SameAddresses.{same_itself, same_is}
 use Rattle.pim_mirror.proofs.ReadBack.{read_message}
 
@@ -93,58 +93,59 @@ module _ (family : AddressFamily) (port : ℕ) (source : List ℕ) (state : Rout
 
 -- ---- what becomes of it
 
-module _ (family : AddressFamily) (writing : Writing) (messages : List (List ℕ)) (i port : ℕ) (timing : Timing) (state : RouterState) (is_writing : IsWriting family writing) (hears : HearsWriter writing port timing state)
-    (this : IsMessageOf family writing (known_in family state.routes) messages i) where
-  abbrev rps : Rps
-  rps = known_in family state.routes
-
-  abbrev said : Message
-  said = told_message writing rps this.part
-
-  abbrev exchange : Exchange
-  exchange = heard_exchange family writing port timing messages state
-
+module _ (family : AddressFamily) (writing : Writing) (exchange : Exchange) (i : ℕ) (bytes : List ℕ) (said : Message) (state : RouterState) (is_writing : IsWriting family writing) (read : IsReadAs family writing.own bytes said)
+    (to_us : said.upstream ≡ writing.upstream) (time : said.holdtime ≡ exchange.holdtime) (events : exchange.messages i ≡ events_of (known_in family state.routes) said) (hears : HearsWriter writing exchange.port exchange.timing state) where
   abbrev count : ℕ
   count = needed_records exchange i state
 
-  abbrev bytes : List ℕ
-  bytes = get_or messages i []
+  abbrev packet : Packet
+  packet = record { port = exchange.port; source = writing.own; destination = all_routers family; bytes = bytes }
 
-  not_mine : same_address writing.own (own_address port state) ≡ false
-  not_mine = apart writing.own (own_address port state) (λ e. is_writing.apart (e ∙ hears.own))
+  abbrev taken : Verdict × RouterState
+  taken = (verdict.Applied, with_machines state (after_message exchange i state.machines))
 
-  for_us : same_address writing.upstream (own_address port state) ≡ true
-  for_us = ap (same_address writing.upstream) hears.own ∙ same_itself writing.upstream
+  not_mine : same_address writing.own (own_address exchange.port state) ≡ false
+  not_mine = apart writing.own (own_address exchange.port state) (λ e. is_writing.apart (e ∙ hears.own))
 
-  room_is : room_causes family port state said ≡ fault_if (nat_lt state.machines.limit count) (verdict.Full (store.Records count))
-  room_is = ap (λ (events : List Event). fault_if (nat_lt state.machines.limit (needed port state.machines.records events)) (verdict.Full (store.Records (needed port state.machines.records events)))) (sym this.events)
+  for_us : same_address said.upstream (own_address exchange.port state) ≡ true
+  for_us = ap (λ (upstream : List ℕ). same_address upstream (own_address exchange.port state)) to_us ∙ ap (same_address writing.upstream) hears.own ∙ same_itself writing.upstream
 
-  applied_is : message_taken family port state said ≡ (verdict.Applied, with_machines state (after_message exchange i state.machines))
+  room_is : room_causes family exchange.port state said ≡ fault_if (nat_lt state.machines.limit count) (verdict.Full (store.Records count))
+  room_is = ap (λ (es : List Event). fault_if (nat_lt state.machines.limit (needed exchange.port state.machines.records es)) (verdict.Full (store.Records (needed exchange.port state.machines.records es)))) (sym events)
+
+  abbrev heard_as : ℕ → Timing → List Event → Verdict × RouterState
+  heard_as holdtime timing es = (verdict.Applied, with_machines state (with_records state.machines (hearing exchange.port (start_of holdtime timing) es state.machines.records)))
+
+  applied_is : message_taken family exchange.port state said ≡ taken
   applied_is =
-      ap (λ (t : Timing). (verdict.Applied, with_machines state (with_records state.machines (hearing port (start_of writing.holdtime t) (events_of rps said) state.machines.records)))) (sym hears.timing_is)
-      ∙ ap (λ (events : List Event). (verdict.Applied, with_machines state (with_records state.machines (hearing port (start_of writing.holdtime timing) events state.machines.records)))) (sym this.events)
+      ap (λ (holdtime : ℕ). heard_as holdtime (timing_on exchange.port state) (events_of (known_in family state.routes) said)) time
+      ∙ ap (λ (timing : Timing). heard_as exchange.holdtime timing (events_of (known_in family state.routes) said)) (sym hears.timing_is)
+      ∙ ap (heard_as exchange.holdtime exchange.timing) (sym events)
 
-  ends_as : received family (packet_of family writing port messages i) state
-      ≡ unless (fault_if (nat_lt state.machines.limit count) (verdict.Full (store.Records count))) state (verdict.Applied, with_machines state (after_message exchange i state.machines))
+  ends_as : received family packet state ≡ unless (fault_if (nat_lt state.machines.limit count) (verdict.Full (store.Records count))) state taken
   ends_as =
-      received_is family port writing.own state said bytes this.read not_mine hears.known for_us
-      ∙ ap (λ (cs : List Verdict). unless cs state (message_taken family port state said)) room_is
+      received_is family exchange.port writing.own state said bytes read not_mine hears.known for_us
+      ∙ ap (λ (cs : List Verdict). unless cs state (message_taken family exchange.port state said)) room_is
       ∙ ap (unless (fault_if (nat_lt state.machines.limit count) (verdict.Full (store.Records count))) state) applied_is
 
   abbrev Ends : Bool → Type 0
-  Ends full = received family (packet_of family writing port messages i) state
-      ≡ unless (fault_if full (verdict.Full (store.Records count))) state (verdict.Applied, with_machines state (after_message exchange i state.machines))
+  Ends full = received family packet state ≡ unless (fault_if full (verdict.Full (store.Records count))) state taken
 
-  heard : IsHeard family exchange i (packet_of family writing port messages i) state
+  heard : IsHeard family exchange i packet state
   heard = record {
-    only_room = causes_are family port writing.own state said bytes this.read not_mine hears.known for_us ∙ room_is;
+    only_room = causes_are family exchange.port writing.own state said bytes read not_mine hears.known for_us ∙ room_is;
     applied = λ room. subst Ends (le-ltb state.machines.limit count room) ends_as;
     full = λ little. subst Ends (lt-ltb state.machines.limit count little) ends_as;
   }
 
-pub packet_heard : CanonicalMessagesTellParts → MessagesAreRead → CanonicalPacketIsHeard
-packet_heard parts_of read family writing form messages i port timing state is_writing is have are within hears =
+pub read_heard : ReadPacketIsHeard
+read_heard family writing exchange i bytes said state is_writing read to_us time events hears =
+    heard family writing exchange i bytes said state is_writing read to_us time events hears
+
+pub packet_heard : CanonicalMessagesTellParts → MessagesAreRead → ReadPacketIsHeard → CanonicalPacketIsHeard
+packet_heard parts_of read packet_read family writing form messages i port timing state is_writing is have are within hears =
     let known = known_in family state.routes in
     let found = parts_of family writing known form messages is have are in
     let these = read family writing known form messages found.0 is_writing found.1 in
-    heard family writing messages i port timing state is_writing hears (message_at family writing known messages found.0 i these within)
+    let this = message_at family writing known messages found.0 i these within in
+    packet_read family writing (heard_exchange family writing port timing messages state) i (get_or messages i []) (told_message writing known this.part) state is_writing this.read refl refl this.events hears

@@ -158,7 +158,7 @@ first_without read hellos_heard stars taken course_hears family table writing st
     let first : Begun read hellos_heard stars family table writing state messages fresh needed after sound is_writing asked fits goes = begun read hellos_heard stars family table writing state messages fresh needed after sound is_writing asked fits goes in
     let two = parts family (inputs_of family writing 0 messages (newest_first fresh)) (runs_to (end_of fresh) ∷ []) first.said first.start after first.course in
     let deliveries_need : first_needed two.told ≡ first_over (heard_exchange family writing 0 (timing_of fresh) messages first.start) fresh.limit (newest_first fresh) =
-    needs_over taken course_hears family writing asked.form messages (timing_of fresh) fresh.limit (end_of fresh) first.start is_writing asked.is.normal first.have first.messages_are first.met.nothing first.met.lasts first.met.hears
+    needs_over taken course_hears family writing asked.form messages (timing_of fresh) fresh.limit (end_of fresh) first.start is_writing asked.is.normal first.have first.messages_are first.met.nothing (first.met.lasts (end_of fresh) fits.others_stay) first.met.hears
     (newest_first fresh) (end_of fresh) two.told two.between first.are_of fits.timely (omega arith) two.first in
     let said_needs = needed_as first.said two.told two.said (first_over (heard_exchange family writing 0 (timing_of fresh) messages first.start) fresh.limit (newest_first fresh)) None two.joined deliveries_need (last_needs_none family (end_of fresh) two.said two.between after two.second) in
     let same : needed ≡ first_over (fresh_exchange family table writing messages fresh) fresh.limit (newest_first fresh) =

@@ -13,6 +13,9 @@ use Rattle.pim_router.specs.declared.step.Step.TheVariants.{Echo, Refresh, Reach
 use Rattle.pim_router.specs.Course.{Telling, echo, refresh, verdict, Reaches}
 use Rattle.pim_router.specs.State.{RouterState, with_machines, with_tables, with_refresh, refresh_period}
 use Rattle.pim_mirror.specs.Headline.{is_echo}
+use Rattle.pim_mirror.specs.Laws.{RouterRunsAsItsMachines}
+use Rattle.pim_mirror.specs.MachineRuns.{MachinesArrive}
+use Rattle.pim_mirror.proofs.Ways.{runs_keep}
 use Rattle.pim_router.specs.Time.{has_ended, tick, told, moves, rests, tells, turn_of_time, turn_of_refresh, turn_of_timers, turn, run_on, run_within, Runs}
 
 -- ---- one turn of the machines
@@ -129,3 +132,37 @@ module _ (moment : ℕ) where
       let ends = run_ends state reaches.0 Refresh reaches.1 in
       reaches_quietly more reaches.0 after (λ answer end runs. quiet answer end (ends.0 answer end runs)) reaches.2
   reaches_quietly (verdict told ∷ more) state after quiet reaches = absurd reaches
+
+-- ---- what a router's run does to its machines
+
+-- behind a refresh the runs of the machines are runs from before it
+led_on : (moment : ℕ) (state middle after : Downstream) (echoes : List (Fires (List ℕ))) → ((answer : Fires (List ℕ)) (end : Downstream) → MachineRuns moment middle answer end → MachineRuns moment state answer end)
+    → MachinesArrive echoes moment middle after → MachinesArrive echoes moment state after
+unfolding MachinesArrive
+led_on moment state middle after [] on arrive = on fires.Reached after arrive
+led_on moment state middle after (first ∷ more) on arrive = (arrive.0, on first arrive.0 arrive.1, arrive.2)
+
+pub runs_as_machines : RouterRunsAsItsMachines
+unfolding Reaches Ends MachinesArrive
+runs_as_machines moment [] state after reaches =
+    let ends = run_ends moment state after Reached reaches in
+    record { echoes = []; arrives = ends.0; routes = ends.1; ports = runs_keep moment state after Reached reaches }
+runs_as_machines moment (echo port group what ∷ more) state after reaches =
+    let ends = run_ends moment state reaches.0 (Echo port group what) reaches.1 in
+    let rest = runs_as_machines moment more reaches.0 after reaches.2 in
+    record {
+      echoes = fires.Echo port group what ∷ rest.echoes;
+      arrives = (reaches.0.machines, ends.0, rest.arrives);
+      routes = rest.routes ∙ ends.1;
+      ports = rest.ports ∙ runs_keep moment state reaches.0 (Echo port group what) reaches.1;
+    }
+runs_as_machines moment (refresh ∷ more) state after reaches =
+    let ends = run_ends moment state reaches.0 Refresh reaches.1 in
+    let rest = runs_as_machines moment more reaches.0 after reaches.2 in
+    record {
+      echoes = rest.echoes;
+      arrives = led_on moment state.machines reaches.0.machines after.machines rest.echoes ends.0 rest.arrives;
+      routes = rest.routes ∙ ends.1;
+      ports = rest.ports ∙ runs_keep moment state reaches.0 Refresh reaches.1;
+    }
+runs_as_machines moment (verdict told ∷ more) state after reaches = absurd reaches

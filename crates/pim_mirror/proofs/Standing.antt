@@ -18,7 +18,7 @@ use Rattle.pim_router.specs.Time.{Runs}
 use Rattle.pim_mirror.specs.Config.{Fresh, newest_first, end_of, setup_of}
 use Rattle.pim_mirror.specs.Fits.{Fits, expiry_of}
 use Rattle.pim_mirror.specs.Mirror.{delivery_inputs, inputs_of, first_needed, GoesThrough}
-use Rattle.pim_mirror.specs.Headline.{AreMessagesOf, all_entries, HearsAlone, IsInWindow, IsAt, RoomIsForTheUnits, FreshRouterMirrors, FreshRouterTellsNoEcho, FreshRouterIsThere, IsMirrorOf, MirrorAnswersForTheForm}
+use Rattle.pim_mirror.specs.Headline.{AreMessagesOf, all_entries, HearsAlone, IsInWindow, IsAt, RoomIsForTheUnits, FreshRouterMirrors, FreshRouterTellsNoEcho, FreshRouterKnowsTheWriter, FreshRouterIsThere, IsMirrorOf, MirrorAnswersForTheForm}
 use Rattle.pim_mirror.proofs.CourseSteps.{parts, last_run}
 
 -- at its last delivery's moment no message is missed
@@ -116,7 +116,7 @@ past count limit over = by (nat_lt limit count) refl
     by true e = ltb-true limit count e
     by false e = absurd (over (ltb-false limit count e))
 
-module _ (every : EveryListHasACourse) (one_end : RunHasOneEnd) (goes_on : RunGoesOn) (room : RoomIsForTheUnits) (mirrors : FreshRouterMirrors) (quiet : FreshRouterTellsNoEcho) where
+module _ (every : EveryListHasACourse) (one_end : RunHasOneEnd) (goes_on : RunGoesOn) (room : RoomIsForTheUnits) (mirrors : FreshRouterMirrors) (quiet : FreshRouterTellsNoEcho) (knows : FreshRouterKnowsTheWriter) where
   is_mirror : (family : AddressFamily) (table : RouteTable) (writing : Writing) (state : Downstream) (messages : List (List ℕ)) (fresh : Fresh) (router : RouterState) → IsRouteTable family table → IsWriting family writing
       → (asked : AreMessagesOf family table writing state messages) → Fits messages writing table fresh → (course : GoesThrough family messages fresh None router) → IsMirrorOf family table writing asked.form messages fresh router course
   is_mirror family table writing state messages fresh router sound is_writing asked fits course =
@@ -129,6 +129,7 @@ module _ (every : EveryListHasACourse) (one_end : RunHasOneEnd) (goes_on : RunGo
         at_first = record { moment_is = here.moment_is; routes = here.routes; holds = here.holds; asks = here.asks; no_echo = refl };
         later = λ moment later window at. mirrors family table writing state messages fresh router later moment sound is_writing asked hears window at;
         no_echo = quiet family table writing state messages fresh router sound is_writing asked hears;
+        knows = λ last end others. knows family table writing state messages fresh router last sound is_writing asked hears end others;
       }
 
   pub answers_for_the_form : MirrorAnswersForTheForm

@@ -14,6 +14,11 @@ use Rattle.pim_mirror.specs.Config.{Neighbour, Fresh, port_of, newest_first, end
 abbrev pub expiry_of : ℕ → Option ℕ
 expiry_of holdtime = if holdtime == 65535 then None else Some (holdtime * 1000)
 
+-- by this moment the time of none of the other neighbours is over
+abbrev pub OthersStay : Fresh → ℕ → Type 0
+OthersStay fresh last =
+    AllByRecursion (λ (other : Neighbour). IsShorter last (lifetime other.hello.holdtime)) fresh.others
+
 -- The messages are those of a writer whose routes are this table; the fresh router hears them.
 pub record Fits (messages : List (List ℕ)) (writing : Writing) (table : RouteTable) (fresh : Fresh) : Type 0 where
   pub one_port : length fresh.ports ≡ 1
@@ -32,8 +37,7 @@ pub record Fits (messages : List (List ℕ)) (writing : Writing) (table : RouteT
   pub others_are_not_sender : AllByRecursion (λ (other : Neighbour). other.address ≢ fresh.sender) fresh.others
   pub others_count : length fresh.others ≤ 1023
   -- at the final moment each of them has time left
-  pub others_stay : AllByRecursion
-      (λ (other : Neighbour). IsShorter (end_of fresh) (lifetime other.hello.holdtime)) fresh.others
+  pub others_stay : OthersStay fresh (end_of fresh)
   -- each delivery is one of a message that is there, each message is delivered, and none after 10^14 ms
   pub named : AllByRecursion (λ (delivery : Delivery). delivery.message < length messages) fresh.deliveries
   pub delivered : (message : ℕ) → message < length messages → is_delivered message (newest_first fresh) ≡ true

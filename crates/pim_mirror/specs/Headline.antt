@@ -22,9 +22,11 @@ use Rattle.pim_router.specs.Course.{Telling, echo, refresh, verdict, Reaches}
 use Rattle.pim_router.specs.Packets.{Packet}
 use Rattle.pim_router.specs.State.{RouterState}
 use Rattle.pim_mirror.specs.Config.{Fresh, neighbours, newest_first, end_of}
-use Rattle.pim_mirror.specs.Fits.{Fits, expiry_of}
+use Rattle.pim_mirror.specs.Fits.{Fits, OthersStay, expiry_of}
+use Rattle.pim_mirror.specs.CanonicalCourse.{Lasts}
 use Rattle.pim_mirror.specs.CanonicalExchange.{exchange_in}
 use Rattle.pim_mirror.specs.CanonicalMirror.{AsksAgain}
+use Rattle.pim_mirror.specs.CanonicalPackets.{HearsWriter}
 use Rattle.pim_mirror.specs.CanonicalUnits.{form_names}
 use Rattle.pim_mirror.specs.Hellos.{timing_of}
 use Rattle.pim_mirror.specs.Mirror.{AreHellosOf, GoesThrough, Mirrors, or_later}
@@ -139,6 +141,21 @@ FreshRouterTellsNoEcho = (family : AddressFamily) (table : RouteTable) (writing 
     IsWriting family writing → AreMessagesOf family table writing state messages →
     (hears : HearsAlone family table writing messages fresh router) → list_any is_echo hears.course.told ≡ false
 
+-- The router has one port, on which it knows the writer, who may ask it; by this moment none of its neighbours' times
+-- is over.
+pub record KnowsItsWriter (writing : Writing) (fresh : Fresh) (last : ℕ) (router : RouterState) : Type 0 where
+  pub one_port : router.machines.ports ≡ 1
+  pub lasts : Lasts last router
+  pub hears : HearsWriter writing 0 (timing_of fresh) router
+
+-- Such a router knows the writer at its final moment, and on, as long as the other neighbours stay.
+abbrev pub FreshRouterKnowsTheWriter : Type 0
+FreshRouterKnowsTheWriter = (family : AddressFamily) (table : RouteTable) (writing : Writing) (state : Downstream)
+    (messages : List (List ℕ)) (fresh : Fresh) (router : RouterState) (last : ℕ) → IsRouteTable family table →
+    IsWriting family writing → AreMessagesOf family table writing state messages →
+    HearsAlone family table writing messages fresh router → end_of fresh ≤ last → OthersStay fresh last →
+    KnowsItsWriter writing fresh last router
+
 -- how many entries so many messages have together: the stars, exceptions and sources of their form
 unfoldable pub entries_of : Exchange → ℕ → ℕ
 entries_of exchange zero = 0
@@ -189,7 +206,7 @@ FreshRouterIsThere = (family : AddressFamily) (table : RouteTable) (writing : Wr
 
 -- A router at the end of its course, on which each message had room: there is room for the entries of all messages; it
 -- stands where the window begins, and mirrors the form there, and at every moment of the window to which it goes on; no
--- echo was told on its course.
+-- echo was told on its course. It knows the writer.
 pub record IsMirrorOf (family : AddressFamily) (table : RouteTable) (writing : Writing) (form : List GroupForm)
     (messages : List (List ℕ)) (fresh : Fresh) (router : RouterState)
     (course : GoesThrough family messages fresh None router) : Type 0 where
@@ -199,6 +216,8 @@ pub record IsMirrorOf (family : AddressFamily) (table : RouteTable) (writing : W
   pub later : (moment : ℕ) (later : RouterState) → IsInWindow writing fresh moment → (at : IsAt moment router later) →
       MirrorsForm family table writing form messages fresh moment at.told later
   pub no_echo : list_any is_echo course.told ≡ false
+  -- It knows the writer as long as the other neighbours stay: from its final moment on to this one.
+  pub knows : (last : ℕ) → end_of fresh ≤ last → OthersStay fresh last → KnowsItsWriter writing fresh last router
 
 -- Full: the entries of all messages together pass the limit; it tells how many units the different messages have up to
 -- the first delivery at which these do.

@@ -9,7 +9,8 @@ use Rattle.pim_down.specs.declared.event.Timing.{Timing}
 use Rattle.pim_form.specs.Messages.{Writing}
 use Rattle.pim_router.specs.Packets.{Packet}
 use Rattle.pim_router.specs.State.{RouterState}
-use Rattle.pim_mirror.specs.Config.{Neighbour, Fresh, neighbours, interval_of, end_of}
+use Rattle.pim_mirror.specs.Config.{Neighbour, Fresh, neighbours, interval_of}
+use Rattle.pim_mirror.specs.Fits.{OthersStay}
 use Rattle.pim_mirror.specs.CanonicalCourse.{HoldsNothing, Lasts}
 use Rattle.pim_mirror.specs.CanonicalPackets.{HearsWriter}
 
@@ -36,10 +37,10 @@ AreHellosFrom family (neighbour ∷ neighbours) (packet ∷ packets) =
 abbrev pub timing_of : Fresh → Timing
 timing_of fresh = record { override_ms = interval_of fresh; several = nat_lt 1 (length (neighbours fresh)) }
 
--- The router holds no records. It knows the writer, who is its upstream neighbour's neighbour, and until the final
--- moment none of its neighbours' times is over.
+-- The router holds no records. It knows the writer, who is its upstream neighbour's neighbour, and as long as the other
+-- neighbours stay, none of its neighbours' times is over.
 pub record HasMet (writing : Writing) (fresh : Fresh) (state : RouterState) : Type 0 where
   pub nothing : HoldsNothing fresh.limit state
   pub routes : state.routes ≡ fresh.routes
-  pub lasts : Lasts (end_of fresh) state
+  pub lasts : (last : ℕ) → OthersStay fresh last → Lasts last state
   pub hears : HearsWriter writing 0 (timing_of fresh) state

@@ -2,16 +2,20 @@
 use Rattle.std.specs.Prelude.{◌≡◌, ℕ, ◌<◌, ◌≤◌, List, [], ◌∷◌, ◌++◌, length, map}
 use Rattle.pim_addr.specs.declared.family.AddressFamily.{AddressFamily}
 use Rattle.pim_addr.specs.Routes.{RouteTable, IsRouteTable}
+use Rattle.pim_frame.specs.Frame.{all_routers}
+use Rattle.pim_jp.specs.Message.{Message}
 use Rattle.pim_down.specs.declared.event.Timing.{Timing}
 use Rattle.pim_down.specs.declared.step.Step.{Step}
-use Rattle.pim_down.specs.Hearing.{start_of}
+use Rattle.pim_down.specs.Hearing.{start_of, events_of}
 use Rattle.pim_down.specs.Known.{known_in}
 use Rattle.pim_down.specs.Time.{Downstream, Runs}
 use Rattle.pim_form.specs.NormalForm.{GroupForm, IsNormal, IsFormOf}
 use Rattle.pim_form.specs.Messages.{Writing, IsWriting, Rps, HaveRps, AreCanonical, told_message}
+use Rattle.pim_form.specs.Laws.{IsReadAs}
 use Rattle.pim_form.specs.TowardLaws.{asked_of}
 use Rattle.pim_fresh.specs.Asking.{IsAsking}
 use Rattle.pim_fresh.specs.Deliveries.{Delivery, IsTimely, final_moment}
+use Rattle.pim_fresh.specs.Exchange.{Exchange}
 use Rattle.pim_fresh.specs.Expected.{units_of}
 use Rattle.pim_fresh.specs.Hearing.{Leaves}
 use Rattle.pim_fresh.specs.Laws.{Stays}
@@ -22,6 +26,7 @@ use Rattle.pim_mirror.specs.CanonicalExchange.{exchange_of, exchange_in, TellsFo
 use Rattle.pim_mirror.specs.CanonicalMirror.{AllCame, AsksAgain}
 use Rattle.pim_mirror.specs.CanonicalCourse.{HearsAll, IsTaken, AreOf, HoldsNothing, Lasts, inputs_of}
 use Rattle.pim_mirror.specs.CanonicalPackets.{packet_of, HearsWriter, heard_exchange, IsHeard}
+use Rattle.pim_mirror.specs.MachineRuns.{IsRunOfMachines}
 
 -- The message of a part in strictly ascending order, whose stars have RPs, asks for traffic.
 abbrev pub PartIsAsking : Type 0
@@ -78,6 +83,20 @@ HeardMessagesAreAskedAgain = (family : AddressFamily) (table : RouteTable) (writ
     Stays (exchange_in family (known_in family table) writing 0 timing messages) deliveries moment later state answer
     after × AsksAgain family table writing form messages after
 
+-- A packet of the writer whose bytes are read as a message to this neighbour is heard as what the message asks for.
+abbrev pub ReadPacketIsHeard : Type 0
+ReadPacketIsHeard = (family : AddressFamily) (writing : Writing) (exchange : Exchange) (i : ℕ) (bytes : List ℕ)
+    (said : Message) (state : RouterState) → IsWriting family writing → IsReadAs family writing.own bytes said →
+    said.upstream ≡ writing.upstream → said.holdtime ≡ exchange.holdtime →
+    exchange.messages i ≡ events_of (known_in family state.routes) said →
+    HearsWriter writing exchange.port exchange.timing state →
+    IsHeard family exchange i (record {
+      port = exchange.port;
+      source = writing.own;
+      destination = all_routers family;
+      bytes = bytes;
+    }) state
+
 -- The packet of a canonical message is heard by the router to which it is written, as the exchange says.
 abbrev pub CanonicalPacketIsHeard : Type 0
 CanonicalPacketIsHeard = (family : AddressFamily) (writing : Writing) (form : List GroupForm)
@@ -116,6 +135,12 @@ DeliveryIsTaken = (family : AddressFamily) (writing : Writing) (form : List Grou
     HearsWriter writing 0 timing before →
     IsTaken family (heard_exchange family writing 0 timing messages start) limit delivery earlier
     (packet_of family writing 0 messages delivery.message) before
+
+-- The runs of a router to a moment are runs of its machines, through the echoes that they tell; its table and its ports
+-- stay.
+abbrev pub RouterRunsAsItsMachines : Type 0
+RouterRunsAsItsMachines = (moment : ℕ) (told : List Telling) (state after : RouterState) →
+    Reaches moment told state after → IsRunOfMachines moment state after
 
 -- Who hears the writer hears it still behind runs to a moment by which none of its neighbours' times is over.
 abbrev pub WriterStaysHeard : Type 0

@@ -9,6 +9,7 @@ pub mod CanonicalExchange
 pub mod CanonicalMirror
 pub mod CanonicalPackets
 pub mod CanonicalCourse
+pub mod MachineRuns
 pub mod Laws
 pub mod Hellos
 pub mod HelloLaws

@@ -1,5 +1,5 @@
--- What a fresh router goes through that hears one sender: the Hellos of its neighbours at the moment 0, each delivery at
--- its moment, and the way to the final moment.
+-- What a fresh router goes through that hears one sender: the Hellos of its neighbours at the moment 0, each delivery
+-- at its moment, and the way to the final moment.
 use Rattle.std.specs.Prelude.{◌≡◌, ℕ, List, [], ◌∷◌, ◌++◌, map, flat_map, slice_index_or, Option, None, Some}
 use Rattle.std.specs.Prelude.{Result, Ok, Err, Bool, true, false}
 use Rattle.pim_addr.specs.declared.family.AddressFamily.{AddressFamily}
@@ -74,8 +74,8 @@ first_needed (told ∷ more) = or_later (needed_of told) (first_needed more)
 
 -- ---- the mirror
 
--- The course of the router over the Hellos, the deliveries and the way to its final moment leaves this state; and so many
--- records the first Join/Prune needed on it for which there was no room.
+-- The course of the router over the Hellos, the deliveries and the way to its final moment leaves this state; and so
+-- many records the first Join/Prune needed on it for which there was no room.
 pub record GoesThrough (family : AddressFamily) (messages : List (List ℕ)) (fresh : Fresh) (needed : Option ℕ)
     (after : RouterState) : Type 0 where
   pub hellos : List Packet

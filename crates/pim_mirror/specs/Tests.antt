@@ -4,12 +4,11 @@ use Rattle.std.specs.Prelude.{if◌then◌else◌, List, [], ◌∷◌, length, 
 use Rattle.std.specs.List.{list_any, AllByRecursion}
 use Rattle.std.specs.Cmp.Lexicographic.{pointwise}
 use Rattle.pim_addr.specs.Routes.{RouteTable}
-use Rattle.pim_hello.specs.Neighbours.{lifetime}
 use Rattle.pim_form.specs.Messages.{Writing}
 use Rattle.pim_fresh.specs.Asking.{AreDifferent}
-use Rattle.pim_fresh.specs.Deliveries.{Delivery, IsShorter, IsTimely, is_delivered}
+use Rattle.pim_fresh.specs.Deliveries.{Delivery, IsTimely, is_delivered}
 use Rattle.pim_mirror.specs.Config.{Neighbour, Fresh, port_of, newest_first, end_of}
-use Rattle.pim_mirror.specs.Fits.{expiry_of}
+use Rattle.pim_mirror.specs.Fits.{OthersStay, expiry_of}
 
 -- so many milliseconds are less than this time; `None` is without end
 abbrev pub is_shorter : ℕ → Option ℕ → Bool
@@ -68,6 +67,5 @@ pub record DeliveriesFit (count : ℕ) (fresh : Fresh) : Type 0 where
   pub early : AreEarly fresh.deliveries
 
 pub record TimesFit (holdtime : ℕ) (fresh : Fresh) : Type 0 where
-  pub others_stay : AllByRecursion
-      (λ (other : Neighbour). IsShorter (end_of fresh) (lifetime other.hello.holdtime)) fresh.others
+  pub others_stay : OthersStay fresh (end_of fresh)
   pub timely : IsTimely (expiry_of holdtime) (end_of fresh) (newest_first fresh)

@@ -1,7 +1,7 @@
 //! The headline, and the laws that carry its timed half. Nothing here is to be called.
 
 ghost use Rattle.pim_mirror.specs.Headline.{NormalisingTwiceIsOnce, FreshRouterMirrors, FreshRouterTellsNoEcho};
-ghost use Rattle.pim_mirror.specs.Headline.{RoomIsForTheUnits, FreshRouterIsThere};
+ghost use Rattle.pim_mirror.specs.Headline.{RoomIsForTheUnits, FreshRouterIsThere, FreshRouterKnowsTheWriter};
 ghost use Rattle.pim_mirror.specs.Headline.{MirrorAnswersForTheForm, Headline};
 
 use crate::hello_laws::{hellos_are_heard, written_hellos_are_read};
@@ -67,6 +67,21 @@ pub fn fresh_router_tells_no_echo()
     pim_down::run_has_one_end();
 }
 
+/// At its final moment such a router knows the writer on its one port, with the timing that its neighbours' Hellos
+/// tell; by any later moment up to which the other neighbours stay, the time of none of its neighbours is over.
+pub fn fresh_router_knows_the_writer()
+    ensures { FreshRouterKnowsTheWriter }
+{
+    written_hellos_are_read();
+    hellos_are_heard();
+    asked_stars_have_rps();
+    room_is_for_the_units();
+    course_hears_all();
+    router_leaves_its_port();
+    canonical_messages_tell_form();
+    pim_down::run_keeps_its_bounds();
+}
+
 /// Where the caller's conditions are met and there is room for the entries of all messages, there is such a router; its
 /// final moment is one of the window, at which it stands, and it goes on to every later one.
 pub fn fresh_router_is_there()
@@ -80,15 +95,16 @@ pub fn fresh_router_is_there()
 
 /// What `mirror` answers where its messages are the canonical ones of a state by the writer under the table. An Ok
 /// router had room for the entries of all messages, and no echo was told on its course; it stands where the window
-/// begins, and it mirrors the form there and at every moment of the window to which it goes on. `Full` comes where the
-/// entries of all messages pass the limit, and tells as many records as the different messages have units up to the
-/// first delivery at which these do.
+/// begins, and it mirrors the form there and at every moment of the window to which it goes on; it knows the writer as
+/// long as the other neighbours stay. `Full` comes where the entries of all messages pass the limit, and tells as many
+/// records as the different messages have units up to the first delivery at which these do.
 pub fn mirror_answers_for_the_form()
     ensures { MirrorAnswersForTheForm }
 {
     room_is_for_the_units();
     fresh_router_mirrors();
     fresh_router_tells_no_echo();
+    fresh_router_knows_the_writer();
     pim_router::every_list_has_a_course();
     pim_router::run_has_one_end();
     pim_router::run_goes_on();

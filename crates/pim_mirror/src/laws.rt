@@ -4,6 +4,7 @@ ghost use Rattle.pim_mirror.specs.Laws.{PartIsAsking, CanonicalMessagesTellParts
 ghost use Rattle.pim_mirror.specs.Laws.{CanonicalMessagesTellForm, AskedStarsHaveRps, HeardMessagesAreAskedAgain};
 ghost use Rattle.pim_mirror.specs.Laws.{CanonicalPacketIsHeard, RouterLeavesItsPort, DeliveryIsTaken};
 ghost use Rattle.pim_mirror.specs.Laws.{WriterStaysHeard, CourseHearsAll, RouterAsksAgain};
+ghost use Rattle.pim_mirror.specs.Laws.{ReadPacketIsHeard, RouterRunsAsItsMachines};
 
 /// The message of a part of a form whose groups, sources and exceptions are each in strictly ascending order, and whose
 /// stars have RPs, asks for traffic: so it tells units (RFC 7761, 4.9.5).
@@ -64,6 +65,14 @@ pub fn heard_messages_are_asked_again()
     pim_form::one_list_of_messages();
 }
 
+/// A packet that the writer sends to ALL-PIM-ROUTERS, and whose bytes are opened and read without a fault as a message
+/// (RFC 7761, 4.9 and 4.9.5), is heard by a router that knows the writer and is the neighbour to which it is written.
+/// It is applied where there is room for its records, and is else Full, with the number that is needed. No other cause
+/// refuses it.
+pub fn read_packet_is_heard()
+    ensures { ReadPacketIsHeard }
+{}
+
 /// The packet of a canonical message, sent by the writer to ALL-PIM-ROUTERS, is heard by a router that knows the writer
 /// and is the neighbour to which it is written. It is applied as the definition of the exchange says where there is
 /// room for its records, and is else Full, with the number that is needed. No other cause refuses it.
@@ -72,7 +81,15 @@ pub fn canonical_packet_is_heard()
 {
     canonical_messages_tell_parts();
     messages_are_read();
+    read_packet_is_heard();
 }
+
+/// The runs of a router to a moment, through echoes and refreshes, are for its machines their own runs to that moment,
+/// through the same echoes: refreshes and neighbours whose time is over change nothing of them. Its route table and its
+/// ports stay as they are.
+pub fn router_runs_as_its_machines()
+    ensures { RouterRunsAsItsMachines }
+{}
 
 /// A router of one port that holds no records and hears deliveries of the canonical messages, to each of which it runs
 /// until nothing is due, and whose limit the units of the different messages don't pass, leaves the machines of a fresh

@@ -12,6 +12,7 @@
 //! `fits` is exactly its conditions, under which a fresh router mirrors the sender of its messages. `mirror` answers
 //! that router, as it is at its final moment: the state behind the course of a new router over the Hellos of its
 //! neighbours, the deliveries and the way to that moment. `Full` tells what the first message needed that had no room.
+//! `hear_deliveries` lets a router of one port hear deliveries and go on, as the mirror that goes on behind its end.
 #![tactic(auto)]
 
 mod config;
@@ -27,15 +28,16 @@ mod mirroring;
 pub use config::{Delivery, FreshConfig, OtherNeighbour};
 pub use fitting::fits;
 pub use headline_laws::{
-    fresh_router_is_there, fresh_router_mirrors, fresh_router_tells_no_echo, headline,
-    mirror_answers_for_the_form, normalising_twice_is_once, room_is_for_the_units,
+    fresh_router_is_there, fresh_router_knows_the_writer, fresh_router_mirrors,
+    fresh_router_tells_no_echo, headline, mirror_answers_for_the_form, normalising_twice_is_once,
+    room_is_for_the_units,
 };
 pub use hello_laws::{hellos_are_heard, written_hellos_are_read};
 pub use laws::{
     asked_stars_have_rps, canonical_messages_tell_form, canonical_messages_tell_parts,
     canonical_packet_is_heard, course_hears_all, delivery_is_taken, heard_messages_are_asked_again,
-    messages_are_read, part_asks, parts_tell_units_once, router_asks_again, router_leaves_its_port,
-    writer_stays_heard,
+    messages_are_read, part_asks, parts_tell_units_once, read_packet_is_heard, router_asks_again,
+    router_leaves_its_port, router_runs_as_its_machines, writer_stays_heard,
 };
 pub use mirror_laws::canonical_messages_are_short;
-pub use mirroring::{MirrorFault, are_short, mirror};
+pub use mirroring::{MirrorFault, are_short, hear_deliveries, mirror};

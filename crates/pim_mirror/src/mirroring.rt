@@ -1,10 +1,11 @@
 //! A fresh router that has heard one sender's messages.
 
-ghost use Rattle.std.specs.Prelude.{◌≡◌, ◌<◌, ◌≤◌, ◌^◌, ◌↔◌, IsTrue, nat_lt, [], ◌∷◌, length, map, slice_index_or};
+ghost use Rattle.std.specs.Prelude.{◌≡◌, ◌<◌, ◌≤◌, ◌^◌, ◌↔◌, IsTrue, nat_lt, [], ◌∷◌, ◌++◌, length, map};
+ghost use Rattle.std.specs.Prelude.{slice_index_or};
 ghost use Rattle.std.specs.List.{AllByRecursion, flat_map};
 ghost use Rattle.pim_frame.specs.Frame.{all_routers};
 ghost use Rattle.pim_down.specs.Time.{Downstream};
-ghost use Rattle.pim_router.specs.Course.{takes};
+ghost use Rattle.pim_router.specs.Course.{runs_to, takes};
 ghost use Rattle.pim_mirror.specs.Config.{fresh_seen, delivery_seen};
 ghost use Rattle.pim_mirror.specs.Fits.{Fits};
 ghost use Rattle.pim_mirror.specs.Headline.{AreMessagesOf, TellsOfForm};
@@ -174,6 +175,36 @@ fn hear<F: Family>(
     Ok(())
 }
 
+/// Lets a router of one port hear deliveries of these messages from a sender, in the order in which they stand, and
+/// then go on to a last moment. To each delivery's moment, and to the last one, it runs until nothing is due by then; a
+/// moment that has passed is reached at once. Moments are milliseconds: those of deliveries are at most 10^14, the last
+/// one is at most 10^15. A packet that is refused for another cause than want of room changes nothing, and isn't told.
+///
+/// # Errors
+/// `Full` at the first message for which there was no room, with the number of records that it needed: the router has
+/// heard all deliveries before it, and stands at its moment. `Memory` where a growth was refused.
+pub fn hear_deliveries<F: Family>(
+    router: &mut Router<'_, F>,
+    messages: &Messages,
+    sender: F::Addr,
+    deliveries: &[Delivery],
+    moment: u64,
+) -> Result<(), MirrorFault>
+    requires port { length router.old.ports ≡ 1 }
+    requires short { AllByRecursion (λ message. length message < 2 ^ 32) messages.now }
+    requires early { AreEarly (map delivery_seen deliveries.now) }
+    requires moment { moment ≤ 10 ^ 15 }
+    ensures ports { router.new.ports ≡ router.old.ports }
+    ensures passes { Passes F.family (flat_map (delivery_inputs F.family messages.now (F.bytes_of sender))
+        (map delivery_seen deliveries.now) ++ runs_to moment ∷ []) router.old result router.new }
+{
+    every_list_has_a_course();
+    course_goes_on();
+    hear(router, messages, sender, deliveries)?;
+    reach(router, moment);
+    Ok(())
+}
+
 /// Lets a new router go through its whole course: the Hellos, the deliveries, and the way to its final moment.
 fn go_through<'a, F: Family>(
     alloc: Global,
@@ -190,8 +221,13 @@ fn go_through<'a, F: Family>(
     let Ok(mut router) = introduced(alloc, fresh) else {
         return Err(MirrorFault::Memory);
     };
-    hear(&mut router, messages, fresh.sender, fresh.deliveries)?;
-    reach(&mut router, end_of(fresh));
+    hear_deliveries(
+        &mut router,
+        messages,
+        fresh.sender,
+        fresh.deliveries,
+        end_of(fresh),
+    )?;
     Ok(router)
 }
 

@@ -1,6 +1,7 @@
 //! Worked examples.
 
 mod again;
+mod deliveries;
 mod fitting;
 mod mirrored;
 mod worked;

@@ -79,7 +79,11 @@ fn deliver<F: Family>(
 }
 
 /// Lets a port know this neighbour for ever.
-fn greet<F: Family>(router: &mut Router<'_, F>, port: usize, neighbour: F::Addr) -> bool {
+pub(super) fn greet<F: Family>(
+    router: &mut Router<'_, F>,
+    port: usize,
+    neighbour: F::Addr,
+) -> bool {
     let mut hello = [0, 0, 0, 0, 0, 1, 0, 2, 255, 255];
     take(router, port, neighbour, MessageType::Hello, &mut hello).is_some()
 }
