@@ -1,0 +1,7 @@
+pub mod Lasting
+pub mod Hearing
+pub mod Passing
+pub mod Reading
+pub mod Moving
+pub mod Mirroring
+pub mod Fitting

@@ -1,0 +1,51 @@
+-- The words of the laws in `src/laws.rt`.
+use Rattle.std.specs.Prelude.{◌≡◌, ℕ, ◌≤◌, List, None}
+use Rattle.pim_addr.specs.declared.family.AddressFamily.{AddressFamily}
+use Rattle.pim_addr.specs.Routes.{RouteTable, IsRouteTable}
+use Rattle.pim_down.specs.declared.event.Timing.{Timing}
+use Rattle.pim_down.specs.Known.{known_in}
+use Rattle.pim_down.specs.Time.{Downstream}
+use Rattle.pim_form.specs.Messages.{Writing, IsWriting}
+use Rattle.pim_form.specs.NormalForm.{GroupForm, IsNormal, IsFormOf}
+use Rattle.pim_form.specs.Settled.{IsSettledAt}
+use Rattle.pim_form.specs.TooBig as form
+use Rattle.pim_form.specs.TowardLaws.{asked_of}
+use Rattle.pim_change.specs.Change.{change}
+use Rattle.pim_change.specs.Told.{TellChange}
+use Rattle.pim_change.specs.TooBig as changed
+use Rattle.pim_fresh.specs.Deliveries.{Delivery, AreAlive}
+use Rattle.pim_mirror.specs.Config.{Fresh, newest_first, end_of}
+use Rattle.pim_mirror.specs.Fits.{expiry_of}
+use Rattle.pim_mirror.specs.Headline.{MirrorsForm}
+use Rattle.pim_router.specs.Course.{Telling}
+use Rattle.pim_router.specs.State.{RouterState}
+use Rattle.pim_settling.specs.Hearing.{NoneExpires}
+use Rattle.pim_moving.specs.Changing.{StandsAt, LastsUntil, IsGiven, HasMoved}
+
+-- A router that is settled at the form which was asked of it last, and hears the messages of the change to another one in
+-- any order and however often, is settled at that one from the final moment of these deliveries on, and asks for it.
+abbrev pub ChangeMovesARouter : Type 0
+ChangeMovesARouter = (family : AddressFamily) (writing : Writing) (timing : Timing) (was is : Downstream)
+    (old new : List GroupForm) (messages : List (List ℕ)) (deliveries : List Delivery) (moment : ℕ)
+    (start after : RouterState) → IsRouteTable family start.routes → IsWriting family writing →
+    IsFormOf family (asked_of family start.routes writing.upstream was) old →
+    IsFormOf family (asked_of family start.routes writing.upstream is) new →
+    TellChange family writing (known_in family start.routes) old new messages →
+    StandsAt family old start → LastsUntil writing timing moment start →
+    IsGiven family writing timing messages deliveries moment start after →
+    HasMoved family writing new moment start after
+
+-- A mirror of a form is settled at it, and none of its expiry timers ends by a moment before which each message came last
+-- less than its holdtime ago.
+abbrev pub MirrorIsSettled : Type 0
+MirrorIsSettled = (family : AddressFamily) (table : RouteTable) (writing : Writing) (form : List GroupForm)
+    (messages : List (List ℕ)) (fresh : Fresh) (moment last : ℕ) (told : List Telling) (later : RouterState) →
+    IsNormal family form → end_of fresh ≤ moment → moment ≤ last →
+    AreAlive (expiry_of writing.holdtime) last (newest_first fresh) →
+    MirrorsForm family table writing form messages fresh moment told later →
+    IsSettledAt 0 form later.machines.records × NoneExpires last later.machines
+
+-- Where each star of the new form fits a message, so does each star that a change to it tells.
+abbrev pub ChangeFits : Type 0
+ChangeFits = (family : AddressFamily) (budget : ℕ) (old new : List GroupForm) →
+    form.too_big family budget new ≡ None → changed.too_big family budget (change old new) ≡ None
