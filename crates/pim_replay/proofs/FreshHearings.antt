@@ -8,7 +8,7 @@ use Rattle.pim_addr.specs.Routes.{RouteTable}
 use Rattle.pim_down.specs.Known.{known_in}
 use Rattle.pim_form.specs.Laws.{OneNormalForm}
 use Rattle.pim_form.specs.Messages.{Writing, AreCanonical}
-use Rattle.pim_form.specs.NormalForm.{GroupForm, IsFormOf}
+use Rattle.pim_form.specs.NormalForm.{GroupForm, Demand, IsFormOf}
 use Rattle.pim_form.specs.TooBig.{too_big}
 use Rattle.pim_form.specs.TowardLaws.{asked_of}
 use Rattle.pim_fresh.specs.Deliveries.{Delivery, IsShorter, IsTimely, AreAlive, last_of, is_delivered, final_moment}
@@ -18,38 +18,43 @@ use Rattle.pim_mirror.specs.Fits.{Fits, expiry_of}
 use Rattle.pim_mirror.specs.Headline.{TellsOfForm}
 use Rattle.pim_mirror.specs.declared.mirroring.MirrorFault.{MirrorFault}
 use Rattle.pim_mirror.specs.declared.mirroring.MirrorFault.TheVariants as fault
-use Rattle.pim_router.specs.Canonical.{IsAskedBy, IsTooBig}
+use Rattle.pim_form.specs.declared.fault.FormFault.{FormFault}
+use Rattle.pim_form.specs.declared.fault.FormFault.TheVariants.{TooBig}
+use Rattle.pim_router.specs.Canonical.{IsAskedBy, IsTooBig, ToldTooBig}
 use Rattle.pim_router.specs.State.{RouterState}
-use Rattle.pim_replay.specs.FreshHearing.{delivered_first, each_once, fresh_of, AreSent, IsAgain, Mirrored}
+use Rattle.pim_replay.specs.FreshHearing.{delivered_at, each_at, fresh_of, AreSent, HaveRoom, IsAgain, Mirrored, HeardAgain, Asks}
 
 -- the same, the newest first
-unfoldable newest : ℕ → List Delivery
-newest zero = []
-newest (suc count) = delivered_first count ∷ newest count
+unfoldable pub newest_at : ℕ → ℕ → List Delivery
+newest_at moment zero = []
+newest_at moment (suc count) = delivered_at moment count ∷ newest_at moment count
 
-newest_is : (count : ℕ) → reverse (each_once count) ≡ newest count
-unfolding each_once newest
+abbrev newest : ℕ → List Delivery
+newest count = newest_at 0 count
+
+newest_is : (count : ℕ) → reverse (each_at 0 count) ≡ newest count
+unfolding each_at newest_at
 newest_is zero = refl
-newest_is (suc count) = reverse-append (each_once count) (delivered_first count ∷ []) ∙ ap (λ l. delivered_first count ∷ l) (newest_is count)
+newest_is (suc count) = reverse-append (each_at 0 count) (delivered_at 0 count ∷ []) ∙ ap (λ l. delivered_at 0 count ∷ l) (newest_is count)
 
-all_named : (most count : ℕ) → count ≤ most → AllByRecursion (λ (delivery : Delivery). delivery.message < most) (each_once count)
-unfolding each_once
+all_named : (most count : ℕ) → count ≤ most → AllByRecursion (λ (delivery : Delivery). delivery.message < most) (each_at 0 count)
+unfolding each_at
 all_named most zero within = tt
-all_named most (suc count) within = both (each_once count) (all_named most count (omega (arith, within)))
+all_named most (suc count) within = both (each_at 0 count) (all_named most count (omega (arith, within)))
   where
     both : (front : List Delivery) → AllByRecursion (λ (delivery : Delivery). delivery.message < most) front
-        → AllByRecursion (λ (delivery : Delivery). delivery.message < most) (front ++ delivered_first count ∷ [])
+        → AllByRecursion (λ (delivery : Delivery). delivery.message < most) (front ++ delivered_at 0 count ∷ [])
     both [] all = (omega (arith, within), tt)
     both (first ∷ front) all = (all.0, both front all.1)
 
-all_early : (count : ℕ) → AllByRecursion (λ (delivery : Delivery). delivery.moment ≤ 10 ^ 14) (each_once count)
-unfolding each_once
-all_early zero = tt
-all_early (suc count) = both (each_once count) (all_early count)
+pub all_early : (moment count : ℕ) → moment ≤ 10 ^ 14 → AllByRecursion (λ (delivery : Delivery). delivery.moment ≤ 10 ^ 14) (each_at moment count)
+unfolding each_at
+all_early moment zero early = tt
+all_early moment (suc count) early = both (each_at moment count) (all_early moment count early)
   where
     both : (front : List Delivery) → AllByRecursion (λ (delivery : Delivery). delivery.moment ≤ 10 ^ 14) front
-        → AllByRecursion (λ (delivery : Delivery). delivery.moment ≤ 10 ^ 14) (front ++ delivered_first count ∷ [])
-    both [] all = (omega arith, tt)
+        → AllByRecursion (λ (delivery : Delivery). delivery.moment ≤ 10 ^ 14) (front ++ delivered_at moment count ∷ [])
+    both [] all = (early, tt)
     both (first ∷ front) all = (all.0, both front all.1)
 
 -- ---- the newest first
@@ -57,26 +62,26 @@ all_early (suc count) = both (each_once count) (all_early count)
 below : (message count : ℕ) → message < suc count → message ≢ count → message < count
 below message count within other = omega (arith, within, other)
 
-came : (message count : ℕ) → message < count → is_delivered message (newest count) ≡ true
-unfolding newest
-came message zero within = absurd (omega (arith, within))
-came message (suc count) within = by (count == message) refl (λ less. came message count less)
+pub came : (moment message count : ℕ) → message < count → is_delivered message (newest_at moment count) ≡ true
+unfolding newest_at
+came moment message zero within = absurd (omega (arith, within))
+came moment message (suc count) within = by (count == message) refl (λ less. came moment message count less)
   where
-    by : (b : Bool) → count == message ≡ b → (message < count → is_delivered message (newest count) ≡ true) → is_delivered message (newest (suc count)) ≡ true
+    by : (b : Bool) → count == message ≡ b → (message < count → is_delivered message (newest_at moment count) ≡ true) → is_delivered message (newest_at moment (suc count)) ≡ true
     by true is before = rw is refl
     by false is before = rw is (before (below message count within (λ same. eqb-false count message is (sym same))))
 
-ends_by : (interval count : ℕ) → final_moment interval (newest count) ≤ interval
-unfolding final_moment newest
-ends_by interval zero = omega arith
-ends_by interval (suc count) = by (is_delivered count (newest count)) (ends_by interval count)
+pub ends_by : (interval moment count : ℕ) → final_moment interval (newest_at moment count) ≤ moment + interval
+unfolding final_moment newest_at
+ends_by interval moment zero = omega arith
+ends_by interval moment (suc count) = by (is_delivered count (newest_at moment count)) (ends_by interval moment count)
   where
-    by : (b : Bool) → final_moment interval (newest count) ≤ interval → max (if b then 0 else 0 + interval) (final_moment interval (newest count)) ≤ interval
+    by : (b : Bool) → final_moment interval (newest_at moment count) ≤ moment + interval → max (if b then moment else moment + interval) (final_moment interval (newest_at moment count)) ≤ moment + interval
     by true before = omega (arith, before)
     by false before = omega (arith, before)
 
 last_is : (message count last : ℕ) → last_of message (newest count) ≡ Some last → last ≡ 0
-unfolding last_of newest
+unfolding last_of newest_at
 last_is message zero last is = absurd (none is)
   where
     none : ◌≡◌ {A = Option ℕ} None (Some last) → ⊥
@@ -90,20 +95,20 @@ last_is message (suc count) last is = by (count == message) is (last_is message 
     by true at before = some at
     by false at before = before at
 
-shorter : (moment : ℕ) (expiry : Option ℕ) → IsShorter moment expiry → (other : ℕ) → other ≤ moment → IsShorter other expiry
+pub shorter : (moment : ℕ) (expiry : Option ℕ) → IsShorter moment expiry → (other : ℕ) → other ≤ moment → IsShorter other expiry
 shorter moment None p other less = tt
 shorter moment (Some time) p other less = omega (arith, p, less)
 
-alive : (expiry : Option ℕ) (moment count : ℕ) → IsShorter moment expiry → AreAlive expiry moment (newest count)
+pub alive : (expiry : Option ℕ) (moment count : ℕ) → IsShorter moment expiry → AreAlive expiry moment (newest count)
 alive expiry moment count short = λ message last is. shorter moment expiry short (moment - last) (omega arith)
 
 timely : (expiry : Option ℕ) (moment count : ℕ) → IsShorter moment expiry → IsTimely expiry moment (newest count)
-unfolding IsTimely newest
+unfolding IsTimely newest_at
 timely expiry moment zero short = tt
 timely expiry moment (suc count) short =
     (omega arith, alive expiry moment (suc count) short, timely expiry 0 count (shorter moment expiry short 0 (omega arith)))
 
-lasts : (holdtime : ℕ) → 99 ≤ holdtime → (moment : ℕ) → moment ≤ 3000 → IsShorter moment (expiry_of holdtime)
+pub lasts : (holdtime : ℕ) → 99 ≤ holdtime → (moment : ℕ) → moment ≤ 6000 → IsShorter moment (expiry_of holdtime)
 lasts holdtime long moment early = by (holdtime == 65535) refl
   where
     by : (b : Bool) → holdtime == 65535 ≡ b → IsShorter moment (if b then None else Some (holdtime * 1000))
@@ -116,11 +121,11 @@ module _ (family : AddressFamily) (table : RouteTable) (writing : Writing) (limi
   abbrev pub its : Fresh
   its = fresh_of table writing limit messages
 
-  newest_of : newest_first its ≡ newest (length messages)
+  pub newest_of : newest_first its ≡ newest_at 0 (length messages)
   newest_of = newest_is (length messages)
 
-  end_early : end_of its ≤ 3000
-  end_early = subst (λ (l : List Delivery). final_moment 3000 l ≤ 3000) (sym newest_of) (ends_by 3000 (length messages))
+  pub end_early : end_of its ≤ 3000
+  end_early = subst (λ (l : List Delivery). final_moment 3000 l ≤ 3000) (sym newest_of) (ends_by 3000 0 (length messages))
 
   pub fitting : 99 ≤ writing.holdtime → 1 ≤ limit → limit ≤ 100000 → Fits messages writing table its
   unfolding IsDistinct
@@ -138,10 +143,10 @@ module _ (family : AddressFamily) (table : RouteTable) (writing : Writing) (limi
     others_count = omega arith;
     others_stay = tt;
     named = all_named (length messages) (length messages) (omega arith);
-    delivered = λ message within. subst (λ (l : List Delivery). is_delivered message l ≡ true) (sym newest_of) (came message (length messages) within);
-    early = all_early (length messages);
+    delivered = λ message within. subst (λ (l : List Delivery). is_delivered message l ≡ true) (sym newest_of) (came 0 message (length messages) within);
+    early = all_early 0 (length messages) (omega arith);
     timely = subst (λ (l : List Delivery). IsTimely (expiry_of writing.holdtime) (end_of its) l) (sym newest_of)
-        (timely (expiry_of writing.holdtime) (end_of its) (length messages) (lasts writing.holdtime long (end_of its) end_early));
+        (timely (expiry_of writing.holdtime) (end_of its) (length messages) (lasts writing.holdtime long (end_of its) (omega (arith, end_early))));
   }
 
 -- ---- messages are short enough to be heard
@@ -163,9 +168,13 @@ module _ (family : AddressFamily) (table : RouteTable) (writing : Writing) (limi
   told_once sent (Err (fault.Full needed)) tells = record { over = tells.answers.0; first = tells.answers.1 }
   told_once sent (Err fault.Memory) tells = tt
 
+  pub tells_once : (sent : AreSent family table writing messages) (fresh : Fresh) (result : Result RouterState MirrorFault) → fresh ≡ fresh_of table writing limit messages
+      → TellsOfForm family table writing sent.asked.form messages fresh result → TellsOfForm family table writing sent.asked.form messages (fresh_of table writing limit messages) result
+  tells_once sent fresh result same tells = subst (λ f. TellsOfForm family table writing sent.asked.form messages f result) same tells
+
   pub mirrored : (sent : AreSent family table writing messages) (fresh : Fresh) (result : Result RouterState MirrorFault) → fresh ≡ fresh_of table writing limit messages
       → TellsOfForm family table writing sent.asked.form messages fresh result → Mirrored family table writing limit messages result
-  mirrored sent fresh result same tells = told_once sent result (subst (λ f. TellsOfForm family table writing sent.asked.form messages f result) same tells)
+  mirrored sent fresh result same tells = told_once sent result (tells_once sent fresh result same tells)
 
 module _ (family : AddressFamily) (table : RouteTable) (writing : Writing) (messages : List (List ℕ)) (router : RouterState) (again : IsAgain family table writing messages router) where
   pub same_again : (others : List (List ℕ)) → IsAskedBy family writing router others → others ≡ messages
@@ -173,36 +182,57 @@ module _ (family : AddressFamily) (table : RouteTable) (writing : Writing) (mess
       (subst (λ t. IsFormOf family (asked_of family t writing.upstream router.machines) asked.form) again.routes asked.is)
       (subst (λ t. AreCanonical family writing (known_in family t) asked.form others) again.routes asked.told)
 
-  pub never_too_big : (group : List ℕ) → IsTooBig family writing router (Some group) → ⊥
-  never_too_big group big = none (sym again.fitting ∙ (ap (too_big family writing.budget) (sym same) ∙ big.least))
-    where
-      same : big.form ≡ again.form
-      same = again.asks.one_form big.form (subst (λ t. IsFormOf family (asked_of family t writing.upstream router.machines) big.form) again.routes big.is)
+  pub fits_again : IsTooBig family writing router None
+  fits_again = record {
+    form = again.form;
+    is = subst (λ t. IsFormOf family (asked_of family t writing.upstream router.machines) again.form) (sym again.routes) again.asks.is_form;
+    least = again.fitting;
+  }
 
-      none : ◌≡◌ {A = Option (List ℕ)} None (Some group) → ⊥
-      none e = cc
+  pub heard_again : (limit : ℕ) (result : Result (List (List ℕ)) MirrorFault) → HaveRoom family table writing limit messages → Asks family writing router result → HeardAgain family table writing limit messages result
+  heard_again limit (Ok others) room asked = (room, same_again others asked)
+  heard_again limit (Err (fault.Full needed)) room asked = absurd asked
+  heard_again limit (Err fault.Memory) room asked = tt
+
+-- a star that is told as too big
+pub told_big : {T F A N : Type 0} (bytes_of : A → List ℕ) (IsSo : Option (List ℕ) → Type 0) (result : Result T (FormFault F A N)) (why : FormFault F A N) (group : A) → result ≡ Err why → why ≡ TooBig group
+    → ToldTooBig bytes_of IsSo result → IsSo (Some (bytes_of group))
+told_big bytes_of IsSo result why group is big told = subst (λ r. ToldTooBig bytes_of IsSo r) (is ∙ ap (λ f. Err f) big) told
+
+-- a router has one form: its stars fit, or one doesn't
+pub fits_or_not : OneNormalForm → (family : AddressFamily) (writing : Writing) (router : RouterState) (group : List ℕ) → IsTooBig family writing router None → IsTooBig family writing router (Some group) → ⊥
+fits_or_not one family writing router group fits big = none (sym fits.least ∙ (ap (too_big family writing.budget) same ∙ big.least))
+  where
+    same : fits.form ≡ big.form
+    same = one family fits.form big.form fits.is.normal big.is.normal (λ source group tree valid of_group. sym (fits.is.wants source group tree valid of_group) ∙ big.is.wants source group tree valid of_group)
+
+    none : ◌≡◌ {A = Option (List ℕ)} None (Some group) → ⊥
+    none e = cc
 
 -- ---- what a router sends
 
-pub sent_by : OneNormalForm → (family : AddressFamily) (table : RouteTable) (writing : Writing) (router : RouterState) (messages : List (List ℕ)) → table ≡ router.routes
+pub one_of : OneNormalForm → (family : AddressFamily) (demand : Demand) (form other : List GroupForm) → IsFormOf family demand form → IsFormOf family demand other → form ≡ other
+one_of one family demand form other p q = one family form other p.normal q.normal (λ source group tree valid of_group. sym (p.wants source group tree valid of_group) ∙ q.wants source group tree valid of_group)
+
+abbrev pub sent_by : OneNormalForm → (family : AddressFamily) (table : RouteTable) (writing : Writing) (router : RouterState) (messages : List (List ℕ)) → table ≡ router.routes
     → IsAskedBy family writing router messages → IsTooBig family writing router None → AreSent family table writing messages
-sent_by one family table writing router messages same asked fits = subst (λ t. AreSent family t writing messages) (sym same) (record {
+sent_by one family table writing router messages same asked fits = record {
   state = router.machines;
-  asked = record { form = asked.form; is = asked.is; told = asked.told };
-  fitting = ap (too_big family writing.budget) (one_form asked.form fits.form asked.is fits.is) ∙ fits.least;
-})
-  where
-    one_form : (form other : List GroupForm) → IsFormOf family (asked_of family router.routes writing.upstream router.machines) form
-        → IsFormOf family (asked_of family router.routes writing.upstream router.machines) other → form ≡ other
-    one_form form other p q = one family form other p.normal q.normal (λ source group tree valid of_group. sym (p.wants source group tree valid of_group) ∙ q.wants source group tree valid of_group)
+  asked = record {
+    form = asked.form;
+    is = subst (λ t. IsFormOf family (asked_of family t writing.upstream router.machines) asked.form) (sym same) asked.is;
+    told = subst (λ t. AreCanonical family writing (known_in family t) asked.form messages) (sym same) asked.told;
+  };
+  fitting = ap (too_big family writing.budget) (one_of one family (asked_of family router.routes writing.upstream router.machines) asked.form fits.form asked.is fits.is) ∙ fits.least;
+}
 
 -- ---- the deliveries, one after the other
 
-pub none_yet : map {A = code.Delivery} delivery_seen [] ≡ each_once 0
-unfolding each_once
-none_yet = refl
+pub none_yet : (moment : ℕ) → map {A = code.Delivery} delivery_seen [] ≡ each_at moment 0
+unfolding each_at
+none_yet moment = refl
 
-pub one_more : (deliveries more : List code.Delivery) (message : ℕ) → more ≡ deliveries ++ record { message = message; moment = 0 } ∷ [] → map delivery_seen deliveries ≡ each_once message
-    → map delivery_seen more ≡ each_once (message + 1)
-unfolding each_once
-one_more deliveries more message is so_far = ap (map delivery_seen) is ∙ (map-append delivery_seen deliveries (record { message = message; moment = 0 } ∷ []) ∙ (ap (λ l. l ++ delivered_first message ∷ []) so_far ∙ sym (ap each_once (add-one message))))
+pub one_more : (moment : ℕ) (deliveries more : List code.Delivery) (message : ℕ) → more ≡ deliveries ++ record { message = message; moment = moment } ∷ [] → map delivery_seen deliveries ≡ each_at moment message
+    → map delivery_seen more ≡ each_at moment (message + 1)
+unfolding each_at
+one_more moment deliveries more message is so_far = ap (map delivery_seen) is ∙ (map-append delivery_seen deliveries (record { message = message; moment = moment } ∷ []) ∙ (ap (λ l. l ++ delivered_at moment message ∷ []) so_far ∙ sym (ap (each_at moment) (add-one message))))

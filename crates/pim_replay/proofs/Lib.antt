@@ -10,3 +10,5 @@ pub mod Underway
 pub mod Written
 pub mod FreshHearings
 pub mod MessageTexts
+pub mod Moves
+pub mod Changes

@@ -13,15 +13,16 @@ use Rattle.pim_mirror.specs.Headline.{AreMessagesOf, fresh_exchange, all_entries
 use Rattle.pim_mirror.specs.declared.mirroring.MirrorFault.{MirrorFault}
 use Rattle.pim_mirror.specs.declared.mirroring.MirrorFault.TheVariants as fault
 use Rattle.pim_router.specs.declared.config.PortConfig.{PortConfig}
+use Rattle.pim_router.specs.Canonical.{IsAskedBy}
 use Rattle.pim_router.specs.State.{Port, RouterState}
 
-abbrev pub delivered_first : ℕ → Delivery
-delivered_first message = record { message = message; moment = 0 }
+abbrev pub delivered_at : ℕ → ℕ → Delivery
+delivered_at moment message = record { message = message; moment = moment }
 
--- each of so many messages, in order
-unfoldable pub each_once : ℕ → List Delivery
-each_once zero = []
-each_once (suc count) = each_once count ++ delivered_first count ∷ []
+-- each of so many messages once, at this moment and in order
+unfoldable pub each_at : ℕ → ℕ → List Delivery
+each_at moment zero = []
+each_at moment (suc count) = each_at moment count ++ delivered_at moment count ∷ []
 
 -- the port to which the messages are directed, with the delays of RFC 7761, 4.11, in milliseconds
 abbrev pub fresh_port : List ℕ → Port
@@ -37,7 +38,7 @@ fresh_of table writing limit messages = record {
   limit = limit;
   sender = writing.own;
   others = [];
-  deliveries = each_once (length messages);
+  deliveries = each_at 0 (length messages);
 }
 
 module _ (family : AddressFamily) (table : RouteTable) (writing : Writing) where
@@ -77,3 +78,9 @@ module _ (family : AddressFamily) (table : RouteTable) (writing : Writing) where
   HeardAgain limit messages (Ok again) = HaveRoom limit messages × (again ≡ messages)
   HeardAgain limit messages (Err (fault.Full needed)) = IsFull limit messages needed
   HeardAgain limit messages (Err fault.Memory) = Unit {0}
+
+-- by which messages a router asks
+abbrev pub Asks : AddressFamily → Writing → RouterState → Result (List (List ℕ)) MirrorFault → Type 0
+Asks family writing router (Ok messages) = IsAskedBy family writing router messages
+Asks family writing router (Err (fault.Full needed)) = ⊥
+Asks family writing router (Err fault.Memory) = Unit {0}

@@ -1,11 +1,13 @@
 //! What a fresh router writes that hears canonical messages alone.
 
-ghost use Rattle.std.specs.Prelude.{◌≡◌, ◌≤◌, [], ◌∷◌, map, IfOk};
+ghost use Rattle.std.specs.Prelude.{◌≡◌, ◌≤◌, [], ◌∷◌, map, IfOk, None};
 ghost use Rattle.pim_mirror.specs.Config.{delivery_seen, fresh_seen};
-ghost use Rattle.pim_replay.specs.FreshHearing.{each_once, fresh_config, fresh_of, AreSent, Mirrored, HeardAgain};
+ghost use Rattle.pim_mirror.specs.Headline.{TellsOfForm};
+ghost use Rattle.pim_router.specs.Canonical.{IsTooBig};
+ghost use Rattle.pim_replay.specs.FreshHearing.{each_at, fresh_config, fresh_of, AreSent, Asks, Mirrored, HeardAgain};
 
 use pim_addr::{Family, Routes};
-use pim_form::{FormFault, Messages, Writer};
+use pim_form::{FormFault, Messages, Writer, one_normal_form};
 use pim_mirror::{
     Delivery, FreshConfig, MirrorFault, asked_stars_have_rps, canonical_messages_are_short, mirror,
 };
@@ -18,19 +20,23 @@ const PROPAGATION: u16 = 500;
 /// The override delay of the fresh router's port, in milliseconds.
 const OVERRIDE: u16 = 2_500;
 
-/// Each of so many messages comes once, at the moment 0, in order.
-fn each_once(alloc: Global, count: usize) -> Result<Vec<Delivery>, AllocError>
-    ensures { IfOk result (λ deliveries. map delivery_seen deliveries.items ≡ each_once count) }
+/// Each of so many messages comes once, at this moment and in order.
+pub(crate) fn each_at(
+    alloc: Global,
+    count: usize,
+    moment: u64,
+) -> Result<Vec<Delivery>, AllocError>
+    ensures { IfOk result (λ deliveries. map delivery_seen deliveries.items ≡ each_at moment count) }
 {
     let mut deliveries = Vec::new(alloc);
     for message in 0..count {
-        deliveries.push(Delivery { message, moment: 0 })?;
+        deliveries.push(Delivery { message, moment })?;
     }
     Ok(deliveries)
 }
 
 /// The fresh router's only port, at this address.
-fn only_port<A: Copy>(alloc: Global, address: A) -> Result<Vec<PortConfig<A>>, AllocError>
+pub(crate) fn only_port<A: Copy>(alloc: Global, address: A) -> Result<Vec<PortConfig<A>>, AllocError>
     ensures { IfOk result (λ ports. ports.items ≡ fresh_config address ∷ []) }
 {
     let mut ports = Vec::new(alloc);
@@ -43,7 +49,7 @@ fn only_port<A: Copy>(alloc: Global, address: A) -> Result<Vec<PortConfig<A>>, A
 }
 
 /// The fresh router that has heard each message once.
-fn mirror_once<'a, F: Family>(
+pub(crate) fn mirror_once<'a, F: Family>(
     alloc: Global,
     messages: &Messages,
     by: &Writer<F>,
@@ -53,13 +59,33 @@ fn mirror_once<'a, F: Family>(
     requires once { fresh_seen F.bytes_of fresh.now ≡ fresh_of fresh.now.routes.now by.now fresh.now.limit messages.now }
     requires least { 1 ≤ fresh.now.limit }
     requires most { fresh.now.limit ≤ 100000 }
-    ensures { Mirrored F.family fresh.now.routes.now by.now fresh.now.limit messages.now result }
+    ensures mirrored { Mirrored F.family fresh.now.routes.now by.now fresh.now.limit messages.now result }
+    ensures tells { (sent : AreSent F.family fresh.now.routes.now by.now messages.now) →
+        TellsOfForm F.family fresh.now.routes.now by.now sent.asked.form messages.now
+        (fresh_of fresh.now.routes.now by.now fresh.now.limit messages.now) result }
 {
     canonical_messages_are_short();
     asked_stars_have_rps();
     fresh.routes.is_sound();
     by.is_writing();
     mirror(alloc, messages, by, fresh)
+}
+
+/// By which messages a router asks the writer's upstream neighbour, where each star fits one.
+pub(crate) fn ask_again<F: Family>(
+    alloc: Global,
+    router: &Router<'_, F>,
+    by: &Writer<F>,
+) -> Result<Messages, MirrorFault>
+    requires { IsTooBig F.family by.now router.now None }
+    ensures { Asks F.family by.now router.now result }
+{
+    one_normal_form();
+    match router.canonical(alloc, by) {
+        Ok(again) => Ok(again),
+        Err(FormFault::TooBig(_)) => unreachable!(),
+        Err(FormFault::Memory | FormFault::Tables) => Err(MirrorFault::Memory),
+    }
 }
 
 /// The messages by which a fresh router asks its upstream neighbours that has heard each of these once, at the moment 0
@@ -76,7 +102,7 @@ pub(crate) fn hear_again<F: Family>(
     requires most { limit ≤ 100000 }
     ensures { HeardAgain F.family routes.now by.now limit messages.now result }
 {
-    let Ok(deliveries) = each_once(alloc, messages.count()) else {
+    let Ok(deliveries) = each_at(alloc, messages.count(), 0) else {
         return Err(MirrorFault::Memory);
     };
     let Ok(ports) = only_port(alloc, by.upstream()) else {
@@ -91,9 +117,5 @@ pub(crate) fn hear_again<F: Family>(
         deliveries: &deliveries,
     };
     let router = mirror_once(alloc, messages, by, &fresh)?;
-    match router.canonical(alloc, by) {
-        Ok(again) => Ok(again),
-        Err(FormFault::TooBig(_)) => unreachable!(),
-        Err(FormFault::Memory | FormFault::Tables) => Err(MirrorFault::Memory),
-    }
+    ask_again(alloc, &router, by)
 }

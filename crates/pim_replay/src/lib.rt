@@ -9,6 +9,8 @@
 //! state and that a fresh router which hears them writes the same; it compares them, and they are proved to be.
 #![tactic(auto)]
 
+mod change_hearing;
+mod change_text;
 mod demand_text;
 mod echo_line;
 mod fresh_hearing;
@@ -27,6 +29,7 @@ mod same;
 mod state_text;
 mod turns;
 
+pub use change_text::change_into;
 pub use echo_line::write_echo_line;
 pub use laws::{report_begins_with_its_lines, report_has_one_text};
 pub use malformed::write_malformed_words;

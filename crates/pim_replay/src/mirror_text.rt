@@ -32,7 +32,7 @@ pub enum MirrorTextFault<F: Family> {
 }
 
 /// Why no fresh router hears the messages.
-fn of_mirror<F: Family>(fault: MirrorFault) -> MirrorTextFault<F>
+pub(crate) fn of_mirror<F: Family>(fault: MirrorFault) -> MirrorTextFault<F>
     ensures { result ≡ of_mirror fault }
 {
     match fault {
@@ -42,7 +42,7 @@ fn of_mirror<F: Family>(fault: MirrorFault) -> MirrorTextFault<F>
 }
 
 /// By which messages the router asks the writer's upstream neighbour.
-fn ask<F: Family>(
+pub(crate) fn ask<F: Family>(
     alloc: Global,
     router: &Router<'_, F>,
     by: &Writer<F>,
@@ -59,7 +59,7 @@ fn ask<F: Family>(
 }
 
 /// The line that tells whether the messages are the same.
-fn judgement(one: &Messages, other: &Messages) -> &'static [u8]
+pub(crate) fn judgement(one: &Messages, other: &Messages) -> &'static [u8]
     ensures { Judges one.now other.now result.now }
 {
     if one.same_bytes(other) {

@@ -1,8 +1,10 @@
-use Rattle.pim_replay.proofs.FreshHearings.{same_again}
+use Rattle.pim_replay.proofs.FreshHearings.{fits_again, heard_again}
 use Rattle.pim_replay.proofs.fresh_hearing.hear_again.Goals as goal
 
-pub returns-in-Ok-canonical : goal.returns-in-Ok-canonical
-returns-in-Ok-canonical g c = (
-  c.in_ok-router.ensures.0,
-  same_again g.F.Family.family c.args.routes.now c.args.by.now c.args.messages.now c.in_ok-router.router c.in_ok-router.ensures.1 c.in-Ok-canonical.again c.in-Ok-canonical.ensures.canonical,
-)
+pub ask_again-requires : goal.ask_again-requires
+ask_again-requires g c = fits_again g.F.Family.family c.args.routes.now c.args.by.now c.args.messages.now c.in_ok-router.router c.in_ok-router.ensures.mirrored.1
+
+pub returns : goal.returns
+returns g c =
+    heard_again g.F.Family.family c.args.routes.now c.args.by.now c.args.messages.now c.in_ok-router.router c.in_ok-router.ensures.mirrored.1 c.args.limit c.ask_again.result
+    c.in_ok-router.ensures.mirrored.0 c.ask_again.ensures

@@ -2,7 +2,7 @@ use Rattle.std.proofs.Common.{sym, subst}
 use Rattle.pim_down.specs.Known.{known_in}
 use Rattle.pim_mirror.specs.Config.{Fresh, fresh_seen}
 use Rattle.pim_mirror.specs.Fits.{Fits}
-use Rattle.pim_replay.proofs.FreshHearings.{fitting, all_short, mirrored}
+use Rattle.pim_replay.proofs.FreshHearings.{fitting, all_short, mirrored, tells_once}
 use Rattle.pim_replay.proofs.fresh_hearing.mirror_once.Goals as goal
 
 pub mirror-requires-clause-fits : goal.mirror-requires-clause-fits
@@ -19,7 +19,12 @@ mirror-requires-clause-short g c =
     (c.canonical_messages_are_short.ensures family c.args.by.now (known_in family table) asked.form c.args.messages.now c.is_writing.ensures asked.is.normal
     (c.asked_stars_have_rps.ensures family table c.args.by.now.upstream c.requires.sent.state asked.form c.is_sound.ensures asked.is) asked.told)
 
-pub returns : goal.returns
-returns g c =
+pub returns-clause-mirrored : goal.returns-clause-mirrored
+returns-clause-mirrored g c =
     mirrored g.F.Family.family c.args.fresh.now.routes.now c.args.by.now c.args.fresh.now.limit c.args.messages.now c.requires.sent (fresh_seen g.F.Family.bytes_of c.args.fresh.now) c.mirror.result
     c.requires.once (c.mirror.ensures.answers c.requires.sent.state c.requires.sent.asked)
+
+pub returns-clause-tells : goal.returns-clause-tells
+returns-clause-tells g c = λ sent.
+    tells_once g.F.Family.family c.args.fresh.now.routes.now c.args.by.now c.args.fresh.now.limit c.args.messages.now sent (fresh_seen g.F.Family.bytes_of c.args.fresh.now) c.mirror.result
+    c.requires.once (c.mirror.ensures.answers sent.state sent.asked)

@@ -1,0 +1,55 @@
+-- The fresh router that heard a sender's canonical messages, and hears then how the sender's demand changes.
+use Rattle.std.specs.Prelude.{◌≡◌, ◌⊎◌, ℕ, ◌+◌, List, [], ◌∷◌, ◌++◌, length, Option, None, Some, Result, Ok, Err}
+use Rattle.std.specs.List.{flat_map}
+use Rattle.pim_addr.specs.declared.family.AddressFamily.{AddressFamily}
+use Rattle.pim_addr.specs.Routes.{RouteTable}
+use Rattle.pim_change.specs.Told.{TellChange}
+use Rattle.pim_down.specs.Known.{known_in}
+use Rattle.pim_form.specs.Messages.{Writing}
+use Rattle.pim_mirror.specs.Mirror.{GoesThrough, delivery_inputs, first_needed}
+use Rattle.pim_mirror.specs.declared.mirroring.MirrorFault.{MirrorFault}
+use Rattle.pim_mirror.specs.declared.mirroring.MirrorFault.TheVariants as fault
+use Rattle.pim_router.specs.Course.{Input, Telling, runs_to, IsCourse}
+use Rattle.pim_router.specs.State.{RouterState}
+use Rattle.pim_replay.specs.FreshHearing.{AreSent, IsFull, each_at, fresh_of}
+
+-- the override interval of the fresh router's port, in milliseconds
+abbrev pub fresh_interval : ℕ
+fresh_interval = 3000
+
+-- Each message of the change comes once, at this moment and in order, and then the override interval passes.
+abbrev pub change_inputs : AddressFamily → List (List ℕ) → List ℕ → ℕ → List Input
+change_inputs family messages sender moment =
+    flat_map (delivery_inputs family messages sender) (each_at moment (length messages))
+    ++ runs_to (moment + fresh_interval) ∷ []
+
+module _ (family : AddressFamily) (table : RouteTable) (writing : Writing) where
+  -- The writer asks by the first messages under this table, and later by the last ones; the others tell that change.
+  pub record AreTold (before change wanted : List (List ℕ)) : Type 0 where
+    pub was : AreSent family table writing before
+    pub is : AreSent family table writing wanted
+    pub told : TellChange family writing (known_in family table) was.asked.form is.asked.form change
+
+  module _ (limit : ℕ) (before change : List (List ℕ)) where
+    -- The fresh router heard the first messages and then, from its final moment on, those of the change; so many records
+    -- the first of these needed for which there was no room.
+    pub record HearsBoth (needed : Option ℕ) : Type 0 where
+      pub mirror : RouterState
+      pub heard : GoesThrough family before (fresh_of table writing limit before) None mirror
+      pub told : List Telling
+      pub after : RouterState
+      pub course : IsCourse family (change_inputs family change writing.own mirror.machines.moment) told mirror after
+      pub needed_is : first_needed told ≡ needed
+
+    abbrev pub HasRoom : Type 0
+    HasRoom = HearsBoth None
+
+    -- one of the first messages has no room, or else one of the change
+    abbrev pub HasNoRoom : ℕ → Type 0
+    HasNoRoom needed = IsFull family table writing limit before needed ⊎ HearsBoth (Some needed)
+
+    -- the messages that the fresh router writes then
+    abbrev pub MovedAgain : List (List ℕ) → Result (List (List ℕ)) MirrorFault → Type 0
+    MovedAgain wanted (Ok again) = HasRoom × (again ≡ wanted)
+    MovedAgain wanted (Err (fault.Full needed)) = HasNoRoom needed
+    MovedAgain wanted (Err fault.Memory) = Unit {0}

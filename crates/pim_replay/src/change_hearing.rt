@@ -1,0 +1,91 @@
+//! What a fresh router writes that heard canonical messages, and then those of a change.
+
+ghost use Rattle.std.specs.Prelude.{◌≡◌, ◌≤◌, ◌<◌, ◌^◌, List, ℕ, length};
+ghost use Rattle.std.specs.List.{AllByRecursion};
+ghost use Rattle.pim_mirror.specs.Mirror.{Passes};
+ghost use Rattle.pim_replay.specs.ChangeHearing.{change_inputs, AreTold, MovedAgain};
+
+use crate::fresh_hearing::{ask_again, each_at, mirror_once, only_port};
+use pim_addr::{Family, Routes};
+use pim_form::{Messages, Writer, same_messages_same_asked};
+use pim_mirror::{FreshConfig, MirrorFault, are_short, hear_deliveries};
+use pim_moving::{change_moves_a_router, mirror_is_settled};
+use pim_router::{Router, every_list_has_a_course};
+use std::alloc::Global;
+
+/// The override interval of the fresh router's port, in milliseconds.
+const OVERRIDE_INTERVAL: u64 = 3_000;
+
+/// Lets a router hear each of these messages once, at the moment at which it stands and in order, and go on until the
+/// override interval is over.
+fn hear_change<F: Family>(
+    alloc: Global,
+    router: &mut Router<'_, F>,
+    change: &Messages,
+    sender: F::Addr,
+) -> Result<(), MirrorFault>
+    requires port { length router.old.ports ≡ 1 }
+    requires short { AllByRecursion (λ message. length message < 2 ^ 32) change.now }
+    requires early { router.old.machines.moment ≤ 3000 }
+    ensures { Passes F.family (change_inputs F.family change.now (F.bytes_of sender) router.old.machines.moment)
+        router.old result router.new }
+{
+    every_list_has_a_course();
+    let moment = router.now();
+    let Ok(deliveries) = each_at(alloc, change.count(), moment) else {
+        return Err(MirrorFault::Memory);
+    };
+    hear_deliveries(
+        router,
+        change,
+        sender,
+        &deliveries,
+        moment + OVERRIDE_INTERVAL,
+    )
+}
+
+/// The messages by which a fresh router asks its upstream neighbours that heard the first of these messages, each once, at
+/// the moment 0 and in order, and at its final moment those of a change, each once and in order, and went on until the
+/// override interval was over. It knows no other neighbour than their sender, and may hold so many records.
+pub(crate) fn move_again<F: Family>(
+    alloc: Global,
+    before: &Messages,
+    change: &Messages,
+    by: &Writer<F>,
+    routes: &Routes<F>,
+    limit: usize,
+) -> Result<Messages, MirrorFault>
+    requires told { (wanted : List (List ℕ)) × AreTold F.family routes.now by.now before.now change.now wanted }
+    requires least { 1 ≤ limit }
+    requires most { limit ≤ 100000 }
+    ensures { (wanted : List (List ℕ)) → AreTold F.family routes.now by.now before.now change.now wanted →
+        MovedAgain F.family routes.now by.now limit before.now change.now wanted result }
+{
+    change_moves_a_router();
+    mirror_is_settled();
+    same_messages_same_asked();
+    routes.is_sound();
+    by.is_writing();
+    if !are_short(change) {
+        return Err(MirrorFault::Memory);
+    }
+    let Ok(deliveries) = each_at(alloc, before.count(), 0) else {
+        return Err(MirrorFault::Memory);
+    };
+    let Ok(ports) = only_port(alloc, by.upstream()) else {
+        return Err(MirrorFault::Memory);
+    };
+    let fresh = FreshConfig {
+        ports: &ports,
+        routes,
+        limit,
+        sender: by.own(),
+        others: &[],
+        deliveries: &deliveries,
+    };
+    let mut router = mirror_once(alloc, before, by, &fresh)?;
+    router.is_router();
+    router.ports().is_sound();
+    hear_change(alloc, &mut router, change, by.own())?;
+    ask_again(alloc, &router, by)
+}

@@ -1,0 +1,138 @@
+//! The messages that tell how the demand of one replay's state changes to that of another, and that the fresh router
+//! which mirrors the first one then asks for the second.
+
+ghost use Rattle.std.specs.Prelude.{◌≡◌, ◌≤◌, length, None};
+ghost use Rattle.pim_capture.specs.Next.{latest_moment};
+ghost use Rattle.pim_router.specs.Canonical.{IsTooBig};
+ghost use Rattle.pim_replay.specs.ChangeHearing.{AreTold};
+ghost use Rattle.pim_replay.specs.ChangeText.{TellsBetween, TellsChange, TellsMove};
+ghost use Rattle.pim_replay.specs.MirrorText.{failures_of_mirror};
+
+use crate::change_hearing::move_again;
+use crate::message_text::write_messages;
+use crate::mirror_text::{MirrorTextFault, ask, judgement, of_mirror};
+use crate::quiet::replay_quietly;
+use crate::replay::ReplayFault;
+use pim_addr::{Drain, Family, Feed, Routes, write_all};
+use pim_form::{FormFault, Messages, NormalForm, Writer, one_normal_form};
+use pim_merge::Merge;
+use pim_moving::change_fits;
+use pim_router::Router;
+use std::alloc::Global;
+
+/// By which messages the writer's upstream neighbour is told how the demand changes from that of one router to that of
+/// another, each of whose stars fits a message.
+fn tell<F: Family>(
+    alloc: Global,
+    one: &Router<'_, F>,
+    other: &Router<'_, F>,
+    by: &Writer<F>,
+) -> Result<Messages, MirrorTextFault<F>>
+    requires routes { one.now.routes ≡ other.now.routes }
+    requires fits { IsTooBig F.family by.now other.now None }
+    ensures { TellsBetween F.family by.now one.now other.now result }
+{
+    one_normal_form();
+    change_fits();
+    let Ok(last) = NormalForm::toward(alloc, one.ports(), one.routes(), by.upstream()) else {
+        return Err(MirrorTextFault::Replay(ReplayFault::Memory));
+    };
+    match other.triggered(alloc, &last, by) {
+        Ok(change) => Ok(change),
+        Err(FormFault::TooBig(_)) => unreachable!(),
+        Err(FormFault::Memory | FormFault::Tables) => {
+            Err(MirrorTextFault::Replay(ReplayFault::Memory))
+        }
+    }
+}
+
+/// Writes the messages of a change, lets the fresh router that heard the messages before hear them, and writes whether it
+/// writes those that are wanted.
+fn move_on<F: Family, W: Drain>(
+    alloc: Global,
+    before: &Messages,
+    change: &Messages,
+    wanted: &Messages,
+    by: &Writer<F>,
+    routes: &Routes<F>,
+    limit: usize,
+    writer: &mut W,
+) -> Result<u8, MirrorTextFault<F>>
+    requires told { AreTold F.family routes.now by.now before.now change.now wanted.now }
+    requires least { 1 ≤ limit }
+    requires most { limit ≤ 100000 }
+    ensures told { TellsMove F.family routes.now by.now limit before.now change.now
+        (W.contents writer.old) (W.contents writer.new) result }
+    ensures count { W.failures writer.new ≡ failures_of_mirror (W.failures writer.old) result }
+{
+    let Ok(()) = write_messages(writer, change) else {
+        return Err(MirrorTextFault::Replay(ReplayFault::Output));
+    };
+    let again = match move_again::<F>(alloc, before, change, by, routes, limit) {
+        Ok(again) => again,
+        Err(fault) => return Err(of_mirror(fault)),
+    };
+    let Ok(()) = write_all(writer, judgement(wanted, &again)) else {
+        return Err(MirrorTextFault::Replay(ReplayFault::Output));
+    };
+    Ok(0)
+}
+
+/// Replays the captures of two routers, one capture a port and each until `after_ms` milliseconds behind its last
+/// record, and writes the messages that tell the upstream neighbour of `by` how what it is asked for changes from what
+/// the router `a` asks to what `b` asks (RFC 7761, 4.5): each as `message`, its length in bytes and its bytes in
+/// hexadecimal, and how many there are. Then a fresh router of one port, which may hold `limit` records and knows no
+/// neighbour but their sender, hears the canonical messages of `a`, each once and in order at the moment 0, at its final
+/// moment those of the change, each once and in order, and goes on for its override interval; what it asks its own
+/// upstream neighbours for is compared with what `b` asks for, and `agrees` is written. The answer is the status, 0. Both
+/// routers have one table.
+///
+/// Beside the routers it takes the memory of one buffer a capture, of the canonical messages of both and twice the second
+/// ones, of the messages of the change, and that of a router which holds their entries.
+///
+/// # Errors
+/// What ends the replay of `a`, and else that of `b`. Then `TooBig` of `a`, and else of `b`. After these nothing was
+/// written. `Full` where the fresh router has no room for the messages of `a`, or for one of the change, with what the
+/// first such message needed: the lines of the change's messages and their number were. `Output`: a front of the text
+/// was. `Memory`: nothing was, or all but `agrees`.
+pub fn change_into<F: Family, R: Feed + Drop, W: Drain>(
+    alloc: Global,
+    merge_a: &mut Merge<R>,
+    router_a: &mut Router<'_, F>,
+    merge_b: &mut Merge<R>,
+    router_b: &mut Router<'_, F>,
+    after_ms: u64,
+    by: &Writer<F>,
+    limit: usize,
+    writer: &mut W,
+) -> Result<u8, MirrorTextFault<F>>
+    requires ports_a { length merge_a.old.lanes ≡ length router_a.old.ports }
+    requires ports_b { length merge_b.old.lanes ≡ length router_b.old.ports }
+    requires moment_a { router_a.old.machines.moment ≤ latest_moment }
+    requires moment_b { router_b.old.machines.moment ≤ latest_moment }
+    requires after { after_ms ≤ 1000000000 }
+    requires least { 1 ≤ limit }
+    requires most { limit ≤ 100000 }
+    requires routes { router_a.old.routes ≡ router_b.old.routes }
+    ensures text { TellsChange F.family after_ms by.now limit merge_a.old merge_a.new router_a.old router_a.new
+        merge_b.old merge_b.new router_b.old router_b.new
+        F.bytes_of (W.contents writer.old) (W.contents writer.new) result }
+    ensures count { W.failures writer.new ≡ failures_of_mirror (W.failures writer.old) result }
+{
+    match replay_quietly::<F, R>(merge_a, router_a, after_ms) {
+        Ok(()) => {}
+        Err(fault) => return Err(MirrorTextFault::Replay(fault)),
+    }
+    match replay_quietly::<F, R>(merge_b, router_b, after_ms) {
+        Ok(()) => {}
+        Err(fault) => return Err(MirrorTextFault::Replay(fault)),
+    }
+    one_normal_form();
+    let before = ask::<F>(alloc, router_a, by)?;
+    let wanted = ask::<F>(alloc, router_b, by)?;
+    let change = tell::<F>(alloc, router_a, router_b, by)?;
+    let routes = router_a.routes();
+    move_on::<F, W>(
+        alloc, &before, &change, &wanted, by, routes, limit, writer,
+    )
+}
