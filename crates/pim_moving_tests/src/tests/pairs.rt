@@ -107,8 +107,8 @@ fn hears_change<F: Family>(
     goes_on(router, change, sender, final_moment(order, messages, begin))
 }
 
-/// A way from one state to another: a router that holds each, the checksums of the messages that tell the change, and the
-/// messages that ask for the other one.
+/// A way from one state to another: a router that holds each, the checksums of the messages that tell the change, and
+/// the messages that ask for the other one.
 #[derive_where(Clone, Copy)]
 struct Way<'a, F: Family> {
     from: &'a Router<'a, F>,
@@ -142,7 +142,8 @@ fn told<F: Family>(alloc: Global, way: &Way<'_, F>, writer: &Writer<F>) -> Optio
     way.to.triggered(alloc, &last, writer).ok()
 }
 
-/// Whether a router that is settled at the one state hears the change, is settled at the other one then, and asks for it.
+/// Whether a router that is settled at the one state hears the change, is settled at the other one then, and asks for
+/// it.
 fn moves<F: Family>(
     alloc: Global,
     router: &mut Router<'_, F>,

@@ -1,15 +1,16 @@
-//! States that a router is asked for, and the changes between them, worked out from the layouts of RFC 7761, section 4.9.
-//! IPv4: from 10.0.0.1 to 10.0.0.2 in messages of at most 70 bytes, of the groups 239.1.1.1, 239.1.2.1 and 239.1.3.1 and
-//! the sources from 192.0.2.1 on. IPv6: from fe80::1 to fe80::2 in messages of at most 90 bytes, of the groups ff0e::1 and
-//! ff0e::2 and the sources 2001:db8::1 and 2001:db8::2. The holdtime is 210, and the RP 10.9.9.9 or 2001:db8::9.
+//! States that a router is asked for, and the changes between them, worked out from RFC 7761, sections 4.5 and 4.9.
+//! IPv4: from 10.0.0.1 to 10.0.0.2 in messages of at most 70 bytes, of the groups 239.1.1.1, 239.1.2.1 and 239.1.3.1
+//! and the sources from 192.0.2.1 on. IPv6: from fe80::1 to fe80::2 in messages of at most 90 bytes, of the groups
+//! ff0e::1 and ff0e::2 and the sources 2001:db8::1 and 2001:db8::2. The holdtime is 210, and the RP 10.9.9.9 or
+//! 2001:db8::9.
 
 use super::world::Scene;
 use pim_hello::Parameters;
 use pim_mirror::OtherNeighbour;
 use pim_router::PortConfig;
 
-/// A state: the messages that ask for it, and for each state of the table the checksums of those that tell the change to
-/// it.
+/// A state: the messages that ask for it, and for each state of the table the checksums of those that tell the change
+/// to it.
 #[derive(Clone, Copy)]
 pub(super) struct Row<'a> {
     pub(super) messages: &'a [&'a [u8]],
