@@ -1,6 +1,6 @@
 -- The parts of a change between two replays.
-use Rattle.std.proofs.Common.{◌≡◌, ◌⊎◌, ◌≤◌, ℕ, List, Option, None, Some, Result, Ok, Err, refl, inl, inr, sym, ap, subst, ◌∙◌}
-use Rattle.std.specs.Io.KnownBytes.{Appends, Keeps}
+use Rattle.std.proofs.Common.{◌≡◌, ℕ, List, Option, None, Some, Ok, Err, refl, sym, ap, subst, ◌∙◌}
+use Rattle.std.specs.Io.KnownBytes.{Appends}
 use Rattle.std.proofs.KnownBytes.{Appends-trans}
 use Rattle.pim_addr.specs.declared.family.AddressFamily.{AddressFamily}
 use Rattle.pim_addr.specs.Routes.{RouteTable}
@@ -21,14 +21,11 @@ use Rattle.pim_router.specs.Canonical.{asked, IsAskedBy, IsTooBig}
 use Rattle.pim_router.specs.Change.{IsTooBigToTell}
 use Rattle.pim_router.specs.State.{RouterState}
 use Rattle.pim_replay.specs.declared.mirror_text.MirrorTextFault.{MirrorTextFault}
-use Rattle.pim_replay.specs.declared.mirror_text.MirrorTextFault.TheVariants.{Replay, TooBig, Full}
-use Rattle.pim_replay.specs.declared.replay.ReplayFault.{ReplayFault}
-use Rattle.pim_replay.specs.declared.replay.ReplayFault.TheVariants.{Capture, Output, Memory}
 use Rattle.pim_replay.specs.ChangeHearing.{AreTold, MovedAgain}
-use Rattle.pim_replay.specs.ChangeText.{IsChangeBetween, TellsBetween, TellsChange, TellsMove}
+use Rattle.pim_replay.specs.ChangeText.{IsChangeBetween, TellsMove}
 use Rattle.pim_replay.specs.MessageText.{messages_text}
-use Rattle.pim_replay.specs.MirrorText.{AsksBy, Judges, agrees_line, agreed_text, of_mirror}
-use Rattle.pim_replay.specs.Quiet.{RunsAll, RunsQuietly}
+use Rattle.pim_replay.specs.MirrorText.{Judges, agrees_line, agreed_text, of_mirror}
+use Rattle.pim_replay.specs.Quiet.{RunsAll}
 use Rattle.pim_replay.proofs.FreshHearings.{one_of, sent_by}
 use Rattle.pim_replay.proofs.Taken.{all_keep_table}
 use Rattle.pim_replay.proofs.Written.{front-more}

@@ -1,5 +1,5 @@
 -- The fresh router that heard canonical messages, and hears then those of a change.
-use Rattle.std.proofs.Common.{◌≡◌, ◌≤◌, ◌<◌, ◌^◌, ◌+◌, ◌-◌, ℕ, zero, suc, List, [], ◌∷◌, ◌++◌, length, Option, None, Some, Result, Ok, Err, true, inl, inr, refl, sym, ap, subst, ◌∙◌, arith, append_assoc, append-nil}
+use Rattle.std.proofs.Common.{◌≡◌, ◌≤◌, ◌^◌, ◌+◌, ◌-◌, ℕ, zero, suc, List, [], ◌∷◌, ◌++◌, length, None, Result, Ok, Err, inr, refl, sym, ap, subst, ◌∙◌, arith, append_assoc, append-nil}
 use Rattle.std.specs.List.{AllByRecursion, flat_map}
 use Rattle.pim_addr.specs.declared.family.AddressFamily.{AddressFamily}
 use Rattle.pim_addr.specs.Routes.{RouteTable, IsRouteTable}
@@ -16,7 +16,7 @@ use Rattle.pim_mirror.specs.Config.{Fresh, newest_first, end_of}
 use Rattle.pim_mirror.specs.Fits.{expiry_of}
 use Rattle.pim_mirror.specs.Headline.{TellsOfForm}
 use Rattle.pim_mirror.specs.Hellos.{timing_of}
-use Rattle.pim_mirror.specs.Mirror.{Passes, delivery_inputs, first_needed}
+use Rattle.pim_mirror.specs.Mirror.{Passes, delivery_inputs}
 use Rattle.pim_mirror.specs.declared.mirroring.MirrorFault.{MirrorFault}
 use Rattle.pim_mirror.specs.declared.mirroring.MirrorFault.TheVariants as fault
 use Rattle.pim_moving.specs.Changing.{AreBetween, StandsAt, LastsUntil, IsGiven, HasMoved}
@@ -26,8 +26,8 @@ use Rattle.pim_router.specs.Course.{Input, runs_to, IsCourse}
 use Rattle.pim_router.specs.Laws.{EveryListHasACourse}
 use Rattle.pim_router.specs.State.{RouterState}
 use Rattle.pim_settling.specs.Hearing.{NoneExpires}
-use Rattle.pim_replay.specs.ChangeHearing.{fresh_interval, change_inputs, AreTold, HearsBoth, HasNoRoom, MovedAgain}
-use Rattle.pim_replay.specs.FreshHearing.{delivered_at, each_at, fresh_of, Mirrored, Asks}
+use Rattle.pim_replay.specs.ChangeHearing.{fresh_interval, change_inputs, AreTold, HearsBoth, MovedAgain}
+use Rattle.pim_replay.specs.FreshHearing.{delivered_at, each_at, fresh_of, Asks}
 use Rattle.pim_replay.proofs.FreshHearings.{newest_at, newest_of, end_early, all_early, came, ends_by, alive, lasts, shorter}
 
 -- ---- each message once, at a moment

@@ -1,4 +1,4 @@
-use Rattle.std.proofs.Common.{◌∙◌, sym}
+use Rattle.std.proofs.Common.{◌∙◌}
 use Rattle.pim_replay.proofs.Changes.{told_between, same_tables}
 use Rattle.pim_replay.proofs.change_text.change_into.Goals as goal
 
