@@ -59,9 +59,9 @@ fired_outlast passed records all =
     elim (first_due ppt_due records) as (λ f. FiredOutlast passed (fire_ppt records f)) [
       | Some held ↦ first_outlasts passed ppt_due after_ppt (λ this p. ppt_outlasts passed this.key this.key.what this.machine p) records all
       | None ↦ elim (first_due et_due records) as (λ f. FiredOutlast passed (fire_et records f)) [
-          | Some held ↦ first_outlasts passed et_due after_et (λ this p. tt) records all
-          | None ↦ tt
-        ]
+        | Some held ↦ first_outlasts passed et_due after_et (λ this p. tt) records all
+        | None ↦ tt
+      ]
     ]
 
 -- ---- a millisecond passes

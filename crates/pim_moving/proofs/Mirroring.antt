@@ -128,9 +128,10 @@ time_left last moment came None before early p = tt
 time_left last moment came (Some ends) before early p = omega (arith, before, early, p)
 
 pub settled : MirrorIsSettled
-settled family table writing form messages fresh moment last told later normal from early alive mirrors =
-    (λ group what. settles (group_in group form) what (state_on later.machines.records 0 group what) (as_named exchange (length messages) form (newest_first fresh) moment later.machines mirrors.holds normal.ascending group what),
-     λ key machine e. lasts key machine e)
+settled family table writing form messages fresh moment last told later normal from early alive mirrors = (
+  λ group what. settles (group_in group form) what (state_on later.machines.records 0 group what) (as_named exchange (length messages) form (newest_first fresh) moment later.machines mirrors.holds normal.ascending group what),
+  λ key machine e. lasts key machine e,
+)
   where
     exchange : Exchange
     exchange = fresh_exchange family table writing messages fresh

@@ -36,8 +36,8 @@ pub record LastsUntil (writing : Writing) (timing : Timing) (moment : ℕ) (stat
   pub machines : NoneExpires moment state.machines
   pub started : IsShorter (moment - state.machines.moment) (start_of writing.holdtime timing).expires_in
 
--- It is given the packets of the messages, each at least once and no others, at moments that don't fall, and then a moment
--- from the final one of these deliveries on; there is room for each of them.
+-- It is given the packets of the messages, each at least once and no others, at moments that don't fall, and then a
+-- moment from the final one of these deliveries on; there is room for each of them.
 pub record IsGiven (family : AddressFamily) (writing : Writing) (timing : Timing) (messages : List (List ℕ))
     (deliveries : List Delivery) (moment : ℕ) (start after : RouterState) : Type 0 where
   pub of_these : AreOf (length messages) deliveries

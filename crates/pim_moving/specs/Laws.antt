@@ -22,8 +22,8 @@ use Rattle.pim_router.specs.State.{RouterState}
 use Rattle.pim_settling.specs.Hearing.{NoneExpires}
 use Rattle.pim_moving.specs.Changing.{StandsAt, LastsUntil, IsGiven, HasMoved}
 
--- A router that is settled at the form which was asked of it last, and hears the messages of the change to another one in
--- any order and however often, is settled at that one from the final moment of these deliveries on, and asks for it.
+-- A router that is settled at the form which was asked of it last, and hears the messages of the change to another one
+-- in any order and however often, is settled at that one from the final moment of these deliveries on, and asks for it.
 abbrev pub ChangeMovesARouter : Type 0
 ChangeMovesARouter = (family : AddressFamily) (writing : Writing) (timing : Timing) (was is : Downstream)
     (old new : List GroupForm) (messages : List (List ℕ)) (deliveries : List Delivery) (moment : ℕ)
@@ -35,8 +35,8 @@ ChangeMovesARouter = (family : AddressFamily) (writing : Writing) (timing : Timi
     IsGiven family writing timing messages deliveries moment start after →
     HasMoved family writing new moment start after
 
--- A mirror of a form is settled at it, and none of its expiry timers ends by a moment before which each message came last
--- less than its holdtime ago.
+-- A mirror of a form is settled at it, and none of its expiry timers ends by a moment before which each message came
+-- last less than its holdtime ago.
 abbrev pub MirrorIsSettled : Type 0
 MirrorIsSettled = (family : AddressFamily) (table : RouteTable) (writing : Writing) (form : List GroupForm)
     (messages : List (List ℕ)) (fresh : Fresh) (moment last : ℕ) (told : List Telling) (later : RouterState) →

@@ -3,9 +3,9 @@
 ghost use Rattle.pim_moving.specs.Laws.{ChangeFits, ChangeMovesARouter, MirrorIsSettled};
 
 /// A router of one port that is settled at the form that it was last told, and knows who writes to it, is given the
-/// packets of the change to another form, in any order and however often, each at least once and nothing else, and then a
-/// moment from the final one of these deliveries on. As long as it has room, and no neighbour's time and no expiry timer
-/// ends, it is then settled at the other form, and asks its own upstream neighbour for exactly that.
+/// packets of the change to another form, in any order and however often, each at least once and nothing else, and then
+/// a moment from the final one of these deliveries on. As long as it has room, and no neighbour's time and no expiry
+/// timer ends, it is then settled at the other form, and asks its own upstream neighbour for exactly that.
 pub fn change_moves_a_router()
     ensures { ChangeMovesARouter }
 {
@@ -23,8 +23,8 @@ pub fn change_moves_a_router()
     pim_settling::settled_wants();
 }
 
-/// A mirror is settled at the form of the messages that it heard, from its final moment on, and none of its expiry timers
-/// ends as long as each message came less than its holdtime ago.
+/// A mirror is settled at the form of the messages that it heard, from its final moment on, and none of its expiry
+/// timers ends as long as each message came less than its holdtime ago.
 pub fn mirror_is_settled()
     ensures { MirrorIsSettled }
 {}

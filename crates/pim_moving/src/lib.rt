@@ -1,5 +1,5 @@
-//! Laws on a router that hears how the demand of its downstream neighbour changes (RFC 7761, 4.5). Nothing here is to be
-//! called.
+//! Laws on a router that hears how the demand of its downstream neighbour changes (RFC 7761, 4.5). Nothing here is to
+//! be called.
 //!
 //! Proved, over the definitions of the crates below: a router of one port that is settled at one normal form, knows the
 //! writer and is given the packets of the change to another form, in any order and however often each, is settled at
