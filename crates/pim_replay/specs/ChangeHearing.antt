@@ -31,8 +31,8 @@ module _ (family : AddressFamily) (table : RouteTable) (writing : Writing) where
     pub told : TellChange family writing (known_in family table) was.asked.form is.asked.form change
 
   module _ (limit : ℕ) (before change : List (List ℕ)) where
-    -- The fresh router heard the first messages and then, from its final moment on, those of the change; so many records
-    -- the first of these needed for which there was no room.
+    -- The fresh router heard the first messages and then, from its final moment on, those of the change; so many
+    -- records the first of these needed for which there was no room.
     pub record HearsBoth (needed : Option ℕ) : Type 0 where
       pub mirror : RouterState
       pub heard : GoesThrough family before (fresh_of table writing limit before) None mirror

@@ -1,5 +1,5 @@
--- The messages that tell how the demand of one replay's state changes to that of another, and that the fresh router which
--- mirrors the first one then asks for the second.
+-- The messages that tell how the demand of one replay's state changes to that of another, and that the fresh router
+-- which mirrors the first one then asks for the second.
 use Rattle.std.specs.Prelude.{◌≡◌, ◌⊎◌, ℕ, List, Option, None, Some, Result, Ok, Err}
 use Rattle.std.specs.Io.KnownBytes.{Appends, Keeps}
 use Rattle.pim_addr.specs.declared.family.AddressFamily.{AddressFamily}
@@ -20,7 +20,8 @@ use Rattle.pim_replay.specs.MirrorText.{agreed_text}
 use Rattle.pim_replay.specs.Quiet.{RunsAll}
 use Rattle.pim_replay.specs.Report.{StopsAt}
 
--- These messages tell the writer's upstream neighbour how the demand changes from that of one router to that of another.
+-- These messages tell the writer's upstream neighbour how the demand changes from that of one router to that of
+-- another.
 pub record IsChangeBetween (family : AddressFamily) (writing : Writing) (one other : RouterState)
     (messages : List (List ℕ)) : Type 0 where
   pub form : List GroupForm

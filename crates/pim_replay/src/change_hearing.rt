@@ -44,9 +44,9 @@ fn hear_change<F: Family>(
     )
 }
 
-/// The messages by which a fresh router asks its upstream neighbours that heard the first of these messages, each once, at
-/// the moment 0 and in order, and at its final moment those of a change, each once and in order, and went on until the
-/// override interval was over. It knows no other neighbour than their sender, and may hold so many records.
+/// The messages by which a fresh router asks its upstream neighbours that heard the first of these messages, each once,
+/// at the moment 0 and in order, and at its final moment those of a change, each once and in order, and went on until
+/// the override interval was over. It knows no other neighbour than their sender, and may hold so many records.
 pub(crate) fn move_again<F: Family>(
     alloc: Global,
     before: &Messages,

@@ -46,8 +46,8 @@ fn tell<F: Family>(
     }
 }
 
-/// Writes the messages of a change, lets the fresh router that heard the messages before hear them, and writes whether it
-/// writes those that are wanted.
+/// Writes the messages of a change, lets the fresh router that heard the messages before hear them, and writes whether
+/// it writes those that are wanted.
 fn move_on<F: Family, W: Drain>(
     alloc: Global,
     before: &Messages,
@@ -84,17 +84,18 @@ fn move_on<F: Family, W: Drain>(
 /// hexadecimal, and how many there are. Then a fresh router of one port, which may hold `limit` records and knows no
 /// neighbour but their sender, hears the canonical messages of `a`, each once and in order at the moment 0, at its final
 /// moment those of the change, each once and in order, and goes on for its override interval; what it asks its own
-/// upstream neighbours for is compared with what `b` asks for, and `agrees` is written. The answer is the status, 0. Both
-/// routers have one table.
+/// upstream neighbours for is compared with what `b` asks for, and `agrees` is written. The answer is the status, 0.
+/// Both routers have one table.
 ///
-/// Beside the routers it takes the memory of one buffer a capture, of the canonical messages of both and twice the second
-/// ones, of the messages of the change, and that of a router which holds their entries.
+/// Beside the routers it takes the memory of one buffer a capture, of the canonical messages of both and twice the
+/// second ones, of the messages of the change, and that of a router which holds their entries.
 ///
 /// # Errors
 /// What ends the replay of `a`, and else that of `b`. Then `TooBig` of `a`, and else of `b`. After these nothing was
 /// written. `Full` where the fresh router has no room for the messages of `a`, or for one of the change, with what the
 /// first such message needed: the lines of the change's messages and their number were. `Output`: a front of the text
-/// was. `Memory`: nothing was, or all but `agrees`.
+/// was. `Memory`: nothing was, or all but `agrees`; it would come too for a message of 2^32 bytes, of which there are
+/// none.
 pub fn change_into<F: Family, R: Feed + Drop, W: Drain>(
     alloc: Global,
     merge_a: &mut Merge<R>,
@@ -132,7 +133,5 @@ pub fn change_into<F: Family, R: Feed + Drop, W: Drain>(
     let wanted = ask::<F>(alloc, router_b, by)?;
     let change = tell::<F>(alloc, router_a, router_b, by)?;
     let routes = router_a.routes();
-    move_on::<F, W>(
-        alloc, &before, &change, &wanted, by, routes, limit, writer,
-    )
+    move_on::<F, W>(alloc, &before, &change, &wanted, by, routes, limit, writer)
 }

@@ -21,11 +21,7 @@ const PROPAGATION: u16 = 500;
 const OVERRIDE: u16 = 2_500;
 
 /// Each of so many messages comes once, at this moment and in order.
-pub(crate) fn each_at(
-    alloc: Global,
-    count: usize,
-    moment: u64,
-) -> Result<Vec<Delivery>, AllocError>
+pub(crate) fn each_at(alloc: Global, count: usize, moment: u64) -> Result<Vec<Delivery>, AllocError>
     ensures { IfOk result (λ deliveries. map delivery_seen deliveries.items ≡ each_at moment count) }
 {
     let mut deliveries = Vec::new(alloc);
@@ -36,7 +32,10 @@ pub(crate) fn each_at(
 }
 
 /// The fresh router's only port, at this address.
-pub(crate) fn only_port<A: Copy>(alloc: Global, address: A) -> Result<Vec<PortConfig<A>>, AllocError>
+pub(crate) fn only_port<A: Copy>(
+    alloc: Global,
+    address: A,
+) -> Result<Vec<PortConfig<A>>, AllocError>
     ensures { IfOk result (λ ports. ports.items ≡ fresh_config address ∷ []) }
 {
     let mut ports = Vec::new(alloc);
@@ -56,7 +55,8 @@ pub(crate) fn mirror_once<'a, F: Family>(
     fresh: &FreshConfig<'a, F>,
 ) -> Result<Router<'a, F>, MirrorFault>
     requires sent { AreSent F.family fresh.now.routes.now by.now messages.now }
-    requires once { fresh_seen F.bytes_of fresh.now ≡ fresh_of fresh.now.routes.now by.now fresh.now.limit messages.now }
+    requires once { fresh_seen F.bytes_of fresh.now
+        ≡ fresh_of fresh.now.routes.now by.now fresh.now.limit messages.now }
     requires least { 1 ≤ fresh.now.limit }
     requires most { fresh.now.limit ≤ 100000 }
     ensures mirrored { Mirrored F.family fresh.now.routes.now by.now fresh.now.limit messages.now result }
