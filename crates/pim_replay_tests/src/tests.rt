@@ -1,5 +1,6 @@
 //! The lines of a report, each as its table has it, over devices that move few bytes and fail.
 
+mod changes;
 mod mirrors;
 mod replays;
 mod sames;

@@ -22,14 +22,14 @@ const EXCEPTED: [u8; 148] = [
     1, 1, 1, 0, 1, 0, 1, 1, 0, 7, 32, 10, 9, 9, 9, 1, 0, 5, 32, 192, 0, 2, 1,
 ];
 
-const WITH_EXCEPTION: Input<'static> = Input {
+pub(super) const WITH_EXCEPTION: Input<'static> = Input {
     bytes: &EXCEPTED,
     most: 5,
     fails_from: NEVER,
 };
 
 /// What is told of the star of 239.1.1.1.
-const STAR_TEXT: &str =
+pub(super) const STAR_TEXT: &str =
     "message 34 2300c4d401000a000002000100d201000020ef01010100010000010007200a090909
 messages 1
 agrees

@@ -359,7 +359,7 @@ const JOIN_OF_EVE: [u8; 70] = [
 ];
 
 /// One RP for all groups, and the neighbour towards it.
-const ROWS_OF_SIX: [Route<[u8; 16]>; 2] = [
+pub(super) const ROWS_OF_SIX: [Route<[u8; 16]>; 2] = [
     (
         true,
         [0xff, 0, 0, 0, 0, 0, 0, 0, 0, 0, 0, 0, 0, 0, 0, 0],
@@ -374,7 +374,7 @@ const ROWS_OF_SIX: [Route<[u8; 16]>; 2] = [
     ),
 ];
 
-const PORT_OF_SIX: [PortConfig<[u8; 16]>; 1] = [PortConfig {
+pub(super) const PORT_OF_SIX: [PortConfig<[u8; 16]>; 1] = [PortConfig {
     address: [0xfe, 0x80, 0, 0, 0, 0, 0, 0, 0, 0, 0, 0, 0, 0, 0, 2],
     propagation: 500,
     override_ms: 2500,
