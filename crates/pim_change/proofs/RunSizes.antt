@@ -202,3 +202,24 @@ small_sets Ipv6 budget rps run most fitting =
       (fits_parts Ipv6 budget run fitting).0,
       most,
     )
+
+-- the whole message is within the budget
+pub within_budget : (family : AddressFamily) (budget : ℕ) (rps : Rps) (run : List ChangeUnit) → budget ≤ 65000
+    → fits family budget (weights run) ≡ true
+    → 4 + (canonical_head_length family + canonical_sets_length family (told_sets rps run)) ≤ budget
+within_budget Ipv4 budget rps run most fitting =
+    omega (
+      arith,
+      sets_length Ipv4 (told_sets rps run),
+      sets_counted Ipv4 budget rps run most fitting,
+      entries_most rps run,
+      (fits_parts Ipv4 budget run fitting).0,
+    )
+within_budget Ipv6 budget rps run most fitting =
+    omega (
+      arith,
+      sets_length Ipv6 (told_sets rps run),
+      sets_counted Ipv6 budget rps run most fitting,
+      entries_most rps run,
+      (fits_parts Ipv6 budget run fitting).0,
+    )

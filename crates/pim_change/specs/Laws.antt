@@ -1,6 +1,6 @@
 -- The words of the laws in `src/laws.rt`.
-use Rattle.std.specs.Prelude.{◌≡◌, ℕ, List, [], ◌∷◌}
-use Rattle.std.specs.List.{flat_map}
+use Rattle.std.specs.Prelude.{◌≡◌, ◌≤◌, ℕ, List, [], ◌∷◌, length}
+use Rattle.std.specs.List.{AllByRecursion, flat_map}
 use Rattle.pim_addr.specs.declared.family.AddressFamily.{AddressFamily}
 use Rattle.pim_form.specs.Laws.{IsReadAs}
 use Rattle.pim_form.specs.Messages.{Rps, Writing, IsWriting, HaveRps}
@@ -34,3 +34,11 @@ ChangeIsRead = (family : AddressFamily) (writing : Writing) (rps : Rps) (old new
     (messages : List (List ℕ)) → IsWriting family writing → IsNormal family old → IsNormal family new →
     HaveRps family rps old → HaveRps family rps new → TellChange family writing rps old new messages →
     IsReadAsChange family writing rps old new messages
+
+-- The messages of the change between two normal forms, whose stars have RPs, are within their writer's budget.
+abbrev pub ChangeMessagesAreShort : Type 0
+ChangeMessagesAreShort = (family : AddressFamily) (writing : Writing) (rps : Rps) (old new : List GroupForm)
+    (messages : List (List ℕ)) → IsWriting family writing →
+    IsNormal family old → IsNormal family new → HaveRps family rps old → HaveRps family rps new →
+    TellChange family writing rps old new messages →
+    AllByRecursion (λ (message : List ℕ). length message ≤ writing.budget) messages

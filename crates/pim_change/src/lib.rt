@@ -18,6 +18,6 @@ mod unit;
 
 pub use changes::changed;
 pub use fitting::too_big;
-pub use laws::{change_is_read, equal_forms_change_nothing};
+pub use laws::{change_is_read, change_messages_are_short, equal_forms_change_nothing};
 pub use packing::triggered;
 pub use unit::{Kind, Telling, Unit};
