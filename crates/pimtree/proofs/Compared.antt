@@ -1,13 +1,8 @@
 -- What is told of two new routers' comparison.
-use Rattle.std.proofs.Common.{◌≡◌, ◌≤◌, inr, refl, sym, ap, subst, ◌∙◌, ℕ, ◌+◌, Bool, true, false, ◌||◌, nat_lt, List, [], ◌∷◌, ◌++◌, map, Option, Result, Ok, Err}
-use Rattle.std.specs.Prelude.{MatchResult}
-use Rattle.std.proofs.lemmas.Bool.{le-ltb}
+use Rattle.std.proofs.Common.{◌≡◌, inr, refl, sym, ap, subst, ◌∙◌, ℕ, ◌+◌, false, List, [], ◌∷◌, ◌++◌, map, Option, Result, Ok, Err}
 use Rattle.pim_addr.specs.declared.family.AddressFamily.{AddressFamily}
-use Rattle.pim_addr.specs.Faults.{fault_if, judged}
-use Rattle.pim_form.specs.declared.writer.WriterFault.{WriterFault}
-use Rattle.pim_form.specs.declared.writer.WriterFault.TheVariants as of_writer
 use Rattle.pim_form.specs.Messages.{Writing}
-use Rattle.pim_form.specs.Writer.{has_bad_address, writer_faults}
+use Rattle.pim_form.specs.Writer.{has_bad_address}
 use Rattle.pim_merge.specs.Next.{MergeState}
 use Rattle.pim_replay.specs.declared.replay.ReplayFault.TheVariants as of_replay
 use Rattle.pim_replay.specs.declared.same.SameFault.{SameFault}

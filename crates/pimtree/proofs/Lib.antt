@@ -1,5 +1,6 @@
 pub mod Compared
 pub mod Mirrored
+pub mod Changed
 pub mod Lines
 pub mod Reports
 pub mod Writes

@@ -1,5 +1,5 @@
 -- What is told of a new router's mirror.
-use Rattle.std.proofs.Common.{◌≡◌, inr, refl, sym, ap, subst, ◌∙◌, ℕ, false, List, [], ◌∷◌, Option, Result, Ok, Err}
+use Rattle.std.proofs.Common.{◌≡◌, inr, refl, sym, ap, subst, ◌∙◌, ℕ, false, List, Option, Result, Ok, Err}
 use Rattle.pim_addr.specs.declared.family.AddressFamily.{AddressFamily}
 use Rattle.pim_form.specs.Messages.{Writing}
 use Rattle.pim_form.specs.Writer.{has_bad_address}
@@ -30,7 +30,7 @@ unmade_mirror family writing setup fault fine is = rw (fine) (first_cause (confi
 
 -- ---- the answer
 
-abbrev retold : {F A N : Type 0} → Result ℕ (MirrorTextFault F A N) → Told A
+abbrev pub retold : {F A N : Type 0} → Result ℕ (MirrorTextFault F A N) → Told A
 retold (Ok status) = Ok status
 retold (Err (of_mirror.Replay told)) = Err (of_mirror.Replay told)
 retold (Err (of_mirror.TooBig group)) = Err (of_mirror.TooBig group)
@@ -44,7 +44,7 @@ made_so family bytes_of after_ms limit merge merge' old new by writing setup rou
     (subst (λ (s : RouterState). TellsMirror family after_ms by limit merge merge' s after bytes_of old new told) made is)
 
 module _ {F A N : Type 0} (family : AddressFamily) (bytes_of : A → List ℕ) (after_ms limit : ℕ) (merge merge' : MergeState) (old new : Option (List ℕ)) where
-  same_told : (told : Result ℕ (MirrorTextFault F A N)) → mirrored family bytes_of told ≡ mirrored family bytes_of (retold told)
+  pub same_told : (told : Result ℕ (MirrorTextFault F A N)) → mirrored family bytes_of told ≡ mirrored family bytes_of (retold told)
   same_told (Ok status) = refl
   same_told (Err (of_mirror.Replay told)) = refl
   same_told (Err (of_mirror.TooBig group)) = refl

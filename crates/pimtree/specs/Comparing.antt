@@ -30,7 +30,8 @@ one_of side other = cond (is_side side other) 1 0
 
 -- what one of the two routers is made from
 abbrev pub side_setup : {A : Type 0} → (A → List ℕ) → Side → List (Port A) → RouteTable → ℕ → Setup
-side_setup bytes_of side ports routes limit = setup_seen bytes_of (map config_of (filter (is_of side) ports)) routes limit
+side_setup bytes_of side ports routes limit =
+    setup_seen bytes_of (map config_of (filter (is_of side) ports)) routes limit
 
 -- ---- faults, as the program tells them
 
@@ -67,8 +68,8 @@ pub record IsCompared {A : Type 0} (family : AddressFamily) (bytes_of : A → Li
   pub answer : result ≡ compared family bytes_of told
 
 -- They are compared, or there is no writer or no router, and nothing is written.
-abbrev pub ComparesNew : {A : Type 0} → AddressFamily → (A → List ℕ) → ℕ → Writing → MergeState → MergeState → MergeState →
-    MergeState → Setup → Setup → Option (List ℕ) → Option (List ℕ) → Result ℕ Fault → Type 0
+abbrev pub ComparesNew : {A : Type 0} → AddressFamily → (A → List ℕ) → ℕ → Writing → MergeState → MergeState →
+    MergeState → MergeState → Setup → Setup → Option (List ℕ) → Option (List ℕ) → Result ℕ Fault → Type 0
 ComparesNew family bytes_of after_ms writing merge merge' other other' a b old new (Ok status) =
     IsCompared family bytes_of after_ms writing merge merge' other other' a b old new (Ok status)
 ComparesNew family bytes_of after_ms writing merge merge' other other' a b old new (Err fault) =

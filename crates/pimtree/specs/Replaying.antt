@@ -1,5 +1,6 @@
 -- The replay that a task asks for: its router, and what is answered and written of its captures.
-use Rattle.std.specs.Prelude.{◌≡◌, ◌⊎◌, ⊤, ℕ, Bool, false, not, List, [], ◌∷◌, ◌++◌, Option, None, Some, Result, Ok, Err}
+use Rattle.std.specs.Prelude.{◌≡◌, ◌⊎◌, ⊤, ℕ, Bool, false, not, List, [], ◌∷◌, ◌++◌}
+use Rattle.std.specs.Prelude.{Option, None, Some, Result, Ok, Err}
 use Rattle.pim_addr.specs.declared.family.AddressFamily.{AddressFamily}
 use Rattle.pim_addr.specs.Address.{is_source}
 use Rattle.pim_addr.specs.Faults.{fault_if}
@@ -82,8 +83,8 @@ IsUnmade [] fault = ⊥
 IsUnmade (first ∷ others) fault = fault ≡ config_fault first
 
 -- A new router of this set-up is replayed, and the engine's answer is told so.
-pub record IsReplayed (family : AddressFamily) (tells_via : Bool) (after_ms : ℕ) (merge merge' : MergeState) (setup : Setup)
-    (old new : Option (List ℕ)) (result : Result ℕ Fault) : Type 0 where
+pub record IsReplayed (family : AddressFamily) (tells_via : Bool) (after_ms : ℕ) (merge merge' : MergeState)
+    (setup : Setup) (old new : Option (List ℕ)) (result : Result ℕ Fault) : Type 0 where
   pub after : RouterState
   pub told : Result ℕ ReplayFault
   pub replays : Replays family tells_via after_ms merge merge' (new_router setup) after old new told

@@ -59,7 +59,7 @@ fn is_of<A: Copy>(side: Side, port: &Port<'_, A>) -> bool
 }
 
 /// The configurations of the ports of one of the two routers.
-fn side_configs<A: Copy>(
+pub fn side_configs<A: Copy>(
     alloc: Global,
     ports: &[Port<'_, A>],
     side: Side,
@@ -92,7 +92,7 @@ pub fn add_to<R: Feed + Drop>(
 }
 
 /// Opens the capture of each port, in the order of the words.
-fn open_both<'a, A>(
+pub fn open_both<'a, A>(
     rt: &HostRuntime,
     ports: &[Port<'a, A>],
 ) -> Result<Pair<Counted<BufReader<File>>>, Fault<'a>>
@@ -164,9 +164,9 @@ pub fn same_opened<F: Family, R: Feed + Drop, W: Drain>(
     ))
 }
 
-/// Tells whether the two routers whose captures the words name want the same, and answers the status. The file of routes
-/// is read first; then all captures are opened before a record of any is read. Without a file of routes all addresses
-/// are reached by the upstream neighbour.
+/// Tells whether the two routers whose captures the words name want the same, and answers the status. The file of
+/// routes is read first; then all captures are opened before a record of any is read. Without a file of routes all
+/// addresses are reached by the upstream neighbour.
 ///
 /// # Errors
 /// `File` of the first file that can't be opened, a fault of the file of routes or of a capture, `TooBig`, `Output` and

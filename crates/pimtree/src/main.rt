@@ -1,7 +1,8 @@
 //! `pimtree` reads PIM sparse mode messages for a person. `check` prints a message on standard input, or the fault that
 //! it has; `replay` what became of each packet of a router's captures, and the state that the router held at the end;
-//! `same` whether two routers wanted the same traffic; and `mirror` the messages that make a fresh router want what this
-//! one wanted.
+//! `same` whether two routers wanted the same traffic; `mirror` the messages that make a fresh router want what this
+//! one wanted; and `change` those that tell the upstream neighbour of the change from what one router wanted to what
+//! another did.
 #![tactic(auto)]
 
 ghost use Rattle.pim_words.specs.Plan.{IsInRange};
@@ -9,6 +10,9 @@ ghost use Rattle.pim_words.specs.Plan.{IsInRange};
 #[cfg(test)]
 mod captures;
 mod causes;
+#[cfg(test)]
+mod change_tests;
+mod changing;
 mod check;
 mod comparing;
 #[cfg(test)]
@@ -33,6 +37,7 @@ mod writing;
 #[cfg(test)]
 mod writing_tests;
 
+use changing::change;
 use check::check_task;
 use comparing::same;
 use fault::Fault;
@@ -67,6 +72,7 @@ fn run_task<'a, F: Family, W: Drain>(
         Task::Replay(captures) => replay::<F, W>(rt, captures, output),
         Task::Same(captures, writing) => same::<F, W>(rt, captures, writing, output),
         Task::Mirror(captures, writing) => mirror::<F, W>(rt, captures, writing, output),
+        Task::Change(captures, writing) => change::<F, W>(rt, captures, writing, output),
     }
 }
 

@@ -29,7 +29,7 @@ fn mirror_fault<F: Family>(fault: MirrorTextFault<F>) -> Fault<'static>
 }
 
 /// What the program answers of a mirror.
-fn mirrored<F: Family>(told: Result<u8, MirrorTextFault<F>>) -> Result<u8, Fault<'static>>
+pub fn mirrored<F: Family>(told: Result<u8, MirrorTextFault<F>>) -> Result<u8, Fault<'static>>
     ensures { result ≡ mirrored F.family F.bytes_of told }
 {
     match told {

@@ -31,11 +31,11 @@ const FIRST: [&str; 8] = [
 ];
 
 /// Words, with what is put out, the line on standard error and the status.
-struct Row {
-    words: &'static [&'static str],
-    text: &'static str,
-    line: &'static str,
-    status: u8,
+pub(super) struct Row {
+    pub(super) words: &'static [&'static str],
+    pub(super) text: &'static str,
+    pub(super) line: &'static str,
+    pub(super) status: u8,
 }
 
 /// Words behind those.
@@ -157,7 +157,7 @@ const ROWS6: [Row; 4] = [
 ];
 
 /// The captures of each router.
-fn pair<'c, A>(
+pub(super) fn pair<'c, A>(
     alloc: Global,
     ports: &[Port<'_, A>],
     shipped: &'c [u8],

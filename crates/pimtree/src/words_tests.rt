@@ -66,12 +66,13 @@ const ADDRESS_FAULTS: [(&[&str], &str); 6] = [
 ];
 
 /// Words that `clap` refuses, with a part of what it says.
-const MISTAKES: [(&[&str], &str); 13] = [
+const MISTAKES: [(&[&str], &str); 14] = [
     (&[], "requires a subcommand"),
     (&["pimtree"], "requires a subcommand"),
     (&["pimtree", "chec"], "unrecognized subcommand 'chec'"),
     (&["pimtree", "mirror"], "--upstream <ADDRESS>"),
     (&["pimtree", "same"], "--own <ADDRESS>"),
+    (&["pimtree", "change"], "--rp <ADDRESS>"),
     (&["pimtree", "help"], "unrecognized subcommand 'help'"),
     (
         &["pimtree", "--src", "10.0.0.2"],
