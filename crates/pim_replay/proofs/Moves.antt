@@ -1,8 +1,9 @@
 -- The fresh router that heard canonical messages, and hears then those of a change.
-use Rattle.std.proofs.Common.{◌≡◌, ◌≤◌, ◌^◌, ◌+◌, ◌-◌, ℕ, zero, suc, List, [], ◌∷◌, ◌++◌, length, None, Result, Ok, Err, inr, refl, sym, ap, subst, ◌∙◌, arith, append_assoc, append-nil}
+use Rattle.std.proofs.Common.{◌≡◌, ◌≤◌, ◌<◌, ◌^◌, ◌+◌, ◌-◌, ℕ, zero, suc, List, [], ◌∷◌, ◌++◌, length, None, Result, Ok, Err, inr, refl, sym, ap, subst, ◌∙◌, arith, append_assoc, append-nil}
 use Rattle.std.specs.List.{AllByRecursion, flat_map}
 use Rattle.pim_addr.specs.declared.family.AddressFamily.{AddressFamily}
 use Rattle.pim_addr.specs.Routes.{RouteTable, IsRouteTable}
+use Rattle.pim_change.specs.Laws.{ChangeMessagesAreShort}
 use Rattle.pim_change.specs.Told.{TellChange}
 use Rattle.pim_down.specs.Known.{known_in}
 use Rattle.pim_down.specs.Sound.{IsSound}
@@ -16,6 +17,7 @@ use Rattle.pim_mirror.specs.Config.{Fresh, newest_first, end_of}
 use Rattle.pim_mirror.specs.Fits.{expiry_of}
 use Rattle.pim_mirror.specs.Headline.{TellsOfForm}
 use Rattle.pim_mirror.specs.Hellos.{timing_of}
+use Rattle.pim_mirror.specs.Laws.{AskedStarsHaveRps}
 use Rattle.pim_mirror.specs.Mirror.{Passes, delivery_inputs}
 use Rattle.pim_mirror.specs.declared.mirroring.MirrorFault.{MirrorFault}
 use Rattle.pim_mirror.specs.declared.mirroring.MirrorFault.TheVariants as fault
@@ -28,7 +30,7 @@ use Rattle.pim_router.specs.State.{RouterState}
 use Rattle.pim_settling.specs.Hearing.{NoneExpires}
 use Rattle.pim_replay.specs.ChangeHearing.{fresh_interval, change_inputs, AreTold, HearsBoth, MovedAgain}
 use Rattle.pim_replay.specs.FreshHearing.{delivered_at, each_at, fresh_of, Asks}
-use Rattle.pim_replay.proofs.FreshHearings.{newest_at, newest_of, end_early, all_early, came, ends_by, alive, lasts, shorter}
+use Rattle.pim_replay.proofs.FreshHearings.{newest_at, newest_of, end_early, all_early, all_short, came, ends_by, alive, lasts, shorter}
 
 -- ---- each message once, at a moment
 
@@ -69,6 +71,14 @@ pub wants_memory : EveryListHasACourse → (family : AddressFamily) (inputs : Li
 wants_memory has family inputs router =
     let some = has family inputs router in
     record { told = some.told; after = some.after; course = some.course; passed = tt }
+
+-- the change's messages are short enough to be heard
+pub change_short : ChangeMessagesAreShort → AskedStarsHaveRps → (family : AddressFamily) (table : RouteTable) (writing : Writing) (before change wanted : List (List ℕ)) → IsRouteTable family table → IsWriting family writing
+    → AreTold family table writing before change wanted → AllByRecursion (λ (message : List ℕ). length message < 2 ^ 32) change
+change_short short stars family table writing before change wanted sound is_writing told =
+    all_short writing.budget is_writing.most change
+    (short family writing (known_in family table) told.was.asked.form told.is.asked.form change is_writing told.was.asked.is.normal told.is.asked.is.normal
+    (stars family table writing.upstream told.was.state told.was.asked.form sound told.was.asked.is) (stars family table writing.upstream told.is.state told.is.asked.form sound told.is.asked.is) told.told)
 
 -- from the writer
 pub from_own : (family : AddressFamily) (messages : List (List ℕ)) (sender own : List ℕ) (moment : ℕ) (router after : RouterState) (result : Result (Unit {0}) MirrorFault) → sender ≡ own

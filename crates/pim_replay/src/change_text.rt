@@ -94,8 +94,7 @@ fn move_on<F: Family, W: Drain>(
 /// What ends the replay of `a`, and else that of `b`. Then `TooBig` of `a`, and else of `b`. After these nothing was
 /// written. `Full` where the fresh router has no room for the messages of `a`, or for one of the change, with what the
 /// first such message needed: the lines of the change's messages and their number were. `Output`: a front of the text
-/// was. `Memory`: nothing was, or all but `agrees`; it would come too for a message of 2^32 bytes, of which there are
-/// none.
+/// was. `Memory`: nothing was, or all but `agrees`.
 pub fn change_into<F: Family, R: Feed + Drop, W: Drain>(
     alloc: Global,
     merge_a: &mut Merge<R>,

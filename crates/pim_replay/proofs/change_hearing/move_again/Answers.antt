@@ -1,7 +1,7 @@
 use Rattle.std.proofs.Common.{◌∙◌, Ok, Err, subst}
 use Rattle.std.proofs.lemmas.Result.{err_from_is_err_and}
 use Rattle.pim_down.specs.Sound.{IsSound}
-use Rattle.pim_replay.proofs.Moves.{from_own, is_early, one_port, fits_then, moved_again, not_moved}
+use Rattle.pim_replay.proofs.Moves.{change_short, from_own, is_early, one_port, fits_then, moved_again, not_moved}
 use Rattle.pim_replay.proofs.change_hearing.move_again.Goals as goal
 
 pub hear_change-requires-clause-port : goal.hear_change-requires-clause-port
@@ -9,6 +9,10 @@ hear_change-requires-clause-port g c =
     let told = c.requires.told.1 in
     c.is_router.ensures.ports ∙ one_port c.change_moves_a_router.ensures c.mirror_is_settled.ensures c.same_messages_same_asked.ensures g.F.Family.family c.args.routes.now c.args.by.now c.args.limit c.args.before.now c.args.change.now c.requires.told.0
     c.is_sound.ensures c.is_writing.ensures told c.in_ok-router.router (c.in_ok-router.ensures.tells told.was)
+
+pub hear_change-requires-clause-short : goal.hear_change-requires-clause-short
+hear_change-requires-clause-short g c =
+    change_short c.change_messages_are_short.ensures c.asked_stars_have_rps.ensures g.F.Family.family c.args.routes.now c.args.by.now c.args.before.now c.args.change.now c.requires.told.0 c.is_sound.ensures c.is_writing.ensures c.requires.told.1
 
 pub hear_change-requires-clause-early : goal.hear_change-requires-clause-early
 hear_change-requires-clause-early g c =
