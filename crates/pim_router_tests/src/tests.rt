@@ -14,6 +14,7 @@ mod time;
 mod upstreams;
 mod world;
 
+use crowds::crowd_comes;
 use pim_addr::{Routes, V4};
 use pim_down::{State, What};
 use pim_frame::{MessageType, all_routers, seal};
@@ -83,14 +84,20 @@ enum Row<'a> {
     Hears(Message<'a>, Verdict),
     /// These bytes come to this port.
     Bytes(usize, [u8; 4], &'a [u8], Verdict),
+    /// The first port hears Hellos of 10.1.0.0 to 10.1.3.255, each of which is told as new.
+    Crowd,
     /// A run to a moment tells this.
     Run(u64, Step<[u8; 4]>),
+    /// Runs to a moment tell a Refresh so many times, and then something else.
+    Refreshes(u64, u64),
     /// The present moment.
     Now(u64),
     /// The state of one of the group's machines on the first port.
     State(What<[u8; 4]>, Option<State>),
     /// The time that is left to one of the group's machines on the first port, in milliseconds.
     Left(What<[u8; 4]>, u64),
+    /// How many neighbours a port has.
+    Neighbours(usize, usize),
 }
 
 /// A message to the first port's address with the holdtime 210.
@@ -193,28 +200,84 @@ fn neighbour_count(router: &Router<'_, V4>, port: usize) -> usize {
     router.neighbours(port).count()
 }
 
+/// How many times runs to a moment tell a Refresh before something else; `None` where the moment is too far, or it is
+/// told 100,000 times.
+fn refreshes(router: &mut Router<'_, V4>, moment: u64) -> Option<u64> {
+    if moment > 1_000_000_000_000_000 {
+        return None;
+    }
+    for refreshes in 0..100_000u64 {
+        if router.run_to(moment) != Step::Refresh {
+            return Some(refreshes);
+        }
+    }
+    None
+}
+
+/// Lets the first port hear a Join/Prune.
+fn receive_message(
+    alloc: Global,
+    router: &mut Router<'_, V4>,
+    message: &Message<'_>,
+) -> Result<Option<Verdict>, AllocError> {
+    let bytes = body(alloc, message)?;
+    receive_body(alloc, router, message.from, MessageType::JoinPrune, &bytes)
+}
+
 /// Plays a row: whether it goes as it says.
-fn goes(alloc: Global, router: &mut Router<'_, V4>, row: Row<'_>) -> Result<bool, AllocError> {
-    match row {
+fn goes(alloc: Global, router: &mut Router<'_, V4>, row: &Row<'_>) -> Result<bool, AllocError> {
+    match *row {
         Row::Hello(from, body, wanted) => {
             let told = receive_body(alloc, router, from, MessageType::Hello, body)?;
             Ok(told == Some(wanted))
         }
         Row::Hears(message, wanted) => {
-            let bytes = body(alloc, &message)?;
-            let told = receive_body(alloc, router, message.from, MessageType::JoinPrune, &bytes)?;
-            Ok(told == Some(wanted))
+            Ok(receive_message(alloc, router, &message)? == Some(wanted))
         }
         Row::Bytes(port, from, bytes, wanted) => {
             Ok(receive(router, port, from, bytes)? == Some(wanted))
         }
+        Row::Crowd => crowd_comes(alloc, router),
         Row::Run(moment, wanted) => {
             Ok(moment <= 1_000_000_000_000_000 && router.run_to(moment) == wanted)
         }
+        Row::Refreshes(moment, count) => Ok(refreshes(router, moment) == Some(count)),
         Row::Now(moment) => Ok(router.now() == moment),
         Row::State(what, state) => Ok(router.ports().state_of(0, GROUP, what) == state),
         Row::Left(what, left) => Ok(has_left(router, what, left)),
+        Row::Neighbours(port, count) => Ok(neighbour_count(router, port) == count),
     }
+}
+
+/// Plays rows up to the first that doesn't go as it says, and tells its index.
+fn first_wrong(
+    alloc: Global,
+    router: &mut Router<'_, V4>,
+    rows: &[Row<'_>],
+) -> Result<Option<usize>, AllocError> {
+    for (index, row) in rows.iter().enumerate() {
+        if !goes(alloc, router, row)? {
+            return Ok(Some(index));
+        }
+    }
+    Ok(None)
+}
+
+/// Plays rows on a new router with this table and this limit of records.
+fn play_under(
+    alloc: Global,
+    routes: &Routes<V4>,
+    limit: usize,
+    rows: &[Row<'_>],
+) -> Result<Option<usize>, Fail> {
+    let config = Config {
+        ports: &PORTS,
+        routes,
+        limit,
+    };
+    let mut router = Router::new(alloc, &config)?;
+    let wrong = first_wrong(alloc, &mut router, rows)?;
+    Ok(wrong)
 }
 
 /// Plays rows on a new router with this limit of records, up to the first that doesn't go as it says, and tells its
@@ -222,16 +285,5 @@ fn goes(alloc: Global, router: &mut Router<'_, V4>, row: Row<'_>) -> Result<bool
 fn play(alloc: Global, limit: usize, rows: &[Row<'_>]) -> Result<Option<usize>, Fail> {
     let mut routes = Routes::new(alloc);
     routes.add_rp([224, 0, 0, 0], 4, RP)?;
-    let config = Config {
-        ports: &PORTS,
-        routes: &routes,
-        limit,
-    };
-    let mut router = Router::new(alloc, &config)?;
-    for (index, row) in rows.iter().enumerate() {
-        if !goes(alloc, &mut router, *row)? {
-            return Ok(Some(index));
-        }
-    }
-    Ok(None)
+    play_under(alloc, &routes, limit, rows)
 }

@@ -1,11 +1,11 @@
 //! Many neighbours and many records: up to the limits, and past them.
 
-use super::{ANNE, FOR_EVER, Lists, PORTS, Row, from, goes, neighbour_count, play, receive_body};
+use super::{ANNE, FOR_EVER, Lists, Row, from, play, play_under, receive_body};
 use pim_addr::{Routes, V4};
 use pim_frame::MessageType;
 use pim_hello::Heard;
 use pim_jp::Entry;
-use pim_router::{Config, Router, Store, Verdict};
+use pim_router::{Router, Store, Verdict};
 use std::alloc::{AllocError, Global};
 use std::test::Fail;
 
@@ -23,7 +23,7 @@ const FIRST_OF_ALL: [u8; 4] = [10, 1, 0, 0];
 const ONE_MORE: [u8; 4] = [10, 1, 4, 0];
 
 /// Lets the first port hear a Hello of 10.1.0.0 to 10.1.3.255: whether each is told as new.
-fn crowd_comes(alloc: Global, router: &mut Router<'_, V4>) -> Result<bool, AllocError> {
+pub(super) fn crowd_comes(alloc: Global, router: &mut Router<'_, V4>) -> Result<bool, AllocError> {
     for number in 0..1024u16 {
         let [third, fourth] = number.to_be_bytes();
         let sender = [10, 1, third, fourth];
@@ -35,29 +35,22 @@ fn crowd_comes(alloc: Global, router: &mut Router<'_, V4>) -> Result<bool, Alloc
     Ok(true)
 }
 
+const NEIGHBOURS: [Row<'static>; 9] = [
+    Row::Crowd,
+    Row::Neighbours(0, 1024),
+    Row::Hello(ONE_MORE, &FOR_EVER, Verdict::Full(Store::Neighbours)),
+    Row::Hello(ONE_MORE, &GOODBYE, GONE),
+    Row::Hello(FIRST_OF_ALL, &FOR_EVER, SAME),
+    Row::Hello(FIRST_OF_ALL, &GOODBYE, GONE),
+    Row::Hello(ONE_MORE, &FOR_EVER, NEW),
+    Row::Neighbours(0, 1024),
+    Row::Neighbours(1, 0),
+];
+
 #[test]
 fn full_of_neighbours(rt: HostRuntime) -> Result<(), Fail> {
     let routes = Routes::new(rt.alloc());
-    let config = Config {
-        ports: &PORTS,
-        routes: &routes,
-        limit: 1,
-    };
-    let mut router = Router::new(rt.alloc(), &config)?;
-    assert!(rt; crowd_comes(rt.alloc(), &mut router)?);
-    assert_eq!(rt; neighbour_count(&router, 0), 1024);
-    let rows = [
-        Row::Hello(ONE_MORE, &FOR_EVER, Verdict::Full(Store::Neighbours)),
-        Row::Hello(ONE_MORE, &GOODBYE, GONE),
-        Row::Hello(FIRST_OF_ALL, &FOR_EVER, SAME),
-        Row::Hello(FIRST_OF_ALL, &GOODBYE, GONE),
-        Row::Hello(ONE_MORE, &FOR_EVER, NEW),
-    ];
-    for row in rows {
-        assert!(rt; goes(rt.alloc(), &mut router, row)?);
-    }
-    assert_eq!(rt; neighbour_count(&router, 0), 1024);
-    assert_eq!(rt; neighbour_count(&router, 1), 0);
+    assert_eq!(rt; play_under(rt.alloc(), &routes, 1, &NEIGHBOURS)?, None);
     Ok(())
 }
 
