@@ -1,5 +1,5 @@
 -- The first timer that is due, in a list of records whose times count from the moment 0.
-use Rattle.std.proofs.Common.{◌≡◌, ℕ, zero, suc, ◌+◌, ◌<◌, Bool, true, false, cond, List, [], ◌∷◌, ◌++◌, Option, Some, None, map, length, take, drop, get_or, ltb, refl, sym, ap, subst, ◌∙◌, arith}
+use Rattle.std.proofs.Common.{◌≡◌, ℕ, zero, suc, ◌+◌, ◌*◌, ◌<◌, ◌≤◌, Bool, true, false, cond, List, [], ◌∷◌, ◌++◌, Option, Some, None, map, length, take, drop, get_or, ltb, refl, sym, ap, subst, ◌∙◌, arith}
 use Rattle.std.specs.List.{position, position_or_len, remove}
 use Rattle.std.proofs.lemmas.List.{map-append, take-map, drop-map}
 use Rattle.std.proofs.lemmas.Bool.{ltb-false, false≢true}
@@ -126,13 +126,6 @@ module _ {A : Type 0} (bytes_of : A → List ℕ) (now : ℕ) where
       ap (map (record_after now)) (map_remove (record_seen bytes_of) records place) ∙ shown_parts (records_seen bytes_of records) place [] in
       rw (quiet, first) (λ i. Some (Reached, (rest ∙ sym after) i))
 
-  pub fired_none : (records : List (Held A)) →
-      position (λ (held : Held A). ppt_due (record_after now (record_seen bytes_of held))) records ≡ None →
-      position (λ (held : Held A). et_due (record_after now (record_seen bytes_of held))) records ≡ None →
-      fired (shown bytes_of now records) ≡ None
-  unfolding fired
-  fired_none records no_ppt no_et = let quiet = none_due ppt_due records no_ppt in let still = none_due et_due records no_et in rw (quiet, still) refl
-
 -- ---- each timer that fires makes the records lighter
 
 weight_append : (xs ys : List (Record (List ℕ))) → weight (xs ++ ys) ≡ weight xs + weight ys
@@ -193,3 +186,13 @@ pub weight_later : (k : ℕ) (records : List (Record (List ℕ))) → weight (ma
 unfolding weight
 weight_later k [] = refl
 weight_later k (held ∷ records) = omega (arith, weight_later k records, pending_weight_later k held.machine.pending)
+
+-- a record has two timers at most
+pub weight_length : (records : List (Record (List ℕ))) → weight records ≤ 2 * length records
+unfolding weight
+weight_length [] = omega arith
+weight_length (held ∷ records) = omega (arith, weight_length records, one held.machine.pending)
+  where
+    one : (p : Option Pending) → pending_weight p ≤ 1
+    one None = omega arith
+    one (Some timer) = omega arith

@@ -1,8 +1,9 @@
 pub mod Order
+pub mod InOrder
+pub mod Deadlines
 pub mod Searched
 pub mod Map
 pub mod Time
-pub mod Ends
 pub mod Counts
 pub mod Bounds
 pub mod Sought
@@ -13,7 +14,10 @@ pub mod Lists
 pub mod Places
 pub mod Halves
 pub mod Firing
+pub mod FirstTimer
+pub mod Late
 pub mod Jumps
+pub mod Firings
 pub mod Moments
 pub mod Kept
 pub mod Walks

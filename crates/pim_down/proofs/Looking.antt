@@ -1,5 +1,5 @@
 -- Going from place to place of a list, up to the first record that passes a test.
-use Rattle.std.proofs.Common.{◌≡◌, ◌↔◌, IsTrue, ℕ, zero, suc, ◌+◌, ◌<◌, ◌≤◌, Bool, true, false, cond, List, [], ◌∷◌, Option, Some, None, length, drop, get_or, set, ltb, refl, sym, ap, ◌∙◌, arith}
+use Rattle.std.proofs.Common.{◌≡◌, ◌↔◌, IsTrue, ℕ, ◌+◌, ◌<◌, ◌≤◌, Bool, true, false, cond, List, [], ◌∷◌, Option, Some, None, length, drop, get_or, ltb, refl, sym, ap, ◌∙◌, arith}
 use Rattle.std.specs.List.{position, slice_get}
 use Rattle.std.proofs.lemmas.Bool.{false≢true, ltb-true, ltb-false, lt-ltb}
 use Rattle.std.proofs.lemmas.List.{get_or-drop, length-drop}
@@ -14,13 +14,6 @@ module _ {X : Type 0} where
   -- a record stands there, unless the list ends
   abbrev pub IsNext : Listed X → Place → Type 0
   IsNext list place = at list place < length list.items → IsItem list place
-
-  -- what stands before an item that is set stays
-  pub set_before : (xs : List X) (i k : ℕ) (x d : X) → k < i → get_or (set xs i x) k d ≡ get_or xs k d
-  set_before [] i k x d lt = refl
-  set_before (y ∷ xs) zero k x d lt = absurd (omega arith)
-  set_before (y ∷ xs) (suc i) zero x d lt = refl
-  set_before (y ∷ xs) (suc i) (suc k) x d lt = set_before xs i k x d (omega arith)
 
   pub past_end : (list : Listed X) (place : Place) (r : Bool) → (IsTrue r ↔ IsItem list place) → r ≡ false → IsNext list place → length list.items ≤ at list place
   past_end list place r tells e next = by (ltb (at list place) (length list.items)) refl

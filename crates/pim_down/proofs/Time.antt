@@ -10,7 +10,7 @@ use Rattle.pim_down.specs.declared.machine.Machine.{Machine}
 use Rattle.pim_down.specs.declared.machine.Record.{Record}
 use Rattle.pim_down.specs.declared.step.Step.{Step}
 use Rattle.pim_down.specs.declared.step.Step.TheVariants.{Echo, Reached}
-use Rattle.pim_down.specs.Time.{Downstream, expiry_after, pending_after, machine_after, record_after, tick, expiry_due, pending_due, et_due, ppt_due, after_ppt, echo_of, first_due, with_first, fire_et, fired, Outcome, rests, moves, echoes, with_records, told, turn, run_on, run_within, Runs, ticks, IsQuietFor}
+use Rattle.pim_down.specs.Time.{Downstream, expiry_after, pending_after, machine_after, record_after, tick, expiry_due, pending_due, et_due, ppt_due, after_ppt, echo_of, first_due, with_first, fire_et, fired, Outcome, rests, moves, echoes, with_records, told, turn, run_on, run_within, Runs, ticks}
 use Rattle.pim_down.specs.Ends.{sooner, pending_end, first_end, ends_by}
 
 -- ---- milliseconds add up
@@ -167,16 +167,6 @@ turn_passes moment state quiet before = rw (none_from_quiet (fired state.records
 pub turn_rests : (moment : ℕ) (state : Downstream) → is_some (fired state.records) ≡ false → moment ≤ state.moment → turn moment state ≡ rests
 unfolding turn
 turn_rests moment state quiet reached = rw (none_from_quiet (fired state.records) quiet, le-ltb state.moment moment reached) refl
-
--- whatever runs from the end of a quiet time runs from its start
-pub run_quiet : (k moment : ℕ) (state after : Downstream) (answer : Step (List ℕ)) → IsQuietFor k state → state.moment + k ≤ moment → Runs moment (ticks k state) answer after → Runs moment state answer after
-unfolding ticks
-run_quiet zero moment state after answer quiet within runs = runs
-run_quiet (suc k) moment state after answer quiet within runs =
-    let here : is_some (fired state.records) ≡ false = quiet 0 (omega arith) in
-    let moved = turn_passes moment state here (omega arith) in
-    let later : IsQuietFor k (tick state) = λ j h. quiet (suc j) (omega arith) in
-    run_more moment state (tick state) after answer moved (run_quiet k moment (tick state) after answer later (omega arith) runs)
 
 -- ---- a run, and then a run
 

@@ -1,10 +1,10 @@
 -- When the first timer of some records ends. The machine of milliseconds knows nothing of it: it is the code's way to
 -- jump.
-use Rattle.std.specs.Prelude.{◌≡◌, ◌≤◌, ℕ, ◌+◌, Bool, false, List, [], ◌∷◌, Option, None, Some, min, nat_le}
+use Rattle.std.specs.Prelude.{◌≤◌, ℕ, ◌+◌, Bool, false, List, [], ◌∷◌, Option, None, Some, min, nat_le}
 use Rattle.pim_down.specs.declared.machine.Pending.{Pending}
+use Rattle.pim_down.specs.declared.machine.Machine.{Machine}
 use Rattle.pim_down.specs.declared.machine.Record.{Record}
-use Rattle.pim_down.specs.declared.timers.NextEnd.{NextEnd}
-use Rattle.pim_down.specs.declared.timers.NextEnd.TheVariants.{Ends, Quiet}
+use Rattle.pim_down.specs.Tables.{Start}
 
 -- the lesser of two times, of which `None` is never
 abbrev pub sooner : Option ℕ → Option ℕ → Option ℕ
@@ -39,7 +39,14 @@ abbrev pub IsQuietUntil : ℕ → Option ℕ → Type 0
 IsQuietUntil moment None = Unit {0}
 IsQuietUntil moment (Some ends) = moment ≤ ends
 
--- the end, where it is no later than this moment, else a moment behind it before which nothing ends
-abbrev pub IsEndBy : ℕ → Option ℕ → NextEnd → Type 0
-IsEndBy last end (Quiet moment) = (ends_by last end ≡ false) × IsQuietUntil moment end
-IsEndBy last end (Ends ends) = (end ≡ Some ends) × (ends ≤ last)
+-- no timer of the machine ends before this moment, and none of these records'
+abbrev pub IsLate : ℕ → Machine → Type 0
+IsLate moment held = IsQuietUntil moment held.expires_in × IsQuietUntil moment (pending_end held.pending)
+
+unfoldable pub AreLate : ℕ → List (Record (List ℕ)) → Type 0
+AreLate moment [] = Unit {0}
+AreLate moment (held ∷ records) = IsLate moment held.machine × AreLate moment records
+
+-- nor one that a message starts
+abbrev pub IsLateStart : ℕ → Start → Type 0
+IsLateStart moment start = IsQuietUntil moment start.expires_in × (moment ≤ start.pending.ends_in)

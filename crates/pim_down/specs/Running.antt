@@ -4,10 +4,8 @@ use Rattle.std.specs.Cmp.Lexicographic.{pointwise}
 use Rattle.pim_jp.specs.Message.{GroupSet}
 use Rattle.pim_down.specs.declared.held.Held.{Held}
 use Rattle.pim_down.specs.declared.machine.Record.{Record}
-use Rattle.pim_down.specs.declared.step.Step.{Step}
-use Rattle.pim_down.specs.declared.step.Step.TheVariants.{Echo, Reached}
 use Rattle.pim_down.specs.Tables.{Start}
-use Rattle.pim_down.specs.Time.{Downstream, Runs, expiry_after}
+use Rattle.pim_down.specs.Time.{Downstream, expiry_after}
 use Rattle.pim_down.specs.Hearing.{is_rpt_on, is_rpt_of}
 use Rattle.pim_down.specs.Sound.{is_temporary}
 use Rattle.pim_down.specs.Seen.{shown}
@@ -15,18 +13,6 @@ use Rattle.pim_down.specs.Seen.{shown}
 abbrev pub downstream_at : {A : Type 0} → (A → List ℕ) → ℕ → ℕ → ℕ → List (Held A) → Downstream
 downstream_at bytes_of ports limit moment records =
     record { ports = ports; limit = limit; moment = moment; records = shown bytes_of moment records }
-
--- What timers tell that fire at one moment and lead from some records to others: nothing, and whatever runs from there
--- runs from here; or an echo, with which the run from here ends.
-abbrev pub GoesOn : {A : Type 0} → (A → List ℕ) → ℕ → List (Held A) → Step (List ℕ) → List (Held A) → Type 0
-GoesOn bytes_of now records Reached left =
-    (ports limit moment : ℕ) (answer : Step (List ℕ)) (after : Downstream) →
-    Runs moment (downstream_at bytes_of ports limit now left) answer after →
-    Runs moment (downstream_at bytes_of ports limit now records) answer after
-GoesOn bytes_of now records (Echo port group what) left =
-    (ports limit moment : ℕ) →
-    Runs moment (downstream_at bytes_of ports limit now records) (Echo port group what)
-    (downstream_at bytes_of ports limit now left)
 
 -- the timers that a message starts, counted from a later moment
 abbrev pub start_after : ℕ → Start → Start

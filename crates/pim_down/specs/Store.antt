@@ -1,7 +1,6 @@
 -- The records of all ports as they are kept: in a list with places, and with a count of each port's.
-use Rattle.std.specs.Prelude.{◌≡◌, ℕ, ◌<◌, ◌≤◌, Bool, true, false, List, length, slice_index_or, Option, Some, None}
+use Rattle.std.specs.Prelude.{◌≡◌, ℕ, ◌<◌, ◌≤◌, Bool, true, false, List, length, slice_index_or}
 use Rattle.std.specs.Prelude.{Result, Ok, Err}
-use Rattle.std.specs.List.{position}
 use Rattle.std.specs.declared.cmp.Ordering.{Ordering}
 use Rattle.std.specs.declared.cmp.Ordering.TheVariants.{Less, Greater}
 use Rattle.sorted_blocks.specs.declared.place.Place.{Place}
@@ -29,11 +28,6 @@ IsPlaceOf bytes_of key list (Ok place) =
     IsItem list place × StandsAt key (records_seen bytes_of list.items) (at list place)
 IsPlaceOf bytes_of key list (Err place) =
     IsListPlace list place × WouldStandAt key (records_seen bytes_of list.items) (at list place)
-
--- the first record that passes the test, if one does
-abbrev pub IsFirst : {A : Type 0} → (Held A → Bool) → Listed (Held A) → Option Place → Type 0
-IsFirst test list None = position test list.items ≡ None
-IsFirst test list (Some place) = IsItem list place × (position test list.items ≡ Some (at list place))
 
 -- nothing before this index passes
 module _ {X : Type 0} where

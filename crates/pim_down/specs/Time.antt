@@ -159,6 +159,25 @@ pub record Runs (moment : ℕ) (state : Downstream) (answer : Step (List ℕ)) (
   pub turns : ℕ
   pub within : run_within turns moment state ≡ Some (answer, after)
 
+-- how many timers fire within so many turns
+abbrev pub fires_on : Outcome → (Downstream → ℕ) → ℕ
+fires_on rests more = 0
+fires_on (moves after) more = more after
+fires_on (echoes echo after) more = 0
+
+unfoldable pub fires_within : ℕ → ℕ → Downstream → ℕ
+fires_within zero moment state = 0
+fires_within (suc turns) moment state =
+    (if is_some (fired state.records) then 1 else 0) + fires_on (turn moment state) (fires_within turns moment)
+
+-- The run up to the moment tells this and leaves that, with one look for each timer that fires in it and at most one
+-- more.
+pub record RunsLooking (moment : ℕ) (state : Downstream) (answer : Step (List ℕ)) (after : Downstream) (looks : ℕ) : Type 0 where
+  pub turns : ℕ
+  pub within : run_within turns moment state ≡ Some (answer, after)
+  pub each : fires_within turns moment state ≤ looks
+  pub few : looks ≤ fires_within turns moment state + 1
+
 -- Some run up to the moment starts here.
 pub record HasRun (moment : ℕ) (state : Downstream) : Type 0 where
   pub answer : Step (List ℕ)

@@ -7,8 +7,9 @@ ghost use Rattle.pim_down.specs.Records.{IsAscending};
 ghost use Rattle.pim_down.specs.Seen.{what_seen, key_seen, record_seen, records_seen};
 
 use crate::held::Held;
-use crate::key::{Key, compare_keys};
-use crate::store::{Bound, Store};
+use crate::key::{Key, OfFamily, compare_keys};
+use crate::rows::Bound;
+use crate::store::Store;
 use pim_addr::Family;
 
 /// The bound before all groups of a port above one, or before all of its groups.
@@ -35,7 +36,7 @@ impl<F: Family> Bound<F::Addr> for GroupsAbove<F> {
 
 /// The first record of a group of the port above the bound, or of any of its groups.
 pub(crate) fn first_of_groups_after<F: Family>(
-    records: &Store<F::Addr>,
+    records: &Store<F::Addr, OfFamily<F>>,
     port: usize,
     bound: Option<F::Addr>,
 ) -> Option<Held<F::Addr>>
@@ -81,7 +82,7 @@ fn is_of_group<F: Family>(key: &Key<F::Addr>, bound: &Key<F::Addr>) -> bool
 
 /// The first record of the key's port and group whose machine comes after the key's.
 pub(crate) fn first_machine_after<F: Family>(
-    records: &Store<F::Addr>,
+    records: &Store<F::Addr, OfFamily<F>>,
     key: &Key<F::Addr>,
 ) -> Option<Held<F::Addr>>
     requires { IsAscending (records_seen F.bytes_of records.now.items) }

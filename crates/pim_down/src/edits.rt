@@ -8,7 +8,7 @@ ghost use Rattle.pim_down.specs.Seen.{key_seen, machine_seen, records_seen};
 ghost use Rattle.pim_down.specs.Store.{IsPlaceOf};
 
 use crate::held::{Held, Timed};
-use crate::key::{Key, compare_keys};
+use crate::key::{Key, KeyOrder, OfFamily, compare_keys};
 use crate::store::Store;
 use pim_addr::Family;
 use sorted_blocks::{Place, Probe};
@@ -36,7 +36,7 @@ impl<F: Family> Probe<Held<F::Addr>> for Sought<F> {
 /// Where the key's record stands, or else where it would stand. It is looked for near a place where it may be;
 /// whatever place that is, the answer is right.
 pub(crate) fn find_place<F: Family>(
-    records: &Store<F::Addr>,
+    records: &Store<F::Addr, OfFamily<F>>,
     near: Place,
     key: &Key<F::Addr>,
 ) -> Result<Place, Place>
@@ -53,10 +53,9 @@ pub(crate) fn place_of(found: Result<Place, Place>) -> Place {
     }
 }
 
-/// Replaces the machine of the record at this place, or lets go of it. The answer is the place of what stands there
-/// then.
-pub(crate) fn replace_at<A: Copy>(
-    records: &mut Store<A>,
+/// Replaces the machine of the record at this place, or lets go of it. The answer is a place near by.
+pub(crate) fn replace_at<A: Copy, O: KeyOrder<A>>(
+    records: &mut Store<A, O>,
     place: Place,
     machine: Option<Timed>,
 ) -> Place
@@ -67,10 +66,6 @@ pub(crate) fn replace_at<A: Copy>(
         (machine_seen machine)
         ++ drop (at records.old place + 1) (records_seen bytes_of records.old.items)) }
     ensures capacity { records.new.capacity ≡ records.old.capacity }
-    ensures before { (k : ℕ) (d : Held A) → k < at records.old place →
-        slice_index_or records.new.items k d ≡ slice_index_or records.old.items k d }
-    ensures at { at records.new result ≡ at records.old place }
-    ensures item { at records.new result < length records.new.items → IsItem records.new result }
 {
     match machine {
         Some(machine) => {
@@ -83,7 +78,7 @@ pub(crate) fn replace_at<A: Copy>(
 
 /// The machine of the record that was found; `None` where none was.
 pub(crate) fn machine_of<F: Family>(
-    records: &Store<F::Addr>,
+    records: &Store<F::Addr, OfFamily<F>>,
     key: &Key<F::Addr>,
     found: Result<Place, Place>,
 ) -> Option<Timed>
@@ -99,7 +94,10 @@ pub(crate) fn machine_of<F: Family>(
 }
 
 /// The key's machine; `None` where it is in NoInfo.
-pub(crate) fn machine_at<F: Family>(records: &Store<F::Addr>, key: &Key<F::Addr>) -> Option<Timed>
+pub(crate) fn machine_at<F: Family>(
+    records: &Store<F::Addr, OfFamily<F>>,
+    key: &Key<F::Addr>,
+) -> Option<Timed>
     requires { IsAscending (records_seen F.bytes_of records.now.items) }
     ensures { machine_seen result
         ≡ machine_at (key_seen F.bytes_of key.now) (records_seen F.bytes_of records.now.items) }
@@ -111,7 +109,7 @@ pub(crate) fn machine_at<F: Family>(records: &Store<F::Addr>, key: &Key<F::Addr>
 /// Gives the machine of the key that was looked for this state, or lets go of it. There is room for the records that
 /// are held then. The answer is a place near by.
 pub(crate) fn put_machine<F: Family>(
-    records: &mut Store<F::Addr>,
+    records: &mut Store<F::Addr, OfFamily<F>>,
     key: Key<F::Addr>,
     found: Result<Place, Place>,
     machine: Option<Timed>,

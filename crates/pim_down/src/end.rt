@@ -11,6 +11,7 @@ ghost use Rattle.pim_down.specs.Seen.{records_seen};
 ghost use Rattle.pim_down.specs.Sound.{is_temporary};
 
 use crate::hear::{RptsOf, is_rpt_of};
+use crate::key::{KeyOrder, OfFamily};
 use crate::machine::State;
 use crate::store::Store;
 use pim_addr::Family;
@@ -25,7 +26,7 @@ fn is_temporary(state: State) -> bool
 }
 
 /// Lets go of the record at this place, where its state ends with the message. The answer is the place of the next one.
-fn end_at<A: Copy>(records: &mut Store<A>, place: Place) -> Place
+fn end_at<A: Copy, O: KeyOrder<A>>(records: &mut Store<A, O>, place: Place) -> Place
     requires { IsItem records.old place }
     ensures items { (d : Held A) → records.new.items
         ≡ (if is_temporary (slice_index_or records.old.items (at records.old place) d).machine.state
@@ -44,7 +45,11 @@ fn end_at<A: Copy>(records: &mut Store<A>, place: Place) -> Place
 }
 
 /// End of Message comes to the (S,G,rpt) machines of a group. It goes through these alone.
-pub(crate) fn end_group<F: Family>(records: &mut Store<F::Addr>, port: usize, group: F::Addr)
+pub(crate) fn end_group<F: Family>(
+    records: &mut Store<F::Addr, OfFamily<F>>,
+    port: usize,
+    group: F::Addr,
+)
     requires { IsAscending (records_seen F.bytes_of records.old.items) }
     ensures { records_seen F.bytes_of records.new.items
         ≡ filter (λ held. not (is_over_in port (F.bytes_of group) held)) (records_seen F.bytes_of records.old.items) }
@@ -61,7 +66,11 @@ pub(crate) fn end_group<F: Family>(records: &mut Store<F::Addr>, port: usize, gr
 
 /// End of Message comes to the (S,G,rpt) machines of a port. Those in a state that ends with it are of the message's
 /// groups, and it goes through these alone.
-pub(crate) fn end_message<F: Family>(records: &mut Store<F::Addr>, port: usize, sets: Sets<'_, F>)
+pub(crate) fn end_message<F: Family>(
+    records: &mut Store<F::Addr, OfFamily<F>>,
+    port: usize,
+    sets: Sets<'_, F>,
+)
     requires ascending { IsAscending (records_seen F.bytes_of records.old.items) }
     requires groups { AreOverIn port sets (records_seen F.bytes_of records.old.items) }
     ensures { records_seen F.bytes_of records.new.items

@@ -6,6 +6,7 @@ ghost use Rattle.pim_down.specs.Records.{IsAscending, each_changed};
 ghost use Rattle.pim_down.specs.Hearing.{is_known, entry_events, start_of, on_own, is_rpt_of, on_rpts, is_star_join};
 ghost use Rattle.pim_down.specs.Hearing.{act, is_rpt};
 ghost use Rattle.pim_down.specs.After.{beside_rpts};
+ghost use Rattle.pim_down.specs.Ends.{IsLateStart};
 ghost use Rattle.pim_down.specs.Known.{known_in};
 ghost use Rattle.pim_down.specs.Running.{start_after};
 ghost use Rattle.pim_down.specs.Seen.{start_seen, machine_seen, what_seen, key_seen};
@@ -14,9 +15,10 @@ ghost use Rattle.pim_down.specs.Seen.{records_seen, event_seen, events_seen};
 use crate::edits::{find_place, machine_of, put_machine};
 use crate::event::{Event, Timing};
 use crate::held::{Start, Timed, Waiting};
-use crate::key::{Key, What};
+use crate::key::{Key, OfFamily, What};
 use crate::machine::{on_join, on_prune, on_rpt_prune, on_star_join};
-use crate::store::{Bound, Store};
+use crate::rows::Bound;
+use crate::store::Store;
 use pim_addr::{Family, Routes};
 use pim_jp::Entry;
 use sorted_blocks::Place;
@@ -29,7 +31,8 @@ const FOR_EVER: u16 = 0xffff;
 pub(crate) fn start_at(holdtime: u16, timing: Timing, now: u64) -> Start
     requires moment { now ≤ 1000000000000000 }
     requires interval { timing.override_ms ≤ 98302 }
-    ensures { start_after now (start_seen result) ≡ start_of holdtime timing }
+    ensures starts { start_after now (start_seen result) ≡ start_of holdtime timing }
+    ensures late { IsLateStart now (start_seen result) }
 {
     let expires_at = if holdtime == FOR_EVER {
         None
@@ -137,7 +140,11 @@ impl<F: Family> Bound<F::Addr> for RptsOf<F> {
 }
 
 /// A Join(*,G) comes to the (S,G,rpt) machines of its group. It goes through these alone.
-pub(crate) fn join_rpts<F: Family>(records: &mut Store<F::Addr>, port: usize, group: F::Addr)
+pub(crate) fn join_rpts<F: Family>(
+    records: &mut Store<F::Addr, OfFamily<F>>,
+    port: usize,
+    group: F::Addr,
+)
     requires { IsAscending (records_seen F.bytes_of records.old.items) }
     ensures records { records_seen F.bytes_of records.new.items
         ≡ each_changed (on_rpts port (F.bytes_of group)) (records_seen F.bytes_of records.old.items) }
@@ -164,7 +171,7 @@ fn is_star_join<A>(event: &Event<A>) -> bool
 
 /// Lets an event act on the machines of a port. It begins to look near this place, and leaves one there.
 pub(crate) fn act<F: Family>(
-    records: &mut Store<F::Addr>,
+    records: &mut Store<F::Addr, OfFamily<F>>,
     near: &mut Place,
     port: usize,
     start: Start,

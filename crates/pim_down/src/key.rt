@@ -6,6 +6,7 @@ ghost use Rattle.pim_down.specs.Seen.{what_seen, key_seen};
 
 use pim_addr::Family;
 use std::cmp::Ordering;
+use std::marker::PhantomData;
 
 /// One of the machines that a port has for a group (RFC 7761, 4.5).
 #[derive(Clone, Copy, Debug, PartialEq, Eq)]
@@ -54,4 +55,29 @@ pub(crate) fn compare_keys<F: Family>(a: &Key<F::Addr>, b: &Key<F::Addr>) -> Ord
         .cmp(&b.port)
         .then(a.group.cmp(&b.group))
         .then(compare_whats::<F>(&a.what, &b.what))
+}
+
+/// How keys are compared, with the bytes of their addresses.
+pub(crate) trait KeyOrder<A> {
+    ghost use Rattle.std.specs.Prelude.{ℕ, List};
+
+    /// The bytes of an address.
+    ghost bytes_of: { A → List ℕ };
+
+    /// By port, then by group, then by machine.
+    fn compare(a: &Key<A>, b: &Key<A>) -> Ordering
+        ensures { result ≡ key_cmp (key_seen bytes_of a.now) (key_seen bytes_of b.now) };
+}
+
+/// The order of the keys of a family.
+pub(crate) struct OfFamily<F: Family> {
+    family: PhantomData<F>,
+}
+
+impl<F: Family> KeyOrder<F::Addr> for OfFamily<F> {
+    ghost bytes_of = { F.bytes_of };
+
+    fn compare(a: &Key<F::Addr>, b: &Key<F::Addr>) -> Ordering {
+        compare_keys::<F>(a, b)
+    }
 }

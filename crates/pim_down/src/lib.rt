@@ -3,12 +3,13 @@
 //!
 //! Proved: contracts see `Ports` as a finite map from keys to machines with countdowns. `hear` acts by the transition
 //! tables on that map, or refuses with nothing changed; `run_to` is the machine that counts milliseconds, stopped at
-//! its first echo; `next_due` is the first moment at which that machine fires a timer. No machine is in a Tmp state
-//! between calls, and no port has more records than its limit.
+//! its first echo, and looks at one timer for each that fires and at one more at most; `next_due` is the first moment at
+//! which that machine fires a timer. No machine is in a Tmp state between calls, and no port has more records than its
+//! limit.
 #![tactic(auto)]
 
 mod after;
-mod due;
+mod deadline;
 mod edits;
 mod end;
 mod event;
@@ -20,7 +21,9 @@ mod laws;
 mod machine;
 mod message;
 mod ports;
+mod rows;
 mod run;
+mod schedule;
 mod step;
 mod store;
 mod timers;

@@ -17,7 +17,7 @@ use crate::event::Event;
 use crate::fault::HearFault;
 use crate::hear::{act, event_of};
 use crate::held::Start;
-use crate::key::{Key, What};
+use crate::key::{Key, OfFamily, What};
 use crate::store::Store;
 use crate::walk::count_on;
 use pim_addr::{Family, Routes};
@@ -36,7 +36,7 @@ fn creates<A>(event: &Event<A>) -> bool
 
 /// Whether the event makes a record that isn't held. It begins to look near this place, and leaves one there.
 fn is_new<F: Family>(
-    records: &Store<F::Addr>,
+    records: &Store<F::Addr, OfFamily<F>>,
     near: &mut Place,
     port: usize,
     event: &Event<F::Addr>,
@@ -57,7 +57,7 @@ fn is_new<F: Family>(
 
 /// How many entries of one list make a record that isn't held.
 fn count_list<F: Family>(
-    records: &Store<F::Addr>,
+    records: &Store<F::Addr, OfFamily<F>>,
     near: &mut Place,
     port: usize,
     routes: &Routes<F>,
@@ -84,7 +84,7 @@ fn count_list<F: Family>(
 
 /// Hears the entries of one list.
 fn hear_list<F: Family>(
-    records: &mut Store<F::Addr>,
+    records: &mut Store<F::Addr, OfFamily<F>>,
     near: &mut Place,
     port: usize,
     start: Start,
@@ -112,7 +112,7 @@ fn hear_list<F: Family>(
 
 /// How many entries of these sets make a record that isn't held.
 pub(crate) fn count_sets<F: Family>(
-    records: &Store<F::Addr>,
+    records: &Store<F::Addr, OfFamily<F>>,
     port: usize,
     routes: &Routes<F>,
     sets: Sets<'_, F>,
@@ -136,7 +136,7 @@ pub(crate) fn count_sets<F: Family>(
 
 /// Hears these sets.
 pub(crate) fn hear_sets<F: Family>(
-    records: &mut Store<F::Addr>,
+    records: &mut Store<F::Addr, OfFamily<F>>,
     port: usize,
     start: Start,
     routes: &Routes<F>,
@@ -176,7 +176,7 @@ pub(crate) fn hear_sets<F: Family>(
 
 /// Hears a message on a port, or refuses with nothing changed. All growths come before the first change.
 pub(crate) fn hear_message<F: Family>(
-    records: &mut Store<F::Addr>,
+    records: &mut Store<F::Addr, OfFamily<F>>,
     limit: usize,
     port: usize,
     start: Start,

@@ -5,7 +5,7 @@ ghost use Rattle.std.specs.List.{filter};
 ghost use Rattle.pim_down.specs.declared.step.Step.TheVariants.{Reached};
 ghost use Rattle.pim_down.specs.Records.{state_of, is_on, count_on};
 ghost use Rattle.pim_down.specs.Heard.{heard, needed_for, new_for, IsWithin, MayWantMemory, OthersStay};
-ghost use Rattle.pim_down.specs.Time.{Downstream, Runs, IsNextDue};
+ghost use Rattle.pim_down.specs.Time.{Downstream, Runs, RunsLooking, IsNextDue};
 ghost use Rattle.pim_down.specs.Known.{known_in};
 ghost use Rattle.pim_down.specs.Seen.{key_at, what_seen, step_seen, told_seen};
 ghost use Rattle.pim_down.specs.After.{group_after, next_in_group};
@@ -16,7 +16,7 @@ use crate::edits::machine_at;
 use crate::event::Timing;
 use crate::fault::HearFault;
 use crate::hear::start_at;
-use crate::key::{Key, What};
+use crate::key::{Key, OfFamily, What};
 use crate::machine::{Record, State};
 use crate::message::hear_message;
 use crate::run::{Stop, run};
@@ -35,10 +35,8 @@ pub struct Ports<F: Family> {
     ports: usize,
     limit: usize,
     moment: u64,
-    /// No timer ends before this moment.
-    quiet_until: u64,
-    /// In key order.
-    records: Store<F::Addr>,
+    /// In key order; no timer of theirs ends before the present moment.
+    records: Store<F::Addr, OfFamily<F>>,
     family: PhantomData<F>,
 }
 
@@ -48,14 +46,14 @@ impl<F: Family> Model for Ports<F> {
     ghost Value = { Downstream };
 
     ghost use Rattle.pim_down.specs.Running.{downstream_at};
-    ghost use Rattle.pim_down.specs.Ends.{first_end, IsQuietUntil};
+    ghost use Rattle.pim_down.specs.Ends.{AreLate};
     ghost use Rattle.pim_down.specs.Seen.{records_seen};
     ghost use Rattle.pim_down.specs.Sound.{IsSound};
 
     ghost view = { λ p. downstream_at F.bytes_of p.ports p.limit p.moment p.records.items };
 
     ghost invariant = { λ p. IsSound F.family (downstream_at F.bytes_of p.ports p.limit p.moment p.records.items)
-        × IsQuietUntil p.quiet_until (first_end (records_seen F.bytes_of p.records.items)) };
+        × AreLate p.moment (records_seen F.bytes_of p.records.items) };
 }
 
 impl<F: Family> Ports<F> {
@@ -71,7 +69,6 @@ impl<F: Family> Ports<F> {
             ports,
             limit,
             moment: 0,
-            quiet_until: 0,
             records: Store::new(alloc),
             family: PhantomData,
         }
@@ -117,14 +114,12 @@ impl<F: Family> Ports<F> {
         let _ports = self.ports;
     }
 
-    /// The first moment, from now on, at which a timer fires; `None` where none ever does.
+    /// The first moment, from now on, at which a timer fires; `None` where none ever does. It looks at the timer that fires
+    /// first.
     pub fn next_due(&self) -> Option<u64>
         ensures { IsNextDue self.now result }
     {
-        match next_end::<F>(&self.records) {
-            None => None,
-            Some(ends) => Some(self.moment.max(ends)),
-        }
+        next_end::<F>(&self.records)
     }
 
     /// The state of one machine; `None` is NoInfo.
@@ -210,16 +205,13 @@ impl<F: Family> Ports<F> {
     {
         message.is_legal();
         let start = start_at(message.holdtime(), timing, self.moment);
-        self.quiet_until = 0;
         hear_message::<F>(&mut self.records, self.limit, port, start, routes, message)
     }
 
     /// Runs to this moment, in milliseconds, at most 10^15, or to the first echo; an earlier moment counts as now. What
     /// is still due after an echo stays due, and the next call goes on.
     ///
-    /// It walks through all records up to five times for each moment at which timers fire, and for each echo, and once
-    /// more; where a call before has reached its moment, nothing was heard since and no timer ends by this moment,
-    /// through none.
+    /// It takes no memory, and looks at the timer that fires first alone: once for each timer that fires, and once more.
     pub fn run_to(&mut self, moment: u64) -> Step<F::Addr>
         requires { moment ≤ 1000000000000000 }
         ensures run { Runs moment self.old (step_seen F.bytes_of result) self.new }
@@ -229,14 +221,24 @@ impl<F: Family> Ports<F> {
         ensures moment { self.new.moment ≤ max self.old.moment moment }
         ensures reached { result ≡ Reached → self.new.moment ≡ max self.old.moment moment }
     {
-        let stop = run::<F>(&mut self.records, self.moment, moment, self.quiet_until);
-        let Stop {
-            step,
-            now,
-            quiet_until,
-        } = stop;
-        self.moment = now;
-        self.quiet_until = quiet_until;
+        let (step, _looks) = self.run_counted(moment);
         step
+    }
+
+    /// Runs like `run_to`. Beside what is told stands how many looks there were: a look compares the end of one timer with
+    /// the moment. There is one for each timer that fires, and at most one more.
+    pub fn run_counted(&mut self, moment: u64) -> (Step<F::Addr>, u64)
+        requires { moment ≤ 1000000000000000 }
+        ensures run { RunsLooking moment self.old (step_seen F.bytes_of result.0) self.new result.1 }
+        ensures ports { self.new.ports ≡ self.old.ports }
+        ensures limit { self.new.limit ≡ self.old.limit }
+        ensures later { self.old.moment ≤ self.new.moment }
+        ensures moment { self.new.moment ≤ max self.old.moment moment }
+        ensures reached { result.0 ≡ Reached → self.new.moment ≡ max self.old.moment moment }
+    {
+        let stop = run::<F>(&mut self.records, self.moment, moment);
+        let Stop { step, now, looks } = stop;
+        self.moment = now;
+        (step, looks)
     }
 }

@@ -2,15 +2,16 @@
 
 ghost use Rattle.std.specs.Prelude.{◌≡◌, ◌≤◌, ℕ, max};
 ghost use Rattle.pim_down.specs.declared.step.Step.TheVariants.{Reached};
-ghost use Rattle.pim_down.specs.Time.{Runs};
-ghost use Rattle.pim_down.specs.Ends.{first_end, IsQuietUntil};
+ghost use Rattle.pim_down.specs.Records.{IsAscending};
+ghost use Rattle.pim_down.specs.Time.{RunsLooking};
+ghost use Rattle.pim_down.specs.Ends.{AreLate};
 ghost use Rattle.pim_down.specs.Seen.{step_seen, records_seen};
 ghost use Rattle.pim_down.specs.Running.{downstream_at};
 
-use crate::due::fire_due;
+use crate::key::OfFamily;
 use crate::step::Step;
 use crate::store::Store;
-use crate::timers::{NextEnd, end_by};
+use crate::timers::{fire_first, first_by};
 use pim_addr::Family;
 
 /// Where a run stops.
@@ -18,56 +19,52 @@ pub(crate) struct Stop<A> {
     pub(crate) step: Step<A>,
     /// The moment then.
     pub(crate) now: u64,
-    /// No timer ends before this moment.
-    pub(crate) quiet_until: u64,
+    /// How many timers were looked at.
+    pub(crate) looks: u64,
 }
 
-/// Runs from this moment to a later one, or to the first echo, where no timer ends before `quiet_until`.
+/// Runs from this moment, before which no timer ends, to a later one, or to the first echo. No timer ends before the
+/// moment then.
 pub(crate) fn run<F: Family>(
-    records: &mut Store<F::Addr>,
+    records: &mut Store<F::Addr, OfFamily<F>>,
     now: u64,
     moment: u64,
-    quiet_until: u64,
 ) -> Stop<F::Addr>
-    requires { IsQuietUntil quiet_until (first_end (records_seen F.bytes_of records.old.items)) }
+    requires ascending { IsAscending (records_seen F.bytes_of records.old.items) }
+    requires late { AreLate now (records_seen F.bytes_of records.old.items) }
     ensures runs { (ports limit : ℕ) →
-        Runs moment (downstream_at F.bytes_of ports limit now records.old.items)
-        (step_seen F.bytes_of result.step) (downstream_at F.bytes_of ports limit result.now records.new.items) }
+        RunsLooking moment (downstream_at F.bytes_of ports limit now records.old.items)
+        (step_seen F.bytes_of result.step) (downstream_at F.bytes_of ports limit result.now records.new.items)
+        result.looks }
     ensures later { now ≤ result.now }
     ensures moment { result.now ≤ max now moment }
     ensures reached { result.step ≡ Reached → result.now ≡ max now moment }
-    ensures quiet { IsQuietUntil result.quiet_until (first_end (records_seen F.bytes_of records.new.items)) }
+    ensures late { AreLate result.now (records_seen F.bytes_of records.new.items) }
 {
     let last = now.max(moment);
-    if last < quiet_until {
-        return Stop {
-            step: Step::Reached,
-            now: last,
-            quiet_until,
-        };
-    }
     let mut now = now;
+    let _few = records.len();
+    let mut near = records.first();
+    let mut looks = 0;
     loop {
-        match end_by::<F>(records, last) {
-            NextEnd::Ends(ends) => {
-                now = now.max(ends);
-                match fire_due::<F>(records, now) {
+        match first_by::<F>(records, last, &mut looks) {
+            Some(first) => {
+                now = first.ends_at;
+                let (step, place) = fire_first::<F>(records, near, first);
+                near = place;
+                match step {
                     Step::Reached => {}
                     Step::Echo { port, group, what } => {
                         let step = Step::Echo { port, group, what };
-                        return Stop {
-                            step,
-                            now,
-                            quiet_until: 0,
-                        };
+                        return Stop { step, now, looks };
                     }
                 }
             }
-            NextEnd::Quiet(quiet_until) => {
+            None => {
                 return Stop {
                     step: Step::Reached,
                     now: last,
-                    quiet_until,
+                    looks,
                 };
             }
         }

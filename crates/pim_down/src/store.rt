@@ -1,118 +1,69 @@
-//! The records of all ports, in key order, and how many each port has.
+//! The records of all ports, with a schedule of their timers.
 
-ghost use Rattle.std.specs.Prelude.{◌≡◌, ℕ, List, ◌+◌, ◌-◌, ◌<◌, ◌≤◌, ◌↔◌, [], length, take, drop};
-ghost use Rattle.std.specs.Prelude.{slice_index_or, slice_set, OnOk, IsOk, IsTrue, Bool, true, false};
-ghost use Rattle.std.specs.List.{All, insert, remove};
+ghost use Rattle.std.specs.Prelude.{◌≡◌, ℕ, List, ◌+◌, ◌*◌, ◌<◌, ◌≤◌, ◌↔◌, [], length, take, drop, option_map};
+ghost use Rattle.std.specs.Prelude.{slice_index_or, slice_set, OnOk, IsOk, IsTrue, true, false};
+ghost use Rattle.std.specs.List.{All, insert, remove, slice_get};
 ghost use Rattle.std.specs.List.Sorted.{IsPartitionedBy, IsPartitionPoint};
 ghost use Rattle.sorted_blocks.specs.declared.place.Place.{Place};
 ghost use Rattle.sorted_slab.specs.Listed.{at, IsPlace, IsItem, IsFound};
 ghost use Rattle.pim_down.specs.declared.held.Held.{Held};
 ghost use Rattle.pim_down.specs.Records.{count_on};
+ghost use Rattle.pim_down.specs.Schedule.{deadline_seen, timers_of};
 ghost use Rattle.pim_down.specs.Seen.{records_seen};
 
+use crate::deadline::Deadline;
 use crate::held::{Held, Timed};
-use crate::key::Key;
+use crate::key::KeyOrder;
+use crate::rows::{Bound, Rows};
+use crate::schedule::Schedule;
 use sorted_blocks::{Place, Probe};
-use sorted_slab::{SortedSlab, Walk};
+use sorted_slab::Walk;
 use std::alloc::{AllocError, Global};
-use std::cmp::Ordering;
 use std::fmt;
 use std::marker::Model;
 
-/// So many ports there may be.
-const PORTS: usize = 64;
-
-/// A bound in key order: which records stand before it.
-pub(crate) trait Bound<A> {
-    ghost use Rattle.pim_down.specs.declared.key.Key.{Key};
-
-    /// Whether a record of this key stands before it.
-    ghost is_before: { Self → Key A → Bool };
-
-    /// Whether a record of this key stands before it.
-    fn is_before(&self, key: &Key<A>) -> bool
-        ensures { result ≡ is_before self.now key.now };
-}
-
-/// A bound as it is sought among records.
-#[derive(Drop)]
-struct Side<'a, B> {
-    bound: &'a B,
-}
-
-impl<'a, A, B: Bound<A>> Probe<Held<A>> for Side<'a, B> {
-    ghost use Rattle.pim_down.specs.Store.{side};
-
-    ghost can_compare = { λ _ _. Unit {0} };
-
-    ghost order = { λ s held. side (B.is_before s.bound.now held.key) };
-
-    fn compare(&self, held: &Held<A>) -> Ordering {
-        if self.bound.is_before(&held.key) {
-            Ordering::Less
-        } else {
-            Ordering::Greater
-        }
-    }
-}
-
 /// The records of all ports. Contracts see their list, its places, and how many records fit without memory.
 #[derive(Drop)]
-pub(crate) struct Store<A: Copy> {
-    list: SortedSlab<Held<A>, 64>,
-    /// How many records each port has.
-    counts: [usize; 64],
+pub(crate) struct Store<A: Copy, O: KeyOrder<A>> {
+    rows: Rows<A>,
+    schedule: Schedule<A, O>,
+    /// The schedule has room for the timers of so many records.
+    room: usize,
 }
 
-impl<A: Copy> Model for Store<A> {
+impl<A: Copy, O: KeyOrder<A>> Model for Store<A, O> {
     ghost use Rattle.sorted_slab.specs.Listed.{Listed};
     ghost use Rattle.pim_down.specs.declared.held.Held.{Held};
 
     ghost Value = { Listed (Held A) };
 
-    ghost use Rattle.pim_down.specs.Store.{IsKept};
+    ghost use Rattle.std.specs.Prelude.{min};
+    ghost use Rattle.pim_down.specs.Schedule.{IsTimed};
 
-    ghost view = { λ s. s.list };
+    ghost view = { λ s. record { index = s.rows.index; items = s.rows.items; capacity = min s.rows.capacity s.room } };
 
-    ghost invariant = { λ s. IsKept s.counts s.list };
+    ghost invariant = { λ s. IsTimed O.bytes_of s.rows s.schedule s.room };
 }
 
-/// No record on any port.
-fn no_counts() -> [usize; 64]
-    ensures { (port : ℕ) → slice_index_or result port 0 ≡ 0 }
-{
-    [0; 64]
-}
-
-/// Counts a record of this port.
-fn count_in(counts: &mut [usize; 64], port: usize)
-    requires { slice_index_or counts.old port 0 < 18446744073709551615 }
-    ensures { counts.new ≡ slice_set counts.old port (slice_index_or counts.old port 0 + 1) }
-{
-    if port < PORTS {
-        counts[port] += 1;
-    }
-}
-
-/// Counts a record of this port no longer.
-fn count_out(counts: &mut [usize; 64], port: usize)
-    requires { port < 64 → 1 ≤ slice_index_or counts.old port 0 }
-    ensures { counts.new ≡ slice_set counts.old port (slice_index_or counts.old port 0 - 1) }
-{
-    if port < PORTS {
-        counts[port] -= 1;
-    }
-}
-
-impl<A: Copy> Store<A> {
+impl<A: Copy, O: KeyOrder<A>> Store<A, O> {
     /// No record; it takes no memory.
     pub(crate) fn new(alloc: Global) -> Self
         ensures { result.items ≡ [] }
     {
         Store {
-            list: SortedSlab::new(alloc),
-            counts: no_counts(),
+            rows: Rows::new(alloc),
+            schedule: Schedule::new(alloc),
+            room: 0,
         }
+    }
+
+    /// How many records there are. Twice as many and two more are a number, too.
+    pub(crate) fn len(&self) -> usize
+        ensures len { result ≡ length self.now.items }
+        ensures small { 2 * length self.now.items + 2 ≤ 18446744073709551615 }
+    {
+        let _most = self.schedule.capacity();
+        self.rows.len()
     }
 
     /// How many records this port has.
@@ -120,7 +71,7 @@ impl<A: Copy> Store<A> {
         requires { port < 64 }
         ensures { (bytes_of : A → List ℕ) → result ≡ count_on port (records_seen bytes_of self.now.items) }
     {
-        self.counts[port]
+        self.rows.count_on(port)
     }
 
     /// Takes memory for so many more records: at `Ok` they fit, whichever go between. The records stay, at an `Err`
@@ -131,7 +82,19 @@ impl<A: Copy> Store<A> {
         ensures items { self.new.items ≡ self.old.items }
         ensures capacity { self.old.capacity ≤ self.new.capacity }
     {
-        self.list.reserve(additional)
+        self.rows.reserve(additional)?;
+        if additional == 0 {
+            return Ok(());
+        }
+        let Some(wanted) = self.rows.len().checked_add(additional) else {
+            return Err(AllocError);
+        };
+        if wanted <= self.room {
+            return Ok(());
+        }
+        self.schedule.reserve_for(wanted)?;
+        self.room = wanted;
+        Ok(())
     }
 
     /// Puts in a record at this place, within the capacity. The answer is where it stands then.
@@ -141,10 +104,8 @@ impl<A: Copy> Store<A> {
         ensures items { self.new.items ≡ insert self.old.items (at self.old place) held }
         ensures capacity { self.new.capacity ≡ self.old.capacity }
     {
-        let _most = self.list.capacity();
-        let stands = self.list.insert_within(place, held);
-        count_in(&mut self.counts, held.key.port);
-        stands
+        self.schedule.start_all(&held);
+        self.rows.insert_within(place, held)
     }
 
     /// Takes out the record at this place. The answer is the place of the one that came next.
@@ -156,9 +117,9 @@ impl<A: Copy> Store<A> {
         ensures at { at self.new result ≡ at self.old place }
         ensures item { at self.new result < length self.new.items → IsItem self.new result }
     {
-        let (gone, behind) = self.list.remove(place);
-        count_out(&mut self.counts, gone.key.port);
-        self.list.settled(behind)
+        let gone = *self.rows.get(place);
+        self.schedule.stop_all(&gone);
+        self.rows.remove(place)
     }
 
     /// Gives the record at this place another machine; its key stays.
@@ -170,8 +131,17 @@ impl<A: Copy> Store<A> {
         ensures at { (p : Place) → at self.new p ≡ at self.old p }
         ensures capacity { self.new.capacity ≡ self.old.capacity }
     {
-        let key = self.list.get(place).key;
-        self.list.set(place, Held { key, machine });
+        let old = *self.rows.get(place);
+        self.schedule.change_all(old.key, &old.machine, &machine);
+        self.rows.set_machine(place, machine);
+    }
+
+    /// The timer that fires first.
+    pub(crate) fn first_timer(&self) -> Option<Deadline<A>>
+        ensures { option_map (deadline_seen O.bytes_of) result
+            ≡ slice_get (timers_of (records_seen O.bytes_of self.now.items)) 0 }
+    {
+        self.schedule.first()
     }
 
     /// The record at this place.
@@ -179,14 +149,14 @@ impl<A: Copy> Store<A> {
         requires { IsItem self.now place }
         ensures { result.now ≡ slice_index_or self.now.items (at self.now place) result.now }
     {
-        self.list.get(place)
+        self.rows.get(place)
     }
 
     /// Whether a record stands at this place.
     pub(crate) fn is_item(&self, place: Place) -> bool
         ensures { IsTrue result ↔ IsItem self.now place }
     {
-        self.list.is_item(place)
+        self.rows.is_item(place)
     }
 
     /// The place before all records: the first one's, where there is any.
@@ -195,7 +165,7 @@ impl<A: Copy> Store<A> {
         ensures at { at self.now result ≡ 0 }
         ensures item { 0 < length self.now.items → IsItem self.now result }
     {
-        self.list.first()
+        self.rows.first()
     }
 
     /// The place behind this record: the next one's, where there is any.
@@ -205,7 +175,7 @@ impl<A: Copy> Store<A> {
         ensures at { at self.now result ≡ at self.now place + 1 }
         ensures item { at self.now place + 1 < length self.now.items → IsItem self.now result }
     {
-        self.list.next(place)
+        self.rows.next(place)
     }
 
     /// So many records from this place on, in order, or those that there are.
@@ -213,14 +183,14 @@ impl<A: Copy> Store<A> {
         requires { IsPlace self.now place }
         ensures { result ≡ take count (drop (at self.now place) self.now.items) }
     {
-        self.list.walk(place, count)
+        self.rows.walk(place, count)
     }
 
     /// All records, in order.
     pub(crate) fn iter(&self) -> Walk<'_, Held<A>, 64>
         ensures { result ≡ self.now.items }
     {
-        self.list.walk(self.list.first(), self.list.len())
+        self.rows.iter()
     }
 
     /// Where a record stands that compares equal, or else a gap. It begins at a place near which that may be; whatever
@@ -233,7 +203,7 @@ impl<A: Copy> Store<A> {
         requires { All (P.can_compare probe.now) self.now.items }
         ensures { IsFound (P.order probe.now) self.now result }
     {
-        self.list.find_near(near, probe)
+        self.rows.find_near(near, probe)
     }
 
     /// The place behind the records that stand before the bound: that of the first other one, where there is any.
@@ -245,14 +215,11 @@ impl<A: Copy> Store<A> {
         ensures parts { IsPartitionPoint (λ held. B.is_before bound.now held.key ≡ true)
             (λ held. B.is_before bound.now held.key ≡ false) self.now.items (at self.now result) }
     {
-        match self.list.find(&Side { bound }) {
-            Ok(_) => unreachable!(),
-            Err(place) => self.list.settled(place),
-        }
+        self.rows.first_behind(bound)
     }
 }
 
-impl<A: Copy + fmt::Debug> fmt::Debug for Store<A> {
+impl<A: Copy + fmt::Debug, O: KeyOrder<A>> fmt::Debug for Store<A, O> {
     fn fmt<W: fmt::Write>(&self, f: &mut fmt::Formatter<W>) -> fmt::Result {
         f.debug_list().entries(self.iter()).finish()
     }

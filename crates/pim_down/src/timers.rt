@@ -1,124 +1,66 @@
 //! When the timers of some records end, and what they do then.
 
-ghost use Rattle.std.specs.Prelude.{◌≡◌, IsTrue, ◌+◌, ◌<◌, ℕ, List, ◌++◌, take, drop, length, slice_index_or};
+ghost use Rattle.std.specs.Prelude.{◌≡◌, ◌+◌, ◌<◌, ℕ, List, ◌++◌, take, drop, length, slice_index_or, nat_le};
+ghost use Rattle.std.specs.List.{slice_get};
 ghost use Rattle.sorted_slab.specs.Listed.{at, IsItem};
 ghost use Rattle.pim_down.specs.declared.held.Held.{Held};
-ghost use Rattle.std.specs.Option.{is_some};
-ghost use Rattle.pim_down.specs.Time.{expiry_after, pending_after, record_after, expiry_due, pending_due, et_due};
-ghost use Rattle.pim_down.specs.Time.{ppt_due, on_ppt, after_ppt, echo_of, fired};
-ghost use Rattle.pim_down.specs.Ends.{sooner, pending_end, first_end, IsEndBy};
-ghost use Rattle.pim_down.specs.Seen.{waiting_seen, timed_seen, machine_seen, what_seen, record_seen, records_seen};
+ghost use Rattle.pim_down.specs.Records.{IsAscending};
+ghost use Rattle.pim_down.specs.Time.{on_ppt, after_ppt, echo_of, fired};
+ghost use Rattle.pim_down.specs.Ends.{first_end, AreLate};
+ghost use Rattle.pim_down.specs.Schedule.{deadline_seen, timers_of, IsFirstBy, IsLookedAt};
+ghost use Rattle.pim_down.specs.Seen.{timed_seen, machine_seen, what_seen, record_seen, records_seen};
 ghost use Rattle.pim_down.specs.Seen.{step_seen, shown};
-ghost use Rattle.pim_down.specs.Store.{IsFirst};
 
-use crate::edits::replace_at;
+use crate::deadline::{Deadline, TimerKind};
+use crate::edits::{find_place, replace_at};
 use crate::held::{Held, Timed};
-use crate::key::{Key, What};
+use crate::key::{Key, OfFamily, What};
 use crate::machine::State;
 use crate::step::Step;
 use crate::store::Store;
 use pim_addr::Family;
 use sorted_blocks::Place;
 
-/// The sooner of two ends, of which `None` is never.
-fn sooner(a: Option<u64>, b: Option<u64>) -> Option<u64>
-    ensures { result ≡ sooner a b }
-{
-    match (a, b) {
-        (Some(a), Some(b)) => Some(a.min(b)),
-        (None, end) | (end, None) => end,
-    }
-}
-
-/// When the machine's first timer ends.
-fn machine_end(machine: &Timed) -> Option<u64>
-    ensures { result ≡ sooner machine.now.expires_at (pending_end (waiting_seen machine.now.pending)) }
-{
-    let pending = match machine.pending {
-        Some(timer) => Some(timer.ends_at),
-        None => None,
-    };
-    sooner(machine.expires_at, pending)
-}
-
 /// When the first timer of all ends.
-pub(crate) fn next_end<F: Family>(records: &Store<F::Addr>) -> Option<u64>
+pub(crate) fn next_end<F: Family>(records: &Store<F::Addr, OfFamily<F>>) -> Option<u64>
     ensures { result ≡ first_end (records_seen F.bytes_of records.now.items) }
 {
-    let mut end = None;
-    for record in records.iter() {
-        end = sooner(end, machine_end(&record.machine));
-    }
-    end
-}
-
-/// What is known of the first end of all.
-pub(crate) enum NextEnd {
-    /// It is at this moment.
-    Ends(u64),
-    /// It isn't before this moment.
-    Quiet(u64),
-}
-
-/// When the first timer of all ends, where that is no later than this.
-pub(crate) fn end_by<F: Family>(records: &Store<F::Addr>, last: u64) -> NextEnd
-    ensures { IsEndBy last (first_end (records_seen F.bytes_of records.now.items)) result }
-{
-    match next_end::<F>(records) {
-        None => NextEnd::Quiet(u64::MAX),
-        Some(ends) if ends <= last => NextEnd::Ends(ends),
-        Some(ends) => NextEnd::Quiet(ends),
+    match records.first_timer() {
+        None => None,
+        Some(first) => Some(first.ends_at),
     }
 }
 
-/// Whether its prune-pending timer is due.
-#[tactic(auto, using(crate::proofs::Ends::due_from_end))]
-pub(crate) fn is_pending_due(machine: &Timed, now: u64) -> bool
-    ensures { result ≡ pending_due (pending_after now (waiting_seen machine.now.pending)) }
+/// Looks at a timer: whether it ends no later than this. Each look is counted.
+fn is_due<A>(timer: &Deadline<A>, last: u64, looks: &mut u64) -> bool
+    requires { looks.old < 18446744073709551615 }
+    ensures due { result ≡ nat_le timer.now.ends_at last }
+    ensures looks { looks.new ≡ looks.old + 1 }
 {
-    match machine.pending {
-        Some(timer) => timer.ends_at <= now,
-        None => false,
-    }
+    *looks += 1;
+    timer.ends_at <= last
 }
 
-/// Whether its expiry timer is due.
-#[tactic(auto, using(crate::proofs::Ends::due_from_end))]
-pub(crate) fn is_expired(machine: &Timed, now: u64) -> bool
-    ensures { result ≡ expiry_due (expiry_after now machine.now.expires_at) }
+/// The timer that fires first, where it ends no later than this. It looks at one timer at most.
+pub(crate) fn first_by<F: Family>(
+    records: &Store<F::Addr, OfFamily<F>>,
+    last: u64,
+    looks: &mut u64,
+) -> Option<Deadline<F::Addr>>
+    requires { looks.old < 18446744073709551615 }
+    ensures first { IsFirstBy F.bytes_of last (records_seen F.bytes_of records.now.items) result }
+    ensures looks { IsLookedAt looks.old looks.new result }
 {
-    match machine.expires_at {
-        Some(ends) => ends <= now,
-        None => false,
-    }
-}
-
-/// The first record whose prune-pending timer is due.
-fn first_pending<F: Family>(records: &Store<F::Addr>, now: u64) -> Option<Place>
-    ensures { IsFirst (λ held. ppt_due (record_after now (record_seen F.bytes_of held))) records.now result }
-{
-    let mut place = records.first();
-    while records.is_item(place) {
-        if is_pending_due(&records.get(place).machine, now) {
-            return Some(place);
+    match records.first_timer() {
+        None => None,
+        Some(first) => {
+            if is_due(&first, last, looks) {
+                Some(first)
+            } else {
+                None
+            }
         }
-        place = records.next(place);
     }
-    None
-}
-
-/// The first record whose expiry timer is due.
-fn first_expired<F: Family>(records: &Store<F::Addr>, now: u64) -> Option<Place>
-    ensures { IsFirst (λ held. et_due (record_after now (record_seen F.bytes_of held))) records.now result }
-{
-    let mut place = records.first();
-    while records.is_item(place) {
-        if is_expired(&records.get(place).machine, now) {
-            return Some(place);
-        }
-        place = records.next(place);
-    }
-    None
 }
 
 /// Where a machine goes whose prune-pending timer fires: to Prune if it is of (S,G,rpt), else to NoInfo.
@@ -151,10 +93,9 @@ fn echo_of<A: Copy>(held: &Held<A>) -> Step<A>
     }
 }
 
-/// Fires the prune-pending timer of the record at this place. Beside what is told stands the place of what stands there
-/// then.
-pub(crate) fn fire_pending<F: Family>(
-    records: &mut Store<F::Addr>,
+/// Fires the prune-pending timer of the record at this place. Beside what is told stands a place near by.
+fn fire_pending<F: Family>(
+    records: &mut Store<F::Addr, OfFamily<F>>,
     place: Place,
 ) -> (Step<F::Addr>, Place)
     requires { IsItem records.old place }
@@ -164,10 +105,6 @@ pub(crate) fn fire_pending<F: Family>(
         ≡ take (at records.old place) (records_seen F.bytes_of records.old.items)
         ++ (after_ppt (record_seen F.bytes_of (slice_index_or records.old.items (at records.old place) d))
         ++ drop (at records.old place + 1) (records_seen F.bytes_of records.old.items)) }
-    ensures before { (k : ℕ) (d : Held F.Addr) → k < at records.old place →
-        slice_index_or records.new.items k d ≡ slice_index_or records.old.items k d }
-    ensures at { at records.new result.1 ≡ at records.old place }
-    ensures item { at records.new result.1 < length records.new.items → IsItem records.new result.1 }
 {
     let fired = *records.get(place);
     let machine = on_ppt(&fired.key.what, &fired.machine);
@@ -175,23 +112,26 @@ pub(crate) fn fire_pending<F: Family>(
     (echo_of(&fired), behind)
 }
 
-/// Fires the first due timer: prune-pending timers come before expiry timers.
-pub(crate) fn fire_first<F: Family>(records: &mut Store<F::Addr>, now: u64) -> Step<F::Addr>
-    requires { IsTrue (is_some (fired (shown F.bytes_of now records.old.items))) }
-    ensures { fired (shown F.bytes_of now records.old.items)
-        ≡ Some (step_seen F.bytes_of result, shown F.bytes_of now records.new.items) }
+/// Fires the timer that is the first of all, at its end. It begins to look for the record near this place. Beside what is
+/// told stands a place near by.
+pub(crate) fn fire_first<F: Family>(
+    records: &mut Store<F::Addr, OfFamily<F>>,
+    near: Place,
+    first: Deadline<F::Addr>,
+) -> (Step<F::Addr>, Place)
+    requires ascending { IsAscending (records_seen F.bytes_of records.old.items) }
+    requires first { slice_get (timers_of (records_seen F.bytes_of records.old.items)) 0
+        ≡ Some (deadline_seen F.bytes_of first) }
+    ensures fired { fired (shown F.bytes_of first.ends_at records.old.items)
+        ≡ Some (step_seen F.bytes_of result.0, shown F.bytes_of first.ends_at records.new.items) }
+    ensures late { (m : ℕ) → AreLate m (records_seen F.bytes_of records.old.items) →
+        AreLate m (records_seen F.bytes_of records.new.items) }
 {
-    match first_pending::<F>(records, now) {
-        Some(place) => {
-            let (step, _place) = fire_pending::<F>(records, place);
-            step
-        }
-        None => match first_expired::<F>(records, now) {
-            Some(place) => {
-                records.remove(place);
-                Step::Reached
-            }
-            None => unreachable!(),
+    match find_place::<F>(records, near, &first.key) {
+        Ok(place) => match first.timer {
+            TimerKind::PendingTimer => fire_pending::<F>(records, place),
+            TimerKind::ExpiryTimer => (Step::Reached, records.remove(place)),
         },
+        Err(_) => unreachable!(),
     }
 }

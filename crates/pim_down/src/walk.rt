@@ -8,9 +8,10 @@ ghost use Rattle.pim_down.specs.Time.{machine_after, record_after};
 ghost use Rattle.pim_down.specs.Seen.{timed_seen, record_seen, told_seen, records_seen, shown};
 
 use crate::held::{Held, Timed};
-use crate::key::Key;
+use crate::key::{Key, OfFamily};
 use crate::machine::{Machine, Pending, Record};
-use crate::store::{Bound, Store};
+use crate::rows::Bound;
+use crate::store::Store;
 use pim_addr::Family;
 use sorted_slab::Walk;
 use std::fmt;
@@ -66,7 +67,7 @@ impl<A> Bound<A> for OfPort {
 
 /// The records of one port, which stand together.
 pub(crate) fn on_port<F: Family>(
-    records: &Store<F::Addr>,
+    records: &Store<F::Addr, OfFamily<F>>,
     port: usize,
 ) -> Walk<'_, Held<F::Addr>, 64>
     requires ascending { IsAscending (records_seen F.bytes_of records.now.items) }
@@ -80,7 +81,7 @@ pub(crate) fn on_port<F: Family>(
 }
 
 /// How many records the port has.
-pub(crate) fn count_on<F: Family>(records: &Store<F::Addr>, port: usize) -> usize
+pub(crate) fn count_on<F: Family>(records: &Store<F::Addr, OfFamily<F>>, port: usize) -> usize
     requires { port < 64 }
     ensures { result ≡ count_on port (records_seen F.bytes_of records.now.items) }
 {

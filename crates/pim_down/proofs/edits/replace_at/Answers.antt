@@ -2,7 +2,6 @@ use Rattle.std.proofs.Common.{get_or, ap, ◌∙◌}
 use Rattle.sorted_slab.specs.Listed.{at}
 use Rattle.pim_down.specs.Seen.{key_seen, records_seen}
 use Rattle.pim_down.proofs.Lists.{replaced_some, replaced_none}
-use Rattle.pim_down.proofs.Looking.{set_before}
 use Rattle.pim_down.proofs.edits.replace_at.Goals as goal
 
 pub returns-in-Some-clause-left : goal.returns-in-Some-clause-left
@@ -16,9 +15,3 @@ returns-in-None-clause-left g c bytes_of d =
     let items = c.args.records.now.items in
     let i = at c.args.records.now c.args.place in
     replaced_none bytes_of items c.remove.new.self.items i (key_seen bytes_of (get_or items i d).key) c.args.machine c.remove.ensures.items c.in-None.is
-
-pub returns-in-Some-clause-before : goal.returns-in-Some-clause-before
-returns-in-Some-clause-before g c k d lt =
-    let items = c.args.records.now.items in
-    let i = at c.args.records.now c.args.place in
-    ap (λ xs. get_or xs k d) (c.set_machine.ensures.items d) ∙ set_before items i k _ d lt

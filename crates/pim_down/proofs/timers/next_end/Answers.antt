@@ -1,11 +1,11 @@
-use Rattle.std.proofs.Common.{sym, ◌∙◌}
-use Rattle.pim_down.proofs.Ends.{ends_more, ends_all}
+use Rattle.std.proofs.Common.{sym}
+use Rattle.pim_down.specs.Schedule.{deadline_seen}
+use Rattle.pim_down.specs.Seen.{records_seen}
+use Rattle.pim_down.proofs.FirstTimer.{first_end_some, first_end_none}
 use Rattle.pim_down.proofs.timers.next_end.Goals as goal
 
-pub loop-record-preserved : goal.loop-record-preserved
-loop-record-preserved g c =
-    let more = ends_more g.F.Family.bytes_of c.loop-record.record-iterator c.next.new.self c.in-Some.record.now c.loop-record.end c.in-Some.ensures.steps in
-    rw (c.sooner-end.ensures, c.machine_end.ensures) (more ∙ c.loop-record.invariant)
+pub returns-in-None : goal.returns-in-None
+returns-in-None g c = sym (first_end_none (records_seen g.F.Family.bytes_of c.args.records.now.items) (sym c.in-None.ensures))
 
-pub returns : goal.returns
-returns g c = sym (ends_all g.F.Family.bytes_of c.loop-record.record-iterator c.loop-record.end c.in-None.ensures.steps.0) ∙ c.loop-record.invariant
+pub returns-in-Some : goal.returns-in-Some
+returns-in-Some g c = sym (first_end_some (records_seen g.F.Family.bytes_of c.args.records.now.items) (deadline_seen g.F.Family.bytes_of c.in-Some.first) (sym c.in-Some.ensures))

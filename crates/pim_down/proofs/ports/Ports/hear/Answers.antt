@@ -5,9 +5,9 @@ use Rattle.pim_down.specs.Records.{machine_at}
 use Rattle.pim_down.specs.Time.{Downstream}
 use Rattle.pim_down.specs.Running.{downstream_at}
 use Rattle.pim_down.specs.Known.{known_in}
-use Rattle.pim_down.specs.Ends.{first_end}
 use Rattle.pim_down.specs.Seen.{start_seen, records_seen}
-use Rattle.pim_down.proofs.Ends.{quiet_at_first}
+use Rattle.pim_down.proofs.Late.{late_heard}
+use Rattle.pim_down.specs.Hearing.{events_of}
 use Rattle.pim_down.proofs.Kept.{ascending_back, settled_back}
 use Rattle.pim_down.proofs.Origin.{count_on_later}
 use Rattle.pim_down.proofs.Hears.{heard_is, within_is, others_are, memory_is, sound_is, on_err}
@@ -41,19 +41,19 @@ invariant_of-self g c =
     let bytes_of = g.F.Family.bytes_of in
     let known = known_in g.F.Family.family c.args.routes.now in
     let message = c.args.message.now in
-    let starts = rw c.holdtime.ensures at c.start_at-start.ensures in
+    let starts = rw c.holdtime.ensures at c.start_at-start.ensures.starts in
     let old = downstream_at bytes_of p.ports p.limit p.moment p.records.items in
     let new = downstream_at bytes_of p.ports p.limit p.moment c.hear_message.new.records.items in
     let ok = on_ok_weaker c.hear_message.result (heard_is bytes_of p.ports p.limit p.moment c.args.port message known c.args.timing (start_seen c.start_at-start.result) p.records.items c.hear_message.new.records.items old starts refl) c.hear_message.ensures.ok in
     let err = on_err c.hear_message.result (ap (downstream_at bytes_of p.ports p.limit p.moment)) c.hear_message.ensures.err in
     let within = within_is bytes_of p.ports p.limit p.moment c.args.port message known c.args.timing c.hear_message.result p.records.items old refl c.hear_message.ensures.room in
-    (sound_is bytes_of p.ports p.limit p.moment c.args.port message known c.args.timing g.F.Family.family c.hear_message.result old new c.self.invariant.0 (subst (λ (s : Downstream). c.args.port < s.ports) (sym c.self.view_is) c.requires.port) c.is_legal.ensures ok err within, quiet_at_first (first_end (records_seen bytes_of c.hear_message.new.records.items)))
+    (sound_is bytes_of p.ports p.limit p.moment c.args.port message known c.args.timing g.F.Family.family c.hear_message.result old new c.self.invariant.0 (subst (λ (s : Downstream). c.args.port < s.ports) (sym c.self.view_is) c.requires.port) c.is_legal.ensures ok err within, late_heard p.moment bytes_of c.args.port (start_seen c.start_at-start.result) (events_of known message) c.hear_message.result p.records.items c.hear_message.new.records.items c.start_at-start.ensures.late c.hear_message.ensures.ok c.hear_message.ensures.err c.self.invariant.1)
 
 pub returns-clause-ok : goal.returns-clause-ok
 returns-clause-ok g c =
     let p = c.self.inside in
     let bytes_of = g.F.Family.bytes_of in
-    let starts = rw c.holdtime.ensures at c.start_at-start.ensures in
+    let starts = rw c.holdtime.ensures at c.start_at-start.ensures.starts in
     on_ok_weaker c.hear_message.result (heard_is bytes_of p.ports p.limit p.moment c.args.port c.args.message.now (known_in g.F.Family.family c.args.routes.now) c.args.timing (start_seen c.start_at-start.result) p.records.items c.hear_message.new.records.items c.args.self.now starts c.self.view_is) c.hear_message.ensures.ok
 
 pub returns-clause-room : goal.returns-clause-room
@@ -74,7 +74,7 @@ returns-clause-others g c =
     let bytes_of = g.F.Family.bytes_of in
     let known = known_in g.F.Family.family c.args.routes.now in
     let message = c.args.message.now in
-    let starts = rw c.holdtime.ensures at c.start_at-start.ensures in
+    let starts = rw c.holdtime.ensures at c.start_at-start.ensures.starts in
     let old = downstream_at bytes_of p.ports p.limit p.moment p.records.items in
     let new = downstream_at bytes_of p.ports p.limit p.moment c.hear_message.new.records.items in
     let ok = on_ok_weaker c.hear_message.result (heard_is bytes_of p.ports p.limit p.moment c.args.port message known c.args.timing (start_seen c.start_at-start.result) p.records.items c.hear_message.new.records.items old starts refl) c.hear_message.ensures.ok in

@@ -1,9 +1,6 @@
 use Rattle.pim_down.specs.Seen.{step_seen}
-use Rattle.pim_down.specs.Running.{downstream_at}
-use Rattle.pim_down.proofs.Kept.{sound_runs}
+use Rattle.pim_down.proofs.Firings.{runs_looking}
 use Rattle.pim_down.proofs.ports.Ports.run_to.Goals as goal
 
-pub invariant_of-self : goal.invariant_of-self
-invariant_of-self g c =
-    let p = c.self.inside in
-    (sound_runs g.F.Family.family c.args.moment (downstream_at g.F.Family.bytes_of p.ports p.limit p.moment p.records.items) (downstream_at g.F.Family.bytes_of p.ports p.limit c.run-stop.result.now c.run-stop.new.records.items) (step_seen g.F.Family.bytes_of c.run-stop.result.step) c.requires c.self.invariant.0 (c.run-stop.ensures.runs p.ports p.limit), c.run-stop.ensures.quiet)
+pub returns-clause-run : goal.returns-clause-run
+returns-clause-run g c = runs_looking c.args.moment c.args.self.now c.run_counted-step.new.self (step_seen g.F.Family.bytes_of c.run_counted-step.result.0) c.run_counted-step.result.1 c.run_counted-step.ensures.run

@@ -1,20 +1,17 @@
 use Rattle.std.proofs.Common.{◌<◌, length, sym, subst, arith}
 use Rattle.sorted_slab.specs.Listed.{Listed, at}
 use Rattle.pim_down.specs.declared.held.Held.{Held}
-use Rattle.pim_down.specs.Store.{IsKept}
-use Rattle.pim_down.proofs.Counts.{few, kept_in}
+use Rattle.pim_down.proofs.Deadlines.{timed_in, room_for}
 use Rattle.pim_down.proofs.store.Store.insert_within.Goals as goal
 
-pub count_in-requires : goal.count_in-requires
-count_in-requires g c =
+pub start_all-requires : goal.start_all-requires
+start_all-requires g c =
     let s = c.self.inside in
-    let room : length s.list.items < s.list.capacity = subst (λ (l : Listed (Held g.row.A.Denot)). length l.items < l.capacity) (sym c.self.view_is) c.requires.within in
-    omega (arith, room, few s.counts s.list s.list c.self.told c.self.invariant c.args.held.key.port, c.capacity-most.ensures, c.capacity-most.type_inv)
+    let room = subst (λ (l : Listed (Held g.row.A.Denot)). length l.items < l.capacity) (sym c.self.view_is) c.requires.within in
+    room_for g.O.KeyOrder.bytes_of s.rows s.schedule s.room c.self.invariant (omega (arith, room))
 
 pub invariant_of-self : goal.invariant_of-self
 invariant_of-self g c =
     let s = c.self.inside in
-    let new = c.insert_within-stands.new.self in
-    let room : length s.list.items < s.list.capacity = subst (λ (l : Listed (Held g.row.A.Denot)). length l.items < l.capacity) (sym c.self.view_is) c.requires.within in
-    let kept = kept_in s.counts s.list new c.self.told c.self.invariant (at s.list c.args.place) c.args.held room c.insert_within-stands.ensures.items c.insert_within-stands.ensures.capacity in
-    subst (λ counts. IsKept counts new) (sym c.count_in.ensures) kept
+    let room = subst (λ (l : Listed (Held g.row.A.Denot)). length l.items < l.capacity) (sym c.self.view_is) c.requires.within in
+    timed_in g.O.KeyOrder.bytes_of s.rows c.insert_within.new.self s.schedule c.start_all.new.self s.room c.self.invariant (at s.rows c.args.place) c.args.held (omega (arith, room)) c.insert_within.ensures.items c.start_all.ensures.timers c.start_all.ensures.capacity

@@ -1,5 +1,5 @@
-use Rattle.pim_down.proofs.Counts.{kept_none}
+use Rattle.pim_down.proofs.Deadlines.{timed_none}
 use Rattle.pim_down.proofs.store.Store.new.Goals as goal
 
 pub invariant_of-result : goal.invariant_of-result
-invariant_of-result g c = kept_none _ c.new.result c.no_counts.ensures c.new.ensures
+invariant_of-result g c = timed_none g.O.KeyOrder.bytes_of c.new.result c.new-2.result c.new.ensures c.new-2.ensures

@@ -1,0 +1,45 @@
+//! A timer that runs: when it ends, and whose it is.
+
+ghost use Rattle.std.specs.Prelude.{◌≡◌};
+ghost use Rattle.std.specs.Ordering.{nat_cmp};
+ghost use Rattle.pim_down.specs.Schedule.{timer_rank, deadline_cmp, deadline_seen};
+
+use crate::key::{Key, KeyOrder};
+use std::cmp::Ordering;
+
+/// The timers of a machine. Of those that end at one moment, prune-pending timers fire first.
+#[derive(Clone, Copy, Debug)]
+pub(crate) enum TimerKind {
+    PendingTimer,
+    ExpiryTimer,
+}
+
+/// A timer that runs.
+#[derive(Clone, Copy, Debug)]
+pub(crate) struct Deadline<A> {
+    pub(crate) ends_at: u64,
+    pub(crate) timer: TimerKind,
+    /// Whose timer it is.
+    pub(crate) key: Key<A>,
+}
+
+fn compare_kinds(a: TimerKind, b: TimerKind) -> Ordering
+    ensures { result ≡ nat_cmp (timer_rank a) (timer_rank b) }
+{
+    match (a, b) {
+        (TimerKind::PendingTimer, TimerKind::ExpiryTimer) => Ordering::Less,
+        (TimerKind::ExpiryTimer, TimerKind::PendingTimer) => Ordering::Greater,
+        _ => Ordering::Equal,
+    }
+}
+
+/// By deadline, prune-pending timers before expiry timers, by key.
+#[tactic(auto, unfolding(crate::specs::Schedule::deadline_cmp))]
+pub(crate) fn compare_deadlines<A, O: KeyOrder<A>>(a: &Deadline<A>, b: &Deadline<A>) -> Ordering
+    ensures { result ≡ deadline_cmp (deadline_seen O.bytes_of a.now) (deadline_seen O.bytes_of b.now) }
+{
+    a.ends_at
+        .cmp(&b.ends_at)
+        .then(compare_kinds(a.timer, b.timer))
+        .then(O::compare(&a.key, &b.key))
+}

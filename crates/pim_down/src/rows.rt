@@ -1,0 +1,259 @@
+//! The records of all ports, in key order, and how many each port has.
+
+ghost use Rattle.std.specs.Prelude.{◌≡◌, ℕ, List, ◌+◌, ◌-◌, ◌<◌, ◌≤◌, ◌↔◌, [], length, take, drop};
+ghost use Rattle.std.specs.Prelude.{slice_index_or, slice_set, OnOk, IsOk, IsTrue, Bool, true, false};
+ghost use Rattle.std.specs.List.{All, insert, remove};
+ghost use Rattle.std.specs.List.Sorted.{IsPartitionedBy, IsPartitionPoint};
+ghost use Rattle.sorted_blocks.specs.declared.place.Place.{Place};
+ghost use Rattle.sorted_slab.specs.Listed.{at, IsPlace, IsItem, IsFound};
+ghost use Rattle.pim_down.specs.declared.held.Held.{Held};
+ghost use Rattle.pim_down.specs.Records.{count_on};
+ghost use Rattle.pim_down.specs.Seen.{records_seen};
+
+use crate::held::{Held, Timed};
+use crate::key::Key;
+use sorted_blocks::{Place, Probe};
+use sorted_slab::{SortedSlab, Walk};
+use std::alloc::{AllocError, Global};
+use std::cmp::Ordering;
+use std::marker::Model;
+
+/// So many ports there may be.
+const PORTS: usize = 64;
+
+/// A bound in key order: which records stand before it.
+pub(crate) trait Bound<A> {
+    ghost use Rattle.pim_down.specs.declared.key.Key.{Key};
+
+    /// Whether a record of this key stands before it.
+    ghost is_before: { Self → Key A → Bool };
+
+    /// Whether a record of this key stands before it.
+    fn is_before(&self, key: &Key<A>) -> bool
+        ensures { result ≡ is_before self.now key.now };
+}
+
+/// A bound as it is sought among records.
+#[derive(Drop)]
+struct Side<'a, B> {
+    bound: &'a B,
+}
+
+impl<'a, A, B: Bound<A>> Probe<Held<A>> for Side<'a, B> {
+    ghost use Rattle.pim_down.specs.Store.{side};
+
+    ghost can_compare = { λ _ _. Unit {0} };
+
+    ghost order = { λ s held. side (B.is_before s.bound.now held.key) };
+
+    fn compare(&self, held: &Held<A>) -> Ordering {
+        if self.bound.is_before(&held.key) {
+            Ordering::Less
+        } else {
+            Ordering::Greater
+        }
+    }
+}
+
+/// The records of all ports. Contracts see their list, its places, and how many records fit without memory.
+#[derive(Drop)]
+pub(crate) struct Rows<A: Copy> {
+    list: SortedSlab<Held<A>, 64>,
+    /// How many records each port has.
+    counts: [usize; 64],
+}
+
+impl<A: Copy> Model for Rows<A> {
+    ghost use Rattle.sorted_slab.specs.Listed.{Listed};
+    ghost use Rattle.pim_down.specs.declared.held.Held.{Held};
+
+    ghost Value = { Listed (Held A) };
+
+    ghost use Rattle.pim_down.specs.Store.{IsKept};
+
+    ghost view = { λ s. s.list };
+
+    ghost invariant = { λ s. IsKept s.counts s.list };
+}
+
+/// No record on any port.
+fn no_counts() -> [usize; 64]
+    ensures { (port : ℕ) → slice_index_or result port 0 ≡ 0 }
+{
+    [0; 64]
+}
+
+/// Counts a record of this port.
+fn count_in(counts: &mut [usize; 64], port: usize)
+    requires { slice_index_or counts.old port 0 < 18446744073709551615 }
+    ensures { counts.new ≡ slice_set counts.old port (slice_index_or counts.old port 0 + 1) }
+{
+    if port < PORTS {
+        counts[port] += 1;
+    }
+}
+
+/// Counts a record of this port no longer.
+fn count_out(counts: &mut [usize; 64], port: usize)
+    requires { port < 64 → 1 ≤ slice_index_or counts.old port 0 }
+    ensures { counts.new ≡ slice_set counts.old port (slice_index_or counts.old port 0 - 1) }
+{
+    if port < PORTS {
+        counts[port] -= 1;
+    }
+}
+
+impl<A: Copy> Rows<A> {
+    /// No record; it takes no memory.
+    pub(crate) fn new(alloc: Global) -> Self
+        ensures { result.items ≡ [] }
+    {
+        Rows {
+            list: SortedSlab::new(alloc),
+            counts: no_counts(),
+        }
+    }
+
+    /// How many records there are.
+    pub(crate) fn len(&self) -> usize
+        ensures { result ≡ length self.now.items }
+    {
+        self.list.len()
+    }
+
+    /// How many records this port has.
+    pub(crate) fn count_on(&self, port: usize) -> usize
+        requires { port < 64 }
+        ensures { (bytes_of : A → List ℕ) → result ≡ count_on port (records_seen bytes_of self.now.items) }
+    {
+        self.counts[port]
+    }
+
+    /// Takes memory for so many more records: at `Ok` they fit, whichever go between. The records stay, at an `Err`
+    /// too. For none it takes no memory.
+    pub(crate) fn reserve(&mut self, additional: usize) -> Result<(), AllocError>
+        ensures ok { OnOk result (length self.new.items + additional ≤ self.new.capacity) }
+        ensures none { additional ≡ 0 → IsOk result }
+        ensures items { self.new.items ≡ self.old.items }
+        ensures capacity { self.old.capacity ≤ self.new.capacity }
+    {
+        self.list.reserve(additional)
+    }
+
+    /// Puts in a record at this place, within the capacity. The answer is where it stands then.
+    pub(crate) fn insert_within(&mut self, place: Place, held: Held<A>) -> Place
+        requires place { IsPlace self.old place }
+        requires within { length self.old.items < self.old.capacity }
+        ensures items { self.new.items ≡ insert self.old.items (at self.old place) held }
+        ensures capacity { self.new.capacity ≡ self.old.capacity }
+    {
+        let _most = self.list.capacity();
+        let stands = self.list.insert_within(place, held);
+        count_in(&mut self.counts, held.key.port);
+        stands
+    }
+
+    /// Takes out the record at this place. The answer is the place of the one that came next.
+    pub(crate) fn remove(&mut self, place: Place) -> Place
+        requires { IsItem self.old place }
+        ensures items { self.new.items ≡ remove self.old.items (at self.old place) }
+        ensures capacity { self.new.capacity ≡ self.old.capacity }
+        ensures place { IsPlace self.new result }
+        ensures at { at self.new result ≡ at self.old place }
+        ensures item { at self.new result < length self.new.items → IsItem self.new result }
+    {
+        let (gone, behind) = self.list.remove(place);
+        count_out(&mut self.counts, gone.key.port);
+        self.list.settled(behind)
+    }
+
+    /// Gives the record at this place another machine; its key stays.
+    pub(crate) fn set_machine(&mut self, place: Place, machine: Timed)
+        requires { IsItem self.old place }
+        ensures items { (d : Held A) → self.new.items ≡ slice_set self.old.items (at self.old place)
+            (record { key = (slice_index_or self.old.items (at self.old place) d).key; machine = machine }) }
+        ensures places { (p : Place) → IsItem self.old p → IsItem self.new p }
+        ensures at { (p : Place) → at self.new p ≡ at self.old p }
+        ensures capacity { self.new.capacity ≡ self.old.capacity }
+    {
+        let key = self.list.get(place).key;
+        self.list.set(place, Held { key, machine });
+    }
+
+    /// The record at this place.
+    pub(crate) fn get(&self, place: Place) -> &Held<A>
+        requires { IsItem self.now place }
+        ensures { result.now ≡ slice_index_or self.now.items (at self.now place) result.now }
+    {
+        self.list.get(place)
+    }
+
+    /// Whether a record stands at this place.
+    pub(crate) fn is_item(&self, place: Place) -> bool
+        ensures { IsTrue result ↔ IsItem self.now place }
+    {
+        self.list.is_item(place)
+    }
+
+    /// The place before all records: the first one's, where there is any.
+    pub(crate) fn first(&self) -> Place
+        ensures place { IsPlace self.now result }
+        ensures at { at self.now result ≡ 0 }
+        ensures item { 0 < length self.now.items → IsItem self.now result }
+    {
+        self.list.first()
+    }
+
+    /// The place behind this record: the next one's, where there is any.
+    pub(crate) fn next(&self, place: Place) -> Place
+        requires { IsItem self.now place }
+        ensures place { IsPlace self.now result }
+        ensures at { at self.now result ≡ at self.now place + 1 }
+        ensures item { at self.now place + 1 < length self.now.items → IsItem self.now result }
+    {
+        self.list.next(place)
+    }
+
+    /// So many records from this place on, in order, or those that there are.
+    pub(crate) fn walk(&self, place: Place, count: usize) -> Walk<'_, Held<A>, 64>
+        requires { IsPlace self.now place }
+        ensures { result ≡ take count (drop (at self.now place) self.now.items) }
+    {
+        self.list.walk(place, count)
+    }
+
+    /// All records, in order.
+    pub(crate) fn iter(&self) -> Walk<'_, Held<A>, 64>
+        ensures { result ≡ self.now.items }
+    {
+        self.list.walk(self.list.first(), self.list.len())
+    }
+
+    /// Where a record stands that compares equal, or else a gap. It begins at a place near which that may be; whatever
+    /// place it is, the answer is right.
+    pub(crate) fn find_near<P: Probe<Held<A>>>(
+        &self,
+        near: Place,
+        probe: &P,
+    ) -> Result<Place, Place>
+        requires { All (P.can_compare probe.now) self.now.items }
+        ensures { IsFound (P.order probe.now) self.now result }
+    {
+        self.list.find_near(near, probe)
+    }
+
+    /// The place behind the records that stand before the bound: that of the first other one, where there is any.
+    pub(crate) fn first_behind<B: Bound<A>>(&self, bound: &B) -> Place
+        requires { IsPartitionedBy (λ held. B.is_before bound.now held.key) self.now.items }
+        ensures place { IsPlace self.now result }
+        ensures within { at self.now result ≤ length self.now.items }
+        ensures item { at self.now result < length self.now.items → IsItem self.now result }
+        ensures parts { IsPartitionPoint (λ held. B.is_before bound.now held.key ≡ true)
+            (λ held. B.is_before bound.now held.key ≡ false) self.now.items (at self.now result) }
+    {
+        match self.list.find(&Side { bound }) {
+            Ok(_) => unreachable!(),
+            Err(place) => self.list.settled(place),
+        }
+    }
+}
