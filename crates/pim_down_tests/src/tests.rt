@@ -4,6 +4,7 @@
 
 mod hearing;
 mod limits;
+mod looks;
 mod nexts;
 mod running;
 mod tables;

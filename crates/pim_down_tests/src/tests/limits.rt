@@ -49,7 +49,7 @@ pub(super) const EXAMPLES: [Example; 2] = [
         ports: 1,
         limit: 2,
         rows: &[
-            Row::ShownFrom("Ports { ports: 1, limit: 2, moment: 0, quiet_until: 0, records: []"),
+            Row::ShownFrom("Ports { ports: 1, limit: 2, moment: 0, records: []"),
             Row::Hear(0, &[(GROUP, &[JOIN_STAR], &[])]),
             Row::Shown("records: [Held { key: Key { port: 0, "),
             Row::RecordsShownFrom("Records { moment: 0"),

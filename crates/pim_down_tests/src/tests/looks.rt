@@ -1,0 +1,142 @@
+//! How many timers a run looks at: 1,000 (*,G) machines, all heard of at the same moment.
+
+use super::{ALONE, ONE_RP, hear_body, table};
+use pim_addr::{Routes, V4};
+use pim_down::{Ports, Step};
+use std::alloc::{AllocError, Global};
+use std::test::Fail;
+
+/// What a run answers, how many looks it may take at most, and what is held and due then.
+struct Turn {
+    moment: u64,
+    most: u64,
+    held: usize,
+    due: Option<u64>,
+}
+
+/// Upstream 10.0.0.2, holdtime 210, and the group 239.1.HIGH.LOW with its star joined.
+fn message(high: u8, low: u8) -> [u8; 30] {
+    [
+        1, 0, 10, 0, 0, 2, 0, 1, 0, 210, 1, 0, 0, 32, 239, 1, high, low, 0, 1, 0, 0, 1, 0, 7, 32,
+        10, 9, 9, 9,
+    ]
+}
+
+/// Hears of 250 groups.
+fn hear_row(ports: &mut Ports<V4>, routes: &Routes<V4>, high: u8) -> bool {
+    for low in 0..250 {
+        if hear_body(ports, routes, 0, &message(high, low), ALONE) != Some(Ok(())) {
+            return false;
+        }
+    }
+    true
+}
+
+/// Hears of 1,000 groups.
+fn hear_all(ports: &mut Ports<V4>, routes: &Routes<V4>) -> bool {
+    for high in 0..4 {
+        if !hear_row(ports, routes, high) {
+            return false;
+        }
+    }
+    true
+}
+
+/// Whether a run goes so.
+fn goes(ports: &mut Ports<V4>, turn: &Turn) -> bool {
+    if turn.moment > 1_000_000_000_000_000 {
+        return false;
+    }
+    let (step, looks) = ports.run_counted(turn.moment);
+    step == Step::Reached
+        && looks <= turn.most
+        && ports.count_on(0) == turn.held
+        && ports.next_due() == turn.due
+}
+
+/// The first of these runs that doesn't go so, behind a hearing at 0 and, where it is to be, a refresh at 100,000.
+fn wrong(alloc: Global, refreshes: bool, turns: &[Turn]) -> Result<Option<usize>, AllocError> {
+    let Some(routes) = table(alloc, &ONE_RP) else {
+        return Err(AllocError);
+    };
+    let mut ports: Ports<V4> = Ports::new(alloc, 1, 1_000);
+    if !hear_all(&mut ports, &routes) {
+        return Ok(Some(0));
+    }
+    if refreshes && !is_refreshed(&mut ports, &routes) {
+        return Ok(Some(0));
+    }
+    Ok(wrong_turn(&mut ports, turns))
+}
+
+/// Runs to 100,000, and hears of all again.
+fn is_refreshed(ports: &mut Ports<V4>, routes: &Routes<V4>) -> bool {
+    ports.run_to(100_000) == Step::Reached && hear_all(ports, routes)
+}
+
+/// The first of these runs that doesn't go so.
+fn wrong_turn(ports: &mut Ports<V4>, turns: &[Turn]) -> Option<usize> {
+    for (index, turn) in turns.iter().enumerate() {
+        if !goes(ports, turn) {
+            return Some(index);
+        }
+    }
+    None
+}
+
+/// Nothing is due before the holdtime ends; then all machines expire at once.
+const ONCE: [Turn; 4] = [
+    Turn {
+        moment: 209_999,
+        most: 1,
+        held: 1_000,
+        due: Some(210_000),
+    },
+    Turn {
+        moment: 209_999,
+        most: 1,
+        held: 1_000,
+        due: Some(210_000),
+    },
+    Turn {
+        moment: 210_000,
+        most: 1_001,
+        held: 0,
+        due: None,
+    },
+    Turn {
+        moment: 1_000_000_000_000_000,
+        most: 0,
+        held: 0,
+        due: None,
+    },
+];
+
+/// Behind a refresh at 100,000.
+const REFRESHED: [Turn; 3] = [
+    Turn {
+        moment: 210_000,
+        most: 1,
+        held: 1_000,
+        due: Some(310_000),
+    },
+    Turn {
+        moment: 309_999,
+        most: 1,
+        held: 1_000,
+        due: Some(310_000),
+    },
+    Turn {
+        moment: 310_001,
+        most: 1_001,
+        held: 0,
+        due: None,
+    },
+];
+
+#[test]
+fn looks_go_by_the_timers_that_fire(rt: HostRuntime) -> Result<(), Fail> {
+    assert_eq!(rt; wrong(rt.alloc(), false, &ONCE)?, None);
+    assert_eq!(rt; wrong(rt.alloc(), true, &REFRESHED)?, None);
+    Ok(())
+}
