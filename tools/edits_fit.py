@@ -20,6 +20,8 @@ def misfit(crate, edit):
         word, _, text = line.partition(": ")
         if word == "file":
             file = crate / text
+            if not file.is_file():
+                return f"no file {text}"
             texts.setdefault(file, file.read_text())
         elif word == "old":
             old = text

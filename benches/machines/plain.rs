@@ -421,7 +421,7 @@ fn measure(name: &str, bodies: &[Vec<u8>], rounds: u64) {
         hear_all(&mut ports, bodies);
         tell("  fresh, a record", ports.count, begin.elapsed().as_nanos(), ports.count);
         let mut least = u128::MAX;
-        for round in 0..rounds {
+        for round in 1..rounds + 1 {
             ports.moment = round;
             let begin = Instant::now();
             hear_all(&mut ports, bodies);

@@ -373,9 +373,9 @@ impl<'a, F: Family> Router<'a, F> {
     /// Runs to this moment, in milliseconds, at most 10^15, or until an echo or a Refresh is told; an earlier moment
     /// counts as now. What is still due stays due, and the next call goes on.
     ///
-    /// It takes no memory. It walks through all records once for each timer that fires, and once more; through none
-    /// where nothing was heard since the last walk and no timer ends, so that a quiet minute costs the same however
-    /// many records are held; and through no neighbour whose time isn't over. A loop of calls that goes on until
+    /// It takes no memory. Of the machines it looks at the timer that fires first alone, once for each timer that fires
+    /// and once more, so that a quiet minute costs the same however many records are held; and it walks through no
+    /// neighbour whose time isn't over. A loop of calls that goes on until
     /// `Reached` comes to its end, since `turns_left` falls.
     pub fn run_to(&mut self, moment: u64) -> Step<F::Addr>
         requires { moment ≤ 10 ^ 15 }
