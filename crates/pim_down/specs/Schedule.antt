@@ -1,5 +1,6 @@
 -- The timers that run, in the order in which they fire: by deadline, prune-pending timers before expiry timers, by key.
-use Rattle.std.specs.Prelude.{◌≡◌, ℕ, ◌+◌, ◌-◌, ◌*◌, ◌≤◌, false, List, [], ◌∷◌, length, Option, None, Some, if◌then◌else◌}
+use Rattle.std.specs.Prelude.{◌≡◌, ℕ, ◌+◌, ◌-◌, ◌*◌, ◌≤◌, false, if◌then◌else◌}
+use Rattle.std.specs.Prelude.{List, [], ◌∷◌, length, Option, None, Some}
 use Rattle.std.specs.declared.cmp.Ordering.{Ordering}
 use Rattle.std.specs.List.{slice_get}
 use Rattle.std.specs.Ordering.{nat_cmp, ordering_then, is_eq, is_gt}
@@ -82,7 +83,8 @@ pub record Scheduled : Type 0 where
   pub capacity : ℕ
 
 -- The schedule has the timers of the records, and room for two of each of so many records, and for two more.
-pub record IsTimed {A : Type 0} (bytes_of : A → List ℕ) (rows : Listed (Held A)) (schedule : Scheduled) (space : ℕ) : Type 0 where
+pub record IsTimed {A : Type 0} (bytes_of : A → List ℕ) (rows : Listed (Held A)) (schedule : Scheduled) (space : ℕ) :
+    Type 0 where
   pub timers : schedule.timers ≡ timers_of (records_seen bytes_of rows.items)
   pub fits : length rows.items ≤ space
   pub room : 2 * space ≤ schedule.capacity - 2

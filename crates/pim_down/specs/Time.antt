@@ -172,7 +172,8 @@ fires_within (suc turns) moment state =
 
 -- The run up to the moment tells this and leaves that, with one look for each timer that fires in it and at most one
 -- more.
-pub record RunsLooking (moment : ℕ) (state : Downstream) (answer : Step (List ℕ)) (after : Downstream) (looks : ℕ) : Type 0 where
+pub record RunsLooking (moment : ℕ) (state : Downstream) (answer : Step (List ℕ)) (after : Downstream) (looks : ℕ) :
+    Type 0 where
   pub turns : ℕ
   pub within : run_within turns moment state ≡ Some (answer, after)
   pub each : fires_within turns moment state ≤ looks

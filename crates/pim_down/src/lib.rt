@@ -3,8 +3,8 @@
 //!
 //! Proved: contracts see `Ports` as a finite map from keys to machines with countdowns. `hear` acts by the transition
 //! tables on that map, or refuses with nothing changed; `run_to` is the machine that counts milliseconds, stopped at
-//! its first echo, and looks at one timer for each that fires and at one more at most; `next_due` is the first moment at
-//! which that machine fires a timer. No machine is in a Tmp state between calls, and no port has more records than its
+//! its first echo, and looks at one timer for each that fires and at one more at most; `next_due` is the first moment
+//! at which that machine fires a timer. No machine is in a Tmp state between calls, and no port has more records than its
 //! limit.
 #![tactic(auto)]
 

@@ -114,8 +114,8 @@ impl<F: Family> Ports<F> {
         let _ports = self.ports;
     }
 
-    /// The first moment, from now on, at which a timer fires; `None` where none ever does. It looks at the timer that fires
-    /// first.
+    /// The first moment, from now on, at which a timer fires; `None` where none ever does. It looks at the timer that
+    /// fires first.
     pub fn next_due(&self) -> Option<u64>
         ensures { IsNextDue self.now result }
     {
@@ -211,7 +211,8 @@ impl<F: Family> Ports<F> {
     /// Runs to this moment, in milliseconds, at most 10^15, or to the first echo; an earlier moment counts as now. What
     /// is still due after an echo stays due, and the next call goes on.
     ///
-    /// It takes no memory, and looks at the timer that fires first alone: once for each timer that fires, and once more.
+    /// It takes no memory, and looks at the timer that fires first alone: once for each timer that fires, and once
+    /// more.
     pub fn run_to(&mut self, moment: u64) -> Step<F::Addr>
         requires { moment ≤ 1000000000000000 }
         ensures run { Runs moment self.old (step_seen F.bytes_of result) self.new }
@@ -225,8 +226,8 @@ impl<F: Family> Ports<F> {
         step
     }
 
-    /// Runs like `run_to`. Beside what is told stands how many looks there were: a look compares the end of one timer with
-    /// the moment. There is one for each timer that fires, and at most one more.
+    /// Runs like `run_to`. Beside what is told stands how many looks there were: a look compares the end of one timer
+    /// with the moment. There is one for each timer that fires, and at most one more.
     pub fn run_counted(&mut self, moment: u64) -> (Step<F::Addr>, u64)
         requires { moment ≤ 1000000000000000 }
         ensures run { RunsLooking moment self.old (step_seen F.bytes_of result.0) self.new result.1 }

@@ -5,7 +5,8 @@ ghost use Rattle.std.specs.List.{slice_get, insert};
 ghost use Rattle.sorted_blocks.specs.Shape.{items};
 ghost use Rattle.sorted_blocks.specs.Places.{before, IsPlace};
 ghost use Rattle.pim_down.specs.declared.deadline.Deadline.{Deadline};
-ghost use Rattle.pim_down.specs.Schedule.{deadline_cmp, deadline_seen, placed, without, IsInOrder, with_end, with_timers};
+ghost use Rattle.pim_down.specs.Schedule.{deadline_cmp, deadline_seen, placed, without, IsInOrder};
+ghost use Rattle.pim_down.specs.Schedule.{with_end, with_timers};
 ghost use Rattle.pim_down.specs.Ends.{pending_end};
 ghost use Rattle.pim_down.specs.Seen.{key_seen, waiting_seen, timed_seen, record_seen};
 
@@ -29,7 +30,8 @@ impl<A: Copy, O: KeyOrder<A>> Probe<Deadline<A>> for Wanted<A, O> {
 
     ghost can_compare = { λ _ _. Unit {0} };
 
-    ghost order = { λ sought other. deadline_cmp (deadline_seen O.bytes_of other) (deadline_seen O.bytes_of sought.deadline) };
+    ghost order = { λ sought other.
+        deadline_cmp (deadline_seen O.bytes_of other) (deadline_seen O.bytes_of sought.deadline) };
 
     fn compare(&self, other: &Deadline<A>) -> Ordering {
         compare_deadlines::<A, O>(other, &self.deadline)
@@ -54,7 +56,10 @@ impl<A: Copy, O: KeyOrder<A>> Model for Schedule<A, O> {
 
     ghost Value = { Scheduled };
 
-    ghost view = { λ s. record { timers = map (deadline_seen O.bytes_of) (items s.list); capacity = capacity 32 s.list } };
+    ghost view = { λ s. record {
+      timers = map (deadline_seen O.bytes_of) (items s.list);
+      capacity = capacity 32 s.list;
+    } };
 
     ghost invariant = { λ s. IsInOrder deadline_cmp (map (deadline_seen O.bytes_of) (items s.list)) };
 }
@@ -239,8 +244,10 @@ impl<A: Copy, O: KeyOrder<A>> Schedule<A, O> {
     pub(crate) fn change_all(&mut self, key: Key<A>, from: &Timed, to: &Timed)
         requires { length self.old.timers + 2 ≤ self.old.capacity }
         ensures timers { (rest : List (Deadline (List ℕ))) →
-            self.old.timers ≡ with_timers (record { key = key_seen O.bytes_of key; machine = timed_seen from.now }) rest →
-            self.new.timers ≡ with_timers (record { key = key_seen O.bytes_of key; machine = timed_seen to.now }) rest }
+            self.old.timers
+            ≡ with_timers (record { key = key_seen O.bytes_of key; machine = timed_seen from.now }) rest →
+            self.new.timers
+            ≡ with_timers (record { key = key_seen O.bytes_of key; machine = timed_seen to.now }) rest }
         ensures capacity { self.new.capacity ≡ self.old.capacity }
     {
         self.change(

@@ -112,8 +112,8 @@ fn fire_pending<F: Family>(
     (echo_of(&fired), behind)
 }
 
-/// Fires the timer that is the first of all, at its end. It begins to look for the record near this place. Beside what is
-/// told stands a place near by.
+/// Fires the timer that is the first of all, at its end. It begins to look for the record near this place. Beside what
+/// is told stands a place near by.
 pub(crate) fn fire_first<F: Family>(
     records: &mut Store<F::Addr, OfFamily<F>>,
     near: Place,
