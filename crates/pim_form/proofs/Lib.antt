@@ -45,3 +45,5 @@ pub mod Collecting
 pub mod AllPorts
 pub mod EntriesWritten
 pub mod PortSettled
+pub mod UnitCounts
+pub mod AskedGroups

@@ -5,6 +5,7 @@ use Rattle.std.proofs.lemmas.List.{append_cancel_left}
 use Rattle.pim_addr.specs.declared.family.AddressFamily.{AddressFamily}
 use Rattle.pim_addr.specs.declared.family.AddressFamily.TheVariants.{Ipv4, Ipv6}
 use Rattle.pim_form.specs.Units.{WantUnit, unit_group, run_entries, groups_behind, run_groups, run_size}
+use Rattle.pim_form.specs.Laws.{BeginsWith}
 use Rattle.pim_form.specs.Packing.{fits, most_groups, StopsBefore, IsNonempty, joined, AreRuns, IsPacking}
 
 -- ---- the front of a run that fits
@@ -84,3 +85,16 @@ module _ (family : AddressFamily) (budget : ℕ) where
 
   pub one_packing : (units : List WantUnit) (one other : List (List WantUnit)) → IsPacking family budget units one → IsPacking family budget units other → one ≡ other
   one_packing units one other is_one is_other = runs_same one other is_one.cut is_other.cut (is_one.whole ∙ sym is_other.whole)
+
+  pub first_run : (run left : List WantUnit) (runs : List (List WantUnit)) → IsNonempty run → fits family budget run ≡ true → StopsBefore family budget run left
+      → IsPacking family budget (run ++ left) runs → BeginsWith family budget run left runs
+  unfolding AreRuns
+  first_run run left [] some fit stop is = absurd (empty_run run left some is.whole)
+  first_run run left (q ∷ qs) some fit stop is =
+      let head : run ≡ q = cut [] run q left (joined qs) (sym is.whole) fit is.cut.1 stop is.cut.2 in
+      let tail : run ++ left ≡ run ++ joined qs = subst (λ (r : List WantUnit). run ++ left ≡ r ++ joined qs) (sym head) (sym is.whole) in
+      record {
+        others = qs;
+        begins = λ i. sym head i ∷ qs;
+        packing = record { whole = sym (append_cancel_left run left (joined qs) tail); cut = is.cut.3 };
+      }

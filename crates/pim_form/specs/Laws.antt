@@ -1,5 +1,5 @@
 -- The words of the laws in `src/laws.rt`.
-use Rattle.std.specs.Prelude.{◌≡◌, ◌↔◌, ◌≤◌, false, true, List, [], ℕ, Option, Some, length}
+use Rattle.std.specs.Prelude.{◌≡◌, ◌↔◌, ◌≤◌, false, true, List, [], ◌∷◌, ◌++◌, ℕ, Option, Some, length}
 use Rattle.pim_addr.specs.declared.family.AddressFamily.{AddressFamily}
 use Rattle.pim_frame.specs.Frame.{join_prune, frame_faults, content, all_routers}
 use Rattle.pim_frame.specs.Seal.{IsSealed}
@@ -13,7 +13,7 @@ use Rattle.pim_form.specs.NormalForm.{most_exceptions, WantTheSame}
 use Rattle.pim_form.specs.declared.tree.Tree.{Tree}
 use Rattle.pim_form.specs.Toward.{toward, SharedHaveRps}
 use Rattle.pim_form.specs.Units.{WantUnit, units_of, run_size}
-use Rattle.pim_form.specs.Packing.{IsPacking, fits}
+use Rattle.pim_form.specs.Packing.{IsPacking, fits, IsNonempty, StopsBefore}
 use Rattle.pim_form.specs.Messages.{Rps, Writing, IsWriting, HaveRps, AreCanonical, told_message}
 
 -- The bytes, sent from `source` to ALL-PIM-ROUTERS, are opened as a Join/Prune whose body is read as this message, and
@@ -53,6 +53,19 @@ OneNormalForm = (family : AddressFamily) (one other : List GroupForm) → IsNorm
 abbrev pub OnePacking : Type 0
 OnePacking = (family : AddressFamily) (budget : ℕ) (units : List WantUnit) (one other : List (List WantUnit)) →
     IsPacking family budget units one → IsPacking family budget units other → one ≡ other
+
+-- these runs begin with this one, and the others are a packing of what is left
+pub record BeginsWith (family : AddressFamily) (budget : ℕ) (run left : List WantUnit) (runs : List (List WantUnit))
+    : Type 0 where
+  pub others : List (List WantUnit)
+  pub begins : runs ≡ run ∷ others
+  pub packing : IsPacking family budget left others
+
+-- A run at the front of the units that fits, and would not with the next unit, is the first of any packing.
+abbrev pub FirstRunIsTold : Type 0
+FirstRunIsTold = (family : AddressFamily) (budget : ℕ) (run left : List WantUnit) (runs : List (List WantUnit)) →
+    IsNonempty run → fits family budget run ≡ true → StopsBefore family budget run left →
+    IsPacking family budget (run ++ left) runs → BeginsWith family budget run left runs
 
 -- normal forms that one writer tells by the same canonical messages are one
 abbrev pub MessagesTellTheForm : Type 0

@@ -2,7 +2,8 @@
 
 ghost use Rattle.pim_form.specs.Laws.{SealedMessageIsRead, SomeSourceIsOutside, OneNormalForm, OnePacking};
 ghost use Rattle.pim_form.specs.Laws.{MessagesTellTheForm, OneListOfMessages, SameMessagesSameDemand, SizeIsLength};
-ghost use Rattle.pim_form.specs.Laws.{OneNeighbourIsAskedForAll};
+ghost use Rattle.pim_form.specs.Laws.{OneNeighbourIsAskedForAll, FirstRunIsTold};
+ghost use Rattle.pim_form.specs.Asked.{GroupsAreCounted};
 
 /// A canonical message that is sealed for ALL-PIM-ROUTERS opens between the same addresses as a Join/Prune without a
 /// fault, and its body is read without a fault as that message (RFC 7761, 4.9 and 4.9.5).
@@ -26,6 +27,12 @@ pub fn one_normal_form()
 /// A list of units has at most one packing within a budget.
 pub fn one_packing()
     ensures { OnePacking }
+{}
+
+/// A run at the front of the units that fits within a budget, and would not with the next unit, is the first of any
+/// packing.
+pub fn first_run_is_told()
+    ensures { FirstRunIsTold }
 {}
 
 /// The size of a run that fits is the length of the message that tells it.
@@ -64,4 +71,9 @@ pub fn same_messages_same_demand()
 /// neighbour is asked for the whole demand.
 pub fn one_neighbour_is_asked_for_all()
     ensures { OneNeighbourIsAskedForAll }
+{}
+
+/// The units of a part of a form are of as many groups as the part has.
+pub fn groups_are_counted()
+    ensures { GroupsAreCounted }
 {}

@@ -1,6 +1,7 @@
 //! What is asked of one upstream neighbour, and the messages that ask it. Nothing here is to be called.
 
 ghost use Rattle.pim_form.specs.TowardLaws.{TestTellsWhoIsAsked, OneRowAsksOneNeighbour, SameMessagesSameAsked};
+ghost use Rattle.pim_form.specs.Asked.{AskedFormIsAsked};
 
 use crate::laws::same_messages_same_demand;
 
@@ -24,4 +25,14 @@ pub fn same_messages_same_asked()
     ensures { SameMessagesSameAsked }
 {
     same_messages_same_demand();
+}
+
+/// The ports' records collect and merge to the normal form of what a neighbour is asked for. A group has a star where
+/// some port has (*,G) in Join or Prune-Pending and the RP is reached by the neighbour; its exceptions are the sources
+/// that no port wants on the shared tree; its sources are those that some port wants on their own trees and that are
+/// reached by the neighbour (RFC 7761, 4.1). The form has at most 6,400,000 units: as many as there may be records.
+pub fn form_of_what_is_asked()
+    ensures { AskedFormIsAsked }
+{
+    pim_down::keys_are_told_apart();
 }

@@ -1,0 +1,60 @@
+-- The normal form of what one upstream neighbour is asked for, told from the records of the ports.
+use Rattle.std.specs.Prelude.{◌≡◌, ◌≤◌, ℕ, zero, suc, true, false, ◌&&◌, not, List, [], length}
+use Rattle.std.specs.Option.{is_some}
+use Rattle.std.specs.List.{AllByRecursion}
+use Rattle.pim_addr.specs.declared.family.AddressFamily.{AddressFamily}
+use Rattle.pim_addr.specs.Address.{IsGroupAddress, IsSourceAddress}
+use Rattle.pim_addr.specs.Routes.{RouteTable}
+use Rattle.pim_down.specs.declared.key.What.TheVariants.{Star}
+use Rattle.pim_down.specs.Known.{known_in}
+use Rattle.pim_down.specs.Sound.{IsSound}
+use Rattle.pim_down.specs.Time.{Downstream}
+use Rattle.pim_form.specs.declared.tree.Tree.TheVariants.{Shared, Source}
+use Rattle.pim_form.specs.Collect.{of_port, collected}
+use Rattle.pim_form.specs.KeptToward.{form_toward}
+use Rattle.pim_form.specs.Merge.{merged}
+use Rattle.pim_form.specs.NormalForm.{GroupForm, AreAscending, IsFormOf, groups_of, is_empty, is_listed}
+use Rattle.pim_form.specs.Rows.{exceptions_of}
+use Rattle.pim_form.specs.Settled.{group_in}
+use Rattle.pim_form.specs.Toward.{via_in, via_rp, is_neighbour}
+use Rattle.pim_form.specs.TowardLaws.{asked_of}
+use Rattle.pim_form.specs.Units.{units_of, run_groups}
+use Rattle.pim_form.specs.Wants.{is_joined, state_on, some_below, wants}
+
+-- what the first so many ports want
+unfoldable pub form_below : ℕ → Downstream → List GroupForm
+form_below zero state = []
+form_below (suc count) state = merged (collected (of_port count state)) (form_below count state)
+
+module _ (family : AddressFamily) (table : RouteTable) (neighbour : List ℕ) (state : Downstream) where
+  -- what all ports want, as far as the neighbour is asked for it
+  unfoldable pub asked_form : List GroupForm
+  asked_form = form_toward (known_in family table) (via_in family table) neighbour (form_below state.ports state)
+
+  -- What the form has of a group: a star where (*,G) is in Join or Prune-Pending on some port and the RP is reached by
+  -- the neighbour; its exceptions are the sources that no port wants on the shared tree; its sources those that some
+  -- port wants on their own, and that are reached by the neighbour (RFC 7761, 4.1).
+  pub record HasAsked (group : List ℕ) (this : GroupForm) : Type 0 where
+    pub star : is_some this.star
+        ≡ (some_below state.ports (λ port. is_joined (state_on state.records port group Star))
+        && is_neighbour neighbour (via_rp (via_in family table) (known_in family table group)))
+    pub exceptions : is_some this.star ≡ true → (source : List ℕ) → IsSourceAddress family source →
+        is_listed source (exceptions_of this.star) ≡ not (wants state source group Shared)
+    pub sources : (source : List ℕ) → IsSourceAddress family source →
+        is_listed source this.sources
+        ≡ (wants state source group Source && is_neighbour neighbour (via_in family table source))
+
+  pub record IsAskedForm (form : List GroupForm) : Type 0 where
+    pub is : IsFormOf family (asked_of family table neighbour state) form
+    pub groups : (group : List ℕ) → IsGroupAddress family group → HasAsked group (group_in group form)
+    pub few : length (units_of form) ≤ 6400000
+
+-- Every state has a normal form of what a neighbour is asked for, with no more units than there may be records.
+abbrev pub AskedFormIsAsked : Type 0
+AskedFormIsAsked = (family : AddressFamily) (table : RouteTable) (neighbour : List ℕ) (state : Downstream) →
+    IsSound family state → IsAskedForm family table neighbour state (asked_form family table neighbour state)
+
+-- The units of a part of a form are of as many groups as the part has.
+abbrev pub GroupsAreCounted : Type 0
+GroupsAreCounted = (part : List GroupForm) → AreAscending (groups_of part) →
+    AllByRecursion (λ this. is_empty this.star this.sources ≡ false) part → run_groups (units_of part) ≡ length part
