@@ -1,0 +1,116 @@
+//! The machines of a group, over all ports: which source, and which group, comes next.
+
+ghost use Rattle.std.specs.Prelude.{◌≡◌, ◌&&◌, Some, List, ℕ, option_map};
+ghost use Rattle.std.specs.declared.cmp.Ordering.TheVariants.{Less};
+ghost use Rattle.pim_addr.specs.Address.{IsSourceAddress};
+ghost use Rattle.pim_down.specs.After.{is_above};
+ghost use Rattle.pim_down.specs.Key.{address_cmp};
+ghost use Rattle.pim_form.specs.Wants.{some_below};
+ghost use Rattle.pim_emit.specs.Least.{IsLeast};
+ghost use Rattle.pim_emit.specs.Machines.{is_starred, is_source_joined, has_rpt, has_group, IsSomeBelow};
+
+use crate::least::lesser;
+use pim_addr::Family;
+use pim_down::{Ports, State, What};
+
+/// Whether the port has (*,G) in Join or Prune-Pending.
+fn is_starred<F: Family>(ports: &Ports<F>, port: usize, group: F::Addr) -> bool
+    ensures { result ≡ is_starred ports.now (F.bytes_of group) port }
+{
+    matches!(
+        ports.state_of(port, group, What::Star),
+        Some(State::Join | State::PrunePending)
+    )
+}
+
+/// The first port that has (*,G) in Join or Prune-Pending.
+pub(crate) fn first_starred<F: Family>(ports: &Ports<F>, group: F::Addr) -> Option<usize>
+    ensures { IsSomeBelow ports.now.ports (is_starred ports.now (F.bytes_of group)) result }
+{
+    let count = ports.port_count();
+    for port in 0..count {
+        if is_starred::<F>(ports, port, group) {
+            return Some(port);
+        }
+    }
+    None
+}
+
+/// The least source above the bound, or of all, with (S,G) in Join or Prune-Pending on the port.
+fn source_on<F: Family>(
+    ports: &Ports<F>,
+    port: usize,
+    group: F::Addr,
+    bound: Option<F::Addr>,
+) -> Option<F::Addr>
+    ensures { IsLeast (λ source. is_above (option_map F.bytes_of bound) source
+        && is_source_joined ports.now (F.bytes_of group) source port) (option_map F.bytes_of result) }
+{
+    ports.is_sound();
+    pim_down::keys_are_told_apart();
+    let passed = match bound {
+        Some(source) => What::Source(source),
+        None => What::Star,
+    };
+    match ports.record_after(port, group, passed)?.key.what {
+        What::Source(source) => Some(source),
+        _ => None,
+    }
+}
+
+/// The least source above the bound, or of all, with (S,G) in Join or Prune-Pending on some port.
+pub(crate) fn least_source<F: Family>(
+    ports: &Ports<F>,
+    group: F::Addr,
+    bound: Option<F::Addr>,
+) -> Option<F::Addr>
+    ensures { IsLeast (λ source. some_below ports.now.ports (λ port. is_above (option_map F.bytes_of bound) source
+        && is_source_joined ports.now (F.bytes_of group) source port)) (option_map F.bytes_of result) }
+{
+    let count = ports.port_count();
+    let mut least = None;
+    for port in 0..count {
+        least = lesser::<F>(least, source_on::<F>(ports, port, group, bound));
+    }
+    least
+}
+
+/// The least source above this address whose (S,G,rpt) machine is held on the port.
+pub(crate) fn rpt_after<F: Family>(
+    ports: &Ports<F>,
+    port: usize,
+    group: F::Addr,
+    bound: F::Addr,
+) -> Option<F::Addr>
+    ensures { IsLeast (λ source. is_above (Some (F.bytes_of bound)) source
+        && has_rpt ports.now port (F.bytes_of group) source) (option_map F.bytes_of result) }
+{
+    ports.is_sound();
+    pim_down::keys_are_told_apart();
+    match ports.record_after(port, group, What::Rpt(bound))?.key.what {
+        What::Rpt(source) => Some(source),
+        _ => None,
+    }
+}
+
+/// The address before all valid sources.
+pub(crate) fn lowest<F: Family>() -> F::Addr
+    ensures { (source : List ℕ) → IsSourceAddress F.family source →
+        address_cmp (F.bytes_of result) source ≡ Less }
+{
+    F::take(&[0; 16])
+}
+
+/// The least group above the bound, or of all, with a record on some port.
+pub(crate) fn least_group<F: Family>(ports: &Ports<F>, bound: Option<F::Addr>) -> Option<F::Addr>
+    ensures { IsLeast (λ group. some_below ports.now.ports (λ port. is_above (option_map F.bytes_of bound) group
+        && has_group ports.now group port)) (option_map F.bytes_of result) }
+{
+    ports.is_sound();
+    let count = ports.port_count();
+    let mut least = None;
+    for port in 0..count {
+        least = lesser::<F>(least, ports.group_after(port, bound));
+    }
+    least
+}
