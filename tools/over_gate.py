@@ -1,15 +1,15 @@
 #!/usr/bin/env python3
-"""Works on one crate over the libraries that a gate left in crates/*/out, which rt itself doesn't take up.
+"""Works on one crate over the libraries that `rt ci` kept on this machine, which `rt check` doesn't take up and would build anew.
 
-A gate builds each library with its statements alone, and `rt check` builds them all anew. This saves that hour: copy
-crates/NAME/out/rlib of the crates below from the gate's copy, whose sources are the same, and in the crate's folder
+In the crate's folder, where `rt ci` (with or without names) has proved the crates below, whose texts are the same here:
 
+    tools/over_gate.py libraries                puts those libraries into crates/*/out
     tools/over_gate.py check [--only=FUNCTION ..] [--test] [--allow-holes]
     tools/over_gate.py edits [NAME.edit ..]     those of must-fail/, or these, of more-must-fail/ too
     tools/over_gate.py build                    for the crates above, after a check
     tools/over_gate.py plant [rt plant's flags]
 
-What it answers is no verdict: `rt ci` gives that. It knows the inside of rattle-kit-13b.
+What it answers is no verdict: `rt ci` gives that. It knows the inside of rattle-kit-13f.
 """
 import importlib.machinery
 import importlib.util
@@ -52,14 +52,27 @@ def edits(rt, crate, names):
     for name in names:
         edit = next(f"{os.getcwd()}/{it}/{name}" for it in folders if os.path.isfile(f"{it}/{name}"))
         begun = time.monotonic()
-        well, text = rt.must_fail(crate, edit, ["--jobs", "1"], f"{os.getcwd()}/{KEPT}")
+        kind, text = rt.must_fail(crate, edit, ["--jobs", "1"], f"{os.getcwd()}/{KEPT}")
         print(f"{time.monotonic() - begun:.0f} s: {text}", flush=True)
-        failed += not well
+        failed += kind not in (rt.REFUSED, rt.AT_LIMIT)
     return 1 if failed else 0
 
 
+def libraries(rt, crate):
+    kept, lacking = rt.Kept(crate.below()), []
+    for it in crate.below():
+        if kept.give(it, False, kept.key(it)):
+            kept.is_built(it)
+        elif it.is_built():
+            kept.is_built(it)
+        else:
+            lacking.append(it.name)
+    print(f"not kept: {' '.join(lacking)}" if lacking else "all libraries below stand in out/", flush=True)
+    return 1 if lacking else 0
+
+
 def main(verb="", *flags):
-    if verb not in ("check", "build", "edits", "plant"):
+    if verb not in ("libraries", "check", "build", "edits", "plant"):
         print(__doc__, end="", file=sys.stderr)
         return 2
     sys.path.insert(0, BIN)
@@ -71,6 +84,8 @@ def main(verb="", *flags):
     import rtlib
 
     crate = crate_here(rtlib)
+    if verb == "libraries":
+        return libraries(rt, crate)
     return edits(rt, crate, flags) if verb == "edits" else run(rtlib, crate, verb, flags)
 
 
