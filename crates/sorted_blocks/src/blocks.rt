@@ -216,7 +216,7 @@ impl<T: Copy, const HALF: usize> Blocks<T, HALF> {
     }
 
     /// The same, beginning at a place near which it may stand; whatever place that is, the answer is right. Where it
-    /// stands at that place, or right behind, it costs a comparison or two.
+    /// stands at that place, right behind, or in the gap right before, it costs a few comparisons.
     pub fn find_near<P: Probe<T>>(&self, near: Place, probe: &P) -> Result<Place, Place>
         requires { All (P.can_compare probe.now) (items self.now) }
         ensures { IsFound (P.order probe.now) self.now result }

@@ -57,6 +57,9 @@ fn seek<T: Copy, P: Probe<T>>(probe: &P, row: &[T], low: usize) -> Result<usize,
     requires less { (d : T) → 0 < low → P.order probe.now (slice_index_or row.now (low - 1) d) ≡ Ordering.Less }
     ensures { IsSought (P.order probe.now) row.now low result }
 {
+    if low == row.len() {
+        return Err(low);
+    }
     let at = guess(probe, row);
     if at < low {
         return seek_in_any(probe, row, low);
@@ -109,17 +112,40 @@ impl<T: Copy, const HALF: usize> Store<T, HALF> {
     }
 
     /// The same, beginning at a place near which it may stand; whatever place that is, the answer is right. Where it
-    /// stands at that place, or right behind, it costs a comparison or two.
+    /// stands at that place, right behind or in the gap right before, it costs a comparison or two.
     pub(crate) fn find_near<P: Probe<T>>(&self, near: Place, probe: &P) -> Result<Place, Place>
         requires { All (P.can_compare probe.now) (items self.now) }
         ensures { IsFound (P.order probe.now) self.now result }
     {
         if !self.is_item(near) {
-            return self.find(probe);
+            return self.find_before(near, probe);
         }
         match probe.compare(self.item_of(near.block, near.at)) {
             Ordering::Less => self.find_behind(near, probe),
             Ordering::Equal => Ok(near),
+            Ordering::Greater => self.find_before(near, probe),
+        }
+    }
+
+    /// The answer, beginning at the item before this place: what is sought next after a gap mostly stands in the same
+    /// gap.
+    fn find_before<P: Probe<T>>(&self, near: Place, probe: &P) -> Result<Place, Place>
+        requires { All (P.can_compare probe.now) (items self.now) }
+        ensures { IsFound (P.order probe.now) self.now result }
+    {
+        if near.at == 0 {
+            return self.find(probe);
+        }
+        let place = Place {
+            block: near.block,
+            at: near.at - 1,
+        };
+        if !self.is_item(place) {
+            return self.find(probe);
+        }
+        match probe.compare(self.item_of(place.block, place.at)) {
+            Ordering::Less => self.find_behind(place, probe),
+            Ordering::Equal => Ok(place),
             Ordering::Greater => self.find(probe),
         }
     }
