@@ -7,6 +7,7 @@ pub mod SetParts
 pub mod Legal
 pub mod Spelled
 pub mod Order
+pub mod OtherWay
 pub mod Canonical
 pub mod PlainSpelling
 pub mod Walks

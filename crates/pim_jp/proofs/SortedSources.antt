@@ -265,16 +265,21 @@ module _ {N : Type 0} (value_of : N → ℕ) where
       (λ (here : number ≡ value_of x). ap (is_among value_of sorted) here ∙ missing 0 x (omega arith))
       (is_first number x (is_among value_of numbers number) (nat_eq number (value_of x)) refl found)
 
-  pub none_listed : (sources rpts these_sources these_rpts : List N) (others : List (Entry (List ℕ))) (this : Entry (List ℕ))
+  pub listed_elsewhere : (sources rpts these_sources these_rpts : List N)
       → ((k : ℕ) (d : N) → k < length these_sources → is_among value_of sources (value_of (get_or these_sources k d)) ≡ false)
       → ((k : ℕ) (d : N) → k < length these_rpts → is_among value_of rpts (value_of (get_or these_rpts k d)) ≡ false)
+      → (this : Entry (List ℕ)) → is_listed value_of these_sources these_rpts this ≡ true → is_listed value_of sources rpts this ≡ false
+  listed_elsewhere sources rpts these_sources these_rpts no_source no_rpt (Star rp) found = refl
+  listed_elsewhere sources rpts these_sources these_rpts no_source no_rpt (Source source) found = none_among sources these_sources (number_of source) no_source found
+  listed_elsewhere sources rpts these_sources these_rpts no_source no_rpt (Rpt source) found = none_among rpts these_rpts (number_of source) no_rpt found
+
+  pub none_listed : (sources rpts these_sources these_rpts : List N) (others : List (Entry (List ℕ))) (this : Entry (List ℕ))
+      → (is_listed value_of these_sources these_rpts this ≡ true → is_listed value_of sources rpts this ≡ false)
       → (is_star this ≡ false → is_in others this ≡ true) → is_in others this ≡ is_listed value_of these_sources these_rpts this
       → is_listed value_of sources rpts this ≡ false
-  none_listed sources rpts these_sources these_rpts others (Star rp) no_source no_rpt is_there same = refl
-  none_listed sources rpts these_sources these_rpts others (Source source) no_source no_rpt is_there same =
-      none_among sources these_sources (number_of source) no_source (sym same ∙ is_there refl)
-  none_listed sources rpts these_sources these_rpts others (Rpt source) no_source no_rpt is_there same =
-      none_among rpts these_rpts (number_of source) no_rpt (sym same ∙ is_there refl)
+  none_listed sources rpts these_sources these_rpts others (Star rp) apart is_there same = refl
+  none_listed sources rpts these_sources these_rpts others (Source source) apart is_there same = apart (sym same ∙ is_there refl)
+  none_listed sources rpts these_sources these_rpts others (Rpt source) apart is_there same = apart (sym same ∙ is_there refl)
 
 pub and_left : (a b : Bool) → (a && b) ≡ true → a ≡ true
 and_left true b both = refl

@@ -24,9 +24,9 @@ pub(crate) const TOGETHER: u16 = 64;
 /// Where the numbers of a block end: those of (S,G) entries stand before `front`, those of (S,G,rpt) ones from `back`
 /// on, and what is between is free.
 #[derive(Clone, Copy)]
-struct Ends {
-    front: usize,
-    back: usize,
+pub(crate) struct Ends {
+    pub front: usize,
+    pub back: usize,
 }
 
 /// The number of a source. Sources are equal exactly if their numbers are.
@@ -112,7 +112,7 @@ fn first_listed_of_few<F: Family>(
 /// Takes as many entries as the block has room for, and puts the numbers of their sources into it: of (S,G) entries at
 /// its front, of (S,G,rpt) ones at its back. Each number is written at both ends, and then counted at one of them or,
 /// of (*,G), at none, so that a processor has no branch to guess that goes by the type.
-fn fill<F: Family>(entries: &mut Entries<'_, F>, block: &mut [F::Number]) -> Ends
+pub(crate) fn fill<F: Family>(entries: &mut Entries<'_, F>, block: &mut [F::Number]) -> Ends
     requires { 0 < length block.old }
     ensures order { result.front ≤ result.back }
     ensures bound { result.back ≤ length block.new }
@@ -138,8 +138,30 @@ fn fill<F: Family>(entries: &mut Entries<'_, F>, block: &mut [F::Number]) -> End
     Ends { front, back }
 }
 
-/// Whether it is plain that none of so many entries is listed. The numbers of their sources are put into the block, and
-/// those of a type are looked for two at a time. Both lists are in order.
+/// Whether it is plain that none of a block's numbers is one of those of its type: they are looked for two at a time.
+/// Both lists are in order.
+pub(crate) fn are_numbers_unlisted<F: Family>(
+    sources: &[F::Number],
+    rpts: &[F::Number],
+    ends: Ends,
+    block: &[F::Number],
+) -> bool
+    requires order { ends.front ≤ ends.back }
+    requires bound { ends.back ≤ length block.now }
+    requires sources { IsSorted F.Number.cmp sources.now }
+    requires rpts { IsSorted F.Number.cmp rpts.now }
+    ensures { result ≡ true → (this : Entry (List ℕ))
+        → is_listed F.value_of (take ends.front block.now) (drop ends.back block.now) this ≡ true
+        → is_listed F.value_of sources.now rpts.now this ≡ false }
+{
+    let (before, these_rpts) = block.split_at(ends.back);
+    let (these_sources, _) = before.split_at(ends.front);
+    let sources_are_missing = are_missing::<F>(sources, these_sources);
+    let rpts_are_missing = are_missing::<F>(rpts, these_rpts);
+    sources_are_missing & rpts_are_missing
+}
+
+/// Whether it is plain that none of so many entries is listed. Both lists are in order.
 fn are_unlisted<F: Family>(
     sources: &[F::Number],
     rpts: &[F::Number],
@@ -157,11 +179,7 @@ fn are_unlisted<F: Family>(
 {
     let mut entries = Entries::<F>::new(count, bytes);
     let ends = fill::<F>(&mut entries, block);
-    let (before, these_rpts) = block.split_at(ends.back);
-    let (these_sources, _) = before.split_at(ends.front);
-    let sources_are_missing = are_missing::<F>(sources, these_sources);
-    let rpts_are_missing = are_missing::<F>(rpts, these_rpts);
-    sources_are_missing & rpts_are_missing
+    are_numbers_unlisted::<F>(sources, rpts, ends, block)
 }
 
 /// The same as `first_listed_of_few`, sooner where none is listed.

@@ -10,6 +10,7 @@ ghost use Rattle.pim_jp.specs.Reading.{is_in, entry_at, AreApart};
 use crate::blocks::{TOGETHER, first_clash_by_blocks};
 use crate::entries::{Entries, first_entry};
 use crate::entry::Entry;
+use crate::swapped::first_clash_by_pruned;
 use pim_addr::{Family, source_length};
 use std::mem::size_of_val;
 
@@ -19,7 +20,7 @@ const FEW: u16 = 4;
 /// With so few pruned entries each joined one is compared sooner than the joined ones are sorted.
 const FEW_PRUNED: u16 = 8;
 
-/// So many fit into the smallest block.
+/// So many of the shorter list fit into the smallest block.
 const SOME: u16 = 128;
 
 /// So many fit into the middle one.
@@ -66,8 +67,9 @@ fn first_clash_among_few<F: Family>(count: u16, bytes: &[u8], joined: &Entries<'
     count
 }
 
-/// The same among many: the numbers of the joined sources are sorted, as many at a time as `N`, in a block on the
-/// stack, those of a type apart from those of the other, and that of each pruned entry is looked for in each block.
+/// The same among many: the numbers of the shorter list's sources are sorted in a block on the stack, those of a type
+/// apart from those of the other, and those of the other list are looked for in it. Where there are more than `N`, the
+/// joined ones are sorted, as many at a time, and each pruned one is looked for in each block.
 fn first_clash_among_many<F: Family, const N: usize>(
     count: u16,
     bytes: &[u8],
@@ -90,6 +92,16 @@ fn first_clash_among_many<F: Family, const N: usize>(
     let mut block = [number; N];
     let mut spare = [number; N];
     let mut together = [number; TOGETHER as usize];
+    if count < joined.count_left() && usize::from(count) <= N {
+        return first_clash_by_pruned::<F>(
+            count,
+            bytes,
+            joined,
+            &mut block,
+            &mut spare,
+            &mut together,
+        );
+    }
     first_clash_by_blocks::<F>(count, bytes, joined, &mut block, &mut spare, &mut together)
 }
 
@@ -106,10 +118,11 @@ pub(crate) fn first_clash<F: Family>(count: u16, bytes: &[u8], joined: &Entries<
     if count <= FEW_PRUNED || joined.count_left() <= FEW {
         return first_clash_among_few::<F>(count, bytes, joined);
     }
-    if joined.count_left() <= SOME {
+    let fewer = count.min(joined.count_left());
+    if fewer <= SOME {
         return first_clash_among_many::<F, 128>(count, bytes, joined);
     }
-    if joined.count_left() <= MORE {
+    if fewer <= MORE {
         return first_clash_among_many::<F, 1024>(count, bytes, joined);
     }
     first_clash_among_many::<F, 4096>(count, bytes, joined)

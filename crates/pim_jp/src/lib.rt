@@ -12,6 +12,7 @@ mod pairs;
 mod reading;
 mod sets;
 mod sorting;
+mod swapped;
 mod view;
 mod walking;
 mod writing;

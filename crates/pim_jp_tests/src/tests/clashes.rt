@@ -39,7 +39,7 @@ struct Row {
     step: Option<u16>,
 }
 
-const ROWS: [Row; 24] = [
+const ROWS: [Row; 32] = [
     Row {
         joined: 4,
         pruned: 4,
@@ -183,6 +183,54 @@ const ROWS: [Row; 24] = [
         pruned: 9,
         twins: Some((8, 4096)),
         step: Some(0),
+    },
+    Row {
+        joined: 300,
+        pruned: 9,
+        twins: None,
+        step: None,
+    },
+    Row {
+        joined: 300,
+        pruned: 128,
+        twins: Some((127, 0)),
+        step: None,
+    },
+    Row {
+        joined: 300,
+        pruned: 129,
+        twins: Some((0, 299)),
+        step: Some(1),
+    },
+    Row {
+        joined: 130,
+        pruned: 129,
+        twins: Some((128, 129)),
+        step: None,
+    },
+    Row {
+        joined: 129,
+        pruned: 129,
+        twins: Some((128, 0)),
+        step: Some(0),
+    },
+    Row {
+        joined: 1100,
+        pruned: 1025,
+        twins: None,
+        step: None,
+    },
+    Row {
+        joined: 4100,
+        pruned: 4096,
+        twins: Some((4095, 4099)),
+        step: None,
+    },
+    Row {
+        joined: 4110,
+        pruned: 4097,
+        twins: Some((4096, 4109)),
+        step: None,
     },
 ];
 
