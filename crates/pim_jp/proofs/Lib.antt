@@ -8,6 +8,7 @@ pub mod Legal
 pub mod Spelled
 pub mod Order
 pub mod OtherWay
+pub mod Marks
 pub mod Canonical
 pub mod PlainSpelling
 pub mod Walks

@@ -1,5 +1,5 @@
 -- Sources that are looked for the other way: those of the joined entries among the sorted pruned ones.
-use Rattle.std.proofs.Common.{◌≡◌, ◌∙◌, sym, ℕ, Bool, true, false, ◌||◌, List, [], ◌∷◌, refl}
+use Rattle.std.proofs.Common.{◌≡◌, ◌∙◌, ℕ, Bool, true, false, ◌||◌, List, [], ◌∷◌, refl}
 use Rattle.pim_jp.specs.declared.entry.Entry.{Entry}
 use Rattle.pim_jp.specs.declared.entry.Entry.TheVariants.{Star, Source, Rpt}
 use Rattle.pim_jp.specs.Spelling.{is_star}
@@ -10,7 +10,7 @@ pub passed_by : (all these left wanted : Bool) → all ≡ (these || left) → (
 passed_by all true left wanted is apart found = let no = apart refl in absurd cc
 passed_by all false left wanted is apart found = is
 
-star_in_none : (others : List (Entry (List ℕ))) (rp : List ℕ) → is_in others (Star rp) ≡ false
+pub star_in_none : (others : List (Entry (List ℕ))) (rp : List ℕ) → is_in others (Star rp) ≡ false
 star_in_none [] rp = refl
 star_in_none (Star that ∷ others) rp = star_in_none others rp
 star_in_none (Source that ∷ others) rp = star_in_none others rp
@@ -20,3 +20,9 @@ pub not_in : (others : List (Entry (List ℕ))) (this : Entry (List ℕ)) → (i
 not_in others (Star rp) apart = star_in_none others rp
 not_in others (Source source) apart = apart refl
 not_in others (Rpt source) apart = apart refl
+
+pub clash_in : (joined left : List (Entry (List ℕ))) (this : Entry (List ℕ)) → (is_star this ≡ false → is_in joined this ≡ is_in left this)
+    → is_in left this ≡ true → is_in joined this ≡ true
+clash_in joined left (Star rp) same found = let none = star_in_none left rp in absurd cc
+clash_in joined left (Source source) same found = same refl ∙ found
+clash_in joined left (Rpt source) same found = same refl ∙ found

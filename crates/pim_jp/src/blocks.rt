@@ -30,7 +30,7 @@ pub(crate) struct Ends {
 }
 
 /// The number of a source. Sources are equal exactly if their numbers are.
-fn number_of_source<F: Family>(source: F::Addr) -> F::Number
+pub(crate) fn number_of_source<F: Family>(source: F::Addr) -> F::Number
     ensures number { F.value_of result ≡ number_of (F.bytes_of source) }
     ensures same { (other : List ℕ) → IsAddress F.family other
         → pointwise nat_eq other (F.bytes_of source) ≡ nat_eq (number_of other) (F.value_of result) }
@@ -209,7 +209,7 @@ fn first_listed_together<F: Family>(
 
 /// The place of the first of so many entries whose number is one of those of its type; their number if there is none.
 /// Both lists are in order.
-fn first_listed<F: Family>(
+pub(crate) fn first_listed<F: Family>(
     sources: &[F::Number],
     rpts: &[F::Number],
     count: u16,

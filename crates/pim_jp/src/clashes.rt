@@ -93,7 +93,7 @@ fn first_clash_among_many<F: Family, const N: usize>(
     let mut spare = [number; N];
     let mut together = [number; TOGETHER as usize];
     if count < joined.count_left() && usize::from(count) <= N {
-        return first_clash_by_pruned::<F>(
+        return first_clash_by_pruned::<F, N>(
             count,
             bytes,
             joined,

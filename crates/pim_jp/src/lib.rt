@@ -8,6 +8,7 @@ mod entries;
 mod entry;
 mod fault;
 mod laws;
+mod marked;
 mod pairs;
 mod reading;
 mod sets;

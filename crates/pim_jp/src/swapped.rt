@@ -1,15 +1,17 @@
-//! Sources that are in both lists, where the pruned ones are fewer: their numbers are sorted, and those of the joined ones
-//! are looked for among them.
+//! Sources that are in both lists, where the pruned ones are fewer: their numbers are sorted, and those of the joined
+//! ones are looked for among them.
 
-ghost use Rattle.std.specs.Prelude.{◌≡◌, ℕ, ◌*◌, ◌≤◌, ◌<◌, true, false, List, length};
+ghost use Rattle.std.specs.Prelude.{◌≡◌, ℕ, ◌+◌, ◌*◌, ◌≤◌, ◌<◌, true, false, List, length};
 ghost use Rattle.std.specs.List.Sorted.{IsSorted};
 ghost use Rattle.pim_addr.specs.Encoded.{source_length};
 ghost use Rattle.pim_jp.specs.declared.entry.Entry.{Entry};
+ghost use Rattle.pim_jp.specs.Spelling.{is_star};
 ghost use Rattle.pim_jp.specs.Reading.{is_in, entry_at, AreApart};
 ghost use Rattle.pim_jp.specs.Sources.{is_listed, HasAddress};
 
-use crate::blocks::{are_numbers_unlisted, fill, first_clash_by_blocks};
+use crate::blocks::{are_numbers_unlisted, fill, first_listed};
 use crate::entries::Entries;
+use crate::marked::{copy_marked, mark_entries};
 use crate::sorting::sort_numbers;
 use pim_addr::Family;
 
@@ -37,37 +39,78 @@ fn from_listed<'a, F: Family>(
     left
 }
 
-/// Whether it is plain that none of so many entries has its source among the joined ones of its type.
-fn are_apart<F: Family>(
+/// The place of the first of so many listed entries whose source is among the joined ones of its type; their number if
+/// there is none. Each listed number gets a mark where it is joined; those with marks are what the entries are then looked
+/// for in. Both lists are in order, and have at most `N` numbers together.
+fn first_marked<F: Family, const N: usize>(
+    sources: &[F::Number],
+    rpts: &[F::Number],
+    count: u16,
+    bytes: &[u8],
+    joined: Entries<'_, F>,
+    copies: &mut [F::Number],
+    together: &mut [F::Number],
+) -> u16
+    requires sources { IsSorted F.Number.cmp sources.now }
+    requires rpts { IsSorted F.Number.cmp rpts.now }
+    requires few { length sources.now + length rpts.now ≤ N }
+    requires size { N ≤ 4096 }
+    requires copies { length sources.now + length rpts.now ≤ length copies.old }
+    requires together { 64 ≤ length together.old }
+    requires long { count * source_length F.family ≤ length bytes.now }
+    requires listed { (place : ℕ) → place < count → is_star (entry_at F.family place bytes.now) ≡ false
+        → is_listed F.value_of sources.now rpts.now (entry_at F.family place bytes.now) ≡ true }
+    ensures bound { result ≤ count }
+    ensures apart { AreApart F.family joined.entry result bytes.now }
+    ensures clash { result < count → is_in joined.entry (entry_at F.family result bytes.now) ≡ true }
+{
+    let mut source_marks = [false; N];
+    let mut rpt_marks = [false; N];
+    mark_entries::<F>(sources, rpts, &mut source_marks, &mut rpt_marks, joined);
+    let (source_copies, rpt_copies) = copies.split_at_mut(sources.len());
+    let source_count = copy_marked::<F>(sources, &source_marks, source_copies);
+    let rpt_count = copy_marked::<F>(rpts, &rpt_marks, rpt_copies);
+    let (marked_sources, _) = source_copies.split_at_mut(source_count);
+    let (marked_rpts, _) = rpt_copies.split_at_mut(rpt_count);
+    marked_sources.sort_unstable();
+    marked_rpts.sort_unstable();
+    first_listed::<F>(marked_sources, marked_rpts, count, bytes, together)
+}
+
+/// The place of the first of so many listed entries whose source is among the joined ones of its type; their number if
+/// there is none. Both lists are in order, and have at most `N` numbers together.
+fn first_clash_of_sorted<F: Family, const N: usize>(
+    sources: &[F::Number],
+    rpts: &[F::Number],
     count: u16,
     bytes: &[u8],
     joined: &Entries<'_, F>,
-    block: &mut [F::Number],
-    spare: &mut [F::Number],
+    copies: &mut [F::Number],
     together: &mut [F::Number],
-) -> bool
-    requires room { (0 < length block.old) × (count ≤ length block.old) }
-    requires spare { length block.old ≤ length spare.old }
-    requires together { 0 < length together.old }
+) -> u16
+    requires sources { IsSorted F.Number.cmp sources.now }
+    requires rpts { IsSorted F.Number.cmp rpts.now }
+    requires few { length sources.now + length rpts.now ≤ N }
+    requires size { N ≤ 4096 }
+    requires copies { length sources.now + length rpts.now ≤ length copies.old }
+    requires together { 64 ≤ length together.old }
     requires long { count * source_length F.family ≤ length bytes.now }
-    ensures block { length block.new ≡ length block.old }
-    ensures spare { length spare.new ≡ length spare.old }
-    ensures together { length together.new ≡ length together.old }
-    ensures apart { result ≡ true → AreApart F.family joined.now count bytes.now }
+    requires listed { (place : ℕ) → place < count → is_star (entry_at F.family place bytes.now) ≡ false
+        → is_listed F.value_of sources.now rpts.now (entry_at F.family place bytes.now) ≡ true }
+    ensures bound { result ≤ count }
+    ensures apart { AreApart F.family joined.now result bytes.now }
+    ensures clash { result < count → is_in joined.now (entry_at F.family result bytes.now) ≡ true }
 {
-    let mut pruned = Entries::<F>::new(count, bytes);
-    let ends = fill::<F>(&mut pruned, block);
-    let (before, rpts) = block.split_at_mut(ends.back);
-    let (sources, _) = before.split_at_mut(ends.front);
-    sort_numbers(sources, spare);
-    sort_numbers(rpts, spare);
     let left = from_listed::<F>(sources, rpts, joined, together);
-    left.count_left() == 0
+    if left.count_left() == 0 {
+        return count;
+    }
+    first_marked::<F, N>(sources, rpts, count, bytes, left, copies, together)
 }
 
 /// The place of the first of so many entries whose source is among the joined ones of its type; their number if there
-/// is none. There is room for all their numbers.
-pub(crate) fn first_clash_by_pruned<F: Family>(
+/// is none. The block has room for all their numbers. Each joined number is looked for once, whether one is found or not.
+pub(crate) fn first_clash_by_pruned<F: Family, const N: usize>(
     count: u16,
     bytes: &[u8],
     joined: &Entries<'_, F>,
@@ -76,6 +119,8 @@ pub(crate) fn first_clash_by_pruned<F: Family>(
     together: &mut [F::Number],
 ) -> u16
     requires room { (0 < length block.old) × (count ≤ length block.old) }
+    requires few { length block.old ≤ N }
+    requires size { N ≤ 4096 }
     requires spare { length block.old ≤ length spare.old }
     requires together { 64 ≤ length together.old }
     requires long { count * source_length F.family ≤ length bytes.now }
@@ -83,8 +128,11 @@ pub(crate) fn first_clash_by_pruned<F: Family>(
     ensures apart { AreApart F.family joined.now result bytes.now }
     ensures clash { result < count → is_in joined.now (entry_at F.family result bytes.now) ≡ true }
 {
-    if are_apart::<F>(count, bytes, joined, block, spare, together) {
-        return count;
-    }
-    first_clash_by_blocks::<F>(count, bytes, joined, block, spare, together)
+    let mut pruned = Entries::<F>::new(count, bytes);
+    let ends = fill::<F>(&mut pruned, block);
+    let (before, rpts) = block.split_at_mut(ends.back);
+    let (sources, _) = before.split_at_mut(ends.front);
+    sort_numbers(sources, spare);
+    sort_numbers(rpts, spare);
+    first_clash_of_sorted::<F, N>(sources, rpts, count, bytes, joined, spare, together)
 }

@@ -1,6 +1,5 @@
-use Rattle.std.proofs.Common.{◌≡◌, ◌∙◌, ap, take, drop}
+use Rattle.std.proofs.Common.{◌≡◌, ◌∙◌, ap, take}
 use Rattle.std.proofs.lemmas.List.{take-take}
-use Rattle.pim_jp.specs.Sources.{is_listed}
 use Rattle.pim_jp.proofs.SortedSources.{listed_elsewhere, and_left, and_right}
 use Rattle.pim_jp.proofs.blocks.are_numbers_unlisted.Goals as goal
 
