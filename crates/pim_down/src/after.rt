@@ -1,4 +1,4 @@
-//! What comes next on a port, looked for by halves.
+//! What comes next on a port, looked for near a place or by halves.
 
 ghost use Rattle.std.specs.Prelude.{◌≡◌, option_map};
 ghost use Rattle.std.specs.List.{find};
@@ -8,6 +8,7 @@ ghost use Rattle.pim_down.specs.Seen.{what_seen, key_seen, record_seen, records_
 
 use crate::held::Held;
 use crate::key::{Key, OfFamily, compare_keys};
+use crate::near::Near;
 use crate::rows::Bound;
 use crate::store::Store;
 use pim_addr::Family;
@@ -34,25 +35,27 @@ impl<F: Family> Bound<F::Addr> for GroupsAbove<F> {
     }
 }
 
-/// The first record of a group of the port above the bound, or of any of its groups.
+/// The first record of a group of the port above the bound, or of any of its groups, and where it stands. It is looked
+/// for from near a place; whatever place that is, the answer is right.
 pub(crate) fn first_of_groups_after<F: Family>(
     records: &Store<F::Addr, OfFamily<F>>,
+    near: Near,
     port: usize,
     bound: Option<F::Addr>,
-) -> Option<Held<F::Addr>>
+) -> (Option<Held<F::Addr>>, Near)
     requires { IsAscending (records_seen F.bytes_of records.now.items) }
-    ensures { option_map (record_seen F.bytes_of) result
+    ensures { option_map (record_seen F.bytes_of) result.0
         ≡ find (is_of_group_after port (option_map F.bytes_of bound)) (records_seen F.bytes_of records.now.items) }
 {
-    let place = records.first_behind(&GroupsAbove::<F> { port, bound });
+    let place = records.first_behind_near(near.place, &GroupsAbove::<F> { port, bound });
     if !records.is_item(place) {
-        return None;
+        return (None, near);
     }
     let first = *records.get(place);
     if first.key.port == port {
-        Some(first)
+        (Some(first), Near { place: Some(place) })
     } else {
-        None
+        (None, near)
     }
 }
 
@@ -80,24 +83,26 @@ fn is_of_group<F: Family>(key: &Key<F::Addr>, bound: &Key<F::Addr>) -> bool
     key.port == bound.port && key.group.cmp(&bound.group).is_eq()
 }
 
-/// The first record of the key's port and group whose machine comes after the key's.
+/// The first record of the key's port and group whose machine comes after the key's, and where it stands. It is looked
+/// for from near a place; whatever place that is, the answer is right.
 pub(crate) fn first_machine_after<F: Family>(
     records: &Store<F::Addr, OfFamily<F>>,
+    near: Near,
     key: &Key<F::Addr>,
-) -> Option<Held<F::Addr>>
+) -> (Option<Held<F::Addr>>, Near)
     requires { IsAscending (records_seen F.bytes_of records.now.items) }
-    ensures { option_map (record_seen F.bytes_of) result
+    ensures { option_map (record_seen F.bytes_of) result.0
         ≡ find (is_machine_after key.now.port (F.bytes_of key.now.group) (what_seen F.bytes_of key.now.what))
         (records_seen F.bytes_of records.now.items) }
 {
-    let place = records.first_behind(&Behind::<F> { key: *key });
+    let place = records.first_behind_near(near.place, &Behind::<F> { key: *key });
     if !records.is_item(place) {
-        return None;
+        return (None, near);
     }
     let first = *records.get(place);
     if is_of_group::<F>(&first.key, key) {
-        Some(first)
+        (Some(first), Near { place: Some(place) })
     } else {
-        None
+        (None, near)
     }
 }

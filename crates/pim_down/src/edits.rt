@@ -9,6 +9,7 @@ ghost use Rattle.pim_down.specs.Store.{IsPlaceOf};
 
 use crate::held::{Held, Timed};
 use crate::key::{Key, KeyOrder, OfFamily, compare_keys};
+use crate::near::Near;
 use crate::store::Store;
 use pim_addr::Family;
 use sorted_blocks::{Place, Probe};
@@ -93,17 +94,31 @@ pub(crate) fn machine_of<F: Family>(
     }
 }
 
-/// The key's machine; `None` where it is in NoInfo.
-pub(crate) fn machine_at<F: Family>(
+/// The place that was found, if a record stands there; else the hint by which it was looked for.
+fn near_found(found: Result<Place, Place>, near: Near) -> Near {
+    match found {
+        Ok(place) => Near { place: Some(place) },
+        Err(_) => near,
+    }
+}
+
+/// The key's machine; `None` where it is in NoInfo. Beside it stands the place of its record, or the same hint. It is
+/// looked for from near a place; whatever place that is, the answer is right.
+pub(crate) fn machine_near<F: Family>(
     records: &Store<F::Addr, OfFamily<F>>,
+    near: Near,
     key: &Key<F::Addr>,
-) -> Option<Timed>
+) -> (Option<Timed>, Near)
     requires { IsAscending (records_seen F.bytes_of records.now.items) }
-    ensures { machine_seen result
+    ensures { machine_seen result.0
         ≡ machine_at (key_seen F.bytes_of key.now) (records_seen F.bytes_of records.now.items) }
 {
-    let found = find_place::<F>(records, records.first(), key);
-    machine_of::<F>(records, key, found)
+    let place = near.place.unwrap_or(records.first());
+    let found = find_place::<F>(records, place, key);
+    (
+        machine_of::<F>(records, key, found),
+        near_found(found, near),
+    )
 }
 
 /// Gives the machine of the key that was looked for this state, or lets go of it. There is room for the records that

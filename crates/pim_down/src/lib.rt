@@ -20,6 +20,7 @@ mod key;
 mod laws;
 mod machine;
 mod message;
+mod near;
 mod ports;
 mod rows;
 mod run;
@@ -40,6 +41,7 @@ pub use laws::{
     silence_acts_at_each_key, timers_run_out,
 };
 pub use machine::{Machine, Pending, Record, State};
+pub use near::Near;
 pub use ports::Ports;
 pub use step::Step;
 pub use walk::Records;

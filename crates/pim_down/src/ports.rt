@@ -12,13 +12,14 @@ ghost use Rattle.pim_down.specs.After.{group_after, next_in_group};
 ghost use Rattle.pim_down.specs.Sound.{IsSound};
 
 use crate::after::{first_machine_after, first_of_groups_after};
-use crate::edits::machine_at;
+use crate::edits::machine_near;
 use crate::event::Timing;
 use crate::fault::HearFault;
 use crate::hear::start_at;
 use crate::key::{Key, OfFamily, What};
 use crate::machine::{Record, State};
 use crate::message::hear_message;
+use crate::near::Near;
 use crate::run::{Stop, run};
 use crate::step::Step;
 use crate::store::Store;
@@ -127,10 +128,30 @@ impl<F: Family> Ports<F> {
         ensures state { result ≡ state_of (key_at F.bytes_of port group what) self.now.records }
         ensures absent { self.now.ports ≤ port → result ≡ None }
     {
+        let (state, _near) = self.state_of_near(port, group, what, Near::UNKNOWN);
+        state
+    }
+
+    /// The same as `state_of`, looked for from near a place; whatever place that is, the answer is right. Beside it
+    /// stands the place of the machine's record, or the same hint where it has none.
+    ///
+    /// Where the hint is of this record, it costs one comparison, of the record before two; of an earlier record, a
+    /// search in a block of up to 128 records and a few comparisons; else a search by halves.
+    pub fn state_of_near(
+        &self,
+        port: usize,
+        group: F::Addr,
+        what: What<F::Addr>,
+        near: Near,
+    ) -> (Option<State>, Near)
+        ensures state { result.0 ≡ state_of (key_at F.bytes_of port group what) self.now.records }
+        ensures absent { self.now.ports ≤ port → result.0 ≡ None }
+    {
         let key = Key { port, group, what };
-        match machine_at::<F>(&self.records, &key) {
-            None => None,
-            Some(machine) => Some(machine.state),
+        let (machine, place) = machine_near::<F>(&self.records, near, &key);
+        match machine {
+            None => (None, place),
+            Some(machine) => (Some(machine.state), place),
         }
     }
 
@@ -158,9 +179,27 @@ impl<F: Family> Ports<F> {
     pub fn group_after(&self, port: usize, group: Option<F::Addr>) -> Option<F::Addr>
         ensures { option_map F.bytes_of result ≡ group_after port (option_map F.bytes_of group) self.now.records }
     {
-        match first_of_groups_after::<F>(&self.records, port, group) {
-            Some(first) => Some(first.key.group),
-            None => None,
+        let (next, _near) = self.group_after_near(port, group, Near::UNKNOWN);
+        next
+    }
+
+    /// The same as `group_after`, looked for from near a place; whatever place that is, the answer is right. Beside it
+    /// stands the place of the group's first record on the port, or the same hint where no group follows.
+    ///
+    /// Where the hint is of the last record of this group, it costs two comparisons; where it is of an earlier record,
+    /// a search in a block of up to 128 records and a few comparisons; else a search by halves. It takes no memory.
+    pub fn group_after_near(
+        &self,
+        port: usize,
+        group: Option<F::Addr>,
+        near: Near,
+    ) -> (Option<F::Addr>, Near)
+        ensures { option_map F.bytes_of result.0 ≡ group_after port (option_map F.bytes_of group) self.now.records }
+    {
+        let (first, place) = first_of_groups_after::<F>(&self.records, near, port, group);
+        match first {
+            Some(first) => (Some(first.key.group), place),
+            None => (None, place),
         }
     }
 
@@ -175,9 +214,33 @@ impl<F: Family> Ports<F> {
         ensures { option_map (told_seen F.bytes_of) result
             ≡ next_in_group port (F.bytes_of group) (what_seen F.bytes_of what) self.now.records }
     {
-        match first_machine_after::<F>(&self.records, &Key { port, group, what }) {
-            Some(first) => Some(record_after(&first, self.moment)),
-            None => None,
+        let (next, _near) = self.record_after_near(port, group, what, Near::UNKNOWN);
+        next
+    }
+
+    /// The same as `record_after`, looked for from near a place; whatever place that is, the answer is right. Beside it
+    /// stands the place of the record, or the same hint where none follows.
+    ///
+    /// Where the hint is of the record before, it costs two comparisons; where it is of an earlier record, a search in a
+    /// block of up to 128 records and a few comparisons; else a search by halves. It takes no memory.
+    pub fn record_after_near(
+        &self,
+        port: usize,
+        group: F::Addr,
+        what: What<F::Addr>,
+        near: Near,
+    ) -> (Option<Record<F::Addr>>, Near)
+        ensures { option_map (told_seen F.bytes_of) result.0
+            ≡ next_in_group port (F.bytes_of group) (what_seen F.bytes_of what) self.now.records }
+    {
+        let (first, place) = first_machine_after::<F>(
+            &self.records,
+            near,
+            &Key { port, group, what },
+        );
+        match first {
+            Some(first) => (Some(record_after(&first, self.moment)), place),
+            None => (None, place),
         }
     }
 

@@ -256,4 +256,23 @@ impl<A: Copy> Rows<A> {
             Err(place) => self.list.settled(place),
         }
     }
+
+    /// The same. Where there is a place near which it may be, it begins there; whatever place that is, the answer is
+    /// right.
+    pub(crate) fn first_behind_near<B: Bound<A>>(&self, near: Option<Place>, bound: &B) -> Place
+        requires { IsPartitionedBy (λ held. B.is_before bound.now held.key) self.now.items }
+        ensures place { IsPlace self.now result }
+        ensures within { at self.now result ≤ length self.now.items }
+        ensures item { at self.now result < length self.now.items → IsItem self.now result }
+        ensures parts { IsPartitionPoint (λ held. B.is_before bound.now held.key ≡ true)
+            (λ held. B.is_before bound.now held.key ≡ false) self.now.items (at self.now result) }
+    {
+        let Some(near) = near else {
+            return self.first_behind(bound);
+        };
+        match self.list.find_near(near, &Side { bound }) {
+            Ok(_) => unreachable!(),
+            Err(place) => self.list.settled(place),
+        }
+    }
 }

@@ -217,6 +217,19 @@ impl<A: Copy, O: KeyOrder<A>> Store<A, O> {
     {
         self.rows.first_behind(bound)
     }
+
+    /// The same. Where there is a place near which it may be, it begins there; whatever place that is, the answer is
+    /// right.
+    pub(crate) fn first_behind_near<B: Bound<A>>(&self, near: Option<Place>, bound: &B) -> Place
+        requires { IsPartitionedBy (λ held. B.is_before bound.now held.key) self.now.items }
+        ensures place { IsPlace self.now result }
+        ensures within { at self.now result ≤ length self.now.items }
+        ensures item { at self.now result < length self.now.items → IsItem self.now result }
+        ensures parts { IsPartitionPoint (λ held. B.is_before bound.now held.key ≡ true)
+            (λ held. B.is_before bound.now held.key ≡ false) self.now.items (at self.now result) }
+    {
+        self.rows.first_behind_near(near, bound)
+    }
 }
 
 impl<A: Copy + fmt::Debug, O: KeyOrder<A>> fmt::Debug for Store<A, O> {
