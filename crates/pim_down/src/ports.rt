@@ -221,8 +221,8 @@ impl<F: Family> Ports<F> {
     /// The same as `record_after`, looked for from near a place; whatever place that is, the answer is right. Beside it
     /// stands the place of the record, or the same hint where none follows.
     ///
-    /// Where the hint is of the record before, it costs two comparisons; where it is of an earlier record, a search in a
-    /// block of up to 128 records and a few comparisons; else a search by halves. It takes no memory.
+    /// Where the hint is of the record before, it costs two comparisons; where it is of an earlier record, a search in
+    /// a block of up to 128 records and a few comparisons; else a search by halves. It takes no memory.
     pub fn record_after_near(
         &self,
         port: usize,
