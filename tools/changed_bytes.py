@@ -1,11 +1,12 @@
 #!/usr/bin/env python3
-"""What the tests of pim_jp (crates/pim_jp_tests/src/tests/changed_bytes.rt) expect of bodies with any one byte changed to any other.
+"""What tests expect of messages that are cut, or with any one byte changed to any other: of bodies those of pim_jp
+(crates/pim_jp_tests/src/tests/changed_bytes.rt), of whole messages those of pim_router
+(crates/pim_router_tests/src/tests/spoilt.rt).
 
-A reader of IPv4 Join/Prune bodies that is written apart from the engine (RFC 7761, 4.9.5): it lists all the
-faults of all the parts, as pairs of an offset and a number, and takes the least. For each body it prints of how
-many of its changes there is no fault and of how many one of each number, and a digest of all offsets and numbers.
+A reader that is written apart from the engine (RFC 7761, 4.9): it lists all the faults of all the parts, as pairs of
+an offset and a number, and takes the least. Of many bodies or messages it prints how often each number is told, 0 for
+no fault, and a digest of all that is told.
 """
-
 # the numbers of faults, as they are told at one part
 SHORT, FAMILY, ENCODING, MASK, NOT_GROUP, FLAGS, NOT_SOURCE, SECOND_STAR, BOTH_LISTS, TRAILING = range(1, 11)
 
@@ -14,26 +15,37 @@ LISTS = STAR[:18] + bytes.fromhex(
     "00030002" "010007200a090909" "01000420c0000201" "01000520c0000202" "01000420c0000202" "01000520c0000201")
 
 
-def form_faults(body, at, has_mask):
-    """What is wrong with the family, the encoding and the mask of an encoded address."""
+def form_faults(body, at, has_mask, size):
+    """What is wrong with the family, the encoding and the mask of an encoded address of so many bytes."""
     found = []
-    if body[at] != 1:
+    if body[at] != (1 if size == 4 else 2):
         found.append((at, FAMILY))
     if body[at + 1] != 0:
         found.append((at, ENCODING))
-    if has_mask and body[at + 3] != 32:
+    if has_mask and body[at + 3] != 8 * size:
         found.append((at, MASK))
     return found
 
 
-def set_faults(body, at):
+def is_group(address):
+    """Whether an address is a group's."""
+    return address[0] >> 4 == 14 if len(address) == 4 else address[0] == 255
+
+
+def is_no_source(address):
+    """Whether an address can't be a source's or an RP's: from 224.0.0.0 on, or a group."""
+    return address[0] >= 224 if len(address) == 4 else address[0] == 255
+
+
+def set_faults(body, at, size):
     """The faults of a set, and where it ends; no end where a part isn't whole."""
-    if at + 8 > len(body):
+    part = 4 + size
+    if at + part > len(body):
         return [(at, SHORT)], None
-    found = form_faults(body, at, True)
-    if body[at + 4] >> 4 != 14:
+    found = form_faults(body, at, True, size)
+    if not is_group(body[at + 4:at + part]):
         found.append((at, NOT_GROUP))
-    at += 8
+    at += part
     if at + 4 > len(body):
         return found + [(at, SHORT)], None
     counts = [int.from_bytes(body[at:at + 2], "big"), int.from_bytes(body[at + 2:at + 4], "big")]
@@ -42,14 +54,14 @@ def set_faults(body, at):
     joined = set()
     for is_pruned, count in enumerate(counts):
         for _ in range(count):
-            if at + 8 > len(body):
+            if at + part > len(body):
                 return found + [(at, SHORT)], None
-            found += form_faults(body, at, True)
+            found += form_faults(body, at, True, size)
             wildcard, rpt = bool(body[at + 2] & 2), bool(body[at + 2] & 1)
-            address = bytes(body[at + 4:at + 8])
+            address = bytes(body[at + 4:at + part])
             if wildcard and not rpt:
                 found.append((at, FLAGS))
-            if not 0 < int.from_bytes(address, "big") < 0xe0000000:
+            if not any(address) or is_no_source(address):
                 found.append((at, NOT_SOURCE))
             if wildcard and rpt:
                 if has_star:
@@ -59,20 +71,22 @@ def set_faults(body, at):
                 found.append((at, BOTH_LISTS))
             if not wildcard and not is_pruned:
                 joined.add((rpt, address))
-            at += 8
+            at += part
     return found, at
 
 
-def faults(body):
-    """All the faults of a body, up to the first part that isn't whole."""
-    if len(body) < 6:
+def faults(body, size=4):
+    """All the faults of a Join/Prune's body, up to the first part that isn't whole; addresses have so many bytes."""
+    at = 2 + size
+    if len(body) < at:
         return [(0, SHORT)]
-    found = form_faults(body, 0, False)
-    if len(body) < 10:
-        return found + [(6, SHORT)]
-    at = 10
-    for _ in range(body[7]):
-        more, at = set_faults(body, at)
+    found = form_faults(body, 0, False, size)
+    if len(body) < at + 4:
+        return found + [(at, SHORT)]
+    sets = body[at + 1]
+    at += 4
+    for _ in range(sets):
+        more, at = set_faults(body, at, size)
         found += more
         if at is None:
             return found
@@ -93,9 +107,131 @@ def told_of_changes(body):
     return counts, digest
 
 
+# the numbers of what is told of a message: no fault of a Hello is 0, of a Join/Prune 19, whose sender is unknown
+FRAME_SHORT, VERSION, CHECKSUM, OTHER_TYPE, HELLO, JOIN_PRUNE, UNKNOWN = 1, 2, 3, 5, 5, 8, 19
+OPTION_LENGTH, ADDRESS = 2, 3
+LENGTHS = {1: 2, 2: 4, 19: 4, 20: 4}
+
+
+def is_row(value):
+    """Whether an option's value is a row of whole native addresses."""
+    at = 0
+    while at < len(value):
+        size = {1: 4, 2: 16}.get(value[at])
+        if size is None or at + 2 + size > len(value) or value[at + 1] != 0:
+            return False
+        at += 2 + size
+    return True
+
+
+def hello_faults(body):
+    """All the faults of a Hello's body, up to the first option that isn't whole."""
+    found, at = [], 0
+    while at < len(body):
+        if at + 4 > len(body):
+            return found + [(at, SHORT)]
+        option, length = int.from_bytes(body[at:at + 2], "big"), int.from_bytes(body[at + 2:at + 4], "big")
+        if LENGTHS.get(option, length) != length:
+            found.append((at, OPTION_LENGTH))
+        if at + 4 + length > len(body):
+            return found + [(at, SHORT)]
+        if option == 24 and not is_row(body[at + 4:at + 4 + length]):
+            found.append((at, ADDRESS))
+        at += 4 + length
+    return found
+
+
+def told_of(message, pseudo):
+    """What is told of a message, with its place, version or type; its pseudo-header sums to this."""
+    if len(message) < 4:
+        return FRAME_SHORT, 0
+    version, kind = message[0] >> 4, message[0] & 15
+    if version != 2:
+        return VERSION, version
+    if kind not in (0, 3):
+        return OTHER_TYPE, kind
+    total = words(message) + pseudo(len(message))
+    if total == 0 or total % 65535 != 0:
+        return CHECKSUM, 0
+    body = message[4:]
+    if kind == 0:
+        at, number = min(hello_faults(body), default=(0, 0))
+        return (HELLO + number if number else 0), at
+    at, number = min(faults(body, 4 if pseudo is over_ipv4 else 16), default=(0, 0))
+    return (JOIN_PRUNE + number if number else UNKNOWN), at
+
+
+def words(message):
+    """The sum of the words of 16 bits, with a zero byte behind an odd length."""
+    padded = bytes(message) + bytes(len(message) % 2)
+    return sum(int.from_bytes(padded[at:at + 2], "big") for at in range(0, len(padded), 2))
+
+
+def over_ipv4(_length):
+    return 0
+
+
+def over_ipv6(length):
+    """The sum of the pseudo-header from fe80::9 to ff02::d."""
+    return 0xfe80 + 9 + 0xff02 + 0xd + length + 103
+
+
+def mended(message, pseudo):
+    """The message with its checksum mended, where it has one."""
+    if len(message) < 4:
+        return message
+    blank = message[:2] + bytes(2) + message[4:]
+    return message[:2] + (-(words(blank) + pseudo(len(message))) % 65535).to_bytes(2, "big") + message[4:]
+
+
+def told_of_all(messages, pseudo):
+    """How often each number is told of the messages, and the digest of all that is told."""
+    counts, digest = [0] * 23, 0
+    for message in messages:
+        number, place = told_of(message, pseudo)
+        counts[number] += 1
+        digest = (digest * 31 + place * 32 + number) % 2**32
+    return counts, digest
+
+
+def changes(message):
+    """The message with each byte changed to each value."""
+    for at in range(len(message)):
+        for value in range(256):
+            yield message[:at] + bytes([value]) + message[at + 1:]
+
+
+def tell_spoilt(name, message, pseudo):
+    """Prints what is told of a message that is cut and mended, changed, and changed and mended."""
+    message = mended(message, pseudo)
+    fronts = [mended(message[:length], pseudo) for length in range(len(message) + 1)]
+    print(name, "cut:", *told_of_all(fronts, pseudo))
+    print(name, "changed:", *told_of_all(changes(message), pseudo))
+    print(name, "changed and mended:", *told_of_all((mended(each, pseudo) for each in changes(message)), pseudo))
+
+
+HELLO_MESSAGE = bytes.fromhex(
+    "20000000" "000100020069" "0002000481f409c4" "0013000400000001" "0014000401020304" "fde800020707"
+    "00180018" "0100c0000201" "0200fe800000000000000000000000000007" "0014000400000002" "00180000")
+LISTS_MESSAGE = bytes.fromhex("23000000") + LISTS[:7] + b"\2" + LISTS[8:] + bytes.fromhex(
+    "01000020ef010102" "00000001" "010007200a090909")
+LISTS_MESSAGE_V6 = bytes.fromhex(
+    "23000000" "0200fe800000000000000000000000000002" "000200d2"
+    "02000080ff0e0000000000000000000000000001" "00030002"
+    "0200078020010db8000000000000000000000009" "0200048020010db8000000000000000000000001"
+    "0200058020010db8000000000000000000000002" "0200048020010db8000000000000000000000002"
+    "0200058020010db8000000000000000000000001"
+    "02000080ff0e0000000000000000000000000002" "00000001" "0200078020010db8000000000000000000000009")
+OTHER_MESSAGE = bytes.fromhex("25000000" "01000a090909")
+
 print("star", *told_of_changes(STAR))
 print("lists", *told_of_changes(LISTS))
 for joined in 22, 30, 38:
     for pruned in 46, 54:
         body = LISTS[:pruned] + LISTS[joined:joined + 8] + LISTS[pruned + 8:]
         print(f"the entry at {joined} also at {pruned}", *told_of_changes(body))
+tell_spoilt("hello", HELLO_MESSAGE, over_ipv4)
+tell_spoilt("hello over ipv6", HELLO_MESSAGE, over_ipv6)
+tell_spoilt("join/prune", LISTS_MESSAGE, over_ipv4)
+tell_spoilt("join/prune over ipv6", LISTS_MESSAGE_V6, over_ipv6)
+tell_spoilt("another type", OTHER_MESSAGE, over_ipv4)

@@ -10,6 +10,8 @@ mod lengths;
 mod memory;
 mod packets;
 mod refused;
+mod spoilt;
+mod spoilt_rows;
 mod time;
 mod upstreams;
 mod world;

@@ -1,0 +1,297 @@
+//! Messages that are cut anywhere, or in which any byte is changed to any other, with their checksum mended and not:
+//! what a router tells of them, beside what a reader of its own, in another language, tells (`tools/changed_bytes.py`).
+
+use super::spoilt_rows::{
+    HELLO, LISTS, LISTS_V6, OF_ANOTHER_TYPE, OF_HELLO, OF_HELLO_V6, OF_LISTS, OF_LISTS_V6, OTHER,
+    Told,
+};
+use pim_addr::{Family, Routes, V4, V6};
+use pim_frame::{FrameFault, MessageType, all_routers, seal};
+use pim_hello::HelloKind;
+use pim_jp::JpKind;
+use pim_router::{Config, Malformed, PortConfig, Router, Verdict};
+use std::alloc::{AllocError, Global};
+use std::test::Fail;
+
+fn number_of_frame(fault: FrameFault) -> usize {
+    match fault {
+        FrameFault::Short => 1,
+        FrameFault::Version(_) => 2,
+        FrameFault::Checksum => 3,
+        FrameFault::NotAllRouters => 4,
+    }
+}
+
+fn number_of_hello(kind: HelloKind) -> usize {
+    match kind {
+        HelloKind::Short => 6,
+        HelloKind::OptionLength => 7,
+        HelloKind::Address => 8,
+    }
+}
+
+fn number_of_join_prune(kind: JpKind) -> usize {
+    match kind {
+        JpKind::Short => 9,
+        JpKind::Family => 10,
+        JpKind::Encoding => 11,
+        JpKind::Mask => 12,
+        JpKind::NotGroup => 13,
+        JpKind::Flags => 14,
+        JpKind::NotSource => 15,
+        JpKind::SecondStar => 16,
+        JpKind::BothLists => 17,
+        JpKind::Trailing => 18,
+    }
+}
+
+/// The number of a fault, and its place or version.
+fn of_fault(fault: Malformed) -> (usize, usize) {
+    match fault {
+        Malformed::Frame(fault) => match fault {
+            FrameFault::Version(version) => (2, usize::from(version)),
+            _ => (number_of_frame(fault), 0),
+        },
+        Malformed::Hello(fault) => (number_of_hello(fault.kind), fault.at),
+        Malformed::JoinPrune(fault) => (number_of_join_prune(fault.kind), fault.at),
+    }
+}
+
+/// The number of a verdict, and its fault's place or version, or its type.
+fn of_verdict(verdict: Verdict) -> (usize, usize) {
+    match verdict {
+        Verdict::HelloTaken(_) => (0, 0),
+        Verdict::Malformed(fault) => of_fault(fault),
+        Verdict::OtherType(number) => (5, usize::from(number)),
+        Verdict::UnknownNeighbour => (19, 0),
+        Verdict::NotForUs => (20, 0),
+        Verdict::Applied => (21, 0),
+        _ => (22, 0),
+    }
+}
+
+impl Told {
+    /// One more message.
+    fn count(&mut self, verdict: Verdict) {
+        let (number, place) = of_verdict(verdict);
+        if number < 23 {
+            self.counts[number] = self.counts[number].saturating_add(1);
+        }
+        let all = place.saturating_mul(32).saturating_add(number);
+        let all = u32::try_from(all).unwrap_or(u32::MAX);
+        self.digest = self.digest.wrapping_mul(31).wrapping_add(all);
+    }
+}
+
+const NOTHING: Told = Told {
+    counts: [0; 23],
+    digest: 0,
+};
+
+/// The checksum that goes with these first two bytes in place of those of a sealed header.
+fn moved(sealed: [u8; 4], first: [u8; 2]) -> [u8; 2] {
+    let [high, low, above, below] = sealed;
+    let sum = u32::from(u16::from_be_bytes([high, low]))
+        .wrapping_add(u32::from(u16::from_be_bytes([above, below])))
+        .wrapping_add(131_070)
+        .wrapping_sub(u32::from(u16::from_be_bytes(first)));
+    u16::try_from(sum % 65_535).unwrap_or(0).to_be_bytes()
+}
+
+fn byte_at(bytes: &[u8], at: usize) -> u8 {
+    if at < bytes.len() { bytes[at] } else { 0 }
+}
+
+fn put(bytes: &mut [u8], at: usize, byte: u8) {
+    if at < bytes.len() {
+        bytes[at] = byte;
+    }
+}
+
+/// The first four bytes of a message.
+fn header(bytes: &[u8]) -> [u8; 4] {
+    [
+        byte_at(bytes, 0),
+        byte_at(bytes, 1),
+        byte_at(bytes, 2),
+        byte_at(bytes, 3),
+    ]
+}
+
+/// Mends the checksum of a message and leaves its other bytes; less than a header is left as it is.
+fn mend<F: Family>(from: F::Addr, bytes: &mut [u8]) {
+    if bytes.len() < 4 || bytes.len() >= 65_536 {
+        return;
+    }
+    let [first, second, _, _] = header(bytes);
+    seal::<F>(from, all_routers::<F>(), MessageType::Hello, bytes);
+    let [above, below] = moved(header(bytes), [first, second]);
+    put(bytes, 0, first);
+    put(bytes, 1, second);
+    put(bytes, 2, above);
+    put(bytes, 3, below);
+}
+
+/// A message that is changed at a place, and whether its checksum is mended then.
+#[derive(Clone, Copy)]
+struct Change {
+    at: usize,
+    mends: bool,
+}
+
+/// What the port is told of one more message.
+fn tell<F: Family>(
+    router: &mut Router<'_, F>,
+    from: F::Addr,
+    told: &mut Told,
+    bytes: &[u8],
+) -> Result<(), AllocError> {
+    if router.port_count() == 0 || bytes.len() >= 65_536 {
+        return Err(AllocError);
+    }
+    let verdict = router.take_packet(0, from, all_routers::<F>(), bytes)?;
+    told.count(verdict);
+    Ok(())
+}
+
+/// What is told of a message with a byte changed to each value.
+fn tell_change<F: Family>(
+    router: &mut Router<'_, F>,
+    from: F::Addr,
+    told: &mut Told,
+    bytes: &mut [u8],
+    change: Change,
+) -> Result<(), AllocError> {
+    for byte in 0..=255 {
+        put(bytes, change.at, byte);
+        if change.mends {
+            mend::<F>(from, bytes);
+        }
+        tell(router, from, told, bytes)?;
+    }
+    Ok(())
+}
+
+/// What is told of a message with each byte changed to each value, byte by byte.
+fn changed<F: Family>(
+    router: &mut Router<'_, F>,
+    from: F::Addr,
+    bytes: &mut [u8],
+    mends: bool,
+) -> Result<Told, AllocError> {
+    let mut told = NOTHING;
+    mend::<F>(from, bytes);
+    for at in 0..bytes.len() {
+        let old = byte_at(bytes, at);
+        tell_change(router, from, &mut told, bytes, Change { at, mends })?;
+        put(bytes, at, old);
+        mend::<F>(from, bytes);
+    }
+    Ok(told)
+}
+
+/// What is told of a message's fronts, from the shortest to the whole of it, each with its checksum mended.
+fn cut<F: Family>(
+    router: &mut Router<'_, F>,
+    from: F::Addr,
+    bytes: &mut [u8],
+) -> Result<Told, AllocError> {
+    let mut told = NOTHING;
+    for length in 0..=bytes.len() {
+        if length <= bytes.len() {
+            let (front, _) = bytes.split_at_mut(length);
+            mend::<F>(from, front);
+            tell(router, from, &mut told, front)?;
+        }
+    }
+    Ok(told)
+}
+
+/// What is told of a message that is cut, changed, and changed and mended.
+fn spoilt<F: Family>(
+    router: &mut Router<'_, F>,
+    from: F::Addr,
+    bytes: &mut [u8],
+) -> Result<[Told; 3], AllocError> {
+    let cut = cut(router, from, bytes)?;
+    let changed_alone = changed(router, from, bytes, false)?;
+    let mended = changed(router, from, bytes, true)?;
+    Ok([cut, changed_alone, mended])
+}
+
+/// The same on a new router of one port, to which the sender of a Join/Prune is unknown, and how many records it keeps.
+fn spoilt_on<F: Family>(
+    alloc: Global,
+    port: PortConfig<F::Addr>,
+    from: F::Addr,
+    bytes: &mut [u8],
+) -> Result<([Told; 3], usize), Fail> {
+    let routes = Routes::<F>::new(alloc);
+    let ports = [port];
+    let config = Config {
+        ports: &ports,
+        routes: &routes,
+        limit: 100_000,
+    };
+    let mut router = Router::new(alloc, &config)?;
+    let told = spoilt(&mut router, from, bytes)?;
+    Ok((told, router.ports().records().count()))
+}
+
+const PORT: PortConfig<[u8; 4]> = PortConfig {
+    address: [10, 0, 0, 2],
+    propagation: 500,
+    override_ms: 2500,
+};
+
+const SENDER: [u8; 4] = [10, 0, 0, 9];
+
+/// fe80::2
+const PORT_V6: PortConfig<[u8; 16]> = PortConfig {
+    address: [0xfe, 0x80, 0, 0, 0, 0, 0, 0, 0, 0, 0, 0, 0, 0, 0, 2],
+    propagation: 500,
+    override_ms: 2500,
+};
+
+/// fe80::9
+const SENDER_V6: [u8; 16] = [0xfe, 0x80, 0, 0, 0, 0, 0, 0, 0, 0, 0, 0, 0, 0, 0, 9];
+
+#[test]
+fn spoilt_hellos(rt: HostRuntime) -> Result<(), Fail> {
+    let mut hello = HELLO;
+    let told = spoilt_on::<V4>(rt.alloc(), PORT, SENDER, &mut hello)?;
+    assert_eq!(rt; told, (OF_HELLO, 0));
+    Ok(())
+}
+
+#[test]
+fn spoilt_hellos_of_ipv6(rt: HostRuntime) -> Result<(), Fail> {
+    let mut hello = HELLO;
+    let told = spoilt_on::<V6>(rt.alloc(), PORT_V6, SENDER_V6, &mut hello)?;
+    assert_eq!(rt; told, (OF_HELLO_V6, 0));
+    Ok(())
+}
+
+#[test]
+fn spoilt_join_prunes(rt: HostRuntime) -> Result<(), Fail> {
+    let mut lists = LISTS;
+    let told = spoilt_on::<V4>(rt.alloc(), PORT, SENDER, &mut lists)?;
+    assert_eq!(rt; told, (OF_LISTS, 0));
+    Ok(())
+}
+
+#[test]
+fn spoilt_join_prunes_of_ipv6(rt: HostRuntime) -> Result<(), Fail> {
+    let mut lists = LISTS_V6;
+    let told = spoilt_on::<V6>(rt.alloc(), PORT_V6, SENDER_V6, &mut lists)?;
+    assert_eq!(rt; told, (OF_LISTS_V6, 0));
+    Ok(())
+}
+
+#[test]
+fn spoilt_messages_of_another_type(rt: HostRuntime) -> Result<(), Fail> {
+    let mut other = OTHER;
+    let told = spoilt_on::<V4>(rt.alloc(), PORT, SENDER, &mut other)?;
+    assert_eq!(rt; told, (OF_ANOTHER_TYPE, 0));
+    Ok(())
+}
