@@ -10,6 +10,7 @@ mod lengths;
 mod memory;
 mod packets;
 mod refused;
+mod rooms;
 mod spoilt;
 mod spoilt_rows;
 mod time;

@@ -60,6 +60,22 @@ fn hear_200_sources(alloc: Global, router: &mut Router<'_, V4>) -> Option<bool> 
     hear::<V4>(alloc, router, 0, neighbour(0), &set)
 }
 
+/// The messages by which a router asks 10.0.0.2; `None` where something went wrong.
+fn messages_of(alloc: Global, router: &Router<'_, V4>) -> Option<Messages> {
+    let writer = Writer::new(TWO, ONE, 210, 1480).ok()?;
+    router.canonical(alloc, &writer).ok()
+}
+
+/// The messages by which 200 sources of one group are asked for; `None` where something went wrong.
+pub(super) fn messages_of_200_sources(alloc: Global) -> Option<Messages> {
+    let routes = table(alloc, &ONE_EACH)?;
+    let mut router = started(alloc, &THREE, &routes)?;
+    if hear_200_sources(alloc, &mut router) != Some(true) {
+        return None;
+    }
+    messages_of(alloc, &router)
+}
+
 /// What 200 sources of one group are asked for by; `None` where something went wrong.
 fn of_200_sources(alloc: Global) -> Told<V4> {
     let routes = table(alloc, &ONE_EACH)?;

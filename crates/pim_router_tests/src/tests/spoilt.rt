@@ -238,7 +238,8 @@ fn spoilt_on<F: Family>(
     Ok((told, router.ports().records().count()))
 }
 
-const PORT: PortConfig<[u8; 4]> = PortConfig {
+/// A port of 10.0.0.2.
+pub(super) const PORT: PortConfig<[u8; 4]> = PortConfig {
     address: [10, 0, 0, 2],
     propagation: 500,
     override_ms: 2500,
