@@ -21,3 +21,4 @@ pub mod DraftSizes
 pub mod DraftSteps
 pub mod TooBigSteps
 pub mod NextMessage
+pub mod KeptMessages

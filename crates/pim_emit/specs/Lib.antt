@@ -5,3 +5,4 @@ pub mod Left
 pub mod Sets
 pub mod Drafts
 pub mod Written
+pub mod Kept

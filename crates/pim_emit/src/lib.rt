@@ -9,6 +9,7 @@ mod asked;
 mod canonical;
 mod draft;
 mod fault;
+mod kept;
 mod least;
 mod machines;
 mod message;
@@ -19,3 +20,4 @@ mod set;
 
 pub use canonical::write_canonical;
 pub use fault::WriteFault;
+pub use kept::canonical_messages;
