@@ -3,8 +3,8 @@
 use pim_addr::{Family, Routes, V4, V6};
 use pim_device::ScriptedDrain;
 use pim_down::{Ports, Step, Timing};
-use pim_emit::{WriteFault, write_canonical};
-use pim_form::{Messages, NormalForm, Writer, is_toward, pack};
+use pim_emit::{WriteFault, canonical_messages, write_canonical};
+use pim_form::{FormFault, Messages, NormalForm, Writer, is_toward, pack};
 use pim_jp::{Entry, JpView, head_length, put_head, put_set, set_length};
 use std::alloc::{AllocError, Global};
 use std::test::Fail;
@@ -153,12 +153,30 @@ fn packed<F: Family>(alloc: Global, state: &State<F>) -> Option<Vec<u8>> {
     Some(framed)
 }
 
-/// Whether the packed messages of this state are these bytes.
-fn is_packed<F: Family>(alloc: Global, state: &State<F>, bytes: &[u8]) -> bool {
-    match packed(alloc, state) {
+/// The same messages, kept straight from the records.
+fn kept<F: Family>(alloc: Global, state: &State<F>) -> Option<Vec<u8>> {
+    let messages = canonical_messages::<F>(alloc, &state.ports, &state.writer, &state.routes).ok()?;
+    let mut framed = Vec::new(alloc);
+    frame(&mut framed, &messages).ok()?;
+    Some(framed)
+}
+
+/// Why they aren't kept, if they aren't.
+fn fault_of_kept<F: Family>(alloc: Global, state: &State<F>) -> Option<FormFault<F>> {
+    canonical_messages::<F>(alloc, &state.ports, &state.writer, &state.routes).err()
+}
+
+/// Whether these bytes are there.
+fn are_bytes(found: Option<Vec<u8>>, bytes: &[u8]) -> bool {
+    match found {
         Some(framed) => framed.as_slice() == bytes,
         None => false,
     }
+}
+
+/// Whether the packed messages of this state are these bytes, and those that are kept straight from the records too.
+fn is_packed<F: Family>(alloc: Global, state: &State<F>, bytes: &[u8]) -> bool {
+    are_bytes(packed(alloc, state), bytes) && are_bytes(kept(alloc, state), bytes)
 }
 
 /// The source 10.1.0.0 and so many.
@@ -289,6 +307,10 @@ fn writes_nothing_of_a_star_that_is_too_big(rt: HostRuntime) -> Result<(), Fail>
         Err(WriteFault::TooBig(GROUP))
     );
     assert!(rt; out.written().is_empty());
+    assert_eq!(rt;
+        fault_of_kept(rt.alloc(), &state),
+        Some(FormFault::TooBig(GROUP))
+    );
     Ok(())
 }
 
