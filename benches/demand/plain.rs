@@ -1,5 +1,5 @@
 //! The same steps in plain Rust: collecting what a port wants in one pass over its records, merging the ports, planning
-//! the messages and writing them.
+//! the messages and writing them; and writing them straight from the records, with a place for each port.
 use std::hint::black_box;
 use std::time::Instant;
 
@@ -328,6 +328,220 @@ fn pack(form: &Form, budget: usize) -> (Vec<u8>, Vec<usize>) {
     (bytes, plan.ends)
 }
 
+/// The records, and where those of each port that aren't passed begin and end.
+#[derive(Clone)]
+struct Walk<'a> {
+    records: &'a [Record],
+    at: [usize; 64],
+    ends: [usize; 64],
+    ports: usize,
+}
+
+impl<'a> Walk<'a> {
+    fn new(records: &'a [Record], ports: usize) -> Self {
+        let mut walk = Walk { records, at: [0; 64], ends: [0; 64], ports };
+        for port in 0..ports {
+            walk.at[port] = records.partition_point(|held| held.port < port);
+            walk.ends[port] = records.partition_point(|held| held.port <= port);
+        }
+        walk
+    }
+
+    /// The next record of the port, if it is of this group.
+    fn next_of(&self, port: usize, group: Addr) -> Option<&'a Record> {
+        let held = self.records[..self.ends[port]].get(self.at[port])?;
+        (held.group == group).then_some(held)
+    }
+
+    fn least_group(&self) -> Option<Addr> {
+        (0..self.ports).filter(|port| self.at[*port] < self.ends[*port]).map(|port| self.records[self.at[port]].group).min()
+    }
+
+    /// Passes what is left of the group.
+    fn pass(&mut self, group: Addr) {
+        for port in 0..self.ports {
+            let left = &self.records[self.at[port]..self.ends[port]];
+            self.at[port] += left.partition_point(|held| held.group <= group);
+        }
+    }
+
+    /// Passes the stars of the group, and answers which ports have one in Join or Prune-Pending.
+    fn pass_stars(&mut self, group: Addr) -> u64 {
+        let mut starred = 0;
+        for port in 0..self.ports {
+            if let Some(held) = self.next_of(port, group).filter(|held| held.what == What::Star) {
+                starred |= u64::from(joined(held.state)) << port;
+                self.at[port] += 1;
+            }
+        }
+        starred
+    }
+
+    fn least_source(&self, group: Addr) -> Option<Addr> {
+        let mut least: Option<Addr> = None;
+        for port in 0..self.ports {
+            if let Some(&Record { what: What::Source(source), .. }) = self.next_of(port, group) {
+                least = Some(least.map_or(source, |other| other.min(source)));
+            }
+        }
+        least
+    }
+
+    fn pass_source(&mut self, group: Addr, source: Addr) {
+        for port in 0..self.ports {
+            if self.next_of(port, group).is_some_and(|held| held.what == What::Source(source)) {
+                self.at[port] += 1;
+            }
+        }
+    }
+
+    /// The next exception: a source that the first of the starred ports holds back, and each other one too.
+    fn next_exception(&mut self, group: Addr, starred: u64) -> Option<Addr> {
+        let first = starred.trailing_zeros() as usize;
+        while let Some(held) = self.next_of(first, group) {
+            self.at[first] += 1;
+            let What::Rpt(source) = held.what else { continue };
+            let mut held_back = held.state == State::Prune;
+            for port in first + 1..self.ports {
+                held_back &= starred >> port & 1 == 0 || self.holds_back(port, group, source);
+            }
+            if held_back {
+                return Some(source);
+            }
+        }
+        None
+    }
+
+    /// Whether the port holds this source back; what stands before it is passed.
+    fn holds_back(&mut self, port: usize, group: Addr, source: Addr) -> bool {
+        while let Some(held) = self.next_of(port, group) {
+            match held.what {
+                What::Rpt(other) if other == source => return held.state == State::Prune,
+                What::Rpt(other) if other > source => return false,
+                _ => self.at[port] += 1,
+            }
+        }
+        false
+    }
+
+    fn exception_count(&self, group: Addr, starred: u64) -> usize {
+        let mut walk = self.clone();
+        let mut count = 0;
+        while starred > 0 && walk.next_exception(group, starred).is_some() {
+            count += 1;
+        }
+        count
+    }
+}
+
+/// The upstream neighbour of an address: that of the last row that begins at or before it.
+fn via(table: &[(Addr, Addr)], address: Addr) -> Option<Addr> {
+    Some(table[table.partition_point(|row| row.0 <= address).checked_sub(1)?].1)
+}
+
+/// A message that is being made in a buffer, and how many went out, each behind its length.
+struct Draft {
+    bytes: Vec<u8>,
+    groups: usize,
+    end: usize,
+    messages: usize,
+}
+
+impl Draft {
+    fn room(&self) -> usize {
+        if self.groups == 255 { 0 } else { BUDGET.saturating_sub(self.end + 12) / 8 }
+    }
+
+    fn send(&mut self) {
+        if self.groups > 0 {
+            let message = &mut self.bytes[..self.end];
+            message[..6].copy_from_slice(&[0x23, 0, 0, 0, 1, 0]);
+            message[6..10].copy_from_slice(&UPSTREAM);
+            message[10..14].copy_from_slice(&[0, self.groups as u8, 0, 210]);
+            let checksum = !(sum(message) as u16);
+            message[2..4].copy_from_slice(&checksum.to_be_bytes());
+            black_box((message.len() as u16).to_be_bytes());
+            black_box(&*message);
+            self.messages += 1;
+        }
+        (self.groups, self.end) = (0, 14);
+    }
+}
+
+/// Writes the messages straight from the records, without memory but for the buffer, which is handed in.
+fn write_straight(records: &[Record], ports: usize, table: &[(Addr, Addr)], draft: &mut Draft) -> Option<usize> {
+    let toward = |source: Addr| via(table, source) == Some(UPSTREAM);
+    let mut walk = Walk::new(records, ports);
+    let most = (BUDGET - 26) / 8;
+    while let Some(group) = walk.least_group() {
+        let starred = walk.pass_stars(group);
+        if starred > 0 && walk.exception_count(group, starred) >= most {
+            return None;
+        }
+        walk.pass(group);
+    }
+    let mut walk = Walk::new(records, ports);
+    draft.messages = 0;
+    (draft.groups, draft.end) = (0, 14);
+    while let Some(group) = walk.least_group() {
+        let starred = walk.pass_stars(group);
+        let mut stars = usize::from(starred > 0);
+        let mut exceptions = walk.exception_count(group, starred);
+        let mut next = walk.least_source(group);
+        while stars > 0 || next.is_some() {
+            if draft.room() < (stars + exceptions).max(1) {
+                draft.send();
+            }
+            let (start, mut at) = (draft.end, draft.end + 12);
+            if stars > 0 {
+                put(7, RP, &mut draft.bytes[at..at + 8]);
+                at += 8;
+            }
+            let most = draft.room() - stars - exceptions;
+            let mut count = 0;
+            while let Some(source) = next.filter(|_| count < most) {
+                if toward(source) {
+                    put(4, source, &mut draft.bytes[at..at + 8]);
+                    at += 8;
+                    count += 1;
+                }
+                walk.pass_source(group, source);
+                next = walk.least_source(group);
+            }
+            let mut rpts = walk.clone();
+            while let Some(source) = (exceptions > 0).then(|| rpts.next_exception(group, starred)).flatten() {
+                put(5, source, &mut draft.bytes[at..at + 8]);
+                at += 8;
+            }
+            let head = &mut draft.bytes[start..start + 12];
+            head[..4].copy_from_slice(&[1, 0, 0, 32]);
+            head[4..8].copy_from_slice(&group);
+            head[8..10].copy_from_slice(&((stars + count) as u16).to_be_bytes());
+            head[10..12].copy_from_slice(&(exceptions as u16).to_be_bytes());
+            draft.groups += 1;
+            draft.end = at;
+            if next.is_some() {
+                draft.send();
+            }
+            (stars, exceptions) = (0, 0);
+        }
+        walk.pass(group);
+    }
+    draft.send();
+    Some(draft.messages)
+}
+
+fn tell_straight(name: &str, records: &[Record]) {
+    let table = black_box(vec![([0; 4], UPSTREAM)]);
+    let mut draft = Draft { bytes: vec![0; BUDGET], groups: 0, end: 14, messages: 0 };
+    let start = Instant::now();
+    for _ in 0..ROUNDS {
+        black_box(write_straight(black_box(records), 4, &table, &mut draft));
+    }
+    let each = start.elapsed().as_nanos() * 1000 / (records.len() as u128 * u128::from(ROUNDS));
+    println!("{name}: straight {each} ps a record ({} messages)", draft.messages);
+}
+
 fn tell(name: &str, shape: Shape, ports: u32) {
     let records = black_box(records_of(shape, ports));
     let start = Instant::now();
@@ -349,6 +563,7 @@ fn tell(name: &str, shape: Shape, ports: u32) {
         each(packing.as_nanos()),
         records.len()
     );
+    tell_straight(name, &records);
 }
 
 fn main() {
