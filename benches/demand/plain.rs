@@ -354,7 +354,8 @@ impl<'a> Walk<'a> {
     }
 
     fn least_group(&self) -> Option<Addr> {
-        (0..self.ports).filter(|port| self.at[*port] < self.ends[*port]).map(|port| self.records[self.at[port]].group).min()
+        let left = (0..self.ports).filter(|port| self.at[*port] < self.ends[*port]);
+        left.map(|port| self.records[self.at[port]].group).min()
     }
 
     /// Passes what is left of the group.
