@@ -9,17 +9,18 @@ ghost use Rattle.pim_form.specs.Toward.{is_neighbour};
 ghost use Rattle.pim_emit.specs.Asking.{rps_of};
 ghost use Rattle.pim_emit.specs.Left.{next_above, star_of, exceptions_in, sources_in};
 
-use crate::machines::{first_starred, least_group, least_source, lowest, rpt_after};
+use crate::machines::{first_starred, least_group, least_source, lowest, rpt_after, wants_shared};
+use crate::nearby::Nearby;
 use pim_addr::{Family, Routes};
 use pim_down::Ports;
-use pim_form::{Tree, upstream_of, wants};
+use pim_form::{Tree, upstream_of};
 use std::marker::Model;
 
 /// What the machines of all ports want of an upstream neighbour (RFC 7761, 4.1). Contracts see its normal form; the
-/// records are read anew at each call.
+/// records are read anew at each call, each look-up from near where one ended before.
 #[derive(Drop)]
 pub(crate) struct Asked<'a, F: Family> {
-    ports: &'a Ports<F>,
+    ports: Nearby<'a, F>,
     routes: &'a Routes<F>,
     upstream: F::Addr,
 }
@@ -31,7 +32,7 @@ impl<'a, F: Family> Model for Asked<'a, F> {
     ghost Value = { Asking };
 
     ghost view = { λ asked. record {
-      form = asked_form F.family asked.routes.now (F.bytes_of asked.upstream) asked.ports.now;
+      form = asked_form F.family asked.routes.now (F.bytes_of asked.upstream) asked.ports;
       table = asked.routes.now;
     } };
 }
@@ -55,7 +56,7 @@ impl<'a, F: Family> Asked<'a, F> {
         } }
     {
         Asked {
-            ports,
+            ports: Nearby::new(ports),
             routes,
             upstream,
         }
@@ -94,7 +95,7 @@ impl<'a, F: Family> Asked<'a, F> {
     {
         self.ports.is_sound();
         pim_form::form_of_what_is_asked();
-        first_starred::<F>(self.ports, group).is_some()
+        first_starred::<F>(&self.ports, group).is_some()
             && is_neighbour::<F>(
                 upstream_of::<F>(self.routes, group, group, Tree::Shared),
                 self.upstream,
@@ -111,7 +112,7 @@ impl<'a, F: Family> Asked<'a, F> {
         pim_down::keys_are_told_apart();
         pim_form::form_of_what_is_asked();
         let mut bound = bound;
-        while let Some(source) = least_source::<F>(self.ports, group, bound) {
+        while let Some(source) = least_source::<F>(&self.ports, group, bound) {
             if is_neighbour::<F>(self.routes.via(source), self.upstream) {
                 return Some(source);
             }
@@ -130,10 +131,10 @@ impl<'a, F: Family> Asked<'a, F> {
         self.ports.is_sound();
         pim_down::keys_are_told_apart();
         pim_form::form_of_what_is_asked();
-        let port = first_starred::<F>(self.ports, group)?;
+        let port = first_starred::<F>(&self.ports, group)?;
         let mut bound = bound.unwrap_or(lowest::<F>());
-        while let Some(source) = rpt_after::<F>(self.ports, port, group, bound) {
-            if !wants::<F>(self.ports, source, group, Tree::Shared) {
+        while let Some(source) = rpt_after::<F>(&self.ports, port, group, bound) {
+            if !wants_shared::<F>(&self.ports, source, group) {
                 return Some(source);
             }
             bound = source;
@@ -150,7 +151,7 @@ impl<'a, F: Family> Asked<'a, F> {
         pim_down::keys_are_told_apart();
         pim_form::form_of_what_is_asked();
         let mut bound = bound;
-        while let Some(group) = least_group::<F>(self.ports, bound) {
+        while let Some(group) = least_group::<F>(&self.ports, bound) {
             if self.has_star(group) || self.next_source(group, None).is_some() {
                 return Some(group);
             }

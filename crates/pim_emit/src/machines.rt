@@ -5,16 +5,18 @@ ghost use Rattle.std.specs.declared.cmp.Ordering.TheVariants.{Less};
 ghost use Rattle.pim_addr.specs.Address.{IsSourceAddress};
 ghost use Rattle.pim_down.specs.After.{is_above};
 ghost use Rattle.pim_down.specs.Key.{address_cmp};
-ghost use Rattle.pim_form.specs.Wants.{some_below};
+ghost use Rattle.pim_form.specs.Wants.{some_below, wants_on, wants};
+ghost use Rattle.pim_form.specs.declared.tree.Tree.TheVariants.{Shared};
 ghost use Rattle.pim_emit.specs.Least.{IsLeast};
 ghost use Rattle.pim_emit.specs.Machines.{is_starred, is_source_joined, has_rpt, has_group, IsSomeBelow};
 
 use crate::least::lesser;
+use crate::nearby::Nearby;
 use pim_addr::Family;
-use pim_down::{Ports, State, What};
+use pim_down::{State, What};
 
 /// Whether the port has (*,G) in Join or Prune-Pending.
-fn is_starred<F: Family>(ports: &Ports<F>, port: usize, group: F::Addr) -> bool
+fn is_starred<F: Family>(ports: &Nearby<'_, F>, port: usize, group: F::Addr) -> bool
     ensures { result ≡ is_starred ports.now (F.bytes_of group) port }
 {
     matches!(
@@ -24,7 +26,7 @@ fn is_starred<F: Family>(ports: &Ports<F>, port: usize, group: F::Addr) -> bool
 }
 
 /// The first port that has (*,G) in Join or Prune-Pending.
-pub(crate) fn first_starred<F: Family>(ports: &Ports<F>, group: F::Addr) -> Option<usize>
+pub(crate) fn first_starred<F: Family>(ports: &Nearby<'_, F>, group: F::Addr) -> Option<usize>
     ensures { IsSomeBelow ports.now.ports (is_starred ports.now (F.bytes_of group)) result }
 {
     let count = ports.port_count();
@@ -38,7 +40,7 @@ pub(crate) fn first_starred<F: Family>(ports: &Ports<F>, group: F::Addr) -> Opti
 
 /// The least source above the bound, or of all, with (S,G) in Join or Prune-Pending on the port.
 fn source_on<F: Family>(
-    ports: &Ports<F>,
+    ports: &Nearby<'_, F>,
     port: usize,
     group: F::Addr,
     bound: Option<F::Addr>,
@@ -60,7 +62,7 @@ fn source_on<F: Family>(
 
 /// The least source above the bound, or of all, with (S,G) in Join or Prune-Pending on some port.
 pub(crate) fn least_source<F: Family>(
-    ports: &Ports<F>,
+    ports: &Nearby<'_, F>,
     group: F::Addr,
     bound: Option<F::Addr>,
 ) -> Option<F::Addr>
@@ -77,7 +79,7 @@ pub(crate) fn least_source<F: Family>(
 
 /// The least source above this address whose (S,G,rpt) machine is held on the port.
 pub(crate) fn rpt_after<F: Family>(
-    ports: &Ports<F>,
+    ports: &Nearby<'_, F>,
     port: usize,
     group: F::Addr,
     bound: F::Addr,
@@ -93,6 +95,32 @@ pub(crate) fn rpt_after<F: Family>(
     }
 }
 
+/// Whether the port wants the traffic of this source on the shared tree of the group.
+fn wants_on<F: Family>(ports: &Nearby<'_, F>, source: F::Addr, group: F::Addr, port: usize) -> bool
+    ensures { result ≡ wants_on ports.now.records (F.bytes_of source) (F.bytes_of group) Shared port }
+{
+    let star = ports.state_of(port, group, What::Star);
+    let rpt = ports.state_of(port, group, What::Rpt(source));
+    matches!(star, Some(State::Join | State::PrunePending)) && !matches!(rpt, Some(State::Prune))
+}
+
+/// Whether some port wants the traffic of this source on the shared tree of the group (RFC 7761, 4.1).
+pub(crate) fn wants_shared<F: Family>(
+    ports: &Nearby<'_, F>,
+    source: F::Addr,
+    group: F::Addr,
+) -> bool
+    ensures { result ≡ wants ports.now (F.bytes_of source) (F.bytes_of group) Shared }
+{
+    let count = ports.port_count();
+    for port in 0..count {
+        if wants_on::<F>(ports, source, group, port) {
+            return true;
+        }
+    }
+    false
+}
+
 /// The address before all valid sources.
 pub(crate) fn lowest<F: Family>() -> F::Addr
     ensures { (source : List ℕ) → IsSourceAddress F.family source →
@@ -102,7 +130,10 @@ pub(crate) fn lowest<F: Family>() -> F::Addr
 }
 
 /// The least group above the bound, or of all, with a record on some port.
-pub(crate) fn least_group<F: Family>(ports: &Ports<F>, bound: Option<F::Addr>) -> Option<F::Addr>
+pub(crate) fn least_group<F: Family>(
+    ports: &Nearby<'_, F>,
+    bound: Option<F::Addr>,
+) -> Option<F::Addr>
     ensures { IsLeast (λ group. some_below ports.now.ports (λ port. is_above (option_map F.bytes_of bound) group
         && has_group ports.now group port)) (option_map F.bytes_of result) }
 {

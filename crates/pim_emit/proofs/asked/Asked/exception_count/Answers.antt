@@ -14,7 +14,7 @@ overflow_add-count g c =
     let bytes_of = g.F.Family.bytes_of in
     let table = c.self.inside.routes.now in
     let upstream = bytes_of c.self.inside.upstream in
-    let state = c.self.inside.ports.now in
+    let state = c.self.inside.ports in
     let form = c.args.self.now.form in
     omega (
       arith,
@@ -30,7 +30,7 @@ loop-exception-smaller g c =
     let bytes_of = g.F.Family.bytes_of in
     let table = c.self.inside.routes.now in
     let upstream = bytes_of c.self.inside.upstream in
-    let state = c.self.inside.ports.now in
+    let state = c.self.inside.ports in
     let form = c.args.self.now.form in
     omega (
       arith,
@@ -45,7 +45,7 @@ loop-exception-preserved g c =
     let bytes_of = g.F.Family.bytes_of in
     let table = c.self.inside.routes.now in
     let upstream = bytes_of c.self.inside.upstream in
-    let state = c.self.inside.ports.now in
+    let state = c.self.inside.ports in
     let form = c.args.self.now.form in
     omega (
       arith,
@@ -61,7 +61,7 @@ returns g c =
     let bytes_of = g.F.Family.bytes_of in
     let table = c.self.inside.routes.now in
     let upstream = bytes_of c.self.inside.upstream in
-    let state = c.self.inside.ports.now in
+    let state = c.self.inside.ports in
     let form = c.args.self.now.form in
     omega (
       arith,

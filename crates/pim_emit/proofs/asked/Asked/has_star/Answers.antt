@@ -9,7 +9,7 @@ returns-then-is_some g c =
     let family = g.F.Family.family in
     let table = c.self.inside.routes.now in
     let upstream = g.F.Family.bytes_of c.self.inside.upstream in
-    let state = c.self.inside.ports.now in
+    let state = c.self.inside.ports in
     let form = c.args.self.now.form in
     let group = g.F.Family.bytes_of c.args.group in
     star_if_reached family table upstream state form

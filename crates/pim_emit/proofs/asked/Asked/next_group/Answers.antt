@@ -14,7 +14,7 @@ has_star-requires g c =
     let bytes_of = g.F.Family.bytes_of in
     let table = c.self.inside.routes.now in
     let upstream = bytes_of c.self.inside.upstream in
-    let state = c.self.inside.ports.now in
+    let state = c.self.inside.ports in
     let form = c.args.self.now.form in
     found_group c.keys_are_told_apart.ensures family table upstream state c.is_sound.ensures form
     (asked_as_seen c.form_of_what_is_asked.ensures family table upstream state form c.is_sound.ensures (ap (λ (s : Asking). s.form) c.self.view_is))
@@ -26,7 +26,7 @@ next_source-requires g c =
     let bytes_of = g.F.Family.bytes_of in
     let table = c.self.inside.routes.now in
     let upstream = bytes_of c.self.inside.upstream in
-    let state = c.self.inside.ports.now in
+    let state = c.self.inside.ports in
     let form = c.args.self.now.form in
     found_group c.keys_are_told_apart.ensures family table upstream state c.is_sound.ensures form
     (asked_as_seen c.form_of_what_is_asked.ensures family table upstream state form c.is_sound.ensures (ap (λ (s : Asking). s.form) c.self.view_is))
@@ -38,7 +38,7 @@ returns-then-has_star g c =
     let bytes_of = g.F.Family.bytes_of in
     let table = c.self.inside.routes.now in
     let upstream = bytes_of c.self.inside.upstream in
-    let state = c.self.inside.ports.now in
+    let state = c.self.inside.ports in
     let form = c.args.self.now.form in
     elim c.then-has_star.branch [
       | then-has_star-via-then-has_star w ↦ answered (option_map bytes_of c.loop-group.bound) (option_map bytes_of c.args.bound) (groups_of form)
@@ -59,7 +59,7 @@ loop-group-smaller g c =
     let bytes_of = g.F.Family.bytes_of in
     let table = c.self.inside.routes.now in
     let upstream = bytes_of c.self.inside.upstream in
-    let state = c.self.inside.ports.now in
+    let state = c.self.inside.ports in
     let form = c.args.self.now.form in
     fewer_groups c.keys_are_told_apart.ensures family table upstream state c.is_sound.ensures form
     (asked_as_seen c.form_of_what_is_asked.ensures family table upstream state form c.is_sound.ensures (ap (λ (s : Asking). s.form) c.self.view_is))
@@ -71,7 +71,7 @@ loop-group-preserved g c =
     let bytes_of = g.F.Family.bytes_of in
     let table = c.self.inside.routes.now in
     let upstream = bytes_of c.self.inside.upstream in
-    let state = c.self.inside.ports.now in
+    let state = c.self.inside.ports in
     let form = c.args.self.now.form in
     answered (option_map bytes_of c.loop-group.bound) (option_map bytes_of c.args.bound) (groups_of form)
     (nothing_passed c.keys_are_told_apart.ensures family table upstream state c.is_sound.ensures form
@@ -85,7 +85,7 @@ returns g c =
     let bytes_of = g.F.Family.bytes_of in
     let table = c.self.inside.routes.now in
     let upstream = bytes_of c.self.inside.upstream in
-    let state = c.self.inside.ports.now in
+    let state = c.self.inside.ports in
     let form = c.args.self.now.form in
     answered (option_map bytes_of c.loop-group.bound) (option_map bytes_of c.args.bound) (groups_of form)
     (no_group_left c.keys_are_told_apart.ensures family table upstream state c.is_sound.ensures form

@@ -13,4 +13,4 @@ invariant-loop-group g l =
 -- records of groups above the bound
 abbrev pub decreases-loop-group : goal.decreases-loop-group
 decreases-loop-group g l =
-    count_above (λ (held : Record (List ℕ)). held.key.group) (option_map g.F.Family.bytes_of l.bound) l.self-inside.ports.now.records
+    count_above (λ (held : Record (List ℕ)). held.key.group) (option_map g.F.Family.bytes_of l.bound) l.self-inside.ports.records

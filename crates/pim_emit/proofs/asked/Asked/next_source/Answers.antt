@@ -11,7 +11,7 @@ returns-then-is_neighbour g c =
     let bytes_of = g.F.Family.bytes_of in
     let table = c.self.inside.routes.now in
     let upstream = bytes_of c.self.inside.upstream in
-    let state = c.self.inside.ports.now in
+    let state = c.self.inside.ports in
     let form = c.args.self.now.form in
     answered (option_map bytes_of c.loop-source.bound) (option_map bytes_of c.args.bound) (sources_in (bytes_of c.args.group) form)
     (reached_next c.keys_are_told_apart.ensures family table upstream state c.is_sound.ensures form
@@ -25,7 +25,7 @@ loop-source-smaller g c =
     let bytes_of = g.F.Family.bytes_of in
     let table = c.self.inside.routes.now in
     let upstream = bytes_of c.self.inside.upstream in
-    let state = c.self.inside.ports.now in
+    let state = c.self.inside.ports in
     let form = c.args.self.now.form in
     fewer_sources c.keys_are_told_apart.ensures family table upstream state c.is_sound.ensures form
     (asked_as_seen c.form_of_what_is_asked.ensures family table upstream state form c.is_sound.ensures (ap (λ (s : Asking). s.form) c.self.view_is))
@@ -37,7 +37,7 @@ loop-source-preserved g c =
     let bytes_of = g.F.Family.bytes_of in
     let table = c.self.inside.routes.now in
     let upstream = bytes_of c.self.inside.upstream in
-    let state = c.self.inside.ports.now in
+    let state = c.self.inside.ports in
     let form = c.args.self.now.form in
     answered (option_map bytes_of c.loop-source.bound) (option_map bytes_of c.args.bound) (sources_in (bytes_of c.args.group) form)
     (unreached_passed c.keys_are_told_apart.ensures family table upstream state c.is_sound.ensures form
@@ -51,7 +51,7 @@ returns g c =
     let bytes_of = g.F.Family.bytes_of in
     let table = c.self.inside.routes.now in
     let upstream = bytes_of c.self.inside.upstream in
-    let state = c.self.inside.ports.now in
+    let state = c.self.inside.ports in
     let form = c.args.self.now.form in
     answered (option_map bytes_of c.loop-source.bound) (option_map bytes_of c.args.bound) (sources_in (bytes_of c.args.group) form)
     (no_source_left c.keys_are_told_apart.ensures family table upstream state c.is_sound.ensures form

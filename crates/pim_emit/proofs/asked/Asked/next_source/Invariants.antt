@@ -14,4 +14,4 @@ invariant-loop-source g l =
 -- records of sources above the bound
 abbrev pub decreases-loop-source : goal.decreases-loop-source
 decreases-loop-source g l =
-    count_above (λ (held : Record (List ℕ)). source_of held.key.what) (option_map g.F.Family.bytes_of l.bound) l.self-inside.ports.now.records
+    count_above (λ (held : Record (List ℕ)). source_of held.key.what) (option_map g.F.Family.bytes_of l.bound) l.self-inside.ports.records
