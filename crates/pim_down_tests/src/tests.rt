@@ -11,7 +11,7 @@ mod tables;
 
 use pim_addr::{Routes, V4};
 use pim_down::{
-    HearFault, Key, Machine, Pending, Ports, Record, Records, State, Step, Timing, What,
+    HearFault, Key, Machine, Near, Pending, Ports, Record, Records, State, Step, Timing, What,
 };
 use pim_jp::{Entry, JpView};
 use std::alloc::{AllocError, Global};
@@ -364,6 +364,36 @@ fn machine_after(ports: &Ports<V4>, group: [u8; 4], what: What<[u8; 4]>) -> Opti
     }
 }
 
+/// Whether the three look-ups near this place answer what those from nothing do.
+fn answers_near(
+    ports: &Ports<V4>,
+    port: usize,
+    group: [u8; 4],
+    what: What<[u8; 4]>,
+    near: Near,
+) -> bool {
+    let (next, _place) = ports.record_after_near(port, group, what, near);
+    let (above, _place) = ports.group_after_near(port, Some(group), near);
+    let (state, _place) = ports.state_of_near(port, group, what, near);
+    next == ports.record_after(port, group, what)
+        && above == ports.group_after(port, Some(group))
+        && state == ports.state_of(port, group, what)
+}
+
+/// Whether look-ups near this place answer what those from nothing do, before, at and behind records.
+fn is_alike_near(ports: &Ports<V4>, near: Near) -> bool {
+    answers_near(ports, 0, GROUP, What::Star, near)
+        && answers_near(ports, 0, [239, 1, 1, 0], What::Rpt(SECOND), near)
+        && answers_near(ports, 0, GROUP, What::Source(FIRST), near)
+        && answers_near(ports, 1, GROUP, What::Rpt(FIRST), near)
+}
+
+/// The place behind the first source's record on the first port.
+fn place_in(ports: &Ports<V4>) -> Near {
+    let (_next, place) = ports.record_after_near(0, GROUP, What::Source(FIRST), Near::UNKNOWN);
+    place
+}
+
 /// Whether what a row sees is so.
 fn is_seen(ports: &Ports<V4>, row: Row) -> bool {
     match row {
@@ -413,8 +443,13 @@ fn wrong_row(alloc: Global, example: &Example) -> Result<Option<usize>, AllocErr
         return Ok(Some(0));
     }
     let mut ports: Ports<V4> = Ports::new(alloc, ports, limit);
+    let mut stale = Near::UNKNOWN;
     for (index, row) in rows.iter().enumerate() {
-        if !goes(alloc, &mut ports, *row)? {
+        if !goes(alloc, &mut ports, *row)? || !is_alike_near(&ports, stale) {
+            return Ok(Some(index));
+        }
+        stale = place_in(&ports);
+        if !is_alike_near(&ports, stale) {
             return Ok(Some(index));
         }
     }

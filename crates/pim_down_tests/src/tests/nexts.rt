@@ -1,8 +1,13 @@
 //! What comes next on a port.
 
-use super::{Example, FIRST, GROUP, JOIN_FIRST, JOIN_SECOND, JOIN_STAR, RPT_FIRST, Row, SECOND};
-use pim_addr::V6;
+use super::{
+    Example, FIRST, GROUP, JOIN_FIRST, JOIN_SECOND, JOIN_STAR, RPT_FIRST, Row, SECOND, goes,
+    is_alike_near, place_in,
+};
+use pim_addr::{V4, V6};
 use pim_down::{Ports, What};
+use std::alloc::{AllocError, Global};
+use std::test::Fail;
 
 pub(super) const EXAMPLES: [Example; 2] = [
     Example {
@@ -49,4 +54,25 @@ fn is_at_its_end(ports: &Ports<V6>) -> bool {
 fn nothing_comes_next_where_nothing_is_held(rt: HostRuntime) {
     let ports: Ports<V6> = Ports::new(rt.alloc(), 1, 1);
     assert!(rt; is_at_its_end(&ports));
+}
+
+const MANY: Row = Row::Hear(
+    0,
+    &[(GROUP, &[JOIN_STAR, JOIN_FIRST, JOIN_SECOND], &[RPT_FIRST])],
+);
+
+const FEW: Row = Row::Hear(0, &[(GROUP, &[JOIN_FIRST], &[])]);
+
+/// Whether look-ups in each of two states go right from a place of the other.
+fn hints_are_exchanged(alloc: Global) -> Result<bool, AllocError> {
+    let mut many: Ports<V4> = Ports::new(alloc, 2, 100);
+    let mut few: Ports<V4> = Ports::new(alloc, 2, 100);
+    let heard = goes(alloc, &mut many, MANY)? && goes(alloc, &mut few, FEW)?;
+    Ok(heard && is_alike_near(&few, place_in(&many)) && is_alike_near(&many, place_in(&few)))
+}
+
+#[test]
+fn a_hint_of_other_ports_changes_no_answer(rt: HostRuntime) -> Result<(), Fail> {
+    assert!(rt; hints_are_exchanged(rt.alloc())?);
+    Ok(())
 }
