@@ -16,6 +16,5 @@ pub mod FreshHearing
 pub mod MessageText
 pub mod Quiet
 pub mod MirrorText
-pub mod Emit
 pub mod ChangeHearing
 pub mod ChangeText

@@ -59,9 +59,6 @@ fn kind_named(name: &str) -> Option<Kind>
     if name == "mirror" {
         return Some(Kind::Mirror);
     }
-    if name == "emit" {
-        return Some(Kind::Emit);
-    }
     if name == "change" {
         return Some(Kind::Change);
     }

@@ -1,6 +1,5 @@
 pub mod Compared
 pub mod Mirrored
-pub mod Emitted
 pub mod Changed
 pub mod Lines
 pub mod Reports

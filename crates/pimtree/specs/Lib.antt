@@ -7,6 +7,5 @@ pub mod Telling
 pub mod Replaying
 pub mod Comparing
 pub mod Mirroring
-pub mod Emitting
 pub mod Changing
 pub mod Writing
