@@ -16,5 +16,6 @@ pub mod FreshHearing
 pub mod MessageText
 pub mod Quiet
 pub mod MirrorText
+pub mod Emit
 pub mod ChangeHearing
 pub mod ChangeText

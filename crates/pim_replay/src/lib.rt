@@ -7,12 +7,14 @@
 //! lines of its turns, and the state behind the last; where a capture has a fault, the lines of the turns before it.
 //! Two routers are compared by their replays (`same_into`). `mirror_into` writes the canonical messages of a replay's
 //! state and that a fresh router which hears them writes the same; it compares them, and they are proved to be.
+//! `emit_into` writes the bytes of these messages alone, each behind its length.
 #![tactic(auto)]
 
 mod change_hearing;
 mod change_text;
 mod demand_text;
 mod echo_line;
+mod emit;
 mod fresh_hearing;
 mod laws;
 mod malformed;
@@ -31,6 +33,7 @@ mod turns;
 
 pub use change_text::change_into;
 pub use echo_line::write_echo_line;
+pub use emit::{EmitFault, emit_into};
 pub use laws::{report_begins_with_its_lines, report_has_one_text};
 pub use malformed::write_malformed_words;
 pub use mirror_text::{MirrorTextFault, mirror_into};

@@ -12,7 +12,7 @@ use Rattle.pim_words.specs.declared.addresses.Address.{Address}
 use Rattle.pim_words.specs.declared.fault.Fault.{Fault}
 use Rattle.pim_words.specs.declared.task.Captures.{Captures}
 use Rattle.pim_words.specs.declared.task.Kind.{Kind}
-use Rattle.pim_words.specs.declared.task.Kind.TheVariants.{Check, Replay, Same, Mirror, Change}
+use Rattle.pim_words.specs.declared.task.Kind.TheVariants.{Check, Replay, Same, Mirror, Emit, Change}
 use Rattle.pim_words.specs.declared.task.Plan.{Plan}
 use Rattle.pim_words.specs.declared.task.Plan.TheVariants.{V4, V6}
 use Rattle.pim_words.specs.declared.task.Task.{Task}
@@ -34,7 +34,7 @@ whole = record {
   required = refl;
   simple = refl;
   free = refl;
-  known = ((Check, refl), ((Replay, refl), ((Same, refl), ((Mirror, refl), ((Change, refl), tt)))));
+  known = ((Check, refl), ((Replay, refl), ((Same, refl), ((Mirror, refl), ((Emit, refl), ((Change, refl), tt))))));
   limit = refl;
   after = refl;
   holdtime = refl;
@@ -77,6 +77,8 @@ task_in_range Same rows (task.Same captures writing) is = (is.0.1.after.most, (i
 task_in_range Same rows other is = absurd is
 task_in_range Mirror rows (task.Mirror captures writing) is = (is.0.1.after.most, (is.0.1.limit.least, is.0.1.limit.most), writable rows writing is.1)
 task_in_range Mirror rows other is = absurd is
+task_in_range Emit rows (task.Emit captures writing) is = (is.0.1.after.most, (is.0.1.limit.least, is.0.1.limit.most), writable rows writing is.1)
+task_in_range Emit rows other is = absurd is
 task_in_range Change rows (task.Change captures writing) is = (is.0.1.after.most, (is.0.1.limit.least, is.0.1.limit.most), writable rows writing is.1)
 task_in_range Change rows other is = absurd is
 
@@ -104,6 +106,9 @@ module _ {A : Type 0} (family : AddressFamily) (bytes_of : A → List ℕ) where
   same_in_range (task.Mirror typed how) (task.Mirror captures writing) is same =
       (same_bounded typed captures is.0 same.0, same_limited typed captures is.1 same.0, same_writable how writing is.2 same.1)
   same_in_range (task.Mirror typed how) other is same = absurd same
+  same_in_range (task.Emit typed how) (task.Emit captures writing) is same =
+      (same_bounded typed captures is.0 same.0, same_limited typed captures is.1 same.0, same_writable how writing is.2 same.1)
+  same_in_range (task.Emit typed how) other is same = absurd same
   same_in_range (task.Change typed how) (task.Change captures writing) is same =
       (same_bounded typed captures is.0 same.0, same_limited typed captures is.1 same.0, same_writable how writing is.2 same.1)
   same_in_range (task.Change typed how) other is same = absurd same

@@ -5,7 +5,7 @@ use Rattle.pim_words.specs.declared.fault.Fault.{Fault}
 use Rattle.pim_words.specs.declared.fault.Fault.TheVariants.{Memory}
 use Rattle.pim_words.specs.declared.reading.Addresses.{Addresses}
 use Rattle.pim_words.specs.declared.task.Kind.{Kind}
-use Rattle.pim_words.specs.declared.task.Kind.TheVariants.{Same, Mirror, Change}
+use Rattle.pim_words.specs.declared.task.Kind.TheVariants.{Same, Mirror, Emit, Change}
 use Rattle.pim_words.specs.Given.{address_texts, is_sided, words_of}
 use Rattle.pim_words.specs.Ports.{IsFirstWrongOf}
 use Rattle.pim_words.specs.Reading.{AreRead, IsUnreadable}
@@ -24,6 +24,9 @@ module _ (rows : List Row) (addresses : Addresses) (fault : Fault) (written : Ar
 
   pub of_mirror : OrMemory (IsFirstWrongOf (is_sided Mirror) (words_of rows)) fault → IsUnreadable Mirror rows fault
   of_mirror is = wrong_words Mirror rows fault read is
+
+  pub of_emit : OrMemory (IsFirstWrongOf (is_sided Emit) (words_of rows)) fault → IsUnreadable Emit rows fault
+  of_emit is = wrong_words Emit rows fault read is
 
   pub of_change : OrMemory (IsFirstWrongOf (is_sided Change) (words_of rows)) fault → IsUnreadable Change rows fault
   of_change is = wrong_words Change rows fault read is

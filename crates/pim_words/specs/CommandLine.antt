@@ -70,8 +70,8 @@ bare = record (new_shape (codes "pimtree")) {
 abbrev pub reading_commands : App
 reading_commands = with_subcommand (with_subcommand (record { top = bare; subs = [] }) check) replay
 
--- with all five commands
+-- with all six commands
 abbrev pub pimtree : App
 pimtree =
-    with_subcommand (with_subcommand (with_subcommand reading_commands (writing (codes "same")))
-    (writing (codes "mirror"))) (writing (codes "change"))
+    with_subcommand (with_subcommand (with_subcommand (with_subcommand reading_commands (writing (codes "same")))
+    (writing (codes "mirror"))) (writing (codes "emit"))) (writing (codes "change"))

@@ -17,7 +17,7 @@ use Rattle.pim_words.specs.declared.task.Captures.{Captures}
 use Rattle.pim_words.specs.declared.task.Port.{Port}
 use Rattle.pim_words.specs.declared.task.Writing.{Writing}
 use Rattle.pim_words.specs.declared.task.Task.{Task}
-use Rattle.pim_words.specs.declared.task.Task.TheVariants.{Check, Replay, Same, Mirror, Change}
+use Rattle.pim_words.specs.declared.task.Task.TheVariants.{Check, Replay, Same, Mirror, Emit, Change}
 
 -- ---- addresses
 
@@ -50,6 +50,7 @@ are_in family (Check source destination) = is_in family source && is_in family d
 are_in family (Replay captures) = are_captures_in family captures
 are_in family (Same captures writing) = are_captures_in family captures && is_writing_in family writing
 are_in family (Mirror captures writing) = are_captures_in family captures && is_writing_in family writing
+are_in family (Emit captures writing) = are_captures_in family captures && is_writing_in family writing
 are_in family (Change captures writing) = are_captures_in family captures && is_writing_in family writing
 
 -- ---- what is wrong
@@ -99,6 +100,7 @@ setting_faults (Check source destination) = []
 setting_faults (Replay captures) = router_faults A captures
 setting_faults (Same captures writing) = faults_of_two captures writing
 setting_faults (Mirror captures writing) = writer_faults writing ++ router_faults A captures
+setting_faults (Emit captures writing) = writer_faults writing ++ router_faults A captures
 setting_faults (Change captures writing) = faults_of_two captures writing
 
 abbrev pub task_faults : Task Address → List Fault

@@ -3,7 +3,7 @@ use Rattle.std.specs.Prelude.{◌≡◌, ◌≤◌, ℕ, Bool, true, false, List
 use Rattle.std.specs.Str.Parse.{IsNumeral, digits_value, without_leading_plus}
 use Rattle.clap.specs.Words.{Row, Text, first_of, all_of}
 use Rattle.pim_words.specs.declared.task.Kind.{Kind}
-use Rattle.pim_words.specs.declared.task.Kind.TheVariants.{Check, Replay, Same, Mirror, Change}
+use Rattle.pim_words.specs.declared.task.Kind.TheVariants.{Check, Replay, Same, Mirror, Emit, Change}
 
 -- the value of an option, or its default where the words have none
 abbrev pub option_or : Text → Text → List Row → Text
@@ -38,6 +38,7 @@ kind_name Check = codes "check"
 kind_name Replay = codes "replay"
 kind_name Same = codes "same"
 kind_name Mirror = codes "mirror"
+kind_name Emit = codes "emit"
 kind_name Change = codes "change"
 
 -- a name that a command has

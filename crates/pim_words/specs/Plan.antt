@@ -13,7 +13,7 @@ use Rattle.pim_words.specs.declared.task.Kind.{Kind}
 use Rattle.pim_words.specs.declared.task.Plan.{Plan}
 use Rattle.pim_words.specs.declared.task.Plan.TheVariants.{V4, V6}
 use Rattle.pim_words.specs.declared.task.Task.{Task}
-use Rattle.pim_words.specs.declared.task.Task.TheVariants.{Check, Replay, Same, Mirror, Change}
+use Rattle.pim_words.specs.declared.task.Task.TheVariants.{Check, Replay, Same, Mirror, Emit, Change}
 use Rattle.pim_words.specs.declared.task.Captures.{Captures}
 use Rattle.pim_words.specs.declared.task.Writing.{Writing}
 use Rattle.pim_words.specs.Faults.{task_faults}
@@ -97,6 +97,7 @@ IsInRange (Check source destination) = ⊤
 IsInRange (Replay captures) = IsBounded captures × IsLimited captures
 IsInRange (Same captures writing) = IsBounded captures × IsLimited captures × IsWritable writing
 IsInRange (Mirror captures writing) = IsBounded captures × IsLimited captures × IsWritable writing
+IsInRange (Emit captures writing) = IsBounded captures × IsLimited captures × IsWritable writing
 IsInRange (Change captures writing) = IsBounded captures × IsLimited captures × IsWritable writing
 
 -- The numbers of the plan are in their ranges.

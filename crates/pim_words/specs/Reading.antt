@@ -11,7 +11,7 @@ use Rattle.pim_words.specs.declared.task.Writing.{Writing}
 use Rattle.pim_words.specs.declared.task.Kind.{Kind}
 use Rattle.pim_words.specs.declared.task.Kind.TheVariants as kind
 use Rattle.pim_words.specs.declared.task.Task.{Task}
-use Rattle.pim_words.specs.declared.task.Task.TheVariants.{Check, Replay, Same, Mirror, Change}
+use Rattle.pim_words.specs.declared.task.Task.TheVariants.{Check, Replay, Same, Mirror, Emit, Change}
 use Rattle.pim_words.specs.Addresses.{Names, IsRead, IsUnread}
 use Rattle.pim_words.specs.Given.{IsNumber, address_texts, is_sided, option_or, required, rp_text, words_of}
 use Rattle.pim_words.specs.Ports.{IsPort, IsFirstWrongOf}
@@ -51,6 +51,7 @@ IsTask kind.Check rows (Check source destination) =
 IsTask kind.Replay rows (Replay captures) = AreCapturesOf kind.Replay rows captures
 IsTask kind.Same rows (Same captures writing) = AreCapturesOf kind.Same rows captures × IsWriting rows writing
 IsTask kind.Mirror rows (Mirror captures writing) = AreCapturesOf kind.Mirror rows captures × IsWriting rows writing
+IsTask kind.Emit rows (Emit captures writing) = AreCapturesOf kind.Emit rows captures × IsWriting rows writing
 IsTask kind.Change rows (Change captures writing) = AreCapturesOf kind.Change rows captures × IsWriting rows writing
 IsTask command rows task = ⊥
 

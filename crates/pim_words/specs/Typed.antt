@@ -10,7 +10,7 @@ use Rattle.pim_words.specs.declared.task.Writing.{Writing}
 use Rattle.pim_words.specs.declared.task.Plan.{Plan}
 use Rattle.pim_words.specs.declared.task.Plan.TheVariants.{V4, V6}
 use Rattle.pim_words.specs.declared.task.Task.{Task}
-use Rattle.pim_words.specs.declared.task.Task.TheVariants.{Check, Replay, Same, Mirror, Change}
+use Rattle.pim_words.specs.declared.task.Task.TheVariants.{Check, Replay, Same, Mirror, Emit, Change}
 
 -- the address of this family that has these bytes
 abbrev pub address_in : AddressFamily → List ℕ → Address
@@ -44,6 +44,7 @@ module _ {A : Type 0} (family : AddressFamily) (bytes_of : A → List ℕ) where
   SameTask (Replay typed) (Replay captures) = SameCaptures typed captures
   SameTask (Same typed how) (Same captures writing) = SameCaptures typed captures × SameWriting how writing
   SameTask (Mirror typed how) (Mirror captures writing) = SameCaptures typed captures × SameWriting how writing
+  SameTask (Emit typed how) (Emit captures writing) = SameCaptures typed captures × SameWriting how writing
   SameTask (Change typed how) (Change captures writing) = SameCaptures typed captures × SameWriting how writing
   SameTask typed task = ⊥
 

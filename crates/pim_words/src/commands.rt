@@ -52,6 +52,9 @@ const SAME_ABOUT: &str = "Do these two routers want the same traffic?";
 /// What `mirror` does.
 const MIRROR_ABOUT: &str = "Which messages make a fresh router want what this router wants?";
 
+/// What `emit` does.
+const EMIT_ABOUT: &str = "By which messages does this router ask its upstream neighbour?";
+
 /// What `change` does.
 const CHANGE_ABOUT: &str =
     "Which messages tell the upstream neighbour of the change from what a wants to what b wants?";
@@ -124,6 +127,15 @@ digits. All addresses are of one family.
 
 Example:
   pimtree mirror --rp 10.9.9.9 --upstream 10.0.0.3 --own 10.0.0.1 10.0.0.2@examples/lan.pcap";
+
+/// What is to be known of `emit`, and an example.
+const EMIT_AFTER_HELP: &str =
+    "A FILE is a classic pcap file of the packets on one port. The messages are written as bytes, each
+behind two bytes of its length, of which the first counts 256 times, and nothing else is. All
+addresses are of one family.
+
+Example:
+  pimtree emit --rp 10.9.9.9 --upstream 10.0.0.3 --own 10.0.0.1 10.0.0.2@examples/lan.pcap > messages";
 
 /// What is to be known of `change`, and an example.
 const CHANGE_AFTER_HELP: &str =
@@ -296,6 +308,23 @@ fn writing_command<'a>(
     with_run_options(alloc, command, word_help)
 }
 
+/// Adds a command that writes messages.
+fn with_writing_command<'a>(
+    alloc: Global,
+    whole: Command<'a>,
+    name: &'a str,
+    about: &'a str,
+    after_help: &'a str,
+    word_help: &'a str,
+) -> Result<Command<'a>, AllocError>
+    requires { (out-Command whole).has_globals ≡ false }
+    ensures app { IfOk result (λ c. app_of c ≡ with_subcommand (app_of whole.entry) (writing name.entry.now)) }
+    ensures local { IfOk result (λ c. (out-Command c).has_globals ≡ false) }
+{
+    let command = writing_command(alloc, name, about, after_help, word_help)?;
+    with_command(whole, command)
+}
+
 /// The program without its commands.
 fn bare_command<'a>(alloc: Global) -> Command<'a>
     ensures app { app_of result ≡ record { top = bare; subs = [] } }
@@ -326,10 +355,12 @@ pub(crate) fn command<'a>(alloc: Global) -> Result<Command<'a>, AllocError>
     ensures local { IfOk result (λ c. (out-Command c).has_globals ≡ false) }
 {
     let whole = reading_commands(alloc)?;
-    let same = writing_command(alloc, "same", SAME_ABOUT, SAME_AFTER_HELP, SIDED_HELP)?;
-    let whole = with_command(whole, same)?;
-    let mirror = writing_command(alloc, "mirror", MIRROR_ABOUT, MIRROR_AFTER_HELP, PORT_HELP)?;
-    let whole = with_command(whole, mirror)?;
-    let change = writing_command(alloc, "change", CHANGE_ABOUT, CHANGE_AFTER_HELP, SIDED_HELP)?;
-    with_command(whole, change)
+    let (about, help) = (SAME_ABOUT, SAME_AFTER_HELP);
+    let whole = with_writing_command(alloc, whole, "same", about, help, SIDED_HELP)?;
+    let (about, help) = (MIRROR_ABOUT, MIRROR_AFTER_HELP);
+    let whole = with_writing_command(alloc, whole, "mirror", about, help, PORT_HELP)?;
+    let (about, help) = (EMIT_ABOUT, EMIT_AFTER_HELP);
+    let whole = with_writing_command(alloc, whole, "emit", about, help, PORT_HELP)?;
+    let (about, help) = (CHANGE_ABOUT, CHANGE_AFTER_HELP);
+    with_writing_command(alloc, whole, "change", about, help, SIDED_HELP)
 }

@@ -153,8 +153,8 @@ fn judge_two(
     judge_routers(captures)
 }
 
-/// Looks at a router and at how it writes.
-fn judge_mirror(
+/// Looks at one router and at how it writes.
+fn judge_one(
     captures: &Captures<'_, Address>,
     writing: Writing<Address>,
 ) -> Result<(), Fault<'static>>
@@ -174,6 +174,8 @@ pub(crate) fn judge(task: &Task<'_, Address>) -> Result<(), Fault<'static>>
         Task::Same(captures, writing) | Task::Change(captures, writing) => {
             judge_two(captures, *writing)
         }
-        Task::Mirror(captures, writing) => judge_mirror(captures, *writing),
+        Task::Mirror(captures, writing) | Task::Emit(captures, writing) => {
+            judge_one(captures, *writing)
+        }
     }
 }

@@ -59,6 +59,9 @@ fn kind_named(name: &str) -> Option<Kind>
     if name == "mirror" {
         return Some(Kind::Mirror);
     }
+    if name == "emit" {
+        return Some(Kind::Emit);
+    }
     if name == "change" {
         return Some(Kind::Change);
     }

@@ -165,6 +165,18 @@ fn read_mirror<'a>(alloc: Global, options: &ArgMatches<'a>) -> Result<Task<'a, A
     Ok(Task::Mirror(captures, writing))
 }
 
+/// What `emit` was given.
+fn read_emit<'a>(alloc: Global, options: &ArgMatches<'a>) -> Result<Task<'a, Address>, Fault<'a>>
+    requires { HasNumbers (rows_of (found_of options.now)) }
+    ensures { MatchResult result (IsTask Kind.Emit (rows_of (found_of options.now)))
+        (IsUnreadable Kind.Emit (rows_of (found_of options.now))) }
+{
+    let addresses = read_addresses(options)?;
+    let captures = read_captures(alloc, false, Some(addresses.rp), options)?;
+    let writing = read_writing(addresses, options);
+    Ok(Task::Emit(captures, writing))
+}
+
 /// What `change` was given.
 fn read_change<'a>(alloc: Global, options: &ArgMatches<'a>) -> Result<Task<'a, Address>, Fault<'a>>
     requires { HasNumbers (rows_of (found_of options.now)) }
@@ -192,6 +204,7 @@ pub(crate) fn read_task<'a>(
         Kind::Replay => read_replay(alloc, options),
         Kind::Same => read_same(alloc, options),
         Kind::Mirror => read_mirror(alloc, options),
+        Kind::Emit => read_emit(alloc, options),
         Kind::Change => read_change(alloc, options),
     }
 }

@@ -59,6 +59,8 @@ pub enum Task<'a, A> {
     Same(Captures<'a, A>, Writing<A>),
     /// To tell the messages that make a fresh router want what a router wants.
     Mirror(Captures<'a, A>, Writing<A>),
+    /// To write the messages by which a router asks its upstream neighbour.
+    Emit(Captures<'a, A>, Writing<A>),
     /// To tell the messages by which an upstream neighbour of router a learns to send what router b wants.
     Change(Captures<'a, A>, Writing<A>),
 }
@@ -83,6 +85,8 @@ pub enum Kind {
     Same,
     /// `mirror`
     Mirror,
+    /// `emit`
+    Emit,
     /// `change`
     Change,
 }

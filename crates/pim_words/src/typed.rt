@@ -160,6 +160,11 @@ pub(crate) fn task_in_family<'a, F: Family>(
             let writing = writing_in_family::<F>(*writing)?;
             Ok(Task::Mirror(captures, writing))
         }
+        Task::Emit(captures, writing) => {
+            let captures = captures_in_family::<F>(alloc, captures)?;
+            let writing = writing_in_family::<F>(*writing)?;
+            Ok(Task::Emit(captures, writing))
+        }
         Task::Change(captures, writing) => {
             let captures = captures_in_family::<F>(alloc, captures)?;
             let writing = writing_in_family::<F>(*writing)?;

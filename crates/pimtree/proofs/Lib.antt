@@ -1,5 +1,6 @@
 pub mod Compared
 pub mod Mirrored
+pub mod Emitted
 pub mod Changed
 pub mod Lines
 pub mod Reports

@@ -7,5 +7,6 @@ pub mod Telling
 pub mod Replaying
 pub mod Comparing
 pub mod Mirroring
+pub mod Emitting
 pub mod Changing
 pub mod Writing

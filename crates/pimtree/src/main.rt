@@ -1,8 +1,8 @@
 //! `pimtree` reads PIM sparse mode messages for a person. `check` prints a message on standard input, or the fault that
 //! it has; `replay` what became of each packet of a router's captures, and the state that the router held at the end;
 //! `same` whether two routers wanted the same traffic; `mirror` the messages that make a fresh router want what this
-//! one wanted; and `change` those that tell the upstream neighbour of the change from what one router wanted to what
-//! another did.
+//! one wanted; `emit` the bytes of the messages by which this one asked its upstream neighbour; and `change` those that
+//! tell the upstream neighbour of the change from what one router wanted to what another did.
 #![tactic(auto)]
 
 ghost use Rattle.pim_words.specs.Plan.{IsInRange};
@@ -15,6 +15,9 @@ mod change_tests;
 mod changing;
 mod check;
 mod comparing;
+#[cfg(test)]
+mod emit_tests;
+mod emitting;
 #[cfg(test)]
 mod examples;
 mod fault;
@@ -40,6 +43,7 @@ mod writing_tests;
 use changing::change;
 use check::check_task;
 use comparing::same;
+use emitting::emit;
 use fault::Fault;
 use mirroring::mirror;
 use pim_addr::{Counted, Drain, Family, V4, V6};
@@ -72,6 +76,7 @@ fn run_task<'a, F: Family, W: Drain>(
         Task::Replay(captures) => replay::<F, W>(rt, captures, output),
         Task::Same(captures, writing) => same::<F, W>(rt, captures, writing, output),
         Task::Mirror(captures, writing) => mirror::<F, W>(rt, captures, writing, output),
+        Task::Emit(captures, writing) => emit::<F, W>(rt, captures, writing, output),
         Task::Change(captures, writing) => change::<F, W>(rt, captures, writing, output),
     }
 }

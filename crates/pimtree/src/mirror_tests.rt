@@ -141,7 +141,7 @@ const FIRST6: [&str; 8] = [
 ];
 
 /// The capture of each port.
-fn merge_of<'c, A>(
+pub(super) fn merge_of<'c, A>(
     alloc: Global,
     ports: &[Port<'_, A>],
     shipped: &'c [u8],

@@ -46,12 +46,13 @@ fn shown_fault<'a>(fault: &Fault<'a>) -> Shown<'a> {
 fn shown_task<'a, A>(task: &Task<'a, A>, is_ipv6: bool) -> Shown<'a> {
     match task {
         Task::Check { .. } => Shown::Check(is_ipv6),
-        Task::Replay(captures) | Task::Mirror(captures, _) => Shown::Captures(
-            captures.ports.len(),
-            captures.rp.is_some(),
-            captures.limit,
-            captures.after_ms,
-        ),
+        Task::Replay(captures) | Task::Mirror(captures, _) | Task::Emit(captures, _) =>
+            Shown::Captures(
+                captures.ports.len(),
+                captures.rp.is_some(),
+                captures.limit,
+                captures.after_ms,
+            ),
         Task::Same(_, writing) => Shown::Writing(writing.holdtime, writing.budget),
         Task::Change(captures, writing) => {
             Shown::Change(writing.holdtime, writing.budget, captures.ports.len())
@@ -86,7 +87,7 @@ const C: &[&str] = &[
 ];
 
 /// Words behind `pimtree`, with what is made of them.
-const ROWS: [(&[&str], Shown<'static>); 38] = [
+const ROWS: [(&[&str], Shown<'static>); 43] = [
     (&["p", "check"], Shown::Check(false)),
     (
         &["p", "check", "--src", "fe80::1", "--dst", "ff02::d"],
@@ -240,8 +241,67 @@ const ROWS: [(&[&str], Shown<'static>); 38] = [
         ],
         Shown::Address("y"),
     ),
+    (
+        &[
+            "p",
+            "emit",
+            "--rp",
+            "10.9.9.9",
+            "--upstream",
+            "10.0.0.2",
+            "--own",
+            "10.0.0.1",
+            "--limit=7",
+            A,
+            "10.0.0.3@a.pcap",
+            "--after",
+            "5",
+        ],
+        Shown::Captures(2, true, 7, 5),
+    ),
+    (
+        &[
+            "p",
+            "emit",
+            "--rp",
+            "10.9.9.9",
+            "--upstream",
+            "10.0.0.2",
+            "--own",
+            "10.0.0.2",
+        ],
+        Shown::WriterAddress,
+    ),
+    (
+        &[
+            "p",
+            "emit",
+            "--rp",
+            "10.9.9.9",
+            "--upstream",
+            "10.0.0.2",
+            "--own",
+            "10.0.0.1",
+        ],
+        Shown::Config(ConfigCause::Ports),
+    ),
+    (
+        &[
+            "p",
+            "emit",
+            "--rp",
+            "1.1.1.1",
+            "--own",
+            "z",
+            "--upstream",
+            "y",
+            "w",
+        ],
+        Shown::Address("y"),
+    ),
+    (&["p", "emit", "--rp", "10.9.9.9", A], Shown::Clap),
     (&["p", "replay", "--help"], Shown::Clap),
-    (&["p", "emit"], Shown::Clap),
+    (&["p", "emits"], Shown::Clap),
 ];
 
 /// Words behind those of `same`, with what is made of them.
@@ -434,7 +494,7 @@ fn options_give_the_ends(rt: HostRuntime) {
 }
 
 /// Requests for help, with a part of the answer.
-const HELP: [(&[&str], &str); 18] = [
+const HELP: [(&[&str], &str); 22] = [
     (
         &["p", "--help"],
         "What does this message say, or where is it wrong?",
@@ -450,6 +510,10 @@ const HELP: [(&[&str], &str); 18] = [
     (
         &["p", "--help"],
         "Which messages make a fresh router want what this router wants?",
+    ),
+    (
+        &["p", "--help"],
+        "By which messages does this router ask its upstream neighbour?",
     ),
     (
         &["p", "--help"],
@@ -483,6 +547,15 @@ const HELP: [(&[&str], &str); 18] = [
     (
         &["p", "mirror", "--help"],
         "10.0.0.1 10.0.0.2@examples/lan.pcap",
+    ),
+    (&["p", "emit", "--help"], "70 to 65000 [default: 1460]"),
+    (
+        &["p", "emit", "--help"],
+        "behind two bytes of its length, of which the first counts 256 times",
+    ),
+    (
+        &["p", "emit", "--help"],
+        "10.0.0.1 10.0.0.2@examples/lan.pcap > messages",
     ),
     (
         &["p", "change", "--help"],

@@ -1,0 +1,141 @@
+-- The star of a group that is asked for, and its exceptions, among the (S,G,rpt) machines of a port that has (*,G).
+use Rattle.std.proofs.Common.{◌≡◌, ◌∙◌, ◌<◌, ◌≤◌, ℕ, suc, Bool, true, false, ◌&&◌, not, List, [], ◌∷◌, Option, None, Some, length, refl, sym, ap, option_map}
+use Rattle.std.specs.declared.cmp.Ordering.TheVariants.{Less}
+use Rattle.std.specs.List.{list_any}
+use Rattle.std.specs.Option.{is_some, unwrap_or}
+use Rattle.std.proofs.lemmas.Bool.{false≢true, and_parts, and_from}
+use Rattle.pim_addr.specs.Address.{IsGroupAddress, IsSourceAddress}
+use Rattle.pim_addr.specs.Routes.{RouteTable}
+use Rattle.pim_addr.specs.declared.family.AddressFamily.{AddressFamily}
+use Rattle.pim_down.specs.After.{is_above}
+use Rattle.pim_down.specs.declared.key.Key.{Key}
+use Rattle.pim_down.specs.declared.key.What.TheVariants.{Rpt}
+use Rattle.pim_down.specs.declared.machine.Record.{Record}
+use Rattle.pim_down.specs.declared.machine.State.{State}
+use Rattle.pim_down.specs.Key.{address_cmp, source_of}
+use Rattle.pim_down.specs.Known.{known_in}
+use Rattle.pim_down.specs.Laws.{KeysAreToldApart}
+use Rattle.pim_down.specs.Records.{machine_at}
+use Rattle.pim_down.specs.Sound.{IsSound, IsReal}
+use Rattle.pim_down.specs.Time.{Downstream}
+use Rattle.pim_form.specs.Asked.{IsAskedForm}
+use Rattle.pim_form.specs.NormalForm.{GroupForm, most_exceptions, is_listed, same_address}
+use Rattle.pim_form.specs.Settled.{group_in}
+use Rattle.pim_form.specs.Toward.{via_in, via_rp, is_neighbour}
+use Rattle.pim_form.specs.Wants.{is_pruned, state_on, wants, wants_on}
+use Rattle.pim_form.specs.declared.tree.Tree.TheVariants.{Shared}
+use Rattle.pim_emit.specs.Least.{IsLeast}
+use Rattle.pim_emit.specs.Left.{above, next_above, star_of, exceptions_in}
+use Rattle.pim_emit.specs.Machines.{is_starred, has_rpt, IsSomeBelow}
+use Rattle.pim_emit.proofs.Addresses.{same_itself}
+use Rattle.pim_emit.proofs.Above.{by_test, above_first, above_none}
+use Rattle.pim_emit.proofs.AskedSources.{HasLists, lists_of}
+use Rattle.pim_emit.proofs.CountAbove.{count_above, fewer_above}
+use Rattle.pim_emit.proofs.FirstRecords.{held_at, any_at}
+use Rattle.pim_emit.proofs.ListedAbove.{over, AllPass, none_left, listed_next, unlisted_passed, all_listed, below_all}
+use Rattle.pim_emit.proofs.NextMachines.{key_of, told_state}
+use Rattle.pim_emit.proofs.PortsBelow.{found_below}
+
+pub all_above : (addresses : List (List ℕ)) → length (above None addresses) ≡ length addresses
+all_above [] = refl
+all_above (address ∷ addresses) = ap suc (all_above addresses)
+
+pruned_is_some : (state : Option State) → is_pruned state ≡ true → is_some state ≡ true
+pruned_is_some None e = e
+pruned_is_some (Some state) e = refl
+
+-- the neighbour that is asked for a star is told from the upstream
+pub is_reached : (family : AddressFamily) (table : RouteTable) (neighbour group : List ℕ) (upstream : Option (List ℕ)) (answer : Bool) → upstream ≡ via_rp (via_in family table) (known_in family table group)
+    → answer ≡ is_neighbour neighbour upstream → answer ≡ is_neighbour neighbour (via_rp (via_in family table) (known_in family table group))
+is_reached family table neighbour group upstream answer is answers = answers ∙ ap (λ a. is_neighbour neighbour a) is
+
+module _ (family : AddressFamily) (table : RouteTable) (neighbour : List ℕ) (state : Downstream) (form : List GroupForm) (asked : IsAskedForm family table neighbour state form)
+    (group : List ℕ) (is_group : IsGroupAddress family group) where
+  abbrev reached : Bool
+  reached = is_neighbour neighbour (via_rp (via_in family table) (known_in family table group))
+
+  -- where some port has (*,G), there is a star if the RP is reached
+  pub star_if_reached : (first : Option ℕ) (answer : Bool) → IsSomeBelow state.ports (is_starred state group) first → is_some first ≡ true → answer ≡ reached → answer ≡ is_some (star_of group form)
+  star_if_reached None answer none some is = absurd (false≢true some)
+  star_if_reached (Some port) answer starred some is =
+      is ∙ sym ((asked.groups group is_group).star ∙ ap (λ b. b && reached) (found_below (is_starred state group) state.ports port starred.0 starred.1))
+
+  lists : HasLists family (group_in group form)
+  lists = lists_of family group form asked.is.normal.groups
+
+  -- ---- how many exceptions there are
+
+  pub few_exceptions : length (exceptions_in group form) ≤ most_exceptions
+  few_exceptions = lists.few_exceptions
+
+  pub one_exception_fewer : (bound : Option (List ℕ)) (exception : List ℕ) → Some exception ≡ next_above bound (exceptions_in group form)
+      → length (above bound (exceptions_in group form)) ≡ suc (length (above (Some exception) (exceptions_in group form)))
+  one_exception_fewer bound exception is = ap length (above_first bound (exceptions_in group form) exception lists.exceptions_ascending (sym is))
+
+  pub none_above : (bound : Option (List ℕ)) → None ≡ next_above bound (exceptions_in group form) → length (above bound (exceptions_in group form)) ≡ 0
+  none_above bound is = ap length (above_none bound (exceptions_in group form) (sym is))
+
+  -- ---- which comes next
+
+  -- looking from below all sources is looking at all
+  pub from_lowest : {A : Type 0} (bytes_of : A → List ℕ) (lowest first : A) (bound : Option A) → ((source : List ℕ) → IsSourceAddress family source → address_cmp (bytes_of lowest) source ≡ Less)
+      → first ≡ unwrap_or bound lowest → next_above (Some (bytes_of first)) (exceptions_in group form) ≡ next_above (option_map bytes_of bound) (exceptions_in group form)
+  from_lowest bytes_of lowest first None below is =
+      ap (λ a. next_above (Some (bytes_of a)) (exceptions_in group form)) is
+      ∙ below_all (bytes_of lowest) (exceptions_in group form)
+      (all_listed (IsSourceAddress family) (λ source. address_cmp (bytes_of lowest) source ≡ Less) (exceptions_in group form) lists.exceptions (λ source valid listed. below source valid))
+  from_lowest bytes_of lowest first (Some bound) below is = ap (λ a. next_above (Some (bytes_of a)) (exceptions_in group form)) is
+
+  module _ (apart : KeysAreToldApart) (sound : IsSound family state) (star : is_some (star_of group form) ≡ true) (port : ℕ) (below : port < state.ports) (starred : is_starred state group port ≡ true) where
+    -- what the code looks for
+    abbrev pub IsLeastRpt : Option (List ℕ) → Option (List ℕ) → Type 0
+    IsLeastRpt bound least = IsLeast (over bound (has_rpt state port group)) least
+
+    has_source : (source : List ℕ) → has_rpt state port group source ≡ true → IsSourceAddress family source
+    has_source source is =
+        let held = told_state (machine_at (key_of port group (Rpt source)) state.records) is in
+        (held_at apart (IsReal family state.ports) (key_of port group (Rpt source)) held.0 state.records sound.real held.1).source
+
+    is_held : (source : List ℕ) → has_rpt state port group source ≡ true → list_any (λ (held : Record (List ℕ)). same_address source (source_of held.key.what)) state.records ≡ true
+    is_held source is =
+        let held = told_state (machine_at (key_of port group (Rpt source)) state.records) is in
+        any_at apart (λ (key : Key (List ℕ)). same_address source (source_of key.what)) (key_of port group (Rpt source)) held.0 state.records held.1 (same_itself source)
+
+    listed_unless_wanted : (source : List ℕ) → IsSourceAddress family source → is_listed source (exceptions_in group form) ≡ not (wants state source group Shared)
+    listed_unless_wanted source valid = (asked.groups group is_group).exceptions star source valid
+
+    -- an exception is pruned on the port, since that has the star
+    pruned : (source : List ℕ) → wants state source group Shared ≡ false → has_rpt state port group source ≡ true
+    pruned source unwanted =
+        by_test (is_pruned (state_on state.records port group (Rpt source)))
+        (λ e. pruned_is_some (state_on state.records port group (Rpt source)) e)
+        (λ e. absurd (false≢true (sym unwanted ∙ found_below (wants_on state.records source group Shared) state.ports port below
+        (and_from (is_starred state group port) (not (is_pruned (state_on state.records port group (Rpt source)))) starred (ap not e)))))
+
+    all_held : AllPass (has_rpt state port group) (exceptions_in group form)
+    all_held = all_listed (IsSourceAddress family) (λ source. has_rpt state port group source ≡ true) (exceptions_in group form) lists.exceptions
+        (λ source valid listed.
+        by_test (wants state source group Shared)
+        (λ e. absurd (false≢true (sym (ap not e) ∙ sym (listed_unless_wanted source valid) ∙ listed)))
+        (λ e. pruned source e))
+
+    found_valid : (bound : Option (List ℕ)) (source : List ℕ) → IsLeastRpt bound (Some source) → IsSourceAddress family source
+    found_valid bound source is = has_source source (and_parts (is_above bound source) (has_rpt state port group source) is.0).1
+
+    pub no_exception_left : (bound : Option (List ℕ)) → IsLeastRpt bound None → next_above bound (exceptions_in group form) ≡ None
+    no_exception_left bound is = none_left (has_rpt state port group) bound (exceptions_in group form) all_held is
+
+    pub unwanted_next : (bound : Option (List ℕ)) (source : List ℕ) → IsLeastRpt bound (Some source) → false ≡ wants state source group Shared → next_above bound (exceptions_in group form) ≡ Some source
+    unwanted_next bound source is unwanted =
+        listed_next (has_rpt state port group) bound source (exceptions_in group form) all_held lists.exceptions_ascending is (listed_unless_wanted source (found_valid bound source is) ∙ ap not (sym unwanted))
+
+    pub wanted_passed : (bound : Option (List ℕ)) (source : List ℕ) → IsLeastRpt bound (Some source) → true ≡ wants state source group Shared
+        → next_above bound (exceptions_in group form) ≡ next_above (Some source) (exceptions_in group form)
+    wanted_passed bound source is wanted =
+        unlisted_passed (has_rpt state port group) bound source (exceptions_in group form) all_held is (listed_unless_wanted source (found_valid bound source is) ∙ ap not (sym wanted))
+
+    pub fewer_rpts : (bound : Option (List ℕ)) (source : List ℕ) → IsLeastRpt bound (Some source)
+        → count_above (λ (held : Record (List ℕ)). source_of held.key.what) (Some source) state.records < count_above (λ (held : Record (List ℕ)). source_of held.key.what) bound state.records
+    fewer_rpts bound source is =
+        let passes = and_parts (is_above bound source) (has_rpt state port group source) is.0 in
+        fewer_above (λ (held : Record (List ℕ)). source_of held.key.what) bound source state.records passes.0 (is_held source passes.1)

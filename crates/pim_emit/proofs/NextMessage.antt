@@ -1,0 +1,153 @@
+-- The message that comes next: how it begins, and what it is when it is full.
+use Rattle.std.proofs.Common.{◌≡◌, ◌∙◌, ℕ, ◌≤◌, Bool, true, false, List, [], ◌∷◌, ◌++◌, Option, None, Some, length, map, take, drop, refl, sym, ap, subst, arith, append_assoc}
+use Rattle.std.specs.Prelude.{if◌then◌else◌}
+use Rattle.std.specs.List.{AllByRecursion, filter}
+use Rattle.std.specs.List.Sorted.{IsStrictlySortedBy}
+use Rattle.std.proofs.lemmas.Bool.{false≢true}
+use Rattle.std.proofs.Math.Seq.{take-append_seam}
+use Rattle.std.proofs.lemmas.List.{drop_all, length-take, length-map}
+use Rattle.pim_addr.specs.declared.family.AddressFamily.{AddressFamily}
+use Rattle.pim_addr.specs.declared.family.AddressFamily.TheVariants.{Ipv4, Ipv6}
+use Rattle.pim_down.specs.After.{is_above}
+use Rattle.pim_frame.specs.Frame.{all_routers}
+use Rattle.pim_frame.specs.Seal.{IsSealed}
+use Rattle.pim_frame.specs.declared.frame.MessageType.TheVariants.{JoinPrune}
+use Rattle.pim_jp.specs.Canonical.{canonical_head, canonical}
+use Rattle.pim_form.specs.Asked.{GroupsAreCounted}
+use Rattle.pim_form.specs.Messages.{Writing, told_set, told_message}
+use Rattle.pim_form.specs.NormalForm.{GroupForm, is_empty}
+use Rattle.pim_form.specs.Packing.{fits, IsNonempty, StopsBefore}
+use Rattle.pim_form.specs.TooBig.{star_fits, too_big}
+use Rattle.pim_form.specs.Units.{WantUnit, star_unit, source_unit, star_units, units_of, run_entries}
+use Rattle.pim_emit.specs.declared.draft.Draft.{Draft}
+use Rattle.pim_emit.specs.declared.position.Position.{Position}
+use Rattle.pim_emit.specs.declared.position.Position.TheVariants.{Start, Within, Behind}
+use Rattle.pim_emit.specs.Asking.{Asking, rps_of}
+use Rattle.pim_emit.specs.Drafts.{body_start, message_size, IsDraft, IsMessage}
+use Rattle.pim_emit.specs.Left.{left_at, IsPosition}
+use Rattle.pim_emit.proofs.Above.{by_test}
+use Rattle.pim_emit.proofs.DraftSizes.{fits_by, IsSome}
+
+-- ---- a message without groups
+
+begins_small : (family : AddressFamily) → body_start family ≤ 70
+begins_small Ipv4 = omega arith
+begins_small Ipv6 = omega arith
+
+begins_empty : (family : AddressFamily) → body_start family ≡ message_size family 0 (run_entries [])
+unfolding run_entries
+begins_empty Ipv4 = refl
+begins_empty Ipv6 = refl
+
+no_sets : (n : ℕ) (bytes : List ℕ) → drop n (take n bytes) ≡ []
+no_sets n bytes = drop_all n (take n bytes) (omega (arith, length-take n bytes))
+
+pub draft_begins : (family : AddressFamily) (budget : ℕ) (asking : Asking) (position : Position (List ℕ)) (bytes : List ℕ) → IsPosition family position → 70 ≤ budget
+    → IsDraft family budget asking position (record { position = position; groups = 0; end = body_start family; is_full = false }) bytes
+unfolding IsStrictlySortedBy
+draft_begins family budget asking position bytes is least = record {
+  part = [];
+  told = refl;
+  position = is;
+  ascending = tt;
+  some = tt;
+  groups = refl;
+  few = omega arith;
+  end = begins_empty family;
+  within = omega (arith, least, begins_small family);
+  sets = no_sets (body_start family) bytes;
+  goes_on = λ going group past. tt;
+  stops = λ full. absurd (false≢true full);
+}
+
+-- ---- nothing is told: nothing is left
+
+source_fits : (family : AddressFamily) (budget : ℕ) (group source : List ℕ) → GroupsAreCounted → 70 ≤ budget → fits family budget (source_unit group source ∷ []) ≡ true
+unfolding IsStrictlySortedBy run_entries
+source_fits Ipv4 budget group source counted least = fits_by counted Ipv4 budget (record { group = group; star = None; sources = source ∷ [] } ∷ []) (tt, tt) (refl, tt) (omega (arith, least), omega arith)
+source_fits Ipv6 budget group source counted least = fits_by counted Ipv6 budget (record { group = group; star = None; sources = source ∷ [] } ∷ []) (tt, tt) (refl, tt) (omega (arith, least), omega arith)
+
+abbrev StarFits : AddressFamily → ℕ → GroupForm → Type 0
+StarFits family budget this = star_fits family budget this.group this.star ≡ true
+
+all_fit : (family : AddressFamily) (budget : ℕ) (form : List GroupForm) → too_big family budget form ≡ None → AllByRecursion (StarFits family budget) form
+all_fit family budget [] none = tt
+all_fit family budget (this ∷ form) none =
+    by_test (star_fits family budget this.group this.star)
+    (λ e. (e, all_fit family budget form (subst (λ (b : Bool). (if b then too_big family budget form else Some this.group) ≡ None) e none)))
+    (λ e. absurd (let clash : Some this.group ≡ None = subst (λ (b : Bool). (if b then too_big family budget form else Some this.group) ≡ None) e none in cc))
+
+filtered : {A : Type 0} (P : A → Type 0) (test : A → Bool) (xs : List A) → AllByRecursion P xs → AllByRecursion P (filter test xs)
+filtered P test [] all = tt
+filtered P test (x ∷ xs) all =
+    by_test (test x)
+    (λ e. rw e (all.0, filtered P test xs all.1))
+    (λ e. rw e (filtered P test xs all.1))
+
+left_fits : (family : AddressFamily) (budget : ℕ) (position : Position (List ℕ)) (form : List GroupForm) → AllByRecursion (StarFits family budget) form → AllByRecursion (StarFits family budget) (left_at position form)
+left_fits family budget Start form all = all
+left_fits family budget (Within group source) form all = (refl, filtered (StarFits family budget) (λ this. is_above (Some group) this.group) form all)
+left_fits family budget (Behind group) form all = filtered (StarFits family budget) (λ this. is_above (Some group) this.group) form all
+
+first_fits : (family : AddressFamily) (budget : ℕ) → GroupsAreCounted → 70 ≤ budget → (form : List GroupForm) → AllByRecursion (StarFits family budget) form → (first : WantUnit) (left : List WantUnit)
+    → units_of form ≡ first ∷ left → fits family budget (first ∷ []) ≡ true
+first_fits family budget counted least [] all first left is = absurd cc
+first_fits family budget counted least (this ∷ form) all first left is =
+    by this.star this.sources all.0 is (λ is'. first_fits family budget counted least form all.1 first left is')
+  where
+    by : (star : Option (List (List ℕ))) (sources : List (List ℕ)) → star_fits family budget this.group star ≡ true
+        → (star_units this.group star ++ map (source_unit this.group) sources) ++ units_of form ≡ first ∷ left
+        → (units_of form ≡ first ∷ left → fits family budget (first ∷ []) ≡ true) → fits family budget (first ∷ []) ≡ true
+    by None [] fit is behind = behind is
+    by None (s ∷ sources) fit is behind =
+        let head : source_unit this.group s ≡ first = cc in
+        subst (λ (u : WantUnit). fits family budget (u ∷ []) ≡ true) head (source_fits family budget this.group s counted least)
+    by (Some exceptions) sources fit is behind =
+        let head : star_unit this.group exceptions ≡ first = cc in
+        subst (λ (u : WantUnit). fits family budget (u ∷ []) ≡ true) head fit
+
+pub nothing_left : (family : AddressFamily) (budget : ℕ) (asking : Asking) (begun : Position (List ℕ)) (draft : Draft (List ℕ)) (bytes : List ℕ) → GroupsAreCounted → 70 ≤ budget
+    → too_big family budget asking.form ≡ None → IsDraft family budget asking begun draft bytes → draft.is_full ≡ true → draft.groups ≡ 0 → units_of (left_at begun asking.form) ≡ []
+nothing_left family budget asking begun draft bytes counted least fitting is full none =
+    is.told ∙ by is.part (units_of (left_at draft.position asking.form)) refl (is.stops full) (sym is.groups ∙ none)
+  where
+    by : (part : List GroupForm) (left : List WantUnit) → units_of (left_at draft.position asking.form) ≡ left → StopsBefore family budget (units_of part) left → length part ≡ 0 → units_of part ++ left ≡ []
+    by [] [] e stops count = refl
+    by [] (first ∷ left) e stops count =
+        absurd (false≢true (sym stops ∙ first_fits family budget counted least (left_at draft.position asking.form)
+        (left_fits family budget draft.position asking.form (all_fit family budget asking.form fitting)) first left e))
+    by (this ∷ part) left e stops count = absurd (omega (arith, count))
+
+-- ---- a message with groups
+
+nonempty : (part : List GroupForm) → AllByRecursion IsSome part → (length part ≡ 0 → ⊥) → IsNonempty (units_of part)
+nonempty [] some not_none = absurd (not_none refl)
+nonempty (this ∷ part) some not_none = by this.star this.sources some.0
+  where
+    by : (star : Option (List (List ℕ))) (sources : List (List ℕ)) → is_empty star sources ≡ false → IsNonempty ((star_units this.group star ++ map (source_unit this.group) sources) ++ units_of part)
+    by None [] e = absurd (false≢true (sym e))
+    by None (s ∷ sources) e = tt
+    by (Some exceptions) sources e = tt
+
+pub message_made : (family : AddressFamily) (writing : Writing) (asking : Asking) (begun : Position (List ℕ)) (draft : Draft (List ℕ)) (bytes sealed : List ℕ) (sets : ℕ) → GroupsAreCounted
+    → IsDraft family writing.budget asking begun draft bytes → draft.is_full ≡ true → (draft.groups ≡ 0 → ⊥)
+    → sets ≡ draft.groups
+    → IsSealed family writing.own (all_routers family) JoinPrune (canonical_head family writing.upstream sets writing.holdtime ++ drop (body_start family) (take draft.end bytes)) sealed
+    → IsMessage family writing asking begun draft.position sealed
+message_made family writing asking begun draft bytes sealed sets counted is full some sets_are seal =
+    let count : sets ≡ length (map (told_set (rps_of family asking)) is.part) = sets_are ∙ is.groups ∙ sym (length-map is.part (told_set (rps_of family asking))) in
+    let body : canonical_head family writing.upstream sets writing.holdtime ++ drop (body_start family) (take draft.end bytes) ≡ canonical family (told_message writing (rps_of family asking) is.part) =
+    λ i. canonical_head family writing.upstream (count i) writing.holdtime ++ is.sets i in
+    record {
+      run = units_of is.part;
+      units = is.told;
+      some = nonempty is.part is.some (λ none. some (is.groups ∙ none));
+      fitting = fits_by counted family writing.budget is.part is.ascending is.some (omega (arith, is.end, is.within), omega (arith, is.groups, is.few));
+      stops = is.stops full;
+      tells = record { part = is.part; units = refl; ascending = is.ascending; some = is.some; sealed = subst (λ b. IsSealed family writing.own (all_routers family) JoinPrune b sealed) body seal };
+      position = is.position;
+    }
+
+pub front_alone : (n : ℕ) (front middle behind : List ℕ) → length front ≡ n → take n ((front ++ middle) ++ behind) ≡ front
+front_alone n front middle behind long =
+    ap (take n) (append_assoc front middle behind) ∙ ap (λ k. take k (front ++ (middle ++ behind))) (sym long) ∙ take-append_seam front (middle ++ behind)

@@ -1,0 +1,66 @@
+use Rattle.std.proofs.Common.{◌∙◌, arith, length, ◌+◌, ◌-◌, sym}
+use Rattle.std.specs.Prelude.{option_map}
+use Rattle.pim_emit.specs.Left.{piece_seen, sources_in}
+use Rattle.pim_emit.specs.Drafts.{draft_seen}
+use Rattle.pim_emit.specs.Sets.{told_seen}
+use Rattle.pim_emit.proofs.DraftSteps.{small_room, told_at_most, one_at_most, ends_within, to_behind, to_within, some_left, none_left}
+use Rattle.pim_emit.proofs.draft.tell_piece.Goals as goal
+
+pub overflow_cast-stars : goal.overflow_cast-stars
+overflow_cast-stars g c =
+    let bytes_of = g.F.Family.bytes_of in
+    let small = small_room g.F.Family.family c.args.draft.now.groups c.args.draft.now.end (length c.args.bytes.now)
+    c.args.room c.requires.budget c.requires.some c.requires.room in
+    let few = told_at_most (piece_seen bytes_of c.args.piece.now) c.args.asked.now.form
+    (c.args.room - (c.from-stars.result + c.args.exceptions)) (told_seen bytes_of c.write_set-told.result)
+    c.write_set-told.ensures.told in
+    omega (arith, small, few, c.from-stars.ensures, one_at_most c.args.piece.now.starred)
+
+pub overflow_cast-exceptions : goal.overflow_cast-exceptions
+overflow_cast-exceptions g c =
+    let small = small_room g.F.Family.family c.args.draft.now.groups c.args.draft.now.end (length c.args.bytes.now)
+    c.args.room c.requires.budget c.requires.some c.requires.room in
+    omega (arith, small, c.requires.star)
+
+pub overflow_add-draft-2 : goal.overflow_add-draft-2
+overflow_add-draft-2 g c =
+    let bytes_of = g.F.Family.bytes_of in
+    let ends = ends_within g.F.Family.family (length c.args.bytes.now) c.args.asked.now c.requires.begun.begun
+    (draft_seen bytes_of c.args.draft.now) c.args.bytes.now c.requires.begun.made c.groups_are_counted.ensures
+    c.requires.open (piece_seen bytes_of c.args.piece.now) c.requires.piece c.args.room c.requires.room
+    c.from-stars.result c.args.exceptions c.from-stars.ensures c.requires.exceptions c.requires.some
+    (omega (arith, c.from-stars.ensures, c.requires.star))
+    (told_seen bytes_of c.write_set-told.result) c.write_set-told.ensures.told in
+    omega (arith, ends, c.set_length.ensures, c.requires.budget)
+
+pub returns-then-is_some-clause-draft : goal.returns-then-is_some-clause-draft
+returns-then-is_some-clause-draft g c begun made =
+    let bytes_of = g.F.Family.bytes_of in
+    to_within g.F.Family.family (length c.args.bytes.now) c.args.asked.now begun
+    (draft_seen bytes_of c.args.draft.now) c.args.bytes.now made c.groups_are_counted.ensures
+    c.requires.open (piece_seen bytes_of c.args.piece.now) c.requires.piece c.args.room c.requires.room
+    c.from-stars.result c.args.exceptions c.from-stars.ensures c.requires.exceptions c.requires.some
+    (omega (arith, c.from-stars.ensures, c.requires.star))
+    (told_seen bytes_of c.write_set-told.result) c.write_set-told.ensures.told
+    (λ e. c.star_has_rp.ensures (c.requires.piece.star e)) c.split_at_mut-set.result.0.now
+    c.write_set-told.new.bytes c.split_at_mut-set.ensures.front (omega (arith, made.within)) c.set_length.result
+    c.set_length.ensures
+    c.write_set-told.ensures.written
+    (some_left bytes_of c.next_source.result (option_map bytes_of c.write_set-told.result.last)
+    (sources_in (bytes_of c.args.piece.now.group) c.args.asked.now.form) c.next_source.ensures (sym c.is_some.ensures ∙ c.if-is_some.true))
+
+pub returns-else-is_some-clause-draft : goal.returns-else-is_some-clause-draft
+returns-else-is_some-clause-draft g c begun made =
+    let bytes_of = g.F.Family.bytes_of in
+    to_behind g.F.Family.family (length c.args.bytes.now) c.args.asked.now begun
+    (draft_seen bytes_of c.args.draft.now) c.args.bytes.now made c.groups_are_counted.ensures
+    c.requires.open (piece_seen bytes_of c.args.piece.now) c.requires.piece c.args.room c.requires.room
+    c.from-stars.result c.args.exceptions c.from-stars.ensures c.requires.exceptions c.requires.some
+    (omega (arith, c.from-stars.ensures, c.requires.star))
+    (told_seen bytes_of c.write_set-told.result) c.write_set-told.ensures.told
+    (λ e. c.star_has_rp.ensures (c.requires.piece.star e)) c.split_at_mut-set.result.0.now
+    c.write_set-told.new.bytes c.split_at_mut-set.ensures.front (omega (arith, made.within)) c.set_length.result
+    c.set_length.ensures
+    c.write_set-told.ensures.written
+    (none_left bytes_of c.next_source.result (option_map bytes_of c.write_set-told.result.last)
+    (sources_in (bytes_of c.args.piece.now.group) c.args.asked.now.form) c.next_source.ensures (sym c.is_some.ensures ∙ c.if-is_some.false))

@@ -1,0 +1,19 @@
+use Rattle.std.proofs.Common.{◌≡◌, ◌+◌, ◌*◌, ◌++◌, length, take, option_map}
+use Rattle.pim_addr.specs.Encoded.{source_length}
+use Rattle.pim_emit.specs.Left.{above, exceptions_in}
+use Rattle.pim_emit.specs.Sets.{exception_entries}
+use Rattle.pim_emit.proofs.set.write_exceptions.Given as goal
+
+-- what is written and the exceptions that are left are all
+abbrev pub invariant-loop-exception : goal.invariant-loop-exception
+invariant-loop-exception g l =
+    let all = exceptions_in (g.F.Family.bytes_of l.group) l.asked.form in
+    let left = above (option_map g.F.Family.bytes_of l.bound) all in record {
+      long : length l.bytes ≡ length l.initial.bytes;
+      place : l.place + length left * source_length g.F.Family.family ≡ l.at + length all * source_length g.F.Family.family;
+      written : take l.place l.bytes ++ exception_entries g.F.Family.family left
+          ≡ take l.at l.initial.bytes ++ exception_entries g.F.Family.family all;
+    }
+
+abbrev pub decreases-loop-exception : goal.decreases-loop-exception
+decreases-loop-exception g l = length (above (option_map g.F.Family.bytes_of l.bound) (exceptions_in (g.F.Family.bytes_of l.group) l.asked.form))

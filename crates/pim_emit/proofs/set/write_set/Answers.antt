@@ -1,0 +1,22 @@
+use Rattle.std.proofs.Common.{◌∙◌, ◌+◌, ◌/◌, ◌%◌, ℕ, List, [], ◌∷◌, sym, arith}
+use Rattle.pim_emit.specs.Asking.{rps_of}
+use Rattle.pim_emit.specs.Left.{piece_seen}
+use Rattle.pim_emit.specs.Sets.{cut_piece}
+use Rattle.pim_emit.proofs.SetWritten.{pruned_count, set_written}
+use Rattle.pim_emit.proofs.set.write_set.Goals as goal
+
+-- the two bytes of a count
+abbrev counted : ℕ → List ℕ
+counted n = n / 256 % 256 ∷ n % 256 ∷ []
+
+pub returns-clause-written : goal.returns-clause-written
+returns-clause-written g c =
+    let family = g.F.Family.family in
+    let bytes_of = g.F.Family.bytes_of in
+    let rps = rps_of family c.args.asked.now in
+    let form = c.args.asked.now.form in
+    let told = c.write_entries-told in
+    let this = cut_piece told.result.count (piece_seen bytes_of c.args.piece.now) form in
+    set_written counted family rps this c.put_group_and_counts.new.bytes told.new.bytes (c.from.result + told.result.count) c.args.exceptions
+    (omega (arith, told.ensures.joined, c.from.ensures)) (c.requires.exceptions ∙ sym (pruned_count this.star))
+    (omega (arith, c.put_group_and_counts.auto.bytes, c.split_at_mut-front.ensures.front_len)) c.put_group_and_counts.ensures told.ensures.written

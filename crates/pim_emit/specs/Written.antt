@@ -1,0 +1,67 @@
+-- What is written of a state: its canonical messages, each behind two bytes of its length.
+use Rattle.std.specs.Prelude.{◌≡◌, ℕ, ◌+◌, ◌≤◌, List, [], ◌++◌, Option, None, Some, Result, Ok, Err, length, take, min}
+use Rattle.std.specs.List.{flat_map}
+use Rattle.std.specs.Io.KnownBytes.{Appends}
+use Rattle.byteorder.specs.Endian.{big_bytes}
+use Rattle.pim_addr.specs.declared.family.AddressFamily.{AddressFamily}
+use Rattle.pim_addr.specs.Routes.{RouteTable}
+use Rattle.pim_device.specs.Device.{top_count}
+use Rattle.pim_down.specs.Known.{known_in}
+use Rattle.pim_down.specs.Time.{Downstream}
+use Rattle.pim_form.specs.Messages.{Writing, AreCanonical}
+use Rattle.pim_form.specs.NormalForm.{GroupForm, IsFormOf}
+use Rattle.pim_form.specs.TooBig.{too_big}
+use Rattle.pim_form.specs.TowardLaws.{asked_of}
+use Rattle.pim_emit.specs.declared.fault.WriteFault.{WriteFault}
+use Rattle.pim_emit.specs.declared.fault.WriteFault.TheVariants.{TooBig, Output}
+
+-- a message behind its length
+abbrev pub framed : List ℕ → List ℕ
+framed message = big_bytes 2 (length message) ++ message
+
+abbrev pub all_framed : List (List ℕ) → List ℕ
+all_framed messages = flat_map framed messages
+
+module _ (family : AddressFamily) (writing : Writing) (table : RouteTable) (state : Downstream) where
+  -- the canonical messages of the normal form of what the writer's upstream neighbour is asked for
+  pub record AskBy (messages : List (List ℕ)) : Type 0 where
+    pub form : List GroupForm
+    pub is : IsFormOf family (asked_of family table writing.upstream state) form
+    pub told : AreCanonical family writing (known_in family table) form messages
+
+  -- The least group whose star, with all its exceptions, is too big for a message alone, in that form; `None` where
+  -- there is no such group.
+  pub record IsTooBig (group : Option (List ℕ)) : Type 0 where
+    pub form : List GroupForm
+    pub is : IsFormOf family (asked_of family table writing.upstream state) form
+    pub least : too_big family writing.budget form ≡ group
+
+  -- All canonical messages went out.
+  pub record HaveGoneOut (old new : Option (List ℕ)) (count : ℕ) : Type 0 where
+    pub messages : List (List ℕ)
+    pub ask : AskBy messages
+    pub counted : count ≡ length messages
+    pub gone : Appends old new (all_framed messages)
+
+  -- So many bytes of whatever is to go out went out.
+  abbrev pub HasGoneOut : Option (List ℕ) → Option (List ℕ) → ℕ → Type 0
+  HasGoneOut old new sent = (messages : List (List ℕ)) → AskBy messages →
+      (sent ≤ length (all_framed messages)) × Appends old new (take sent (all_framed messages))
+
+  -- what is told of what went out
+  abbrev pub IsWritten : {N A F : Type 0} → Option (List ℕ) → Option (List ℕ) → Result ℕ (WriteFault F A N) → Type 0
+  IsWritten old new (Ok count) = HaveGoneOut old new count
+  IsWritten old new (Err (TooBig group)) = Appends old new []
+  IsWritten old new (Err (Output sent)) = HasGoneOut old new sent
+
+-- the group that is told to be too big
+abbrev pub told_too_big : {T F A N : Type 0} → Result T (WriteFault F A N) → Option A
+told_too_big (Ok count) = None
+told_too_big (Err (TooBig group)) = Some group
+told_too_big (Err (Output sent)) = None
+
+-- how often the device has failed then: once more exactly where its failure is told
+abbrev pub failures_told : {T F A N : Type 0} → ℕ → Result T (WriteFault F A N) → ℕ
+failures_told before (Ok count) = before
+failures_told before (Err (TooBig group)) = before
+failures_told before (Err (Output sent)) = min (before + 1) top_count

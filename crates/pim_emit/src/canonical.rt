@@ -1,0 +1,67 @@
+//! Canonical messages, straight from the records.
+
+ghost use Rattle.std.specs.Prelude.{◌≡◌, ◌≤◌, length, option_map};
+ghost use Rattle.pim_emit.specs.Written.{IsWritten, IsTooBig, told_too_big, failures_told};
+
+use crate::asked::Asked;
+use crate::fault::WriteFault;
+use crate::message::{next_message, too_big};
+use crate::position::Position;
+use crate::sending::send_framed;
+use pim_addr::{Family, Routes};
+use pim_device::Drain;
+use pim_down::Ports;
+use pim_form::Writer;
+
+/// Writes the canonical messages by which the writer's upstream neighbour is asked for what the machines of all ports
+/// want of it (RFC 7761, 4.1 and 4.9.5), each behind two bytes of its length, big-endian, and answers how many they
+/// are. They are those that `pack` gives for the normal form of what is asked. It makes no such form, and takes no
+/// memory: each message is made in the buffer, which has at least the writer's budget.
+///
+/// The time goes by what is told or passed over, and by the ports: a source costs a look-up on every port and one in
+/// the table, an exception up to three look-ups on every port, a group some look-ups on every port and one or two in
+/// the table. On each of the first 64 ports, and there are no more, a look-up begins near where an earlier one ended.
+/// Where it goes on record by record it compares two records; where it passes over others, as at the first exception
+/// or the next group, it is a search by halves in a block of up to 128 records or among all. Exceptions are walked
+/// through three times: to look for stars that are too big, to see whether a star has room, and to write them; and once
+/// more where the star begins a new message.
+///
+/// # Errors
+/// `TooBig` of the least group whose star, with all its exceptions, is too big for a message of the writer's budget
+/// alone; it is looked for before any write. `Output` where the device failed in this call, with the number of bytes
+/// that it took: a front of what would have been written.
+pub fn write_canonical<F: Family, D: Drain>(
+    ports: &Ports<F>,
+    writer: &Writer<F>,
+    routes: &Routes<F>,
+    buffer: &mut [u8],
+    out: &mut D,
+) -> Result<u64, WriteFault<F>>
+    requires { writer.now.budget ≤ length buffer.old }
+    ensures written { IsWritten F.family writer.now routes.now ports.now
+        (D.contents out.old) (D.contents out.new) result }
+    ensures too_big { IsTooBig F.family writer.now routes.now ports.now (option_map F.bytes_of (told_too_big result)) }
+    ensures failures { D.failures out.new ≡ failures_told (D.failures out.old) result }
+{
+    ports.is_sound();
+    writer.is_writing();
+    pim_form::form_of_what_is_asked();
+    pim_form::first_run_is_told();
+    pim_form::one_list_of_messages();
+    pim_form::one_normal_form();
+    let asked = Asked::new(ports, routes, writer.upstream());
+    if let Some(group) = too_big::<F>(&asked, writer.budget()) {
+        return Err(WriteFault::TooBig(group));
+    }
+    let mut position = Position::Start;
+    let mut sent = 0;
+    let mut count = 0;
+    while let Some(length) = next_message::<F>(&asked, writer, &mut position, buffer) {
+        let (message, _) = buffer.split_at(length);
+        let Ok(()) = send_framed(out, message, &mut sent) else {
+            return Err(WriteFault::Output { sent });
+        };
+        count += 1;
+    }
+    Ok(count)
+}

@@ -1,0 +1,146 @@
+//! A message that is being made: the sets that are written, and how far the units are told.
+
+ghost use Rattle.std.specs.Prelude.{◌≡◌, ◌+◌, ◌*◌, ◌≤◌, ◌<◌, ◌↔◌, ℕ, length, true, false, List, is_some};
+ghost use Rattle.std.specs.Int.{from_bool};
+ghost use Rattle.pim_form.specs.Units.{empty_set_size, entry_size};
+ghost use Rattle.pim_form.specs.Rows.{exceptions_of};
+ghost use Rattle.pim_emit.specs.declared.position.Position.{Position};
+ghost use Rattle.pim_emit.specs.Drafts.{draft_seen, body_start, IsDraft, IsBegun, steps_left};
+ghost use Rattle.pim_emit.specs.Left.{IsPiece, position_seen, piece_seen, piece_form, star_of};
+ghost use Rattle.pim_addr.specs.Address.{IsGroupAddress};
+
+use crate::asked::Asked;
+use crate::piece::{Piece, next_piece};
+use crate::position::Position;
+use crate::set::write_set;
+use pim_addr::{Family, group_length, source_length};
+use pim_jp::{head_length, set_length};
+
+/// How many groups a message may have.
+const MOST_GROUPS: usize = 255;
+
+/// How far a message is made.
+#[derive(Clone, Copy)]
+pub(crate) struct Draft<A> {
+    /// Where the units stand that aren't told yet.
+    pub(crate) position: Position<A>,
+    /// How many groups it has.
+    pub(crate) groups: usize,
+    /// Where its last set ends.
+    pub(crate) end: usize,
+    /// Whether the next unit has no room in it, or nothing is left.
+    pub(crate) is_full: bool,
+}
+
+/// A message without groups.
+pub(crate) fn empty_draft<F: Family>(position: Position<F::Addr>) -> Draft<F::Addr>
+    ensures { result ≡ record { position = position; groups = 0; end = body_start F.family; is_full = false } }
+{
+    Draft {
+        position,
+        groups: 0,
+        end: 4 + head_length::<F>(),
+        is_full: false,
+    }
+}
+
+/// How many entries of one more group there is room for.
+pub(crate) fn room<F: Family>(draft: &Draft<F::Addr>, budget: usize) -> usize
+    requires end { draft.now.end ≤ 65000 }
+    requires budget { budget ≤ 65000 }
+    ensures { (count : ℕ) → 1 ≤ count → (count ≤ result) ↔ ((draft.now.groups < 255)
+        × (draft.now.end + empty_set_size F.family + count * entry_size F.family ≤ budget)) }
+{
+    if draft.groups >= MOST_GROUPS {
+        return 0;
+    }
+    let set = group_length::<F>() + 4;
+    budget.saturating_sub(draft.end + set) / source_length::<F>()
+}
+
+/// Tells a piece, as far as there is room: for so many entries, which are more than none and not fewer than its star
+/// has, with so many exceptions.
+fn tell_piece<F: Family>(
+    asked: &Asked<'_, F>,
+    piece: &Piece<F::Addr>,
+    exceptions: usize,
+    room: usize,
+    draft: &mut Draft<F::Addr>,
+    bytes: &mut [u8],
+)
+    requires begun { IsBegun F.family (length bytes.old) asked.now (draft_seen F.bytes_of draft.old) bytes.old }
+    requires open { draft.old.is_full ≡ false }
+    requires budget { length bytes.old ≤ 65000 }
+    requires piece { IsPiece F.family (position_seen F.bytes_of draft.old.position) asked.now.form
+        (piece_seen F.bytes_of piece.now) }
+    requires exceptions { exceptions
+        ≡ length (exceptions_of (piece_form (piece_seen F.bytes_of piece.now) asked.now.form).star) }
+    requires some { 1 ≤ room }
+    requires star { from_bool piece.now.starred + exceptions ≤ room }
+    requires room { (count : ℕ) → 1 ≤ count → (count ≤ room) ↔ ((draft.old.groups < 255)
+        × (draft.old.end + empty_set_size F.family + count * entry_size F.family ≤ length bytes.old)) }
+    ensures draft { (begun : Position (List ℕ)) →
+        IsDraft F.family (length bytes.old) asked.now begun (draft_seen F.bytes_of draft.old) bytes.old →
+        IsDraft F.family (length bytes.old) asked.now begun (draft_seen F.bytes_of draft.new) bytes.new }
+    ensures falls { steps_left F.family (length bytes.old) asked.now (draft_seen F.bytes_of draft.new)
+        < steps_left F.family (length bytes.old) asked.now (draft_seen F.bytes_of draft.old) }
+    ensures length { length bytes.new ≡ length bytes.old }
+{
+    pim_form::groups_are_counted();
+    asked.star_has_rp(piece.group);
+    let stars = usize::from(piece.starred);
+    let (_, set) = bytes.split_at_mut(draft.end);
+    let told = write_set::<F>(asked, piece, exceptions, room - (stars + exceptions), set);
+    draft.groups += 1;
+    draft.end += set_length::<F>((stars + told.count) as u16, exceptions as u16);
+    if asked.next_source(piece.group, told.last).is_some() {
+        draft.position = Position::Within(piece.group, told.last);
+        draft.is_full = true;
+    } else {
+        draft.position = Position::Behind(piece.group);
+    }
+}
+
+/// How many exceptions the star of a piece has, if it is to be told.
+fn exceptions_left<F: Family>(asked: &Asked<'_, F>, piece: &Piece<F::Addr>) -> usize
+    requires group { IsGroupAddress F.family (F.bytes_of piece.now.group) }
+    requires star { piece.now.starred ≡ true → is_some (star_of (F.bytes_of piece.now.group) asked.now.form) ≡ true }
+    ensures { result ≡ length (exceptions_of (piece_form (piece_seen F.bytes_of piece.now) asked.now.form).star) }
+{
+    if piece.starred {
+        asked.exception_count(piece.group)
+    } else {
+        0
+    }
+}
+
+/// Tells what comes next, as far as there is room, in a message of at most so many bytes as these.
+pub(crate) fn tell_next<F: Family>(
+    asked: &Asked<'_, F>,
+    draft: &mut Draft<F::Addr>,
+    bytes: &mut [u8],
+)
+    requires begun { IsBegun F.family (length bytes.old) asked.now (draft_seen F.bytes_of draft.old) bytes.old }
+    requires open { draft.old.is_full ≡ false }
+    requires budget { length bytes.old ≤ 65000 }
+    ensures draft { (begun : Position (List ℕ)) →
+        IsDraft F.family (length bytes.old) asked.now begun (draft_seen F.bytes_of draft.old) bytes.old →
+        IsDraft F.family (length bytes.old) asked.now begun (draft_seen F.bytes_of draft.new) bytes.new }
+    ensures falls { steps_left F.family (length bytes.old) asked.now (draft_seen F.bytes_of draft.new)
+        < steps_left F.family (length bytes.old) asked.now (draft_seen F.bytes_of draft.old) }
+    ensures length { length bytes.new ≡ length bytes.old }
+{
+    pim_form::groups_are_counted();
+    asked.is_normal();
+    let Some(piece) = next_piece::<F>(asked, draft.position) else {
+        draft.is_full = true;
+        return;
+    };
+    let exceptions = exceptions_left::<F>(asked, &piece);
+    let room = room::<F>(draft, bytes.len());
+    if room == 0 || room < usize::from(piece.starred) + exceptions {
+        draft.is_full = true;
+        return;
+    }
+    tell_piece::<F>(asked, &piece, exceptions, room, draft, bytes);
+}

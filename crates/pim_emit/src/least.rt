@@ -1,0 +1,18 @@
+//! The lesser of two addresses that may be there.
+
+ghost use Rattle.std.specs.Prelude.{ℕ, Bool, List, ◌||◌, option_map};
+ghost use Rattle.pim_emit.specs.Least.{IsLeast};
+
+use pim_addr::Family;
+
+/// The lesser of the two, where both are there; else the one that is.
+pub(crate) fn lesser<F: Family>(one: Option<F::Addr>, other: Option<F::Addr>) -> Option<F::Addr>
+    ensures { (test this : List ℕ → Bool) → IsLeast test (option_map F.bytes_of one) →
+        IsLeast this (option_map F.bytes_of other) →
+        IsLeast (λ address. this address || test address) (option_map F.bytes_of result) }
+{
+    let (Some(a), Some(b)) = (one, other) else {
+        return one.or(other);
+    };
+    if b < a { other } else { one }
+}

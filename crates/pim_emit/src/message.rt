@@ -1,0 +1,90 @@
+//! The canonical messages, one after another.
+
+ghost use Rattle.std.specs.Prelude.{◌≡◌, ◌+◌, ◌≤◌, ◌<◌, ◌^◌, ◌++◌, None, IfSome, length, take, drop, option_map};
+ghost use Rattle.pim_frame.specs.Frame.{all_routers};
+ghost use Rattle.pim_frame.specs.Seal.{IsSealed};
+ghost use Rattle.pim_frame.specs.declared.frame.MessageType.TheVariants.{JoinPrune};
+ghost use Rattle.pim_jp.specs.Canonical.{canonical_head};
+ghost use Rattle.pim_form.specs.NormalForm.{groups_of};
+ghost use Rattle.pim_form.specs.TooBig.{too_big};
+ghost use Rattle.pim_emit.specs.Drafts.{body_start, IsNext};
+ghost use Rattle.pim_emit.specs.Left.{IsPosition, position_seen};
+
+use crate::asked::Asked;
+use crate::draft::{empty_draft, room, tell_next};
+use crate::position::Position;
+use pim_addr::Family;
+use pim_form::Writer;
+use pim_frame::{MessageType, all_routers, seal};
+use pim_jp::{head_length, put_head};
+
+/// The least group whose star, with all its exceptions, doesn't fit a message of this budget alone, if there is one.
+pub(crate) fn too_big<F: Family>(asked: &Asked<'_, F>, budget: usize) -> Option<F::Addr>
+    requires { budget ≤ 65000 }
+    ensures { option_map F.bytes_of result ≡ too_big F.family budget asked.now.form }
+{
+    asked.is_normal();
+    pim_form::groups_are_counted();
+    let room = room::<F>(&empty_draft::<F>(Position::Start), budget);
+    let mut bound = None;
+    while let Some(group) = asked.next_group(bound) {
+        if asked.has_star(group) && room <= asked.exception_count(group) {
+            return Some(group);
+        }
+        bound = Some(group);
+    }
+    None
+}
+
+/// Writes the head of a message in front of its sets, and seals it from the writer's own address to ALL-PIM-ROUTERS.
+fn finish<F: Family>(writer: &Writer<F>, sets: u8, bytes: &mut [u8])
+    requires room { body_start F.family ≤ length bytes.old }
+    requires counted { length bytes.old < 2 ^ 32 }
+    ensures sealed { IsSealed F.family writer.now.own (all_routers F.family) JoinPrune
+        (canonical_head F.family writer.now.upstream sets writer.now.holdtime
+        ++ drop (body_start F.family) bytes.old) bytes.new }
+    ensures length { length bytes.new ≡ length bytes.old }
+{
+    let (_, body) = bytes.split_at_mut(4);
+    let (head, _) = body.split_at_mut(head_length::<F>());
+    put_head::<F>(writer.upstream(), sets, writer.holdtime(), head);
+    seal::<F>(
+        writer.own(),
+        all_routers::<F>(),
+        MessageType::JoinPrune,
+        bytes,
+    );
+}
+
+/// Writes the message that comes next at the front of the buffer, which has at least the writer's budget, and answers
+/// how many bytes it has; `None` where all is told. The position is behind it then.
+pub(crate) fn next_message<F: Family>(
+    asked: &Asked<'_, F>,
+    writer: &Writer<F>,
+    position: &mut Position<F::Addr>,
+    buffer: &mut [u8],
+) -> Option<usize>
+    requires position { IsPosition F.family (position_seen F.bytes_of position.old) }
+    requires fits { too_big F.family writer.now.budget asked.now.form ≡ None }
+    requires room { writer.now.budget ≤ length buffer.old }
+    ensures next { IsNext F.family writer.now asked.now (position_seen F.bytes_of position.old)
+        (position_seen F.bytes_of position.new) buffer.new result }
+    ensures within { IfSome result (λ size. size ≤ writer.now.budget) }
+    ensures length { length buffer.new ≡ length buffer.old }
+{
+    writer.is_writing();
+    asked.is_normal();
+    pim_form::groups_are_counted();
+    let (bytes, _) = buffer.split_at_mut(writer.budget());
+    let mut draft = empty_draft::<F>(*position);
+    while !draft.is_full {
+        tell_next::<F>(asked, &mut draft, bytes);
+    }
+    if draft.groups == 0 {
+        return None;
+    }
+    let (message, _) = bytes.split_at_mut(draft.end);
+    finish::<F>(writer, draft.groups as u8, message);
+    *position = draft.position;
+    Some(draft.end)
+}

@@ -1,0 +1,97 @@
+//! The records, looked up from where look-ups ended before.
+
+ghost use Rattle.std.specs.Prelude.{◌≡◌, option_map};
+ghost use Rattle.pim_down.specs.Records.{state_of};
+ghost use Rattle.pim_down.specs.Seen.{key_at, what_seen, told_seen};
+ghost use Rattle.pim_down.specs.After.{group_after, next_in_group};
+ghost use Rattle.pim_down.specs.Sound.{IsSound};
+
+use crate::hints::Hints;
+use pim_addr::Family;
+use pim_down::{Near, Ports, Record, State, What};
+use std::marker::Model;
+
+/// The records of all ports, with hints where look-ups on each port begin. Contracts see the records alone: no answer
+/// goes by a hint.
+#[derive(Drop)]
+pub(crate) struct Nearby<'a, F: Family> {
+    ports: &'a Ports<F>,
+    hints: Hints,
+}
+
+impl<'a, F: Family> Model for Nearby<'a, F> {
+    ghost use Rattle.pim_down.specs.Time.{Downstream};
+
+    ghost Value = { Downstream };
+
+    ghost view = { λ nearby. nearby.ports.now };
+}
+
+impl<'a, F: Family> Nearby<'a, F> {
+    /// These records, with no hint yet.
+    pub(crate) fn new(ports: &'a Ports<F>) -> Self
+        ensures { result ≡ ports.now }
+    {
+        Nearby {
+            ports,
+            hints: Hints::new(),
+        }
+    }
+
+    /// A law: what is true of the machines. It does nothing.
+    pub(crate) fn is_sound(&self)
+        ensures { IsSound F.family self.now }
+    {
+        self.ports.is_sound();
+    }
+
+    /// How many ports there are.
+    pub(crate) fn port_count(&self) -> usize
+        ensures { result ≡ self.now.ports }
+    {
+        self.ports.port_count()
+    }
+
+    /// The state of one machine; `None` is NoInfo.
+    pub(crate) fn state_of(&self, port: usize, group: F::Addr, what: What<F::Addr>) -> Option<State>
+        ensures { result ≡ state_of (key_at F.bytes_of port group what) self.now.records }
+    {
+        let near = self.hints.machine(port, &what);
+        let (state, place) = self.ports.state_of_near(port, group, what, near);
+        self.hints.keep_machine(port, &what, place);
+        state
+    }
+
+    /// The least group above this one, or of all, that has a record on the port.
+    pub(crate) fn group_after(&self, port: usize, group: Option<F::Addr>) -> Option<F::Addr>
+        ensures { option_map F.bytes_of result ≡ group_after port (option_map F.bytes_of group) self.now.records }
+    {
+        let near = self.hints.group(port);
+        let (next, place) = self.ports.group_after_near(port, group, near);
+        self.hints.keep_group(port, place);
+        next
+    }
+
+    /// The next record of this group on the port, behind that of this machine.
+    pub(crate) fn record_after(
+        &self,
+        port: usize,
+        group: F::Addr,
+        what: What<F::Addr>,
+    ) -> Option<Record<F::Addr>>
+        ensures { option_map (told_seen F.bytes_of) result
+            ≡ next_in_group port (F.bytes_of group) (what_seen F.bytes_of what) self.now.records }
+    {
+        let near = self.hints.machine(port, &what);
+        let (next, place) = self.ports.record_after_near(port, group, what, near);
+        self.keep_next(port, &next, place);
+        next
+    }
+
+    /// Keeps where the record that was found stands, if one was.
+    fn keep_next(&self, port: usize, next: &Option<Record<F::Addr>>, place: Near) {
+        if let Some(record) = next {
+            self.hints.keep_machine(port, &record.key.what, place);
+        }
+    }
+}

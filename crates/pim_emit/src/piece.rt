@@ -1,0 +1,51 @@
+//! What of a group is told next.
+
+ghost use Rattle.std.specs.Prelude.{option_map};
+ghost use Rattle.pim_emit.specs.Left.{IsPosition, IsNextPiece, position_seen, piece_seen};
+
+use crate::asked::Asked;
+use crate::position::Position;
+use pim_addr::Family;
+
+/// What is left of a group.
+#[derive(Clone, Copy)]
+pub(crate) struct Piece<A> {
+    /// The group.
+    pub(crate) group: A,
+    /// Whether its star is still to be told.
+    pub(crate) starred: bool,
+    /// The source up to which its sources are told, if any is.
+    pub(crate) from: Option<A>,
+}
+
+/// What of a group is told next behind this position; `None` where all is told.
+pub(crate) fn next_piece<F: Family>(
+    asked: &Asked<'_, F>,
+    position: Position<F::Addr>,
+) -> Option<Piece<F::Addr>>
+    requires { IsPosition F.family (position_seen F.bytes_of position) }
+    ensures { IsNextPiece F.family (position_seen F.bytes_of position) asked.now.form
+        (option_map (piece_seen F.bytes_of) result) }
+{
+    asked.is_normal();
+    let bound = match position {
+        Position::Start => None,
+        Position::Behind(group) => Some(group),
+        Position::Within(group, from) => {
+            if asked.next_source(group, from).is_some() {
+                return Some(Piece {
+                    group,
+                    starred: false,
+                    from,
+                });
+            }
+            Some(group)
+        }
+    };
+    let group = asked.next_group(bound)?;
+    Some(Piece {
+        group,
+        starred: asked.has_star(group),
+        from: None,
+    })
+}

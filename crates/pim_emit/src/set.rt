@@ -1,0 +1,179 @@
+//! The set that tells a piece of a group, written in place (RFC 7761, 4.9.5).
+
+ghost use Rattle.std.specs.Prelude.{◌≡◌, ◌+◌, ◌*◌, ◌≤◌, ◌++◌, true, length, take, is_some};
+ghost use Rattle.std.specs.Int.{from_bool};
+ghost use Rattle.std.specs.List.{flat_map};
+ghost use Rattle.pim_addr.specs.Address.{IsGroupAddress};
+ghost use Rattle.pim_addr.specs.Encoded.{group_length, source_length};
+ghost use Rattle.pim_form.specs.Messages.{star_entries, told_set};
+ghost use Rattle.pim_form.specs.Rows.{exceptions_of};
+ghost use Rattle.pim_jp.specs.Canonical.{canonical_entry, canonical_set};
+ghost use Rattle.pim_jp.specs.Seen.{entry_seen};
+ghost use Rattle.pim_emit.specs.Asking.{rps_of};
+ghost use Rattle.pim_emit.specs.Left.{star_of, exceptions_in, piece_seen, piece_form};
+ghost use Rattle.pim_emit.specs.Sets.{source_entries, exception_entries, cut_piece, AreTold, told_seen};
+ghost use Rattle.pim_emit.specs.Sets.{set_entries, entry_count, set_size};
+
+use crate::asked::Asked;
+use crate::piece::Piece;
+use pim_addr::{Family, group_length, source_length};
+use pim_jp::{Entry, put_entry, put_group_and_counts};
+
+/// The sources that a set tells: how many they are, and up to which one sources are told then.
+#[derive(Clone, Copy)]
+pub(crate) struct ToldSources<A> {
+    pub(crate) count: usize,
+    pub(crate) last: Option<A>,
+}
+
+/// Writes an entry at this place.
+fn write_entry_at<F: Family>(entry: Entry<F::Addr>, at: usize, bytes: &mut [u8])
+    requires { at + source_length F.family ≤ length bytes.old }
+    ensures written { take (at + source_length F.family) bytes.new
+        ≡ take at bytes.old ++ canonical_entry F.family (entry_seen F.bytes_of entry) }
+    ensures length { length bytes.new ≡ length bytes.old }
+{
+    let (_, behind) = bytes.split_at_mut(at);
+    let (place, _) = behind.split_at_mut(source_length::<F>());
+    put_entry::<F>(entry, place);
+}
+
+/// Writes the sources of a piece, but at most so many, from this place on.
+fn write_sources<F: Family>(
+    asked: &Asked<'_, F>,
+    piece: &Piece<F::Addr>,
+    most: usize,
+    at: usize,
+    bytes: &mut [u8],
+) -> ToldSources<F::Addr>
+    requires group { IsGroupAddress F.family (F.bytes_of piece.now.group) }
+    requires few { length bytes.old ≤ 65000 }
+    requires room { at + most * source_length F.family ≤ length bytes.old }
+    ensures told { AreTold (piece_seen F.bytes_of piece.now) asked.now.form most (told_seen F.bytes_of result) }
+    ensures written { take (at + result.count * source_length F.family) bytes.new ≡ take at bytes.old
+        ++ source_entries F.family (cut_piece result.count (piece_seen F.bytes_of piece.now) asked.now.form).sources }
+    ensures length { length bytes.new ≡ length bytes.old }
+{
+    asked.is_normal();
+    let mut count = 0;
+    let mut last = piece.from;
+    while count < most {
+        let Some(source) = asked.next_source(piece.group, last) else {
+            break;
+        };
+        let place = at + count * source_length::<F>();
+        write_entry_at::<F>(Entry::Source(source), place, bytes);
+        count += 1;
+        last = Some(source);
+    }
+    ToldSources { count, last }
+}
+
+/// Writes the exceptions of the group's star, which it has, from this place on.
+fn write_exceptions<F: Family>(asked: &Asked<'_, F>, group: F::Addr, at: usize, bytes: &mut [u8])
+    requires group { IsGroupAddress F.family (F.bytes_of group) }
+    requires star { is_some (star_of (F.bytes_of group) asked.now.form) ≡ true }
+    requires few { length bytes.old ≤ 65000 }
+    requires room { at + length (exceptions_in (F.bytes_of group) asked.now.form) * source_length F.family
+        ≤ length bytes.old }
+    ensures written { take (at + length (exceptions_in (F.bytes_of group) asked.now.form) * source_length F.family)
+        bytes.new ≡ take at bytes.old ++ exception_entries F.family (exceptions_in (F.bytes_of group) asked.now.form) }
+    ensures length { length bytes.new ≡ length bytes.old }
+{
+    asked.is_normal();
+    let mut place = at;
+    let mut bound = None;
+    while let Some(exception) = asked.next_exception(group, bound) {
+        write_entry_at::<F>(Entry::Rpt(exception), place, bytes);
+        place += source_length::<F>();
+        bound = Some(exception);
+    }
+}
+
+/// Writes the star entry of a piece, if its star is to be told, and answers how many entries that is.
+fn write_star<F: Family>(asked: &Asked<'_, F>, piece: &Piece<F::Addr>, bytes: &mut [u8]) -> usize
+    requires group { IsGroupAddress F.family (F.bytes_of piece.now.group) }
+    requires star { piece.now.starred ≡ true → is_some (star_of (F.bytes_of piece.now.group) asked.now.form) ≡ true }
+    requires room { from_bool piece.now.starred * source_length F.family ≤ length bytes.old }
+    ensures one { result ≡ from_bool piece.now.starred }
+    ensures count { result ≡ length (star_entries (rps_of F.family asked.now (F.bytes_of piece.now.group))
+        (piece_form (piece_seen F.bytes_of piece.now) asked.now.form).star) }
+    ensures written { take (result * source_length F.family) bytes.new
+        ≡ flat_map (canonical_entry F.family) (star_entries (rps_of F.family asked.now (F.bytes_of piece.now.group))
+        (piece_form (piece_seen F.bytes_of piece.now) asked.now.form).star) }
+    ensures length { length bytes.new ≡ length bytes.old }
+{
+    if !piece.starred {
+        return 0;
+    }
+    asked.star_has_rp(piece.group);
+    if let Some(rp) = asked.rp_of(piece.group) {
+        write_entry_at::<F>(Entry::Star(rp), 0, bytes);
+    }
+    1
+}
+
+/// Writes the entries of a piece: its star, if that is to be told, at most so many of its sources, and the star's
+/// exceptions.
+fn write_entries<F: Family>(
+    asked: &Asked<'_, F>,
+    piece: &Piece<F::Addr>,
+    most: usize,
+    bytes: &mut [u8],
+) -> ToldSources<F::Addr>
+    requires group { IsGroupAddress F.family (F.bytes_of piece.now.group) }
+    requires star { piece.now.starred ≡ true → is_some (star_of (F.bytes_of piece.now.group) asked.now.form) ≡ true }
+    requires few { length bytes.old ≤ 65000 }
+    requires room { (from_bool piece.now.starred + most
+        + length (exceptions_of (piece_form (piece_seen F.bytes_of piece.now) asked.now.form).star))
+        * source_length F.family ≤ length bytes.old }
+    ensures told { AreTold (piece_seen F.bytes_of piece.now) asked.now.form most (told_seen F.bytes_of result) }
+    ensures joined { length (told_set (rps_of F.family asked.now)
+        (cut_piece result.count (piece_seen F.bytes_of piece.now) asked.now.form)).joined
+        ≡ from_bool piece.now.starred + result.count }
+    ensures written { let this = cut_piece result.count (piece_seen F.bytes_of piece.now) asked.now.form in
+        take (entry_count F.family (rps_of F.family asked.now) this * source_length F.family) bytes.new
+        ≡ set_entries F.family (rps_of F.family asked.now) this }
+    ensures length { length bytes.new ≡ length bytes.old }
+{
+    let stars = write_star::<F>(asked, piece, bytes);
+    let at = stars * source_length::<F>();
+    let told = write_sources::<F>(asked, piece, most, at, bytes);
+    if piece.starred {
+        let behind = at + told.count * source_length::<F>();
+        write_exceptions::<F>(asked, piece.group, behind, bytes);
+    }
+    told
+}
+
+/// Writes the set of a piece, with at most so many of its sources. The star, if it is to be told, has so many
+/// exceptions.
+pub(crate) fn write_set<F: Family>(
+    asked: &Asked<'_, F>,
+    piece: &Piece<F::Addr>,
+    exceptions: usize,
+    most: usize,
+    bytes: &mut [u8],
+) -> ToldSources<F::Addr>
+    requires group { IsGroupAddress F.family (F.bytes_of piece.now.group) }
+    requires star { piece.now.starred ≡ true → is_some (star_of (F.bytes_of piece.now.group) asked.now.form) ≡ true }
+    requires exceptions { exceptions
+        ≡ length (exceptions_of (piece_form (piece_seen F.bytes_of piece.now) asked.now.form).star) }
+    requires few { length bytes.old ≤ 65000 }
+    requires room { group_length F.family + 4 + (from_bool piece.now.starred + most + exceptions)
+        * source_length F.family ≤ length bytes.old }
+    ensures told { AreTold (piece_seen F.bytes_of piece.now) asked.now.form most (told_seen F.bytes_of result) }
+    ensures joined { length (told_set (rps_of F.family asked.now)
+        (cut_piece result.count (piece_seen F.bytes_of piece.now) asked.now.form)).joined
+        ≡ from_bool piece.now.starred + result.count }
+    ensures written { let this = cut_piece result.count (piece_seen F.bytes_of piece.now) asked.now.form in
+        take (set_size F.family (rps_of F.family asked.now) this) bytes.new
+        ≡ canonical_set F.family (told_set (rps_of F.family asked.now) this) }
+    ensures length { length bytes.new ≡ length bytes.old }
+{
+    let (front, entries) = bytes.split_at_mut(group_length::<F>() + 4);
+    let told = write_entries::<F>(asked, piece, most, entries);
+    let joined = usize::from(piece.starred) + told.count;
+    put_group_and_counts::<F>(piece.group, joined as u16, exceptions as u16, front);
+    told
+}

@@ -1,0 +1,395 @@
+//! What goes out of some states, byte by byte: the group 239.1.1.1 with the RP 10.9.9.9, asked of 10.0.0.2.
+
+use pim_addr::{Family, Routes, V4, V6};
+use pim_device::ScriptedDrain;
+use pim_down::{Ports, Step, Timing};
+use pim_emit::{WriteFault, canonical_messages, write_canonical};
+use pim_form::{FormFault, Messages, NormalForm, Writer, is_toward, pack};
+use pim_jp::{Entry, JpView, head_length, put_head, put_set, set_length};
+use std::alloc::{AllocError, Global};
+use std::test::Fail;
+
+/// The machines of some ports, and the table and the writer by which their wants are told.
+#[derive(Drop)]
+struct State<F: Family> {
+    ports: Ports<F>,
+    routes: Routes<F>,
+    writer: Writer<F>,
+}
+
+const GROUP: [u8; 4] = [239, 1, 1, 1];
+
+const NEXT_GROUP: [u8; 4] = [239, 1, 1, 2];
+
+const RP: [u8; 4] = [10, 9, 9, 9];
+
+/// A group of IPv6.
+const GROUP6: [u8; 16] = [255, 62, 0, 0, 0, 0, 0, 0, 0, 0, 0, 0, 0, 0, 0, 1];
+
+/// Its RP.
+const RP6: [u8; 16] = [32, 1, 13, 184, 0, 0, 0, 0, 0, 0, 0, 0, 0, 0, 9, 9];
+
+/// The star of the group, behind its length.
+const STAR: [u8; 36] = [
+    0, 0x22, 0x23, 0, 0xc4, 0xd4, 1, 0, 10, 0, 0, 2, 0, 1, 0, 210, 1, 0, 0, 32, 239, 1, 1, 1, 0, 1,
+    0, 0, 1, 0, 7, 32, 10, 9, 9, 9,
+];
+
+/// One neighbour on the port: prunes count at once.
+const ALONE: Timing = Timing {
+    override_ms: 0,
+    several: false,
+};
+
+/// So many ports of IPv4: all groups have one RP, and all addresses are reached by 10.0.0.2.
+fn state4(alloc: Global, count: usize, budget: usize) -> Option<State<V4>> {
+    if count == 0 || count > 64 {
+        return None;
+    }
+    let writer = Writer::new([10, 0, 0, 2], [10, 0, 0, 1], 210, budget).ok()?;
+    let mut routes = Routes::new(alloc);
+    routes.add_rp([224, 0, 0, 0], 4, RP).ok()?;
+    routes.add_via([0; 4], 0, [10, 0, 0, 2]).ok()?;
+    Some(State {
+        ports: Ports::new(alloc, count, 1000),
+        routes,
+        writer,
+    })
+}
+
+/// An address of IPv6: 2001:db8:: and this number.
+fn address6(number: u8) -> [u8; 16] {
+    [32, 1, 13, 184, 0, 0, 0, 0, 0, 0, 0, 0, 0, 0, 0, number]
+}
+
+/// One port of IPv6: all groups have one RP, and all addresses are reached by one neighbour.
+fn state6(alloc: Global, budget: usize) -> Option<State<V6>> {
+    let writer = Writer::new(address6(2), address6(1), 210, budget).ok()?;
+    let mut routes = Routes::new(alloc);
+    routes
+        .add_rp([255, 0, 0, 0, 0, 0, 0, 0, 0, 0, 0, 0, 0, 0, 0, 0], 8, RP6)
+        .ok()?;
+    routes.add_via([0; 16], 0, address6(2)).ok()?;
+    Some(State {
+        ports: Ports::new(alloc, 1, 1000),
+        routes,
+        writer,
+    })
+}
+
+/// The body of a message of one set.
+fn body<F: Family>(
+    alloc: Global,
+    upstream: F::Addr,
+    group: F::Addr,
+    joined: &[Entry<F::Addr>],
+    pruned: &[Entry<F::Addr>],
+) -> Result<Vec<u8>, AllocError> {
+    let (Ok(joins), Ok(prunes)) = (u16::try_from(joined.len()), u16::try_from(pruned.len())) else {
+        return Err(AllocError);
+    };
+    let mut body = vec![in alloc; 0u8; head_length::<F>() + set_length::<F>(joins, prunes)]?;
+    let (head, set) = body.split_at_mut(head_length::<F>());
+    put_head::<F>(upstream, 1, 210, head);
+    put_set::<F>(group, joined, pruned, set);
+    Ok(body)
+}
+
+/// Hears a message of one set on a port, and lets its prunes act: whether it was taken.
+fn hear<F: Family>(
+    alloc: Global,
+    state: &mut State<F>,
+    port: usize,
+    group: F::Addr,
+    joined: &[Entry<F::Addr>],
+    pruned: &[Entry<F::Addr>],
+) -> Result<bool, AllocError> {
+    let body = body::<F>(alloc, state.writer.upstream(), group, joined, pruned)?;
+    let Ok(view) = JpView::<F>::read(&body) else {
+        return Ok(false);
+    };
+    if port >= state.ports.port_count() {
+        return Ok(false);
+    }
+    if state.ports.hear(port, &view, &state.routes, ALONE).is_err() {
+        return Ok(false);
+    }
+    Ok(state.ports.run_to(0) == Step::Reached)
+}
+
+/// What is answered where the canonical messages are written to this device.
+fn write_to<F: Family>(
+    alloc: Global,
+    state: &State<F>,
+    out: &mut ScriptedDrain,
+) -> Result<Result<u64, WriteFault<F>>, AllocError> {
+    let mut buffer = vec![in alloc; 0u8; state.writer.budget()]?;
+    Ok(write_canonical::<F, _>(&state.ports, &state.writer, &state.routes, &mut buffer, out))
+}
+
+/// Appends each message behind two bytes of its length.
+fn frame(framed: &mut Vec<u8>, messages: &Messages) -> Result<(), AllocError> {
+    for index in 0..messages.count() {
+        if let Some(message) = messages.get(index) {
+            let length = message.len();
+            framed.push((length / 256 % 256) as u8)?;
+            framed.push((length % 256) as u8)?;
+            framed.extend_from_slice(message)?;
+        }
+    }
+    Ok(())
+}
+
+/// The packed messages of the normal form of what is asked, each behind its length; `None` where something is refused.
+fn packed<F: Family>(alloc: Global, state: &State<F>) -> Option<Vec<u8>> {
+    let upstream = state.writer.upstream();
+    let form = NormalForm::toward(alloc, &state.ports, &state.routes, upstream).ok()?;
+    if !is_toward(&form, &state.routes, upstream) {
+        return None;
+    }
+    let messages = pack(alloc, &form, &state.writer, &state.routes).ok()?;
+    let mut framed = Vec::new(alloc);
+    frame(&mut framed, &messages).ok()?;
+    Some(framed)
+}
+
+/// The same messages, kept straight from the records.
+fn kept<F: Family>(alloc: Global, state: &State<F>) -> Option<Vec<u8>> {
+    let messages = canonical_messages::<F>(alloc, &state.ports, &state.writer, &state.routes).ok()?;
+    let mut framed = Vec::new(alloc);
+    frame(&mut framed, &messages).ok()?;
+    Some(framed)
+}
+
+/// Why they aren't kept, if they aren't.
+fn fault_of_kept<F: Family>(alloc: Global, state: &State<F>) -> Option<FormFault<F>> {
+    canonical_messages::<F>(alloc, &state.ports, &state.writer, &state.routes).err()
+}
+
+/// Whether these bytes are there.
+fn are_bytes(found: Option<Vec<u8>>, bytes: &[u8]) -> bool {
+    match found {
+        Some(framed) => framed.as_slice() == bytes,
+        None => false,
+    }
+}
+
+/// Whether the packed messages of this state are these bytes, and those that are kept straight from the records too.
+fn is_packed<F: Family>(alloc: Global, state: &State<F>, bytes: &[u8]) -> bool {
+    are_bytes(packed(alloc, state), bytes) && are_bytes(kept(alloc, state), bytes)
+}
+
+/// The source 10.1.0.0 and so many.
+fn source(number: u8) -> [u8; 4] {
+    [10, 1, 0, number]
+}
+
+/// Hears 200 sources of the group on the first port.
+fn hear_200(alloc: Global, state: &mut State<V4>) -> Result<bool, AllocError> {
+    let mut joined = Vec::new(alloc);
+    for number in 1..201 {
+        joined.push(Entry::Source(source(number)))?;
+    }
+    hear(alloc, state, 0, GROUP, &joined, &[])
+}
+
+#[test]
+fn writes_a_star(rt: HostRuntime) -> Result<(), Fail> {
+    let Some(mut state) = state4(rt.alloc(), 1, 1480) else {
+        assert!(rt; false);
+        return Ok(());
+    };
+    let mut nothing = ScriptedDrain::new(rt.alloc(), 1, 1000);
+    assert_eq!(rt; write_to(rt.alloc(), &state, &mut nothing)?, Ok(0));
+    assert!(rt; nothing.written().is_empty());
+    assert!(rt; hear(rt.alloc(), &mut state, 0, GROUP, &[Entry::Star(RP)], &[])?);
+    let mut bytewise = ScriptedDrain::new(rt.alloc(), 1, 1000);
+    assert_eq!(rt; write_to(rt.alloc(), &state, &mut bytewise)?, Ok(1));
+    assert!(rt; bytewise.written() == STAR.as_slice());
+    Ok(())
+}
+
+#[test]
+fn writes_a_star_of_ipv6(rt: HostRuntime) -> Result<(), Fail> {
+    let Some(mut state) = state6(rt.alloc(), 1480) else {
+        assert!(rt; false);
+        return Ok(());
+    };
+    let pruned = [Entry::Rpt(address6(3)), Entry::Rpt(address6(4))];
+    assert!(rt;
+        hear(
+            rt.alloc(),
+            &mut state,
+            0,
+            GROUP6,
+            &[Entry::Star(RP6)],
+            &pruned
+        )?
+    );
+    let mut out = ScriptedDrain::new(rt.alloc(), 7, 1000);
+    assert_eq!(rt; write_to(rt.alloc(), &state, &mut out)?, Ok(1));
+    assert_eq!(rt; out.written().len(), 112);
+    assert!(rt; is_packed(rt.alloc(), &state, out.written()));
+    Ok(())
+}
+
+#[test]
+fn cuts_200_sources_in_two(rt: HostRuntime) -> Result<(), Fail> {
+    let Some(mut state) = state4(rt.alloc(), 1, 1480) else {
+        assert!(rt; false);
+        return Ok(());
+    };
+    assert!(rt; hear_200(rt.alloc(), &mut state)?);
+    let mut out = ScriptedDrain::new(rt.alloc(), 100, 10_000);
+    assert_eq!(rt; write_to(rt.alloc(), &state, &mut out)?, Ok(2));
+    let written = out.written();
+    assert_eq!(rt; written.len(), 1656);
+    assert!(rt; written.starts_with(&[5, 0xc2]));
+    let (_, second) = written.split_at(written.len().min(1476));
+    assert!(rt; second.starts_with(&[0, 0xb2]));
+    assert!(rt; is_packed(rt.alloc(), &state, written));
+    Ok(())
+}
+
+#[test]
+fn tells_how_much_went_out(rt: HostRuntime) -> Result<(), Fail> {
+    let Some(mut state) = state4(rt.alloc(), 1, 1480) else {
+        assert!(rt; false);
+        return Ok(());
+    };
+    assert!(rt; hear_200(rt.alloc(), &mut state)?);
+    for fails_from in [0, 1, 2, 40, 1475, 1476, 1477, 1655] {
+        let mut out = ScriptedDrain::new(rt.alloc(), 64, fails_from);
+        let sent = fails_from as u64;
+        assert_eq!(rt;
+            write_to(rt.alloc(), &state, &mut out)?,
+            Err(WriteFault::Output { sent })
+        );
+        assert_eq!(rt; out.written().len(), fails_from);
+        assert_eq!(rt; out.failures(), 1);
+    }
+    Ok(())
+}
+
+#[test]
+fn writes_nothing_of_a_star_that_is_too_big(rt: HostRuntime) -> Result<(), Fail> {
+    let Some(mut state) = state4(rt.alloc(), 1, 1480) else {
+        assert!(rt; false);
+        return Ok(());
+    };
+    assert!(rt;
+        hear(
+            rt.alloc(),
+            &mut state,
+            0,
+            [239, 1, 1, 0],
+            &[Entry::Star(RP)],
+            &[]
+        )?
+    );
+    let mut pruned = Vec::new(rt.alloc());
+    for number in 1..182 {
+        pruned.push(Entry::Rpt(source(number)))?;
+    }
+    assert!(rt;
+        hear(
+            rt.alloc(),
+            &mut state,
+            0,
+            GROUP,
+            &[Entry::Star(RP)],
+            &pruned
+        )?
+    );
+    let mut out = ScriptedDrain::new(rt.alloc(), 64, 10_000);
+    assert_eq!(rt;
+        write_to(rt.alloc(), &state, &mut out)?,
+        Err(WriteFault::TooBig(GROUP))
+    );
+    assert!(rt; out.written().is_empty());
+    assert_eq!(rt;
+        fault_of_kept(rt.alloc(), &state),
+        Some(FormFault::TooBig(GROUP))
+    );
+    Ok(())
+}
+
+/// Ports that want of the group: all but the last a star, each but one source more than the one before; the last some
+/// sources. Every second one wants the next group too.
+fn hear_on_all(alloc: Global, state: &mut State<V4>) -> Result<bool, AllocError> {
+    let last = state.ports.port_count().saturating_sub(1);
+    for port in 0..last {
+        let mut pruned = Vec::new(alloc);
+        for number in 0..port.min(40) {
+            pruned.push(Entry::Rpt(source((200 - number % 100) as u8)))?;
+        }
+        if !hear(alloc, state, port, GROUP, &[Entry::Star(RP)], &pruned)? {
+            return Ok(false);
+        }
+        let two = [
+            Entry::Source(source((port % 7 + 1) as u8)),
+            Entry::Source(source(90)),
+        ];
+        if port % 2 == 1 && !hear(alloc, state, port, NEXT_GROUP, &two, &[])? {
+            return Ok(false);
+        }
+    }
+    let some = [Entry::Source(source(5)), Entry::Source(source(3))];
+    hear(alloc, state, last, GROUP, &some, &[Entry::Rpt(source(199))])
+}
+
+#[test]
+fn merges_the_ports(rt: HostRuntime) -> Result<(), Fail> {
+    for count in [1, 2, 3, 7, 64] {
+        for budget in [70, 100, 1480] {
+            let Some(mut state) = state4(rt.alloc(), count, budget) else {
+                assert!(rt; false);
+                return Ok(());
+            };
+            assert!(rt; hear_on_all(rt.alloc(), &mut state)?);
+            let mut out = ScriptedDrain::new(rt.alloc(), 33, 100_000);
+            assert!(rt; write_to(rt.alloc(), &state, &mut out)?.is_ok());
+            assert!(rt; is_packed(rt.alloc(), &state, out.written()));
+        }
+    }
+    Ok(())
+}
+
+#[test]
+fn passes_over_what_others_are_asked_for(rt: HostRuntime) -> Result<(), Fail> {
+    let Some(mut state) = state4(rt.alloc(), 2, 1480) else {
+        assert!(rt; false);
+        return Ok(());
+    };
+    assert!(rt;
+        state
+            .routes
+            .add_via([10, 1, 0, 128], 25, [10, 0, 0, 6])
+            .is_ok()
+    );
+    assert!(rt;
+        state
+            .routes
+            .add_rp([239, 1, 1, 2], 32, [10, 1, 0, 200])
+            .is_ok()
+    );
+    assert!(rt; hear_200(rt.alloc(), &mut state)?);
+    let star = [Entry::Star([10, 1, 0, 200])];
+    assert!(rt; hear(rt.alloc(), &mut state, 1, NEXT_GROUP, &star, &[])?);
+    let mut out = ScriptedDrain::new(rt.alloc(), 33, 100_000);
+    assert_eq!(rt; write_to(rt.alloc(), &state, &mut out)?, Ok(1));
+    assert_eq!(rt; out.written().len(), 2 + 26 + 127 * 8);
+    assert!(rt; is_packed(rt.alloc(), &state, out.written()));
+    Ok(())
+}
+
+#[test]
+fn tells_faults_in_words(rt: HostRuntime) -> Result<(), Fail> {
+    let fault: WriteFault<V4> = WriteFault::TooBig(GROUP);
+    let text = format!(in rt.alloc(); "{fault}")?;
+    assert_eq!(rt; text.as_str(), "too big 239.1.1.1");
+    let fault: WriteFault<V6> = WriteFault::Output { sent: 40 };
+    let text = format!(in rt.alloc(); "{fault}")?;
+    assert_eq!(rt; text.as_str(), "the device failed behind 40 bytes");
+    Ok(())
+}

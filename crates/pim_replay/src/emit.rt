@@ -1,0 +1,81 @@
+//! The canonical messages of a replay's state, written as bytes.
+
+ghost use Rattle.std.specs.Prelude.{◌≡◌, ◌≤◌, IfOk, length};
+ghost use Rattle.pim_capture.specs.Next.{latest_moment};
+ghost use Rattle.pim_replay.specs.Emit.{Emits, SendsAsked, failures_of_emission};
+
+use crate::quiet::replay_quietly;
+use crate::replay::ReplayFault;
+use pim_addr::{Drain, Family, Feed};
+use pim_emit::{WriteFault, write_canonical};
+use pim_form::Writer;
+use pim_merge::Merge;
+use pim_router::Router;
+use std::alloc::{AllocError, Global};
+
+/// Why the messages of a replay's state aren't written, or not all of them.
+#[derive(Debug, Drop, PartialEq, Eq)]
+pub enum EmitFault<F: Family> {
+    /// The replay ended before its end, or memory was refused, or the device failed.
+    Replay(ReplayFault),
+    /// The star of this group, with all its exceptions, is too big for a message of the writer's budget.
+    TooBig(F::Addr),
+}
+
+/// Room for one message.
+fn blank(alloc: Global, budget: usize) -> Result<Vec<u8>, AllocError>
+    ensures { IfOk result (λ buffer. length buffer.items ≡ budget) }
+{
+    vec![in alloc; 0u8; budget]
+}
+
+/// Writes the canonical messages by which the router asks the writer's upstream neighbour, each behind its length.
+fn send_asked<F: Family, W: Drain>(
+    alloc: Global,
+    router: &Router<'_, F>,
+    by: &Writer<F>,
+    writer: &mut W,
+) -> Result<u8, EmitFault<F>>
+    ensures sends { SendsAsked F.family by.now router.now
+        F.bytes_of (W.contents writer.old) (W.contents writer.new) result }
+    ensures count { W.failures writer.new ≡ failures_of_emission (W.failures writer.old) result }
+{
+    let Ok(mut buffer) = blank(alloc, by.budget()) else {
+        return Err(EmitFault::Replay(ReplayFault::Memory));
+    };
+    match write_canonical::<F, W>(router.ports(), by, router.routes(), &mut buffer, writer) {
+        Ok(_) => Ok(0),
+        Err(WriteFault::TooBig(group)) => Err(EmitFault::TooBig(group)),
+        Err(WriteFault::Output { .. }) => Err(EmitFault::Replay(ReplayFault::Output)),
+    }
+}
+
+/// Replays the captures of a router's ports, one for each port and in their order, until `after_ms` milliseconds behind
+/// the last record, and writes the canonical messages by which it then asks the upstream neighbour of `by`, as bytes:
+/// each behind two bytes of its length, big-endian, and nothing else. The answer is the status, 0.
+///
+/// Beside the router it takes the memory of one buffer a capture, and in the end that of one message.
+///
+/// # Errors
+/// What ends the replay, `TooBig` and `Memory`: nothing was written. `Output`: a front of the messages was.
+pub fn emit_into<F: Family, R: Feed + Drop, W: Drain>(
+    alloc: Global,
+    merge: &mut Merge<R>,
+    router: &mut Router<'_, F>,
+    after_ms: u64,
+    by: &Writer<F>,
+    writer: &mut W,
+) -> Result<u8, EmitFault<F>>
+    requires ports { length merge.old.lanes ≡ length router.old.ports }
+    requires moment { router.old.machines.moment ≤ latest_moment }
+    requires after { after_ms ≤ 1000000000 }
+    ensures emits { Emits F.family after_ms by.now merge.old merge.new router.old router.new
+        F.bytes_of (W.contents writer.old) (W.contents writer.new) result }
+    ensures count { W.failures writer.new ≡ failures_of_emission (W.failures writer.old) result }
+{
+    match replay_quietly::<F, R>(merge, router, after_ms) {
+        Ok(()) => {}
+        Err(fault) => return Err(EmitFault::Replay(fault)),
+    }
+    send_asked::<F, W>(alloc, router, by, writer)
+}
