@@ -2,6 +2,7 @@
 //! table of rows that are played one after the other, each by a small helper: a test that makes its calls itself takes
 //! far longer to prove.
 
+mod bodies;
 mod hearing;
 mod limits;
 mod looks;
@@ -9,11 +10,13 @@ mod nexts;
 mod running;
 mod tables;
 
-use pim_addr::{Routes, V4};
+use bodies::{body, hear_body, table};
+use nexts::{is_alike_near, place_in};
+use pim_addr::V4;
 use pim_down::{
     HearFault, Key, Machine, Near, Pending, Ports, Record, Records, State, Step, Timing, What,
 };
-use pim_jp::{Entry, JpView};
+use pim_jp::Entry;
 use std::alloc::{AllocError, Global};
 use std::test::Fail;
 
@@ -171,64 +174,6 @@ fn record(held: Held) -> Record<[u8; 4]> {
     }
 }
 
-fn small(number: usize) -> u8 {
-    u8::try_from(number).unwrap_or(0)
-}
-
-fn entry_bytes(entry: Entry<[u8; 4]>) -> [u8; 8] {
-    let (flags, address) = match entry {
-        Entry::Star(rp) => (7, rp),
-        Entry::Source(source) => (4, source),
-        Entry::Rpt(source) => (5, source),
-    };
-    let [a, b, c, d] = address;
-    [1, 0, flags, 32, a, b, c, d]
-}
-
-/// The body of a message to 10.0.0.2 with these sets.
-fn body(alloc: Global, holdtime: u16, sets: &[Set]) -> Result<Vec<u8>, AllocError> {
-    let [high, low] = holdtime.to_be_bytes();
-    let mut bytes = vec![in alloc; 1, 0, 10, 0, 0, 2, 0, small(sets.len()), high, low]?;
-    for &(group, joined, pruned) in sets {
-        let [a, b, c, d] = group;
-        bytes.extend_from_slice(&[1, 0, 0, 32, a, b, c, d])?;
-        bytes.extend_from_slice(&[0, small(joined.len()), 0, small(pruned.len())])?;
-        for &entry in joined {
-            bytes.extend_from_slice(&entry_bytes(entry))?;
-        }
-        for &entry in pruned {
-            bytes.extend_from_slice(&entry_bytes(entry))?;
-        }
-    }
-    Ok(bytes)
-}
-
-/// The table of these rows; `None` where one is refused.
-fn table(alloc: Global, leads: &[Lead]) -> Option<Routes<V4>> {
-    let mut routes: Routes<V4> = Routes::new(alloc);
-    for &(prefix, length, rp) in leads {
-        if routes.add_rp(prefix, length, rp).is_err() {
-            return None;
-        }
-    }
-    Some(routes)
-}
-
-/// Hears a body on a port. `None` where the body is no message or the port isn't there.
-fn hear_body(
-    ports: &mut Ports<V4>,
-    routes: &Routes<V4>,
-    port: usize,
-    body: &[u8],
-    timing: Timing,
-) -> Option<Result<(), HearFault>> {
-    let message = JpView::<V4>::read(body).ok()?;
-    if port >= ports.port_count() || timing.override_ms > 98_302 {
-        return None;
-    }
-    Some(ports.hear(port, &message, routes, timing))
-}
-
 /// Hears a message: whether it is answered so.
 fn hears(
     alloc: Global,
@@ -362,36 +307,6 @@ fn machine_after(ports: &Ports<V4>, group: [u8; 4], what: What<[u8; 4]>) -> Opti
         Some(record) => Some(record.key.what),
         None => None,
     }
-}
-
-/// Whether the three look-ups near this place answer what those from nothing do.
-fn answers_near(
-    ports: &Ports<V4>,
-    port: usize,
-    group: [u8; 4],
-    what: What<[u8; 4]>,
-    near: Near,
-) -> bool {
-    let (next, _place) = ports.record_after_near(port, group, what, near);
-    let (above, _place) = ports.group_after_near(port, Some(group), near);
-    let (state, _place) = ports.state_of_near(port, group, what, near);
-    next == ports.record_after(port, group, what)
-        && above == ports.group_after(port, Some(group))
-        && state == ports.state_of(port, group, what)
-}
-
-/// Whether look-ups near this place answer what those from nothing do, before, at and behind records.
-fn is_alike_near(ports: &Ports<V4>, near: Near) -> bool {
-    answers_near(ports, 0, GROUP, What::Star, near)
-        && answers_near(ports, 0, [239, 1, 1, 0], What::Rpt(SECOND), near)
-        && answers_near(ports, 0, GROUP, What::Source(FIRST), near)
-        && answers_near(ports, 1, GROUP, What::Rpt(FIRST), near)
-}
-
-/// The place behind the first source's record on the first port.
-fn place_in(ports: &Ports<V4>) -> Near {
-    let (_next, place) = ports.record_after_near(0, GROUP, What::Source(FIRST), Near::UNKNOWN);
-    place
 }
 
 /// Whether what a row sees is so.

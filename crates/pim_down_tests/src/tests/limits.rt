@@ -1,8 +1,8 @@
 //! Refusals.
 
+use super::bodies::hear_body;
 use super::{
     Example, FIRST, GROUP, Held, JOIN_FIRST, JOIN_SECOND, JOIN_STAR, Row, SECOND, SEVERAL,
-    hear_body,
 };
 use pim_addr::{Routes, V4};
 use pim_down::{HearFault, Ports, State, Step, What};

@@ -1,6 +1,7 @@
 //! How many timers a run looks at: 1,000 (*,G) machines, all heard of at the same moment.
 
-use super::{ALONE, ONE_RP, hear_body, table};
+use super::bodies::{hear_body, table};
+use super::{ALONE, ONE_RP};
 use pim_addr::{Routes, V4};
 use pim_down::{Ports, Step};
 use std::alloc::{AllocError, Global};

@@ -2,10 +2,9 @@
 
 use super::{
     Example, FIRST, GROUP, JOIN_FIRST, JOIN_SECOND, JOIN_STAR, RPT_FIRST, Row, SECOND, goes,
-    is_alike_near, place_in,
 };
 use pim_addr::{V4, V6};
-use pim_down::{Ports, What};
+use pim_down::{Near, Ports, What};
 use std::alloc::{AllocError, Global};
 use std::test::Fail;
 
@@ -48,6 +47,36 @@ pub(super) const EXAMPLES: [Example; 2] = [
 /// Whether no group and no machine comes next on the first port.
 fn is_at_its_end(ports: &Ports<V6>) -> bool {
     ports.group_after(0, None).is_none() && ports.record_after(0, [0xff; 16], What::Star).is_none()
+}
+
+/// Whether the three look-ups near this place answer what those from nothing do.
+fn answers_near(
+    ports: &Ports<V4>,
+    port: usize,
+    group: [u8; 4],
+    what: What<[u8; 4]>,
+    near: Near,
+) -> bool {
+    let (next, _place) = ports.record_after_near(port, group, what, near);
+    let (above, _place) = ports.group_after_near(port, Some(group), near);
+    let (state, _place) = ports.state_of_near(port, group, what, near);
+    next == ports.record_after(port, group, what)
+        && above == ports.group_after(port, Some(group))
+        && state == ports.state_of(port, group, what)
+}
+
+/// Whether look-ups near this place answer what those from nothing do, before, at and behind records.
+pub(super) fn is_alike_near(ports: &Ports<V4>, near: Near) -> bool {
+    answers_near(ports, 0, GROUP, What::Star, near)
+        && answers_near(ports, 0, [239, 1, 1, 0], What::Rpt(SECOND), near)
+        && answers_near(ports, 0, GROUP, What::Source(FIRST), near)
+        && answers_near(ports, 1, GROUP, What::Rpt(FIRST), near)
+}
+
+/// The place behind the first source's record on the first port.
+pub(super) fn place_in(ports: &Ports<V4>) -> Near {
+    let (_next, place) = ports.record_after_near(0, GROUP, What::Source(FIRST), Near::UNKNOWN);
+    place
 }
 
 #[test]
