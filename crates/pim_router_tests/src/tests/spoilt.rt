@@ -222,20 +222,19 @@ fn spoilt<F: Family>(
 /// The same on a new router of one port, to which the sender of a Join/Prune is unknown, and how many records it keeps.
 fn spoilt_on<F: Family>(
     alloc: Global,
-    port: PortConfig<F::Addr>,
+    ports: &[PortConfig<F::Addr>],
     from: F::Addr,
     bytes: &mut [u8],
 ) -> Result<([Told; 3], usize), Fail> {
     let routes = Routes::<F>::new(alloc);
-    let ports = [port];
     let config = Config {
-        ports: &ports,
+        ports,
         routes: &routes,
         limit: 100_000,
     };
     let mut router = Router::new(alloc, &config)?;
     let told = spoilt(&mut router, from, bytes)?;
-    Ok((told, router.ports().records().count()))
+    Ok((told, router.ports().count_on(0)))
 }
 
 /// A port of 10.0.0.2.
@@ -260,7 +259,7 @@ const SENDER_V6: [u8; 16] = [0xfe, 0x80, 0, 0, 0, 0, 0, 0, 0, 0, 0, 0, 0, 0, 0, 
 #[test]
 fn spoilt_hellos(rt: HostRuntime) -> Result<(), Fail> {
     let mut hello = HELLO;
-    let told = spoilt_on::<V4>(rt.alloc(), PORT, SENDER, &mut hello)?;
+    let told = spoilt_on::<V4>(rt.alloc(), &[PORT], SENDER, &mut hello)?;
     assert_eq!(rt; told, (OF_HELLO, 0));
     Ok(())
 }
@@ -268,7 +267,7 @@ fn spoilt_hellos(rt: HostRuntime) -> Result<(), Fail> {
 #[test]
 fn spoilt_hellos_of_ipv6(rt: HostRuntime) -> Result<(), Fail> {
     let mut hello = HELLO;
-    let told = spoilt_on::<V6>(rt.alloc(), PORT_V6, SENDER_V6, &mut hello)?;
+    let told = spoilt_on::<V6>(rt.alloc(), &[PORT_V6], SENDER_V6, &mut hello)?;
     assert_eq!(rt; told, (OF_HELLO_V6, 0));
     Ok(())
 }
@@ -276,7 +275,7 @@ fn spoilt_hellos_of_ipv6(rt: HostRuntime) -> Result<(), Fail> {
 #[test]
 fn spoilt_join_prunes(rt: HostRuntime) -> Result<(), Fail> {
     let mut lists = LISTS;
-    let told = spoilt_on::<V4>(rt.alloc(), PORT, SENDER, &mut lists)?;
+    let told = spoilt_on::<V4>(rt.alloc(), &[PORT], SENDER, &mut lists)?;
     assert_eq!(rt; told, (OF_LISTS, 0));
     Ok(())
 }
@@ -284,7 +283,7 @@ fn spoilt_join_prunes(rt: HostRuntime) -> Result<(), Fail> {
 #[test]
 fn spoilt_join_prunes_of_ipv6(rt: HostRuntime) -> Result<(), Fail> {
     let mut lists = LISTS_V6;
-    let told = spoilt_on::<V6>(rt.alloc(), PORT_V6, SENDER_V6, &mut lists)?;
+    let told = spoilt_on::<V6>(rt.alloc(), &[PORT_V6], SENDER_V6, &mut lists)?;
     assert_eq!(rt; told, (OF_LISTS_V6, 0));
     Ok(())
 }
@@ -292,7 +291,7 @@ fn spoilt_join_prunes_of_ipv6(rt: HostRuntime) -> Result<(), Fail> {
 #[test]
 fn spoilt_messages_of_another_type(rt: HostRuntime) -> Result<(), Fail> {
     let mut other = OTHER;
-    let told = spoilt_on::<V4>(rt.alloc(), PORT, SENDER, &mut other)?;
+    let told = spoilt_on::<V4>(rt.alloc(), &[PORT], SENDER, &mut other)?;
     assert_eq!(rt; told, (OF_ANOTHER_TYPE, 0));
     Ok(())
 }
