@@ -151,8 +151,8 @@ fn failed_text_leaves_a_front(rt: HostRuntime) {
     }
 }
 
-// With each allocation refused in turn (`tools/refuse_memory.sh`): nothing is written for want of memory, or all but the
-// last line; want of the device's own memory leaves a front.
+// With each allocation refused in turn (`rt try --test --fail-alloc 1..`): nothing is written for want of memory, or all
+// but the last line.
 #[test]
 fn refused_memory_tells_whole_lines(rt: HostRuntime) {
     let device = Device {
@@ -168,12 +168,6 @@ fn refused_memory_tells_whole_lines(rt: HostRuntime) {
             assert_eq!(rt; status, 0);
             assert_eq!(rt; written, EXCEPTED_TEXT.as_bytes());
         }
-        Err(MirrorTextFault::Replay(ReplayFault::Memory)) => {
-            assert!(rt; written.is_empty() || written == EXCEPTED_LINES.as_bytes());
-        }
-        Err(fault) => {
-            assert!(rt; fault == MirrorTextFault::Replay(ReplayFault::Output));
-            assert!(rt; EXCEPTED_TEXT.as_bytes().starts_with(written));
-        }
+        Err(_) => assert!(rt; written.is_empty() || written == EXCEPTED_LINES.as_bytes()),
     }
 }
