@@ -107,8 +107,10 @@ def told_of_changes(body):
     return counts, digest
 
 
-# the numbers of what is told of a message: no fault of a Hello is 0, of a Join/Prune 19, whose sender is unknown
-FRAME_SHORT, VERSION, CHECKSUM, OTHER_TYPE, HELLO, JOIN_PRUNE, UNKNOWN = 1, 2, 3, 5, 5, 8, 19
+# the numbers of what is told of a message: no fault of a Hello is 0; of a Join/Prune 19 where its sender is unknown, else
+# 20 where it is for another router than 10.0.0.2 or fe80::2, and 21 where it is for that one
+FRAME_SHORT, VERSION, CHECKSUM, OTHER_TYPE, HELLO, JOIN_PRUNE, UNKNOWN, NOT_FOR_US, APPLIED = 1, 2, 3, 5, 5, 8, 19, 20, 21
+OWN = bytes([10, 0, 0, 2]), bytes.fromhex("fe800000000000000000000000000002")
 OPTION_LENGTH, ADDRESS = 2, 3
 LENGTHS = {1: 2, 2: 4, 19: 4, 20: 4}
 
@@ -141,8 +143,9 @@ def hello_faults(body):
     return found
 
 
-def told_of(message, pseudo):
-    """What is told of a message, with its place, version or type; its pseudo-header sums to this."""
+def told_of(message, pseudo, is_known):
+    """What is told of a message, with its place, version or type; its pseudo-header sums to this. Its sender is known, or
+    not."""
     if len(message) < 4:
         return FRAME_SHORT, 0
     version, kind = message[0] >> 4, message[0] & 15
@@ -157,8 +160,13 @@ def told_of(message, pseudo):
     if kind == 0:
         at, number = min(hello_faults(body), default=(0, 0))
         return (HELLO + number if number else 0), at
-    at, number = min(faults(body, 4 if pseudo is over_ipv4 else 16), default=(0, 0))
-    return (JOIN_PRUNE + number if number else UNKNOWN), at
+    size = 4 if pseudo is over_ipv4 else 16
+    at, number = min(faults(body, size), default=(0, 0))
+    if number:
+        return JOIN_PRUNE + number, at
+    if not is_known:
+        return UNKNOWN, 0
+    return (APPLIED if body[2:2 + size] in OWN else NOT_FOR_US), 0
 
 
 def words(message):
@@ -184,11 +192,11 @@ def mended(message, pseudo):
     return message[:2] + (-(words(blank) + pseudo(len(message))) % 65535).to_bytes(2, "big") + message[4:]
 
 
-def told_of_all(messages, pseudo):
+def told_of_all(messages, pseudo, is_known):
     """How often each number is told of the messages, and the digest of all that is told."""
     counts, digest = [0] * 23, 0
     for message in messages:
-        number, place = told_of(message, pseudo)
+        number, place = told_of(message, pseudo, is_known)
         counts[number] += 1
         digest = (digest * 31 + place * 32 + number) % 2**32
     return counts, digest
@@ -201,13 +209,14 @@ def changes(message):
             yield message[:at] + bytes([value]) + message[at + 1:]
 
 
-def tell_spoilt(name, message, pseudo):
+def tell_spoilt(name, message, pseudo, is_known=False):
     """Prints what is told of a message that is cut and mended, changed, and changed and mended."""
     message = mended(message, pseudo)
     fronts = [mended(message[:length], pseudo) for length in range(len(message) + 1)]
-    print(name, "cut:", *told_of_all(fronts, pseudo))
-    print(name, "changed:", *told_of_all(changes(message), pseudo))
-    print(name, "changed and mended:", *told_of_all((mended(each, pseudo) for each in changes(message)), pseudo))
+    print(name, "cut:", *told_of_all(fronts, pseudo, is_known))
+    print(name, "changed:", *told_of_all(changes(message), pseudo, is_known))
+    both = (mended(each, pseudo) for each in changes(message))
+    print(name, "changed and mended:", *told_of_all(both, pseudo, is_known))
 
 
 HELLO_MESSAGE = bytes.fromhex(
@@ -235,3 +244,6 @@ tell_spoilt("hello over ipv6", HELLO_MESSAGE, over_ipv6)
 tell_spoilt("join/prune", LISTS_MESSAGE, over_ipv4)
 tell_spoilt("join/prune over ipv6", LISTS_MESSAGE_V6, over_ipv6)
 tell_spoilt("another type", OTHER_MESSAGE, over_ipv4)
+tell_spoilt("another type over ipv6", OTHER_MESSAGE, over_ipv6)
+tell_spoilt("join/prune of a neighbour", LISTS_MESSAGE, over_ipv4, True)
+tell_spoilt("join/prune of a neighbour over ipv6", LISTS_MESSAGE_V6, over_ipv6, True)

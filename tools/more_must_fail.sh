@@ -13,6 +13,7 @@ trap 'rm -rf "$copy"' EXIT
 cp -a "$top/." "$copy/"
 for crate in "$@"; do
     folder=$copy/crates/$crate
+    mkdir -p "$folder/must-fail"
     rm -f "$folder"/must-fail/*.edit
     cp "$folder"/more-must-fail/*.edit "$folder/must-fail/"
 done

@@ -1,15 +1,17 @@
 #!/usr/bin/env python3
-"""Works on one crate over the libraries that `rt ci` kept on this machine, which `rt check` doesn't take up and would build anew.
+"""Works on one crate over the libraries that `rt ci` proved on this machine, which `rt check` doesn't take up and would build anew.
 
-In the crate's folder, where `rt ci` (with or without names) has proved the crates below, whose texts are the same here:
+In the crate's folder, where `rt ci` has proved the crates below, whose texts are the same here; under rattle-kit-13b, which keeps
+nothing, first copy crates/NAME/out/rlib of these crates from the copy in which it runs or ran:
 
-    tools/over_gate.py libraries                puts those libraries into crates/*/out
+    tools/over_gate.py libraries                puts those libraries into crates/*/out (rattle-kit-13f)
     tools/over_gate.py check [--only=FUNCTION ..] [--test] [--allow-holes]
     tools/over_gate.py edits [NAME.edit ..]     those of must-fail/, or these, of more-must-fail/ too
     tools/over_gate.py build                    for the crates above, after a check
+    tools/over_gate.py tests                    builds the tests, after a check with --test, and runs them
     tools/over_gate.py plant [rt plant's flags]
 
-What it answers is no verdict: `rt ci` gives that. It knows the inside of rattle-kit-13f.
+What it answers is no verdict: `rt ci` gives that. It knows the inside of rattle-kit-13b and 13f.
 """
 import importlib.machinery
 import importlib.util
@@ -54,11 +56,23 @@ def edits(rt, crate, names):
         begun = time.monotonic()
         kind, text = rt.must_fail(crate, edit, ["--jobs", "1"], f"{os.getcwd()}/{KEPT}")
         print(f"{time.monotonic() - begun:.0f} s: {text}", flush=True)
-        failed += kind not in (rt.REFUSED, rt.AT_LIMIT)
+        failed += not kind if isinstance(kind, bool) else kind not in (rt.REFUSED, rt.AT_LIMIT)
     return 1 if failed else 0
 
 
+def tests(rt, rtlib, crate):
+    built = f"out/{crate.name}_tests"
+    words = crate.words(["--jobs", "1", "--test"])
+    words += ["--incremental", KEPT, "--toolchain", f"{rt.KIT}/toolchain", "--backend", "llvm", "-o", f"{built}.o"]
+    status = subprocess.run([*rtlib.guarded(), rtlib.RATTLE, "build", *words], stdin=subprocess.DEVNULL).returncode
+    status = status or crate.link(f"{built}.o", built)
+    return status or subprocess.run([rtlib.RUNNER, "--seconds", "60", os.path.abspath(built)]).returncode
+
+
 def libraries(rt, crate):
+    if not hasattr(rt, "Kept"):
+        print("this kit keeps no libraries: copy crates/NAME/out/rlib from the copy in which rt ci ran")
+        return 1
     kept, lacking = rt.Kept(crate.below()), []
     for it in crate.below():
         if kept.give(it, False, kept.key(it)):
@@ -72,7 +86,7 @@ def libraries(rt, crate):
 
 
 def main(verb="", *flags):
-    if verb not in ("libraries", "check", "build", "edits", "plant"):
+    if verb not in ("libraries", "check", "build", "edits", "tests", "plant"):
         print(__doc__, end="", file=sys.stderr)
         return 2
     sys.path.insert(0, BIN)
@@ -86,6 +100,12 @@ def main(verb="", *flags):
     crate = crate_here(rtlib)
     if verb == "libraries":
         return libraries(rt, crate)
+    if verb == "tests":
+        rtlib.Crate, rt.Crate.cuts_libraries, rt.Crate.allowed = rt.Crate, True, ()
+        top = os.path.dirname(os.path.dirname(os.getcwd()))
+        crate = next(it for it in rtlib.crates_below(top) if it.folder == os.getcwd())
+        crate.out = sys.stdout
+        return tests(rt, rtlib, crate)
     return edits(rt, crate, flags) if verb == "edits" else run(rtlib, crate, verb, flags)
 
 

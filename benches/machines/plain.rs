@@ -1,6 +1,6 @@
 //! The same steps in plain Rust: records in a slab, their numbers in key order in blocks of up to 128, look-ups that begin
 //! at the place of the one before. It counts, then hears, and goes through the groups at the end; timers have no index
-//! here either.
+//! here, as they have in the Rattle program.
 use std::cmp::Ordering;
 use std::time::Instant;
 

@@ -32,7 +32,8 @@ abbrev pub weights : List ChangeUnit → List WantUnit
 weights run = map weight run
 
 -- the runs joined together are the units; each is nonempty and fits, and would not with the next unit
-pub record IsPacked (family : AddressFamily) (budget : ℕ) (units : List ChangeUnit) (runs : List (List ChangeUnit)) : Type 0 where
+pub record IsPacked (family : AddressFamily) (budget : ℕ) (units : List ChangeUnit) (runs : List (List ChangeUnit))
+    : Type 0 where
   pub whole : flat_map (λ run. run) runs ≡ units
   pub cut : AreRuns family budget (map weights runs)
 

@@ -89,7 +89,8 @@ fn append_sets<F: Family>(
     units: &[Unit<'_, F::Addr>],
     bytes: &mut Vec<u8>,
 ) -> Result<u8, AllocError>
-    requires short { AllByRecursion IsShort (told_sets (known_in F.family routes.now) (units_seen F.bytes_of units.now)) }
+    requires short { AllByRecursion IsShort
+        (told_sets (known_in F.family routes.now) (units_seen F.bytes_of units.now)) }
     requires groups { length (told_sets (known_in F.family routes.now) (units_seen F.bytes_of units.now)) ≤ 255 }
     ensures appended { OnOk result (bytes.new.items ≡ bytes.old.items ++ flat_map (canonical_set F.family)
         (told_sets (known_in F.family routes.now) (units_seen F.bytes_of units.now))) }

@@ -2,6 +2,7 @@
 
 mod ipv6;
 mod messages;
+mod refused;
 mod units;
 
 use pim_addr::{Routes, V4};

@@ -25,6 +25,7 @@ use Rattle.pim_down.proofs.Each.{end_filter, seen_filter}
 use Rattle.pim_down.proofs.Real.{all_append, all_flat}
 use Rattle.pim_down.proofs.Rpts.{itself, AreBehind, AreOthers}
 use Rattle.pim_down.proofs.Looking.{NoneBefore, none_more}
+use Rattle.pim_down.proofs.Stays.{over_later}
 
 -- ---- lists
 
@@ -216,6 +217,14 @@ module _ (port : ℕ) where
         left = over_more set rest now (subst (λ (s : List GroupSet). AreOverIn port s now) split to.left);
         same = same_end set.group now ∙ to.same;
       })
+
+  -- a group that comes again is left for its last set
+  pub ends_later : (old now : List (Record (List ℕ))) (sets rest : List GroupSet) (set : GroupSet) → sets ≡ set ∷ rest → is_group_of rest set.group ≡ true → EndsBy old now sets → EndsBy old now rest
+  ends_later old now sets rest set split again to = record {
+    ascending = to.ascending;
+    left = over_later port set rest now again (subst (λ (s : List GroupSet). AreOverIn port s now) split to.left);
+    same = to.same;
+  }
 
   pub ends_message : (old now : List (Record (List ℕ))) (sets : List GroupSet) → sets ≡ [] → EndsBy old now sets → now ≡ each_changed (at_end port) old
   ends_message old now sets none to =

@@ -31,6 +31,7 @@ pub mod Hears
 pub mod OneList
 pub mod Real
 pub mod SoundHeard
+pub mod Stays
 pub mod OnPort
 pub mod Runs
 pub mod Silence

@@ -14,4 +14,5 @@ pub mod Schedule
 pub mod Sound
 pub mod Heard
 pub mod Space
+pub mod Stars
 pub mod Laws

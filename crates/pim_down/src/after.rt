@@ -35,8 +35,8 @@ impl<F: Family> Bound<F::Addr> for GroupsAbove<F> {
     }
 }
 
-/// The first record of a group of the port above the bound, or of any of its groups, and where it stands. It is looked
-/// for from near a place; whatever place that is, the answer is right.
+/// The first record of a group of the port above the bound, or of any of its groups, and where it stands, or would
+/// stand. It is looked for from near a place; whatever place that is, the answer is right.
 pub(crate) fn first_of_groups_after<F: Family>(
     records: &Store<F::Addr, OfFamily<F>>,
     near: Near,
@@ -49,13 +49,13 @@ pub(crate) fn first_of_groups_after<F: Family>(
 {
     let place = records.first_behind_near(near.place, &GroupsAbove::<F> { port, bound });
     if !records.is_item(place) {
-        return (None, near);
+        return (None, Near { place: Some(place) });
     }
     let first = *records.get(place);
     if first.key.port == port {
         (Some(first), Near { place: Some(place) })
     } else {
-        (None, near)
+        (None, Near { place: Some(place) })
     }
 }
 
@@ -83,8 +83,8 @@ fn is_of_group<F: Family>(key: &Key<F::Addr>, bound: &Key<F::Addr>) -> bool
     key.port == bound.port && key.group.cmp(&bound.group).is_eq()
 }
 
-/// The first record of the key's port and group whose machine comes after the key's, and where it stands. It is looked
-/// for from near a place; whatever place that is, the answer is right.
+/// The first record of the key's port and group whose machine comes after the key's, and where it stands, or would
+/// stand. It is looked for from near a place; whatever place that is, the answer is right.
 pub(crate) fn first_machine_after<F: Family>(
     records: &Store<F::Addr, OfFamily<F>>,
     near: Near,
@@ -97,12 +97,12 @@ pub(crate) fn first_machine_after<F: Family>(
 {
     let place = records.first_behind_near(near.place, &Behind::<F> { key: *key });
     if !records.is_item(place) {
-        return (None, near);
+        return (None, Near { place: Some(place) });
     }
     let first = *records.get(place);
     if is_of_group::<F>(&first.key, key) {
         (Some(first), Near { place: Some(place) })
     } else {
-        (None, near)
+        (None, Near { place: Some(place) })
     }
 }

@@ -94,16 +94,8 @@ pub(crate) fn machine_of<F: Family>(
     }
 }
 
-/// The place that was found, if a record stands there; else the hint by which it was looked for.
-fn near_found(found: Result<Place, Place>, near: Near) -> Near {
-    match found {
-        Ok(place) => Near { place: Some(place) },
-        Err(_) => near,
-    }
-}
-
-/// The key's machine; `None` where it is in NoInfo. Beside it stands the place of its record, or the same hint. It is
-/// looked for from near a place; whatever place that is, the answer is right.
+/// The key's machine; `None` where it is in NoInfo. Beside it stands the place where its record stands, or would stand.
+/// It is looked for from near a place; whatever place that is, the answer is right.
 pub(crate) fn machine_near<F: Family>(
     records: &Store<F::Addr, OfFamily<F>>,
     near: Near,
@@ -115,10 +107,10 @@ pub(crate) fn machine_near<F: Family>(
 {
     let place = near.place.unwrap_or(records.first());
     let found = find_place::<F>(records, place, key);
-    (
-        machine_of::<F>(records, key, found),
-        near_found(found, near),
-    )
+    let stands = Near {
+        place: Some(place_of(found)),
+    };
+    (machine_of::<F>(records, key, found), stands)
 }
 
 /// Gives the machine of the key that was looked for this state, or lets go of it. There is room for the records that

@@ -10,12 +10,13 @@ ghost use Rattle.pim_down.specs.Running.{is_over_in, AreOverIn};
 ghost use Rattle.pim_down.specs.Seen.{records_seen};
 ghost use Rattle.pim_down.specs.Sound.{is_temporary};
 
+use crate::again::comes_again;
 use crate::hear::{RptsOf, is_rpt_of};
 use crate::key::{KeyOrder, OfFamily};
 use crate::machine::State;
 use crate::store::Store;
 use pim_addr::Family;
-use pim_jp::Sets;
+use pim_jp::JpView;
 use sorted_blocks::Place;
 
 /// Whether a machine has the state only while a message is heard.
@@ -65,18 +66,27 @@ pub(crate) fn end_group<F: Family>(
 }
 
 /// End of Message comes to the (S,G,rpt) machines of a port. Those in a state that ends with it are of the message's
-/// groups, and it goes through these alone.
+/// groups, and it goes through these alone: once for each group, at its last set. Where a group may come again, each
+/// set takes a step for each set of the message, too: 65,025 in all at most.
 pub(crate) fn end_message<F: Family>(
     records: &mut Store<F::Addr, OfFamily<F>>,
     port: usize,
-    sets: Sets<'_, F>,
+    message: &JpView<'_, F>,
+    repeat: bool,
 )
     requires ascending { IsAscending (records_seen F.bytes_of records.old.items) }
-    requires groups { AreOverIn port sets (records_seen F.bytes_of records.old.items) }
+    requires groups { AreOverIn port message.now.sets (records_seen F.bytes_of records.old.items) }
     ensures { records_seen F.bytes_of records.new.items
         ≡ each_changed (at_end port) (records_seen F.bytes_of records.old.items) }
 {
-    for set in sets {
-        end_group::<F>(records, port, set.group());
+    let _most = message.set_count();
+    let mut number = 0;
+    for set in message.sets() {
+        let group = set.group();
+        let this = number;
+        number += 1;
+        if !comes_again::<F>(message, this, group, repeat) {
+            end_group::<F>(records, port, group);
+        }
     }
 }

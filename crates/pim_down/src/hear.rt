@@ -1,6 +1,6 @@
 //! What the events of a message do to the machines of a port.
 
-ghost use Rattle.std.specs.Prelude.{◌≡◌, ◌≤◌, ◌+◌, ℕ, List, length};
+ghost use Rattle.std.specs.Prelude.{◌≡◌, ◌≤◌, ◌+◌, ℕ, true, List, length};
 ghost use Rattle.pim_jp.specs.Seen.{entry_seen};
 ghost use Rattle.pim_down.specs.Records.{IsAscending, each_changed};
 ghost use Rattle.pim_down.specs.Hearing.{is_known, entry_events, start_of, on_own, is_rpt_of, on_rpts, is_star_join};
@@ -11,7 +11,9 @@ ghost use Rattle.pim_down.specs.Known.{known_in};
 ghost use Rattle.pim_down.specs.Running.{start_after};
 ghost use Rattle.pim_down.specs.Seen.{start_seen, machine_seen, what_seen, key_seen};
 ghost use Rattle.pim_down.specs.Seen.{records_seen, event_seen, events_seen};
+ghost use Rattle.pim_down.specs.Stars.{AreMarked, AreFewer};
 
+use crate::again::{Stars, join_group};
 use crate::edits::{find_place, machine_of, put_machine};
 use crate::event::{Event, Timing};
 use crate::held::{Start, Timed, Waiting};
@@ -20,7 +22,7 @@ use crate::machine::{on_join, on_prune, on_rpt_prune, on_star_join};
 use crate::rows::Bound;
 use crate::store::Store;
 use pim_addr::{Family, Routes};
-use pim_jp::Entry;
+use pim_jp::{Entry, JpView};
 use sorted_blocks::Place;
 use std::cmp::Ordering;
 
@@ -163,26 +165,31 @@ pub(crate) fn join_rpts<F: Family>(
 }
 
 /// Whether it is a Join(*,G).
-fn is_star_join<A>(event: &Event<A>) -> bool
+pub(crate) fn is_star_join<A>(event: &Event<A>) -> bool
     ensures { (bytes_of : A → List ℕ) → result ≡ is_star_join (event_seen bytes_of event.now) }
 {
     event.joins && matches!(event.what, What::Star)
 }
 
-/// Lets an event act on the machines of a port. It begins to look near this place, and leaves one there.
+/// Lets an event of a message act on the machines of a port. It begins to look near this place, and leaves one there.
 pub(crate) fn act<F: Family>(
     records: &mut Store<F::Addr, OfFamily<F>>,
     near: &mut Place,
     port: usize,
     start: Start,
     event: Event<F::Addr>,
+    message: &JpView<'_, F>,
+    stars: &mut Stars,
 )
     requires ascending { IsAscending (records_seen F.bytes_of records.old.items) }
     requires room { length (act port (start_seen start) (event_seen F.bytes_of event)
         (records_seen F.bytes_of records.old.items)) ≤ records.old.capacity }
+    requires marked { event.joins ≡ true
+        → AreMarked port message.now.sets stars.old (records_seen F.bytes_of records.old.items) }
     ensures records { records_seen F.bytes_of records.new.items
         ≡ act port (start_seen start) (event_seen F.bytes_of event) (records_seen F.bytes_of records.old.items) }
     ensures capacity { records.old.capacity ≤ records.new.capacity }
+    ensures fewer { AreFewer stars.new stars.old }
 {
     let key = Key {
         port,
@@ -194,6 +201,6 @@ pub(crate) fn act<F: Family>(
     let place = put_machine::<F>(records, key, found, on_own(&event, start, held));
     *near = place;
     if is_star_join(&event) {
-        join_rpts::<F>(records, port, event.group);
+        join_group::<F>(records, near, port, event.group, message, stars);
     }
 }

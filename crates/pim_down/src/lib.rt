@@ -9,6 +9,7 @@
 #![tactic(auto)]
 
 mod after;
+mod again;
 mod deadline;
 mod edits;
 mod end;

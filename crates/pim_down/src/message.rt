@@ -1,6 +1,6 @@
 //! A message's entries, counted and heard.
 
-ghost use Rattle.std.specs.Prelude.{◌≡◌, ◌≤◌, ◌<◌, ℕ, List, OnOk, OnErr};
+ghost use Rattle.std.specs.Prelude.{◌≡◌, ◌≤◌, ◌<◌, ℕ, true, List, OnOk, OnErr};
 ghost use Rattle.std.specs.List.{flat_map};
 ghost use Rattle.pim_down.specs.Records.{IsAscending, count_on};
 ghost use Rattle.pim_down.specs.Hearing.{list_events, set_events, events_of, act_all, hearing};
@@ -10,12 +10,14 @@ ghost use Rattle.pim_down.specs.Known.{known_in};
 ghost use Rattle.pim_down.specs.Space.{HasRoom};
 ghost use Rattle.pim_down.specs.Sound.{IsSettled};
 ghost use Rattle.pim_down.specs.Seen.{start_seen, records_seen, event_seen};
+ghost use Rattle.pim_down.specs.Stars.{AllStay, AreMarked, AreFewer};
 
+use crate::again::{Stars, may_repeat};
 use crate::edits::{find_place, place_of};
 use crate::end::end_message;
 use crate::event::Event;
 use crate::fault::HearFault;
-use crate::hear::{act, event_of};
+use crate::hear::{act, event_of, is_star_join};
 use crate::held::Start;
 use crate::key::{Key, OfFamily, What};
 use crate::store::Store;
@@ -82,7 +84,7 @@ fn count_list<F: Family>(
     count
 }
 
-/// Hears the entries of one list.
+/// Hears the entries of one list of a message. The answer is whether it had a Join(*,G).
 fn hear_list<F: Family>(
     records: &mut Store<F::Addr, OfFamily<F>>,
     near: &mut Place,
@@ -92,22 +94,36 @@ fn hear_list<F: Family>(
     joins: bool,
     group: F::Addr,
     entries: Entries<'_, F>,
-)
+    message: &JpView<'_, F>,
+    stars: &mut Stars,
+) -> bool
     requires ascending { IsAscending (records_seen F.bytes_of records.old.items) }
     requires room { HasRoom port (start_seen start) records.old.capacity
         (list_events (known_in F.family routes.now) joins (F.bytes_of group) entries)
         (records_seen F.bytes_of records.old.items) }
+    requires marked { joins ≡ true
+        → AreMarked port message.now.sets stars.old (records_seen F.bytes_of records.old.items) }
     ensures records { records_seen F.bytes_of records.new.items ≡ act_all port (start_seen start)
         (list_events (known_in F.family routes.now) joins (F.bytes_of group) entries.entry)
         (records_seen F.bytes_of records.old.items) }
     ensures capacity { records.old.capacity ≤ records.new.capacity }
+    ensures marked { joins ≡ true
+        → AreMarked port message.now.sets stars.new (records_seen F.bytes_of records.new.items) }
+    ensures starred { joins ≡ true → result ≡ true
+        → AllStay port (F.bytes_of group) (records_seen F.bytes_of records.new.items) }
+    ensures fewer { AreFewer stars.new stars.old }
 {
+    let mut starred = false;
     for entry in entries {
         match event_of::<F>(routes, joins, group, entry) {
-            Some(event) => act::<F>(records, near, port, start, event),
+            Some(event) => {
+                starred |= is_star_join(&event);
+                act::<F>(records, near, port, start, event, message, stars);
+            }
             None => {}
         }
     }
+    starred
 }
 
 /// How many entries of these sets make a record that isn't held.
@@ -134,24 +150,31 @@ pub(crate) fn count_sets<F: Family>(
     count
 }
 
-/// Hears these sets.
+/// Hears the sets of a message.
+///
+/// It looks up each entry once, and a Prune(S,G,rpt) once more where a Join(*,G) of its group comes behind it. It goes
+/// once through the (S,G,rpt) machines of each group that has a Join(*,G). Where a group may come again, each Join(*,G)
+/// takes a step for each set before its own, too: 32,385 in all at most, since a message has no more than 255 sets.
 pub(crate) fn hear_sets<F: Family>(
     records: &mut Store<F::Addr, OfFamily<F>>,
     port: usize,
     start: Start,
     routes: &Routes<F>,
-    sets: Sets<'_, F>,
+    message: &JpView<'_, F>,
+    repeat: bool,
 )
     requires ascending { IsAscending (records_seen F.bytes_of records.old.items) }
     requires room { HasRoom port (start_seen start) records.old.capacity
-        (flat_map (set_events (known_in F.family routes.now)) sets) (records_seen F.bytes_of records.old.items) }
+        (events_of (known_in F.family routes.now) message.now) (records_seen F.bytes_of records.old.items) }
     ensures records { records_seen F.bytes_of records.new.items ≡ act_all port (start_seen start)
-        (flat_map (set_events (known_in F.family routes.now)) sets.entry) (records_seen F.bytes_of records.old.items) }
+        (events_of (known_in F.family routes.now) message.now) (records_seen F.bytes_of records.old.items) }
 {
+    let _most = message.set_count();
     let mut near = Place::START;
-    for set in sets {
+    let mut stars = Stars::new(repeat);
+    for set in message.sets() {
         let group = set.group();
-        hear_list::<F>(
+        let starred = hear_list::<F>(
             records,
             &mut near,
             port,
@@ -160,8 +183,10 @@ pub(crate) fn hear_sets<F: Family>(
             true,
             group,
             set.joined(),
+            message,
+            &mut stars,
         );
-        hear_list::<F>(
+        let _none = hear_list::<F>(
             records,
             &mut near,
             port,
@@ -170,7 +195,10 @@ pub(crate) fn hear_sets<F: Family>(
             false,
             group,
             set.pruned(),
+            message,
+            &mut stars,
         );
+        stars.pass(starred);
     }
 }
 
@@ -204,7 +232,8 @@ pub(crate) fn hear_message<F: Family>(
     if records.reserve(fresh).is_err() {
         return Err(HearFault::Memory);
     }
-    hear_sets::<F>(records, port, start, routes, message.sets());
-    end_message::<F>(records, port, message.sets());
+    let repeat = may_repeat::<F>(message.sets());
+    hear_sets::<F>(records, port, start, routes, message, repeat);
+    end_message::<F>(records, port, message, repeat);
     Ok(())
 }

@@ -133,10 +133,11 @@ impl<F: Family> Ports<F> {
     }
 
     /// The same as `state_of`, looked for from near a place; whatever place that is, the answer is right. Beside it
-    /// stands the place of the machine's record, or the same hint where it has none.
+    /// stands the place of the machine's record, or where that would stand.
     ///
-    /// Where the hint is of this record, it costs one comparison, of the record before two; of an earlier record, a
-    /// search in a block of up to 128 records and a few comparisons; else a search by halves.
+    /// Where the hint is of this record, it costs one comparison, of the record before two, and of where this one would
+    /// stand three at most; of an earlier record, a search in a block of up to 128 records and a few comparisons; else a
+    /// search by halves.
     pub fn state_of_near(
         &self,
         port: usize,
@@ -184,10 +185,11 @@ impl<F: Family> Ports<F> {
     }
 
     /// The same as `group_after`, looked for from near a place; whatever place that is, the answer is right. Beside it
-    /// stands the place of the group's first record on the port, or the same hint where no group follows.
+    /// stands the place of the group's first record on the port, or where that would stand.
     ///
-    /// Where the hint is of the last record of this group, it costs two comparisons; where it is of an earlier record,
-    /// a search in a block of up to 128 records and a few comparisons; else a search by halves. It takes no memory.
+    /// Where the hint is of the last record of this group, or of the answer, it costs three comparisons at most; where
+    /// it is of an earlier record, a search in a block of up to 128 records and a few comparisons; else a search by
+    /// halves. It takes no memory.
     pub fn group_after_near(
         &self,
         port: usize,
@@ -219,10 +221,11 @@ impl<F: Family> Ports<F> {
     }
 
     /// The same as `record_after`, looked for from near a place; whatever place that is, the answer is right. Beside it
-    /// stands the place of the record, or the same hint where none follows.
+    /// stands the place of the record, or where it would stand.
     ///
-    /// Where the hint is of the record before, it costs two comparisons; where it is of an earlier record, a search in
-    /// a block of up to 128 records and a few comparisons; else a search by halves. It takes no memory.
+    /// Where the hint is of the record before, or of the answer, it costs three comparisons at most; where it is of an
+    /// earlier record, a search in a block of up to 128 records and a few comparisons; else a search by halves. It takes
+    /// no memory.
     pub fn record_after_near(
         &self,
         port: usize,
@@ -249,6 +252,10 @@ impl<F: Family> Ports<F> {
     /// 98,302 ms.
     ///
     /// The table is asked for each Join(*,G) alone: when the records that it needs are counted, and when it acts.
+    ///
+    /// It looks up each entry twice, and a Prune(S,G,rpt) at most once more. It goes through the (S,G,rpt) machines of
+    /// each group at most twice, however often the message names the group: at its first Join(*,G), and at the end.
+    /// Where the groups don't ascend, it also takes fewer than 100,000 steps from set to set.
     pub fn hear(
         &mut self,
         port: usize,

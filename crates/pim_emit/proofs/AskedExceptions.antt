@@ -1,5 +1,5 @@
 -- The star of a group that is asked for, and its exceptions, among the (S,G,rpt) machines of a port that has (*,G).
-use Rattle.std.proofs.Common.{◌≡◌, ◌∙◌, ◌<◌, ◌≤◌, ℕ, suc, Bool, true, false, ◌&&◌, not, List, [], ◌∷◌, Option, None, Some, length, refl, sym, ap, option_map}
+use Rattle.std.proofs.Common.{◌≡◌, ◌∙◌, ◌<◌, ◌≤◌, ℕ, suc, Bool, true, false, ◌&&◌, not, List, [], ◌∷◌, Option, None, Some, length, refl, sym, ap, subst, option_map}
 use Rattle.std.specs.declared.cmp.Ordering.TheVariants.{Less}
 use Rattle.std.specs.List.{list_any}
 use Rattle.std.specs.Option.{is_some, unwrap_or}
@@ -27,6 +27,8 @@ use Rattle.pim_form.specs.declared.tree.Tree.TheVariants.{Shared}
 use Rattle.pim_emit.specs.Least.{IsLeast}
 use Rattle.pim_emit.specs.Left.{above, next_above, star_of, exceptions_in}
 use Rattle.pim_emit.specs.Machines.{is_starred, has_rpt, IsSomeBelow}
+use Rattle.pim_emit.specs.Stars.{IsFirstBelow, AreStars}
+use Rattle.pim_emit.specs.declared.stars.Stars.{Stars}
 use Rattle.pim_emit.proofs.Addresses.{same_itself}
 use Rattle.pim_emit.proofs.Above.{by_test, above_first, above_none}
 use Rattle.pim_emit.proofs.AskedSources.{HasLists, lists_of}
@@ -44,6 +46,14 @@ pruned_is_some : (state : Option State) → is_pruned state ≡ true → is_some
 pruned_is_some None e = e
 pruned_is_some (Some state) e = refl
 
+-- the ports that have the star, in the machines that are seen
+pub stars_inside : (seen state : Downstream) (group : List ℕ) (stars : Stars) → state ≡ seen → AreStars seen group stars → AreStars state group stars
+stars_inside seen state group stars same are = subst (λ (d : Downstream). AreStars d group stars) (sym same) are
+
+pub first_of_stars : (state : Downstream) (group : List ℕ) (stars : Stars) (first : Option ℕ) → AreStars state group stars → stars.first ≡ first
+    → IsFirstBelow state.ports (is_starred state group) first
+first_of_stars state group stars first are same = subst (IsFirstBelow state.ports (is_starred state group)) same are.least
+
 -- the neighbour that is asked for a star is told from the upstream
 pub is_reached : (family : AddressFamily) (table : RouteTable) (neighbour group : List ℕ) (upstream : Option (List ℕ)) (answer : Bool) → upstream ≡ via_rp (via_in family table) (known_in family table group)
     → answer ≡ is_neighbour neighbour upstream → answer ≡ is_neighbour neighbour (via_rp (via_in family table) (known_in family table group))
@@ -59,6 +69,11 @@ module _ (family : AddressFamily) (table : RouteTable) (neighbour : List ℕ) (s
   star_if_reached None answer none some is = absurd (false≢true some)
   star_if_reached (Some port) answer starred some is =
       is ∙ sym ((asked.groups group is_group).star ∙ ap (λ b. b && reached) (found_below (is_starred state group) state.ports port starred.0 starred.1))
+
+  -- a group that has a star has it on some port
+  pub some_port_has_star : (first : Option ℕ) → IsFirstBelow state.ports (is_starred state group) first → is_some (star_of group form) ≡ true → first ≡ None → ⊥
+  some_port_has_star None none star is = false≢true (sym ((asked.groups group is_group).star ∙ ap (λ b. b && reached) none) ∙ star)
+  some_port_has_star (Some port) first star is = cc
 
   lists : HasLists family (group_in group form)
   lists = lists_of family group form asked.is.normal.groups

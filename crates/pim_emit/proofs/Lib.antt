@@ -4,6 +4,8 @@ pub mod LeastOfTwo
 pub mod FirstRecords
 pub mod NextMachines
 pub mod PortsBelow
+pub mod SharedTree
+pub mod NextAhead
 pub mod NextGroups
 pub mod BelowSources
 pub mod ListedAbove

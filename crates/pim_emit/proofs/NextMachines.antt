@@ -110,11 +110,18 @@ module _ (apart : KeysAreToldApart) {records : List (Record (List ℕ))} {port :
       let same = same_key_of port group what found.key (found_passes apart (after port group what) records found next) in
       sym (ap is_le (by_what port group found.key.what (kind a))) ∙ subst (λ (k : Key (List ℕ)). is_le (key_cmp k (key_of port group (kind a))) ≡ true) same first
 
+  -- the machine that is found is the one that is held
+  is_held_at : (found : Record (List ℕ)) (source : List ℕ) → next_in_group port group what records ≡ Some found → found.key.what ≡ kind source
+      → machine_at (key_of port group (kind source)) records ≡ Some found.machine
+  is_held_at found source next of_kind =
+      let passes = found_passes apart (after port group what) records found next in
+      let same : found.key ≡ key_of port group (kind source) = same_key_of port group what found.key passes ∙ ap (λ w. key_of port group w) of_kind in
+      subst (λ (k : Key (List ℕ)). machine_at k records ≡ Some found.machine) same (found_is_held apart (after port group what) records found up next)
+
   one_is_next : (found : Record (List ℕ)) (source : List ℕ) → next_in_group port group what records ≡ Some found → found.key.what ≡ kind source → IsLeast over_bound (Some source)
   one_is_next found source next of_kind =
       let passes = found_passes apart (after port group what) records found next in
-      let same : found.key ≡ key_of port group (kind source) = same_key_of port group what found.key passes ∙ ap (λ w. key_of port group w) of_kind in
-      let held = subst (λ (k : Key (List ℕ)). machine_at k records ≡ Some found.machine) same (found_is_held apart (after port group what) records found up next) in
+      let held = is_held_at found source next of_kind in
       let above : is_above bound source ≡ true = sym (is.over source) ∙ sym (ap (λ w. is_lt (what_cmp what w)) of_kind) ∙ comes_after port group what found.key passes in (
         and_from (is_above bound source) (test source) above (is.holds source found.machine held),
         λ a passed. ap is_le (sym (is.order source a)) ∙ subst (λ (w : What (List ℕ)). is_le (what_cmp w (kind a)) ≡ true) of_kind (first_of_kind found next a passed),
@@ -216,6 +223,10 @@ module _ (apart : KeysAreToldApart) (family : AddressFamily) (state : Downstream
   pub rpt_next : (found : Record (List ℕ)) (source : List ℕ) → next_in_group port group (Rpt bound) state.records ≡ Some found → found.key.what ≡ Rpt source
       → IsLeast (λ source. is_above (Some bound) source && has_rpt state port group source) (Some source)
   rpt_next found source next is = one_is_next apart rpts sound.ascending found source next is
+
+  pub rpt_state : (found : Record (List ℕ)) (source : List ℕ) → next_in_group port group (Rpt bound) state.records ≡ Some found → found.key.what ≡ Rpt source
+      → state_on state.records port group (Rpt source) ≡ Some found.machine.state
+  rpt_state found source next is = ap (λ m. state_of_machine m) (is_held_at apart rpts sound.ascending found source next is)
 
   pub other_than_rpt_next : (found : Record (List ℕ)) → next_in_group port group (Rpt bound) state.records ≡ Some found → ((a : List ℕ) → found.key.what ≡ Rpt a → ⊥)
       → IsLeast (λ source. is_above (Some bound) source && has_rpt state port group source) None

@@ -1,6 +1,6 @@
 -- What is true of the ports below a number.
 use Rattle.std.proofs.Common.{◌≡◌, ℕ, zero, suc, ◌+◌, ◌<◌, ◌≤◌, Bool, true, false, ◌&&◌, ◌||◌, List, Option, None, refl, sym, ap, subst, add-one, arith, ⊎_elim}
-use Rattle.std.proofs.lemmas.Bool.{cases_lt, or_left, or_right}
+use Rattle.std.proofs.lemmas.Bool.{cases_lt, or_left, or_right, or_parts}
 use Rattle.pim_form.specs.Wants.{some_below}
 use Rattle.pim_emit.specs.Least.{IsLeast}
 use Rattle.pim_emit.proofs.Above.{by_test}
@@ -23,6 +23,14 @@ found_below test (suc count) at below here =
     (λ (early : at < count). or_right (test count) (some_below count test) (found_below test count at early here))
     (λ (late : count ≤ at). let same : count ≡ at = omega arith in or_left (test count) (some_below count test) (subst (λ n. test n ≡ true) (sym same) here))
     (cases_lt at count)
+
+-- where none passes one test, none passes another that asks for more
+pub none_of_fewer : (test this : ℕ → Bool) (count : ℕ) → ((at : ℕ) → test at ≡ false → this at ≡ false) → some_below count test ≡ false → some_below count this ≡ false
+unfolding some_below
+none_of_fewer test this zero fewer none = refl
+none_of_fewer test this (suc count) fewer none =
+    let parts = or_parts (test count) (some_below count test) none in
+    rw (fewer count parts.0, none_of_fewer test this count fewer parts.1) refl
 
 -- the port that passes
 pub which_below : (test : ℕ → Bool) (count : ℕ) → some_below count test ≡ true → (at : ℕ) × (at < count) × (test at ≡ true)

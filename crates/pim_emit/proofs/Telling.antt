@@ -184,7 +184,7 @@ module _ (family : AddressFamily) (writing : Writing) (table : RouteTable) (stat
 
 -- what is asked of the writer's upstream neighbour has a normal form
 pub asked_of_writer : (family : AddressFamily) (writing : Writing) (table : RouteTable) (state : Downstream) (asking : Asking) (upstream : List ℕ) → AskedFormIsAsked → IsSound family state
-    → asking ≡ record { form = asked_form family table upstream state; table = table } → upstream ≡ writing.upstream → IsAskedForm family table writing.upstream state asking.form
+    → asking ≡ record { form = asked_form family table upstream state; table = table; machines = state } → upstream ≡ writing.upstream → IsAskedForm family table writing.upstream state asking.form
 asked_of_writer family writing table state asking upstream law sound is same =
     let form : asking.form ≡ asked_form family table writing.upstream state = ap (λ (a : Asking). a.form) is ∙ ap (λ (u : List ℕ). asked_form family table u state) same in
     subst (IsAskedForm family table writing.upstream state) (sym form) (law family table writing.upstream state sound)

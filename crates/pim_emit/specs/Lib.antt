@@ -1,6 +1,8 @@
 pub mod Asking
 pub mod Least
 pub mod Machines
+pub mod Stars
+pub mod Ahead
 pub mod Left
 pub mod Sets
 pub mod Drafts

@@ -6,6 +6,7 @@ use Rattle.pim_down.specs.Records.{is_on}
 use Rattle.pim_down.specs.Time.{Downstream}
 use Rattle.pim_form.specs.NormalForm.{same_address}
 use Rattle.pim_form.specs.Wants.{is_joined, state_on, some_below}
+use Rattle.pim_emit.specs.declared.machines.Held.{Held}
 
 -- the port has (*,G) in Join or Prune-Pending
 abbrev pub is_starred : Downstream → List ℕ → ℕ → Bool
@@ -28,3 +29,7 @@ has_group state group port =
 abbrev pub IsSomeBelow : ℕ → (ℕ → Bool) → Option ℕ → Type 0
 IsSomeBelow count test None = some_below count test ≡ false
 IsSomeBelow count test (Some port) = (port < count) × (test port ≡ true)
+
+-- the source of a machine
+abbrev pub source_held : {A : Type 0} → (A → List ℕ) → Held A → List ℕ
+source_held bytes_of held = bytes_of held.source

@@ -1,6 +1,6 @@
 //! What an upstream neighbour is asked for, read straight from the records.
 
-ghost use Rattle.std.specs.Prelude.{◌≡◌, ◌≤◌, true, length, option_map, is_some};
+ghost use Rattle.std.specs.Prelude.{◌≡◌, ◌≤◌, true, Some, IfSome, length, option_map, is_some};
 ghost use Rattle.pim_addr.specs.Address.{IsGroupAddress};
 ghost use Rattle.pim_form.specs.Asked.{asked_form};
 ghost use Rattle.pim_form.specs.NormalForm.{groups_of, IsNormal};
@@ -8,9 +8,13 @@ ghost use Rattle.pim_form.specs.Units.{units_of};
 ghost use Rattle.pim_form.specs.Toward.{is_neighbour};
 ghost use Rattle.pim_emit.specs.Asking.{rps_of};
 ghost use Rattle.pim_emit.specs.Left.{next_above, star_of, exceptions_in, sources_in};
+ghost use Rattle.pim_emit.specs.Stars.{AreStars};
+ghost use Rattle.pim_emit.specs.Ahead.{AreNext};
 
-use crate::machines::{first_starred, least_group, least_source, lowest, rpt_after, wants_shared};
+use crate::ahead::{look_ahead, take_next};
+use crate::machines::{first_starred, least_group, lowest, rpt_after};
 use crate::nearby::Nearby;
+use crate::stars::{Stars, stars_of, wants_shared};
 use pim_addr::{Family, Routes};
 use pim_down::Ports;
 use pim_form::{Tree, upstream_of};
@@ -34,6 +38,7 @@ impl<'a, F: Family> Model for Asked<'a, F> {
     ghost view = { λ asked. record {
       form = asked_form F.family asked.routes.now (F.bytes_of asked.upstream) asked.ports;
       table = asked.routes.now;
+      machines = asked.ports;
     } };
 }
 
@@ -53,6 +58,7 @@ impl<'a, F: Family> Asked<'a, F> {
         ensures { result ≡ record {
           form = asked_form F.family routes.now (F.bytes_of upstream) ports.now;
           table = routes.now;
+          machines = ports.now;
         } }
     {
         Asked {
@@ -108,11 +114,56 @@ impl<'a, F: Family> Asked<'a, F> {
         ensures { option_map F.bytes_of result
             ≡ next_above (option_map F.bytes_of bound) (sources_in (F.bytes_of group) self.now.form) }
     {
+        let mut nowhere = [None; 0];
+        self.next_ahead(group, bound, &mut nowhere)
+    }
+
+    /// How many ports there are.
+    pub(crate) fn port_count(&self) -> usize
+        ensures { result ≡ self.now.machines.ports }
+    {
+        self.ports.port_count()
+    }
+
+    /// Looks up what comes next of the group above the bound, or at all, on each port, if there is a place for each.
+    pub(crate) fn look_ahead(
+        &self,
+        group: F::Addr,
+        bound: Option<F::Addr>,
+        nexts: &mut [Option<F::Addr>],
+    )
+        ensures next { self.now.machines.ports ≤ length nexts.old →
+            AreNext F.bytes_of self.now.machines (F.bytes_of group) (option_map F.bytes_of bound) nexts.new }
+        ensures length { length nexts.new ≡ length nexts.old }
+    {
+        if nexts.len() < self.port_count() {
+            return;
+        }
+        look_ahead::<F>(&self.ports, group, bound, nexts);
+    }
+
+    /// The least source of the group above the bound, or of all. Where there is a place for each port, what comes next
+    /// on each above the bound stands there, and behind an answer what comes next then; else each port is looked up.
+    pub(crate) fn next_ahead(
+        &self,
+        group: F::Addr,
+        bound: Option<F::Addr>,
+        nexts: &mut [Option<F::Addr>],
+    ) -> Option<F::Addr>
+        requires group { IsGroupAddress F.family (F.bytes_of group) }
+        requires next { self.now.machines.ports ≤ length nexts.old →
+            AreNext F.bytes_of self.now.machines (F.bytes_of group) (option_map F.bytes_of bound) nexts.old }
+        ensures source { option_map F.bytes_of result
+            ≡ next_above (option_map F.bytes_of bound) (sources_in (F.bytes_of group) self.now.form) }
+        ensures next { self.now.machines.ports ≤ length nexts.old → IfSome result (λ source.
+            AreNext F.bytes_of self.now.machines (F.bytes_of group) (Some (F.bytes_of source)) nexts.new) }
+        ensures length { length nexts.new ≡ length nexts.old }
+    {
         self.ports.is_sound();
         pim_down::keys_are_told_apart();
         pim_form::form_of_what_is_asked();
         let mut bound = bound;
-        while let Some(source) = least_source::<F>(&self.ports, group, bound) {
+        while let Some(source) = take_next::<F>(&self.ports, group, bound, nexts) {
             if is_neighbour::<F>(self.routes.via(source), self.upstream) {
                 return Some(source);
             }
@@ -121,23 +172,36 @@ impl<'a, F: Family> Asked<'a, F> {
         None
     }
 
-    /// The least exception above the bound, or of all, of the group's star, which it has.
-    pub(crate) fn next_exception(&self, group: F::Addr, bound: Option<F::Addr>) -> Option<F::Addr>
+    /// The ports that have (*,G) of the group in Join or Prune-Pending.
+    pub(crate) fn stars(&self, group: F::Addr) -> Stars
+        ensures { AreStars self.now.machines (F.bytes_of group) result }
+    {
+        stars_of::<F>(&self.ports, group)
+    }
+
+    /// The least exception above the bound, or of all, of the group's star, which it has on these ports.
+    pub(crate) fn next_exception(
+        &self,
+        group: F::Addr,
+        stars: &Stars,
+        bound: Option<F::Addr>,
+    ) -> Option<F::Addr>
         requires group { IsGroupAddress F.family (F.bytes_of group) }
         requires star { is_some (star_of (F.bytes_of group) self.now.form) ≡ true }
+        requires stars { AreStars self.now.machines (F.bytes_of group) stars.now }
         ensures { option_map F.bytes_of result
             ≡ next_above (option_map F.bytes_of bound) (exceptions_in (F.bytes_of group) self.now.form) }
     {
         self.ports.is_sound();
         pim_down::keys_are_told_apart();
         pim_form::form_of_what_is_asked();
-        let port = first_starred::<F>(&self.ports, group)?;
+        let port = stars.first?;
         let mut bound = bound.unwrap_or(lowest::<F>());
-        while let Some(source) = rpt_after::<F>(&self.ports, port, group, bound) {
-            if !wants_shared::<F>(&self.ports, source, group) {
-                return Some(source);
+        while let Some(held) = rpt_after::<F>(&self.ports, port, group, bound) {
+            if !wants_shared::<F>(&self.ports, stars, port, &held, group) {
+                return Some(held.source);
             }
-            bound = source;
+            bound = held.source;
         }
         None
     }
@@ -168,9 +232,10 @@ impl<'a, F: Family> Asked<'a, F> {
     {
         self.ports.is_sound();
         pim_form::form_of_what_is_asked();
+        let stars = self.stars(group);
         let mut count = 0;
         let mut bound = None;
-        while let Some(exception) = self.next_exception(group, bound) {
+        while let Some(exception) = self.next_exception(group, &stars, bound) {
             count += 1;
             bound = Some(exception);
         }

@@ -4,7 +4,7 @@ use pim_down::{Near, What};
 use std::cell::Cell;
 
 /// So many ports there may be. Of one beyond, no hint is kept.
-const PORTS: usize = 64;
+pub(crate) const PORTS: usize = 64;
 
 /// The hints of all ports: of each the places of the records that were found last.
 #[derive(Drop)]

@@ -1,10 +1,12 @@
 //! The canonical Join/Prune messages of what an upstream neighbour is asked for, written straight from the records of
-//! the ports: no normal form is made, and no memory is taken.
+//! the ports: no normal form is made.
 //!
 //! Proved: `write_canonical` writes the messages that `pack` gives for the same state, each behind its length, or tells
-//! the least group that is too big, before any write, or how many bytes went out before the device failed.
+//! the least group that is too big, before any write, or how many bytes went out before the device failed; it takes no
+//! memory. `canonical_messages` keeps the same messages in memory, or tells the same group, before any growth.
 #![tactic(auto)]
 
+mod ahead;
 mod asked;
 mod canonical;
 mod draft;
@@ -19,6 +21,7 @@ mod piece;
 mod position;
 mod sending;
 mod set;
+mod stars;
 
 pub use canonical::write_canonical;
 pub use fault::WriteFault;

@@ -1,14 +1,15 @@
 //! The machines of a group, over all ports: which source, and which group, comes next.
 
-ghost use Rattle.std.specs.Prelude.{◌≡◌, ◌&&◌, Some, List, ℕ, option_map};
+ghost use Rattle.std.specs.Prelude.{◌≡◌, ◌&&◌, Some, IfSome, List, ℕ, option_map};
 ghost use Rattle.std.specs.declared.cmp.Ordering.TheVariants.{Less};
 ghost use Rattle.pim_addr.specs.Address.{IsSourceAddress};
 ghost use Rattle.pim_down.specs.After.{is_above};
 ghost use Rattle.pim_down.specs.Key.{address_cmp};
-ghost use Rattle.pim_form.specs.Wants.{is_pruned, some_below, wants_on, wants};
-ghost use Rattle.pim_form.specs.declared.tree.Tree.TheVariants.{Shared};
+ghost use Rattle.pim_down.specs.declared.key.What.TheVariants.{Rpt};
+ghost use Rattle.pim_form.specs.Wants.{state_on, some_below};
 ghost use Rattle.pim_emit.specs.Least.{IsLeast};
 ghost use Rattle.pim_emit.specs.Machines.{is_starred, is_source_joined, has_rpt, has_group, IsSomeBelow};
+ghost use Rattle.pim_emit.specs.Machines.{source_held};
 
 use crate::least::lesser;
 use crate::nearby::Nearby;
@@ -16,7 +17,7 @@ use pim_addr::Family;
 use pim_down::{State, What};
 
 /// Whether the port has (*,G) in Join or Prune-Pending.
-fn is_starred<F: Family>(ports: &Nearby<'_, F>, port: usize, group: F::Addr) -> bool
+pub(crate) fn is_starred<F: Family>(ports: &Nearby<'_, F>, port: usize, group: F::Addr) -> bool
     ensures { result ≡ is_starred ports.now (F.bytes_of group) port }
 {
     matches!(
@@ -39,7 +40,7 @@ pub(crate) fn first_starred<F: Family>(ports: &Nearby<'_, F>, group: F::Addr) ->
 }
 
 /// The least source above the bound, or of all, with (S,G) in Join or Prune-Pending on the port.
-fn source_on<F: Family>(
+pub(crate) fn source_on<F: Family>(
     ports: &Nearby<'_, F>,
     port: usize,
     group: F::Addr,
@@ -77,54 +78,37 @@ pub(crate) fn least_source<F: Family>(
     least
 }
 
-/// The least source above this address whose (S,G,rpt) machine is held on the port.
+/// An (S,G,rpt) machine that is held on a port.
+#[derive(Clone, Copy)]
+pub(crate) struct Held<A> {
+    /// Its source.
+    pub(crate) source: A,
+    /// Its state.
+    pub(crate) state: State,
+}
+
+/// The machine of the least source above this address whose (S,G,rpt) machine is held on the port.
 pub(crate) fn rpt_after<F: Family>(
     ports: &Nearby<'_, F>,
     port: usize,
     group: F::Addr,
     bound: F::Addr,
-) -> Option<F::Addr>
-    ensures { IsLeast (λ source. is_above (Some (F.bytes_of bound)) source
-        && has_rpt ports.now port (F.bytes_of group) source) (option_map F.bytes_of result) }
+) -> Option<Held<F::Addr>>
+    ensures least { IsLeast (λ source. is_above (Some (F.bytes_of bound)) source
+        && has_rpt ports.now port (F.bytes_of group) source) (option_map (source_held F.bytes_of) result) }
+    ensures state { IfSome result (λ held. state_on ports.now.records port (F.bytes_of group)
+        (Rpt (F.bytes_of held.source)) ≡ Some held.state) }
 {
     ports.is_sound();
     pim_down::keys_are_told_apart();
-    match ports.record_after(port, group, What::Rpt(bound))?.key.what {
-        What::Rpt(source) => Some(source),
+    let record = ports.record_after(port, group, What::Rpt(bound))?;
+    match record.key.what {
+        What::Rpt(source) => Some(Held {
+            source,
+            state: record.machine.state,
+        }),
         _ => None,
     }
-}
-
-/// Whether an (S,G,rpt) machine in this state holds traffic back.
-fn is_pruned(state: Option<State>) -> bool
-    ensures { result ≡ is_pruned state }
-{
-    matches!(state, Some(State::Prune))
-}
-
-/// Whether the port wants the traffic of this source on the shared tree of the group.
-fn wants_on<F: Family>(ports: &Nearby<'_, F>, source: F::Addr, group: F::Addr, port: usize) -> bool
-    ensures { result ≡ wants_on ports.now.records (F.bytes_of source) (F.bytes_of group) Shared port }
-{
-    let rpt = ports.state_of(port, group, What::Rpt(source));
-    is_starred::<F>(ports, port, group) && !is_pruned(rpt)
-}
-
-/// Whether some port wants the traffic of this source on the shared tree of the group (RFC 7761, 4.1).
-pub(crate) fn wants_shared<F: Family>(
-    ports: &Nearby<'_, F>,
-    source: F::Addr,
-    group: F::Addr,
-) -> bool
-    ensures { result ≡ wants ports.now (F.bytes_of source) (F.bytes_of group) Shared }
-{
-    let count = ports.port_count();
-    for port in 0..count {
-        if wants_on::<F>(ports, source, group, port) {
-            return true;
-        }
-    }
-    false
 }
 
 /// The address before all valid sources.

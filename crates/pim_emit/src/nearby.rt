@@ -84,14 +84,22 @@ impl<'a, F: Family> Nearby<'a, F> {
     {
         let near = self.hints.machine(port, &what);
         let (next, place) = self.ports.record_after_near(port, group, what, near);
-        self.keep_next(port, &next, place);
+        self.keep_next(port, &what, &next, place);
         next
     }
 
-    /// Keeps where the record that was found stands, if one was.
-    fn keep_next(&self, port: usize, next: &Option<Record<F::Addr>>, place: Near) {
-        if let Some(record) = next {
-            self.hints.keep_machine(port, &record.key.what, place);
+    /// Keeps where the record that was found stands, for others of its kind; where none was, where it would stand, for
+    /// those of the kind that it was looked for behind.
+    fn keep_next(
+        &self,
+        port: usize,
+        behind: &What<F::Addr>,
+        next: &Option<Record<F::Addr>>,
+        place: Near,
+    ) {
+        match next {
+            Some(record) => self.hints.keep_machine(port, &record.key.what, place),
+            None => self.hints.keep_machine(port, behind, place),
         }
     }
 }

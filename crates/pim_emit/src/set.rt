@@ -15,9 +15,17 @@ ghost use Rattle.pim_emit.specs.Sets.{source_entries, exception_entries, cut_pie
 ghost use Rattle.pim_emit.specs.Sets.{set_entries, entry_count, set_size};
 
 use crate::asked::Asked;
+use crate::hints::PORTS;
 use crate::piece::Piece;
 use pim_addr::{Family, group_length, source_length};
 use pim_jp::{Entry, put_entry, put_group_and_counts};
+use std::mem::size_of_val;
+
+/// Mostly there are so many ports at most.
+const FEW: usize = 8;
+
+/// What comes next on a port is kept where it has so few bytes.
+const LARGEST: usize = 64;
 
 /// The sources that a set tells: how many they are, and up to which one sources are told then.
 #[derive(Clone, Copy)]
@@ -38,6 +46,40 @@ fn write_entry_at<F: Family>(entry: Entry<F::Addr>, at: usize, bytes: &mut [u8])
     put_entry::<F>(entry, place);
 }
 
+/// Writes the sources of a piece, but at most so many, from this place on. What comes next on each port is kept in
+/// these places, if there is one for each.
+fn write_sources_ahead<F: Family>(
+    asked: &Asked<'_, F>,
+    piece: &Piece<F::Addr>,
+    most: usize,
+    at: usize,
+    nexts: &mut [Option<F::Addr>],
+    bytes: &mut [u8],
+) -> ToldSources<F::Addr>
+    requires group { IsGroupAddress F.family (F.bytes_of piece.now.group) }
+    requires few { length bytes.old ≤ 65000 }
+    requires room { at + most * source_length F.family ≤ length bytes.old }
+    ensures told { AreTold (piece_seen F.bytes_of piece.now) asked.now.form most (told_seen F.bytes_of result) }
+    ensures written { take (at + result.count * source_length F.family) bytes.new ≡ take at bytes.old
+        ++ source_entries F.family (cut_piece result.count (piece_seen F.bytes_of piece.now) asked.now.form).sources }
+    ensures length { length bytes.new ≡ length bytes.old }
+{
+    asked.is_normal();
+    asked.look_ahead(piece.group, piece.from, nexts);
+    let mut count = 0;
+    let mut last = piece.from;
+    while count < most {
+        let Some(source) = asked.next_ahead(piece.group, last, nexts) else {
+            break;
+        };
+        let place = at + count * source_length::<F>();
+        write_entry_at::<F>(Entry::Source(source), place, bytes);
+        count += 1;
+        last = Some(source);
+    }
+    ToldSources { count, last }
+}
+
 /// Writes the sources of a piece, but at most so many, from this place on.
 fn write_sources<F: Family>(
     asked: &Asked<'_, F>,
@@ -54,19 +96,17 @@ fn write_sources<F: Family>(
         ++ source_entries F.family (cut_piece result.count (piece_seen F.bytes_of piece.now) asked.now.form).sources }
     ensures length { length bytes.new ≡ length bytes.old }
 {
-    asked.is_normal();
-    let mut count = 0;
-    let mut last = piece.from;
-    while count < most {
-        let Some(source) = asked.next_source(piece.group, last) else {
-            break;
-        };
-        let place = at + count * source_length::<F>();
-        write_entry_at::<F>(Entry::Source(source), place, bytes);
-        count += 1;
-        last = Some(source);
+    let none = None;
+    if size_of_val(&none) > LARGEST {
+        let mut nowhere = [none; 0];
+        return write_sources_ahead::<F>(asked, piece, most, at, &mut nowhere, bytes);
     }
-    ToldSources { count, last }
+    if asked.port_count() <= FEW {
+        let mut nexts = [none; FEW];
+        return write_sources_ahead::<F>(asked, piece, most, at, &mut nexts, bytes);
+    }
+    let mut nexts = [none; PORTS];
+    write_sources_ahead::<F>(asked, piece, most, at, &mut nexts, bytes)
 }
 
 /// Writes the exceptions of the group's star, which it has, from this place on.
@@ -81,9 +121,10 @@ fn write_exceptions<F: Family>(asked: &Asked<'_, F>, group: F::Addr, at: usize, 
     ensures length { length bytes.new ≡ length bytes.old }
 {
     asked.is_normal();
+    let stars = asked.stars(group);
     let mut place = at;
     let mut bound = None;
-    while let Some(exception) = asked.next_exception(group, bound) {
+    while let Some(exception) = asked.next_exception(group, &stars, bound) {
         write_entry_at::<F>(Entry::Rpt(exception), place, bytes);
         place += source_length::<F>();
         bound = Some(exception);

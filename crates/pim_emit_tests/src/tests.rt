@@ -1,5 +1,9 @@
 //! What goes out of some states, byte by byte: the group 239.1.1.1 with the RP 10.9.9.9, asked of 10.0.0.2.
 
+mod long;
+mod many;
+mod rows;
+
 use pim_addr::{Family, Routes, V4, V6};
 use pim_device::ScriptedDrain;
 use pim_down::{Ports, Step, Timing};
@@ -39,6 +43,12 @@ const STAR: [u8; 36] = [
 const ALONE: Timing = Timing {
     override_ms: 0,
     several: false,
+};
+
+/// Other neighbours on the port: prunes wait for 3 s.
+const AMONG_OTHERS: Timing = Timing {
+    override_ms: 3_000,
+    several: true,
 };
 
 /// So many ports of IPv4: all groups have one RP, and all addresses are reached by 10.0.0.2.
@@ -95,6 +105,19 @@ fn body<F: Family>(
     Ok(body)
 }
 
+/// Hears a body on a port, and runs on within the millisecond: whether it was taken.
+fn hear_body<F: Family>(state: &mut State<F>, port: usize, body: &[u8], several: bool) -> bool {
+    let Ok(view) = JpView::<F>::read(body) else {
+        return false;
+    };
+    if port >= state.ports.port_count() {
+        return false;
+    }
+    let timing = if several { AMONG_OTHERS } else { ALONE };
+    let taken = state.ports.hear(port, &view, &state.routes, timing).is_ok();
+    taken && state.ports.run_to(0) == Step::Reached
+}
+
 /// Hears a message of one set on a port, and lets its prunes act: whether it was taken.
 fn hear<F: Family>(
     alloc: Global,
@@ -105,16 +128,7 @@ fn hear<F: Family>(
     pruned: &[Entry<F::Addr>],
 ) -> Result<bool, AllocError> {
     let body = body::<F>(alloc, state.writer.upstream(), group, joined, pruned)?;
-    let Ok(view) = JpView::<F>::read(&body) else {
-        return Ok(false);
-    };
-    if port >= state.ports.port_count() {
-        return Ok(false);
-    }
-    if state.ports.hear(port, &view, &state.routes, ALONE).is_err() {
-        return Ok(false);
-    }
-    Ok(state.ports.run_to(0) == Step::Reached)
+    Ok(hear_body(state, port, &body, false))
 }
 
 /// What is answered where the canonical messages are written to this device.
@@ -311,47 +325,6 @@ fn writes_nothing_of_a_star_that_is_too_big(rt: HostRuntime) -> Result<(), Fail>
         fault_of_kept(rt.alloc(), &state),
         Some(FormFault::TooBig(GROUP))
     );
-    Ok(())
-}
-
-/// Ports that want of the group: all but the last a star, each but one source more than the one before; the last some
-/// sources. Every second one wants the next group too.
-fn hear_on_all(alloc: Global, state: &mut State<V4>) -> Result<bool, AllocError> {
-    let last = state.ports.port_count().saturating_sub(1);
-    for port in 0..last {
-        let mut pruned = Vec::new(alloc);
-        for number in 0..port.min(40) {
-            pruned.push(Entry::Rpt(source((200 - number % 100) as u8)))?;
-        }
-        if !hear(alloc, state, port, GROUP, &[Entry::Star(RP)], &pruned)? {
-            return Ok(false);
-        }
-        let two = [
-            Entry::Source(source((port % 7 + 1) as u8)),
-            Entry::Source(source(90)),
-        ];
-        if port % 2 == 1 && !hear(alloc, state, port, NEXT_GROUP, &two, &[])? {
-            return Ok(false);
-        }
-    }
-    let some = [Entry::Source(source(5)), Entry::Source(source(3))];
-    hear(alloc, state, last, GROUP, &some, &[Entry::Rpt(source(199))])
-}
-
-#[test]
-fn merges_the_ports(rt: HostRuntime) -> Result<(), Fail> {
-    for count in [1, 2, 3, 7, 64] {
-        for budget in [70, 100, 1480] {
-            let Some(mut state) = state4(rt.alloc(), count, budget) else {
-                assert!(rt; false);
-                return Ok(());
-            };
-            assert!(rt; hear_on_all(rt.alloc(), &mut state)?);
-            let mut out = ScriptedDrain::new(rt.alloc(), 33, 100_000);
-            assert!(rt; write_to(rt.alloc(), &state, &mut out)?.is_ok());
-            assert!(rt; is_packed(rt.alloc(), &state, out.written()));
-        }
-    }
     Ok(())
 }
 

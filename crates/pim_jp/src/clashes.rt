@@ -17,7 +17,7 @@ use std::mem::size_of_val;
 /// So few joined entries are compared one by one sooner than sorted.
 const FEW: u16 = 4;
 
-/// With so few pruned entries each joined one is compared sooner than the joined ones are sorted.
+/// With so few pruned entries each joined one is compared with them sooner than they are sorted and it is looked for.
 const FEW_PRUNED: u16 = 8;
 
 /// So many of the shorter list fit into the smallest block.

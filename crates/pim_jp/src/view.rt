@@ -40,11 +40,11 @@ impl<'a, F: Family> JpView<'a, F> {
     ///
     /// It reads once, forward, and takes no memory; its cost grows with the length of the body. Where both lists of a
     /// set have entries (S,G), or both have (S,G,rpt), which no message needs, the sources are looked for too: with 8
-    /// pruned entries or fewer, or 4 joined ones or fewer, one by one, else by their numbers, in blocks of at most
-    /// 4,096 that are sorted on the stack, by way of as many spare ones (32 KiB for IPv4, 128 KiB for IPv6; sorting
-    /// calls itself at most 8 deep, and costs about the same in whatever order they come). So at worst it costs, for n
-    /// entries, n log n steps, as long as a set has at most 4,096 joined entries, and one search of each pruned entry
-    /// for each further 4,096.
+    /// pruned entries or fewer, or 4 joined ones or fewer, one by one, else by their numbers. Those of the shorter list
+    /// are sorted on the stack, by way of as many spare ones (40 KiB for IPv4, 136 KiB for IPv6, with marks; sorting
+    /// calls itself at most 8 deep, and costs about the same in whatever order they come), and those of the other list
+    /// are looked for among them. So at worst it costs, for n entries, n log n steps, as long as one list of each set
+    /// has at most 4,096 entries, and else one search of each pruned entry for each 4,096 joined ones.
     pub fn read(body: &'a [u8]) -> Result<JpView<'a, F>, JpFault>
         ensures answer { Answers (λ message. message) result
             (judged (faults F.family body.now) (message_of F.family body.now)) }

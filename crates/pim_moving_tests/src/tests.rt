@@ -2,5 +2,6 @@
 
 mod echoes;
 mod pairs;
+mod scenes;
 mod states;
 mod world;

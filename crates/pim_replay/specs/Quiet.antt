@@ -9,7 +9,8 @@ use Rattle.pim_replay.specs.Report.{TellsAll, StopsAt}
 use Rattle.pim_replay.specs.Turn.{Account}
 
 -- All turns of the merge were taken, and so much time passed behind them: that is the router then.
-pub record RunsAll (family : AddressFamily) (after_ms : ℕ) (merge : MergeState) (state after : RouterState) : Type 0 where
+pub record RunsAll (family : AddressFamily) (after_ms : ℕ) (merge : MergeState) (state after : RouterState)
+    : Type 0 where
   pub account : Account
   pub tells : TellsAll family after_ms merge account state after
 
@@ -17,6 +18,7 @@ pub record RunsAll (family : AddressFamily) (after_ms : ℕ) (merge : MergeState
 abbrev pub RunsQuietly : AddressFamily → ℕ → MergeState → MergeState → RouterState → RouterState →
     {A : Type 0} → Result A ReplayFault → Type 0
 RunsQuietly family after_ms merge merge' state after (Ok done) = RunsAll family after_ms merge state after
-RunsQuietly family after_ms merge merge' state after (Err (Capture told)) = StopsAt family merge merge' told state None None
+RunsQuietly family after_ms merge merge' state after (Err (Capture told)) =
+    StopsAt family merge merge' told state None None
 RunsQuietly family after_ms merge merge' state after (Err Output) = ⊥
 RunsQuietly family after_ms merge merge' state after (Err Memory) = Unit {0}

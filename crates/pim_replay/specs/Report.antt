@@ -93,8 +93,8 @@ abbrev pub none_yet : Counts
 none_yet = record { skipped = 0; refreshes = 0 }
 
 -- The lines of the replay, and then the state that the router holds behind it, with the counts.
-pub record IsReport (family : AddressFamily) (tells_via : Bool) (after_ms : ℕ) (merge : MergeState) (state after : RouterState)
-    (text : List ℕ) : Type 0 where
+pub record IsReport (family : AddressFamily) (tells_via : Bool) (after_ms : ℕ) (merge : MergeState)
+    (state after : RouterState) (text : List ℕ) : Type 0 where
   pub account : Account
   pub tells : TellsAll family after_ms merge account state after
   pub form : List GroupForm

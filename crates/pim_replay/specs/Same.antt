@@ -32,13 +32,14 @@ WantTheSame family writing one other =
     Agree family (asked family writing.upstream one) (asked family writing.upstream other)
 
 -- the answer, written so
-pub record Answers (family : AddressFamily) (writing : Writing) (one other : RouterState) (IsWritten : Bool → Type 0) : Type 0 where
+pub record Answers (family : AddressFamily) (writing : Writing) (one other : RouterState) (IsWritten : Bool → Type 0)
+    : Type 0 where
   pub same : Bool
   pub is_so : IsTrue same ↔ WantTheSame family writing one other
   pub written : IsWritten same
 
-module _ (family : AddressFamily) (after_ms : ℕ) (writing : Writing) (merge merge' : MergeState) (state after : RouterState)
-    (other other' : MergeState) (state_of after_of : RouterState) where
+module _ (family : AddressFamily) (after_ms : ℕ) (writing : Writing) (merge merge' : MergeState)
+    (state after : RouterState) (other other' : MergeState) (state_of after_of : RouterState) where
   -- Both replays came to their end, and this holds of the routers.
   abbrev pub Both : Type 0 → Type 0
   Both fact = RunsAll family after_ms merge state after × RunsAll family after_ms other state_of after_of × fact
@@ -79,7 +80,8 @@ of_form form.Tables = Replay Memory
 abbrev pub Judges : {F A N : Type 0} → (A → List ℕ) → AddressFamily → Writing → RouterState → RouterState →
     Result Bool (SameFault F A N) → Type 0
 Judges bytes_of family writing one other (Ok same) = IsTrue same ↔ WantTheSame family writing one other
-Judges bytes_of family writing one other (Err (TooBig group)) = IsFirstTooBig family writing one other (Some (bytes_of group))
+Judges bytes_of family writing one other (Err (TooBig group)) =
+    IsFirstTooBig family writing one other (Some (bytes_of group))
 Judges bytes_of family writing one other (Err (Replay (Capture told))) = ⊥
 Judges bytes_of family writing one other (Err (Replay Output)) = ⊥
 Judges bytes_of family writing one other (Err (Replay Memory)) = Unit {0}

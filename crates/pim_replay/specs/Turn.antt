@@ -93,7 +93,8 @@ taking family port ended state = passed_over state
 
 -- The router runs to the moment of the record, and then its port takes the record: this is told, and that is the router
 -- behind it.
-pub record TellsTurn (family : AddressFamily) (turn : Taken) (account : Account) (state after : RouterState) : Type 0 where
+pub record TellsTurn (family : AddressFamily) (turn : Taken) (account : Account) (state after : RouterState)
+    : Type 0 where
   pub way : List ℕ
   pub refreshes : ℕ
   pub between : RouterState

@@ -40,10 +40,12 @@ pub record IsBehind (clock : Option Clock) (captures : List (List Answer)) (take
 
 module _ (family : AddressFamily) (merge : MergeState) (state : RouterState) (old : Option (List ℕ)) where
   -- Some turns of the merge were taken; they are written and counted, and no read has failed.
-  pub record IsUnderway (merge' : MergeState) (now : RouterState) (new : Option (List ℕ)) (counts : Counts) : Type 0 where
+  pub record IsUnderway (merge' : MergeState) (now : RouterState) (new : Option (List ℕ)) (counts : Counts)
+      : Type 0 where
     pub taken : List Taken
     pub account : Account
-    pub turns : (captures : List (List Answer)) → IsComing merge.lanes captures → IsBehind merge.clock captures taken merge'
+    pub turns : (captures : List (List Answer)) → IsComing merge.lanes captures →
+        IsBehind merge.clock captures taken merge'
     pub tells : TellsTurns family taken account state now
     pub written : Appends old new account.lines
     pub is_counted : counts ≡ counted none_yet account

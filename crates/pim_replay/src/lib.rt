@@ -7,7 +7,8 @@
 //! lines of its turns, and the state behind the last; where a capture has a fault, the lines of the turns before it.
 //! Two routers are compared by their replays (`same_into`). `mirror_into` writes the canonical messages of a replay's
 //! state and that a fresh router which hears them writes the same; it compares them, and they are proved to be.
-//! `emit_into` writes the bytes of these messages alone, each behind its length.
+//! `emit_into` writes the bytes of these messages alone, each behind its length. `change_into` writes the messages that
+//! tell the change between the states of two replays, and that the fresh router which hears them asks as the second.
 #![tactic(auto)]
 
 mod change_hearing;

@@ -1,10 +1,13 @@
 //! The lines of a report, each as its table has it, over devices that move few bytes and fail.
 
+mod change_texts;
 mod changes;
 mod mirrors;
 mod replays;
 mod sames;
 mod states;
+mod states_of_six;
+mod times;
 mod world;
 
 use pim_addr::{Family, ScriptedDrain, V4, V6};

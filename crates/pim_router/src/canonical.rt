@@ -6,7 +6,8 @@ ghost use Rattle.pim_router.specs.Canonical.{asked, IsAskedBy, IsTooBig, IsFirst
 
 use crate::router::Router;
 use pim_addr::Family;
-use pim_form::{FormFault, Messages, NormalForm, Writer, pack, same_messages_same_asked};
+use pim_emit::canonical_messages;
+use pim_form::{FormFault, Messages, Writer, same_messages_same_asked};
 use std::alloc::Global;
 
 impl<'a, F: Family> Router<'a, F> {
@@ -14,13 +15,12 @@ impl<'a, F: Family> Router<'a, F> {
     /// of it (RFC 7761, 4.1 and 4.9.5): the traffic whose RP or source the router's table leads to that neighbour.
     /// There are none where nothing is wanted of it.
     ///
-    /// The time is linear in the records, but for the merge of the ports, and in the bytes that are written, with at
-    /// most two look-ups in the table for each star and one for each source. Beside the messages it takes memory in
-    /// proportion to the records that want something, and gives it back.
+    /// They are written straight from the records, as `write_canonical` of `pim_emit` writes them, whose time it takes:
+    /// no normal form is made. Beside the messages it takes memory for one of the writer's budget, and gives that back.
     ///
     /// # Errors
     /// `TooBig` of the least group whose star, with all its exceptions, is too big for a message of the writer's budget
-    /// alone. `Memory` where a growth is refused: the form of what is asked for is made first, and takes memory.
+    /// alone; it is looked for before any growth. `Memory` where a growth is refused.
     pub fn canonical(&self, alloc: Global, writer: &Writer<F>) -> Result<Messages, FormFault<F>>
         ensures canonical { IfOk result (IsAskedBy F.family writer.now self.now) }
         ensures too_big { ToldTooBig F.bytes_of (IsTooBig F.family writer.now self.now) result }
@@ -28,11 +28,7 @@ impl<'a, F: Family> Router<'a, F> {
     {
         let ports = self.ports();
         let routes = self.routes();
-        let upstream = writer.upstream();
-        let Ok(form) = NormalForm::toward(alloc, ports, routes, upstream) else {
-            return Err(FormFault::Memory);
-        };
-        pack::<F>(alloc, &form, writer, routes)
+        canonical_messages::<F>(alloc, ports, writer, routes)
     }
 }
 

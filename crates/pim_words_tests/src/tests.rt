@@ -1,4 +1,6 @@
 //! Worked examples of the subjects of `pim_words`.
 
+mod comparing;
+mod help;
 mod planning;
 mod table;

@@ -18,7 +18,7 @@ fn table(alloc: Global) -> Result<Routes<V4>, AllocError> {
 }
 
 /// What is told to 10.0.0.2 of a change, in messages of this budget.
-fn told(
+pub(super) fn told(
     alloc: Global,
     old: &NormalForm<V4>,
     new: &NormalForm<V4>,
@@ -207,14 +207,14 @@ fn length_at(messages: &Messages, index: usize) -> usize {
 
 /// How long the first three messages are, 0 where there is none; or the number of the group whose star is too big.
 #[derive(Clone, Copy, PartialEq, Eq)]
-enum Outcome {
+pub(super) enum Outcome {
     Lengths([usize; 3]),
     TooBig(u8),
     Refused,
 }
 
 /// What comes of a change.
-fn outcome_of(told: &Result<Messages, FormFault<V4>>) -> Outcome {
+pub(super) fn outcome_of(told: &Result<Messages, FormFault<V4>>) -> Outcome {
     match told {
         Ok(messages) => Outcome::Lengths([
             length_at(messages, 0),
@@ -378,29 +378,4 @@ fn messages_have_255_groups_at_most(rt: HostRuntime) -> Result<(), Fail> {
     let went = outcome_of(&told(rt.alloc(), &all, &none, 65_000));
     assert!(rt; went == Outcome::Lengths([5114, 34, 0]));
     Ok(())
-}
-
-/// What is told with memory.
-fn told_again(
-    alloc: Global,
-    old: &NormalForm<V4>,
-    new: &NormalForm<V4>,
-) -> Result<Messages, FormFault<V4>> {
-    match told(alloc, old, new, 1400) {
-        Err(FormFault::Memory) => told(alloc, old, new, 1400),
-        result => result,
-    }
-}
-
-// With each allocation refused in turn (`rt try --test --fail-alloc N`): the same call, with memory, tells the change.
-#[test]
-fn refusals_leave_what_is_told(rt: HostRuntime) {
-    let Ok(old) = form(rt.alloc(), Wanted::StarExceptFirst) else {
-        return;
-    };
-    let Ok(new) = form(rt.alloc(), Wanted::StarExceptSecondAndFirst) else {
-        return;
-    };
-    let result = told_again(rt.alloc(), &old, &new);
-    assert!(rt; outcome_of(&result) == Outcome::Lengths([50, 0, 0]));
 }

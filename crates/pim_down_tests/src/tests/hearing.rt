@@ -9,7 +9,10 @@ use pim_down::{Ports, State, What};
 use pim_jp::JpView;
 use std::alloc::Global;
 
-pub(super) const EXAMPLES: [Example; 5] = [
+/// Another group, which comes behind it.
+const NEXT_GROUP: [u8; 4] = [239, 1, 1, 2];
+
+pub(super) const EXAMPLES: [Example; 6] = [
     Example {
         name: "hears on each port",
         ports: 3,
@@ -125,6 +128,94 @@ pub(super) const EXAMPLES: [Example; 5] = [
             Row::State(0, What::Rpt(FIRST), Some(State::Prune)),
             Row::HearAmong(0, &[(GROUP, &[RPT_FIRST], &[])]),
             Row::State(0, What::Rpt(FIRST), None),
+        ],
+    },
+    Example {
+        name: "a Join(*,G) comes again within a message",
+        ports: 1,
+        limit: 100,
+        rows: &[
+            Row::Hear(0, &[(GROUP, &[JOIN_STAR], &[RPT_SECOND, RPT_FIRST])]),
+            Row::Reach(10),
+            // The first source was pruned between both Joins, and the second one behind them.
+            Row::Hear(
+                0,
+                &[
+                    (GROUP, &[JOIN_STAR], &[RPT_FIRST]),
+                    (GROUP, &[JOIN_SECOND], &[]),
+                    (GROUP, &[JOIN_STAR], &[RPT_SECOND]),
+                ],
+            ),
+            Row::Holds(&[
+                Held::Joined(0, What::Star, 210_000),
+                Held::Joined(0, What::Source(SECOND), 210_000),
+                Held::Pruned(0, SECOND, 210_000),
+            ]),
+            Row::Reach(20),
+            // A source that was pruned between both Joins is let go of, and pruned anew.
+            Row::Hear(
+                0,
+                &[
+                    (GROUP, &[JOIN_STAR], &[RPT_FIRST]),
+                    (GROUP, &[RPT_FIRST], &[RPT_SECOND]),
+                    (GROUP, &[JOIN_STAR], &[RPT_FIRST]),
+                ],
+            ),
+            Row::Reach(20),
+            Row::Holds(&[
+                Held::Joined(0, What::Star, 210_000),
+                Held::Joined(0, What::Source(SECOND), 209_990),
+                Held::Pruned(0, FIRST, 210_000),
+            ]),
+            Row::Reach(30),
+            // Another RP's Join is none: what was pruned behind the first one stays.
+            Row::Hear(
+                0,
+                &[
+                    (GROUP, &[JOIN_STAR], &[RPT_FIRST]),
+                    (GROUP, &[OTHER_STAR], &[RPT_SECOND]),
+                ],
+            ),
+            Row::Reach(30),
+            Row::Holds(&[
+                Held::Joined(0, What::Star, 210_000),
+                Held::Joined(0, What::Source(SECOND), 209_980),
+                Held::Pruned(0, FIRST, 210_000),
+                Held::Pruned(0, SECOND, 210_000),
+            ]),
+            Row::Reach(40),
+            // Two groups by turns.
+            Row::Hear(
+                0,
+                &[
+                    (GROUP, &[JOIN_STAR], &[RPT_FIRST]),
+                    (NEXT_GROUP, &[JOIN_STAR], &[RPT_FIRST]),
+                    (GROUP, &[], &[RPT_SECOND]),
+                    (NEXT_GROUP, &[], &[RPT_SECOND]),
+                    (GROUP, &[JOIN_STAR], &[RPT_FIRST]),
+                    (NEXT_GROUP, &[JOIN_STAR], &[]),
+                ],
+            ),
+            Row::State(0, What::Rpt(FIRST), Some(State::Prune)),
+            Row::State(0, What::Rpt(SECOND), None),
+            Row::StarOf(NEXT_GROUP, Some(State::Join)),
+            Row::MachineAfter(NEXT_GROUP, What::Star, None),
+            // The one of them has its prunes behind its last Join, and the other one its Join behind its prunes.
+            Row::Hear(
+                0,
+                &[
+                    (NEXT_GROUP, &[], &[RPT_FIRST]),
+                    (GROUP, &[JOIN_STAR], &[]),
+                    (NEXT_GROUP, &[JOIN_STAR], &[RPT_SECOND]),
+                    (GROUP, &[], &[RPT_SECOND]),
+                    (NEXT_GROUP, &[JOIN_SECOND], &[]),
+                ],
+            ),
+            Row::State(0, What::Rpt(FIRST), None),
+            Row::State(0, What::Rpt(SECOND), Some(State::PrunePending)),
+            Row::MachineAfter(NEXT_GROUP, What::Star, Some(What::Source(SECOND))),
+            Row::MachineAfter(NEXT_GROUP, What::Source(SECOND), Some(What::Rpt(SECOND))),
+            Row::MachineAfter(NEXT_GROUP, What::Rpt(SECOND), None),
         ],
     },
 ];

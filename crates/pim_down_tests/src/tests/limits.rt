@@ -2,13 +2,14 @@
 
 use super::bodies::hear_body;
 use super::{
-    Example, FIRST, GROUP, Held, JOIN_FIRST, JOIN_SECOND, JOIN_STAR, Row, SECOND, SEVERAL,
+    Example, FIRST, GROUP, Held, JOIN_FIRST, JOIN_SECOND, JOIN_STAR, RPT_FIRST, Row, SECOND,
+    SEVERAL,
 };
 use pim_addr::{Routes, V4};
 use pim_down::{HearFault, Ports, State, Step, What};
 use std::alloc::Global;
 
-pub(super) const EXAMPLES: [Example; 2] = [
+pub(super) const EXAMPLES: [Example; 3] = [
     Example {
         name: "refuses past the limit",
         ports: 2,
@@ -45,6 +46,18 @@ pub(super) const EXAMPLES: [Example; 2] = [
         ],
     },
     Example {
+        name: "lets a record go and come again within a message",
+        ports: 1,
+        limit: 1,
+        rows: &[
+            Row::HearAmong(0, &[(GROUP, &[], &[RPT_FIRST])]),
+            Row::Reach(5_000),
+            Row::Holds(&[Held::Pruned(0, FIRST, 205_000)]),
+            Row::HearAmong(0, &[(GROUP, &[RPT_FIRST], &[]), (GROUP, &[], &[RPT_FIRST])]),
+            Row::Holds(&[Held::Waiting(What::Rpt(FIRST), 210_000, 3_000)]),
+        ],
+    },
+    Example {
         name: "shows what is held",
         ports: 1,
         limit: 2,
@@ -57,27 +70,37 @@ pub(super) const EXAMPLES: [Example; 2] = [
     },
 ];
 
-/// Upstream 10.0.0.2, holdtime 210, and the group with this source as an (S,G) joined and as an (S,G,rpt) pruned.
-fn message(source: [u8; 4]) -> [u8; 38] {
+/// Upstream 10.0.0.2, holdtime 210, and three sets of the group: this source as an (S,G) joined and as an (S,G,rpt)
+/// pruned; another one as an (S,G,rpt) joined; and the same pruned again.
+fn message(source: [u8; 4], before: [u8; 4]) -> [u8; 78] {
     let [a, b, c, d] = source;
+    let [e, f, g, h] = before;
     [
-        1, 0, 10, 0, 0, 2, 0, 1, 0, 210, 1, 0, 0, 32, 239, 1, 1, 1, 0, 1, 0, 1, 1, 0, 4, 32, a, b,
-        c, d, 1, 0, 5, 32, a, b, c, d,
+        1, 0, 10, 0, 0, 2, 0, 3, 0, 210, 1, 0, 0, 32, 239, 1, 1, 1, 0, 1, 0, 1, 1, 0, 4, 32, a, b,
+        c, d, 1, 0, 5, 32, a, b, c, d, 1, 0, 0, 32, 239, 1, 1, 1, 0, 1, 0, 0, 1, 0, 5, 32, e, f, g,
+        h, 1, 0, 0, 32, 239, 1, 1, 1, 0, 0, 0, 1, 1, 0, 5, 32, e, f, g, h,
     ]
+}
+
+/// The source before this one; the first one is its own.
+fn before(fourth: u8) -> [u8; 4] {
+    [192, 0, 2, fourth.saturating_sub(1).max(1)]
 }
 
 /// Hears of a source.
 fn hear(ports: &mut Ports<V4>, routes: &Routes<V4>, fourth: u8) -> Option<Result<(), HearFault>> {
-    let bytes = message([192, 0, 2, fourth]);
+    let bytes = message([192, 0, 2, fourth], before(fourth));
     hear_body(ports, routes, 0, &bytes, SEVERAL)
 }
 
-/// Whether no more is held than before this source was heard of, at the moment 7.
+/// Whether what is held is what was held before this source was heard of, at the moment 7.
 fn is_before(ports: &Ports<V4>, fourth: u8) -> bool {
     let source = What::Source([192, 0, 2, fourth]);
+    let held = ports.state_of(0, GROUP, What::Rpt(before(fourth)));
     ports.now() == 7
         && ports.count_on(0) == 2 * usize::from(fourth).saturating_sub(1)
         && ports.state_of(0, GROUP, source).is_none()
+        && held.is_some() == (fourth > 1)
 }
 
 /// Whether both machines of this source are held too.
@@ -86,6 +109,7 @@ fn is_behind(ports: &Ports<V4>, fourth: u8) -> bool {
     ports.count_on(0) == 2 * usize::from(fourth)
         && ports.state_of(0, GROUP, What::Source(source)) == Some(State::Join)
         && ports.state_of(0, GROUP, What::Rpt(source)) == Some(State::PrunePending)
+        && ports.state_of(0, GROUP, What::Rpt(before(fourth))) == Some(State::PrunePending)
 }
 
 /// Hears of a source, and once more where memory is refused: whether all is as it should be.

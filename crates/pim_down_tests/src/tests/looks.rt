@@ -7,9 +7,10 @@ use pim_down::{Ports, Step};
 use std::alloc::{AllocError, Global};
 use std::test::Fail;
 
-/// What a run answers, how many looks it may take at most, and what is held and due then.
+/// What a run answers, how many looks it takes at least and at most, and what is held and due then.
 struct Turn {
     moment: u64,
+    least: u64,
     most: u64,
     held: usize,
     due: Option<u64>,
@@ -50,6 +51,7 @@ fn goes(ports: &mut Ports<V4>, turn: &Turn) -> bool {
     }
     let (step, looks) = ports.run_counted(turn.moment);
     step == Step::Reached
+        && looks >= turn.least
         && looks <= turn.most
         && ports.count_on(0) == turn.held
         && ports.next_due() == turn.due
@@ -89,24 +91,28 @@ fn wrong_turn(ports: &mut Ports<V4>, turns: &[Turn]) -> Option<usize> {
 const ONCE: [Turn; 4] = [
     Turn {
         moment: 209_999,
+        least: 1,
         most: 1,
         held: 1_000,
         due: Some(210_000),
     },
     Turn {
         moment: 209_999,
+        least: 1,
         most: 1,
         held: 1_000,
         due: Some(210_000),
     },
     Turn {
         moment: 210_000,
+        least: 1_000,
         most: 1_001,
         held: 0,
         due: None,
     },
     Turn {
         moment: 1_000_000_000_000_000,
+        least: 0,
         most: 0,
         held: 0,
         due: None,
@@ -117,18 +123,21 @@ const ONCE: [Turn; 4] = [
 const REFRESHED: [Turn; 3] = [
     Turn {
         moment: 210_000,
+        least: 1,
         most: 1,
         held: 1_000,
         due: Some(310_000),
     },
     Turn {
         moment: 309_999,
+        least: 1,
         most: 1,
         held: 1_000,
         due: Some(310_000),
     },
     Turn {
         moment: 310_001,
+        least: 1_000,
         most: 1_001,
         held: 0,
         due: None,

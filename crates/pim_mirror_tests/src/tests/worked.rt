@@ -2,24 +2,23 @@
 //! millisecond before its first records end, and no longer when they end.
 
 mod heard;
+mod of_ipv6;
 mod scenes;
 mod states;
 mod written;
 
 use super::again::{reach, started, take};
 use super::mirrored::{OTHERS, mirrored};
-use pim_addr::{Family, Routes, V4, V6};
+use pim_addr::{Family, Routes, V4};
 use pim_form::{Messages, Writer};
 use pim_frame::MessageType;
 use pim_mirror::{Delivery, FreshConfig, OtherNeighbour};
 use pim_router::{PortConfig, Router, Verdict};
 use scenes::{
-    NO_MESSAGE, ONE_AFTER_THE_OTHER, ONE_MESSAGE, ONE_UPSTREAM, OTHERS6, SCENE6, TOWARD_SIX,
-    TOWARD_TWO, TWO_MESSAGES,
+    NO_MESSAGE, ONE_AFTER_THE_OTHER, ONE_MESSAGE, ONE_UPSTREAM, TOWARD_SIX, TOWARD_TWO,
+    TWO_MESSAGES,
 };
-use states::{
-    OF_NOTHING, OF_ONE_MESSAGE, OF_ONE_MESSAGE6, OF_SIX, OF_TWO, OF_TWO_MESSAGES, OF_TWO_MESSAGES6,
-};
+use states::{OF_NOTHING, OF_ONE_MESSAGE, OF_SIX, OF_TWO, OF_TWO_MESSAGES};
 use std::alloc::Global;
 use std::test::Fail;
 
@@ -391,36 +390,5 @@ fn mirrors_of_either_neighbour_write_what_it_is_asked(rt: HostRuntime) -> Result
         wrong::<V4>(rt.alloc(), &TOWARD_SIX, &OTHERS, &ONE_MESSAGE, &OF_SIX),
         None
     );
-    Ok(())
-}
-
-#[test]
-fn mirrors_of_ipv6_write_their_message_again(rt: HostRuntime) -> Result<(), Fail> {
-    let alone = wrong::<V6>(rt.alloc(), &SCENE6, &[], &ONE_MESSAGE, &OF_ONE_MESSAGE6);
-    assert_eq!(rt; alone, None);
-    let among = wrong::<V6>(
-        rt.alloc(),
-        &SCENE6,
-        &OTHERS6,
-        &ONE_MESSAGE,
-        &OF_ONE_MESSAGE6,
-    );
-    assert_eq!(rt; among, None);
-    Ok(())
-}
-
-#[test]
-fn mirrors_of_ipv6_write_two_messages_again(rt: HostRuntime) -> Result<(), Fail> {
-    let both = wrong::<V6>(
-        rt.alloc(),
-        &SCENE6,
-        &OTHERS6,
-        &TWO_MESSAGES,
-        &OF_TWO_MESSAGES6,
-    );
-    assert_eq!(rt; both, None);
-    let course = ONE_AFTER_THE_OTHER;
-    let second = wrong::<V6>(rt.alloc(), &SCENE6, &[], &course, &OF_TWO_MESSAGES6);
-    assert_eq!(rt; second, None);
     Ok(())
 }

@@ -1,6 +1,6 @@
 //! The echo of a prune, which a router of two neighbours tells when the other one could have overridden it.
 
-use super::states::{HELLO, PRUNED, SCENE, STAR};
+use super::scenes::{HELLO, PRUNED, SCENE, STAR};
 use super::world::{hears, is_quiet_until, is_settled, started, table, take};
 use pim_addr::{Routes, V4};
 use pim_down::What;

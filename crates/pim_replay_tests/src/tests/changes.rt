@@ -1,10 +1,14 @@
 //! Messages of a change from one replay's state to that of another, which the mirror of the first one hears, over
 //! devices that fail.
 
+use super::change_texts::{
+    BROKEN, CUT, EXCEPTED_LINES, EXCEPTED_TEXT, JOINED_OF_SIX, NO_LONGER_TEXT, PRUNED_LINES,
+    PRUNED_OF_SIX, PRUNED_TEXT, SAME_TEXT, SECOND_TOO_LARGE, SIX, TOO_LARGE,
+};
 use super::mirrors::{STAR_TEXT, WITH_EXCEPTION};
 use super::replays::{EMPTY, FIRST_PORT, Input, NEVER, ONE};
 use super::sames::{ROWS, merge_of};
-use super::states::{PORT_OF_SIX, ROWS_OF_SIX};
+use super::states_of_six::{PORT_OF_SIX, ROWS_OF_SIX};
 use super::world::{Device, Route, add_rows};
 use pim_addr::{Family, Routes, ScriptedDrain, ScriptedFeed, V4, V6};
 use pim_capture::CaptureFault;
@@ -13,116 +17,6 @@ use pim_merge::{Merge, MergeFault};
 use pim_replay::{MirrorTextFault, ReplayFault, change_into};
 use pim_router::{Config, PortConfig, Router};
 use std::alloc::Global;
-
-/// A capture of raw IP packets: a Hello from 10.0.0.9, and 5 ms later its Join of the star of 239.1.1.1 without the
-/// five sources from 192.0.2.1 on, in 74 bytes.
-const LARGE: [u8; 180] = [
-    212, 195, 178, 161, 2, 0, 4, 0, 0, 0, 0, 0, 0, 0, 0, 0, 0, 0, 4, 0, 101, 0, 0, 0, 100, 0, 0, 0,
-    0, 0, 0, 0, 30, 0, 0, 0, 30, 0, 0, 0, 69, 0, 0, 30, 0, 0, 0, 0, 1, 103, 0, 0, 10, 0, 0, 9, 224,
-    0, 0, 13, 32, 0, 0, 0, 0, 1, 0, 2, 223, 252, 100, 0, 0, 0, 136, 19, 0, 0, 94, 0, 0, 0, 94, 0,
-    0, 0, 69, 0, 0, 94, 0, 0, 0, 0, 1, 103, 0, 0, 10, 0, 0, 9, 224, 0, 0, 13, 35, 0, 220, 28, 1, 0,
-    10, 0, 0, 2, 0, 1, 0, 210, 1, 0, 0, 32, 239, 1, 1, 1, 0, 1, 0, 5, 1, 0, 7, 32, 10, 9, 9, 9, 1,
-    0, 5, 32, 192, 0, 2, 1, 1, 0, 5, 32, 192, 0, 2, 2, 1, 0, 5, 32, 192, 0, 2, 3, 1, 0, 5, 32, 192,
-    0, 2, 4, 1, 0, 5, 32, 192, 0, 2, 5,
-];
-
-/// The same of 239.1.2.1.
-const LARGE_OF_SECOND: [u8; 180] = [
-    212, 195, 178, 161, 2, 0, 4, 0, 0, 0, 0, 0, 0, 0, 0, 0, 0, 0, 4, 0, 101, 0, 0, 0, 100, 0, 0, 0,
-    0, 0, 0, 0, 30, 0, 0, 0, 30, 0, 0, 0, 69, 0, 0, 30, 0, 0, 0, 0, 1, 103, 0, 0, 10, 0, 0, 9, 224,
-    0, 0, 13, 32, 0, 0, 0, 0, 1, 0, 2, 223, 252, 100, 0, 0, 0, 136, 19, 0, 0, 94, 0, 0, 0, 94, 0,
-    0, 0, 69, 0, 0, 94, 0, 0, 0, 0, 1, 103, 0, 0, 10, 0, 0, 9, 224, 0, 0, 13, 35, 0, 219, 28, 1, 0,
-    10, 0, 0, 2, 0, 1, 0, 210, 1, 0, 0, 32, 239, 1, 2, 1, 0, 1, 0, 5, 1, 0, 7, 32, 10, 9, 9, 9, 1,
-    0, 5, 32, 192, 0, 2, 1, 1, 0, 5, 32, 192, 0, 2, 2, 1, 0, 5, 32, 192, 0, 2, 3, 1, 0, 5, 32, 192,
-    0, 2, 4, 1, 0, 5, 32, 192, 0, 2, 5,
-];
-
-/// A capture of raw IP packets: a Hello from fe80::1, and 5 ms later its Join of the star of ff0e::1.
-const STAR_OF_SIX: [u8; 216] = [
-    212, 195, 178, 161, 2, 0, 4, 0, 0, 0, 0, 0, 0, 0, 0, 0, 0, 0, 4, 0, 101, 0, 0, 0, 100, 0, 0, 0,
-    0, 0, 0, 0, 50, 0, 0, 0, 50, 0, 0, 0, 96, 0, 0, 0, 0, 10, 103, 1, 254, 128, 0, 0, 0, 0, 0, 0,
-    0, 0, 0, 0, 0, 0, 0, 1, 255, 2, 0, 0, 0, 0, 0, 0, 0, 0, 0, 0, 0, 0, 0, 13, 32, 0, 225, 144, 0,
-    1, 0, 2, 0, 105, 100, 0, 0, 0, 136, 19, 0, 0, 110, 0, 0, 0, 110, 0, 0, 0, 96, 0, 0, 0, 0, 70,
-    103, 1, 254, 128, 0, 0, 0, 0, 0, 0, 0, 0, 0, 0, 0, 0, 0, 1, 255, 2, 0, 0, 0, 0, 0, 0, 0, 0, 0,
-    0, 0, 0, 0, 13, 35, 0, 164, 151, 2, 0, 254, 128, 0, 0, 0, 0, 0, 0, 0, 0, 0, 0, 0, 0, 0, 2, 0,
-    1, 0, 210, 2, 0, 0, 128, 255, 14, 0, 0, 0, 0, 0, 0, 0, 0, 0, 0, 0, 0, 0, 1, 0, 1, 0, 0, 2, 0,
-    7, 128, 32, 1, 13, 184, 0, 0, 0, 0, 0, 0, 0, 0, 0, 0, 0, 9,
-];
-
-const TOO_LARGE: Input<'static> = Input {
-    bytes: &LARGE,
-    ..ONE
-};
-
-const SECOND_TOO_LARGE: Input<'static> = Input {
-    bytes: &LARGE_OF_SECOND,
-    ..ONE
-};
-
-const SIX: Input<'static> = Input {
-    bytes: &STAR_OF_SIX,
-    ..ONE
-};
-
-/// A capture that is cut, and one whose reader fails.
-const CUT: Input<'static> = Input { bytes: &[], ..ONE };
-
-const BROKEN: Input<'static> = Input {
-    fails_from: 0,
-    ..ONE
-};
-
-/// What is told where nothing changes.
-const SAME_TEXT: &str = "messages 0\nagrees\n";
-
-/// The star of 239.1.1.1 is pruned; but for the last line.
-const PRUNED_LINES: &str =
-    "message 34 2300c4d401000a000002000100d201000020ef01010100000001010007200a090909
-messages 1
-";
-
-/// The same, with the last line.
-const PRUNED_TEXT: &str =
-    "message 34 2300c4d401000a000002000100d201000020ef01010100000001010007200a090909
-messages 1
-agrees
-";
-
-/// 192.0.2.1 is pruned off the shared tree; but for the last line.
-const EXCEPTED_LINES: &str =
-    "message 34 230017e501000a000002000100d201000020ef0101010000000101000520c0000201
-messages 1
-";
-
-/// The same, with the last line.
-const EXCEPTED_TEXT: &str =
-    "message 34 230017e501000a000002000100d201000020ef0101010000000101000520c0000201
-messages 1
-agrees
-";
-
-/// 192.0.2.1 is joined to the shared tree again.
-const NO_LONGER_TEXT: &str =
-    "message 34 230017e501000a000002000100d201000020ef0101010001000001000520c0000201
-messages 1
-agrees
-";
-
-/// The star of ff0e::1 is joined, from fe80::5 to fe80::3.
-const JOINED_OF_SIX: &str =
-    "message 70 2300a4920200fe800000000000000000000000000003000100d202000080ff0e0000000000000000000000000001\
-    000100000200078020010db8000000000000000000000009
-messages 1
-agrees
-";
-
-/// It is pruned.
-const PRUNED_OF_SIX: &str =
-    "message 70 2300a4920200fe800000000000000000000000000003000100d202000080ff0e0000000000000000000000000001\
-    000000010200078020010db8000000000000000000000009
-messages 1
-agrees
-";
 
 /// Whose replays are compared: their port and table, and who asks whom in messages of at most 70 bytes.
 #[derive(Clone, Copy)]

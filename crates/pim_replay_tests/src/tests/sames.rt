@@ -135,21 +135,26 @@ fn failed_answers_leave_a_front(rt: HostRuntime) {
     }
 }
 
-// With each allocation refused in turn (`rt try --test --fail-alloc 1..`): nothing is written for want of memory.
+/// Whether what is written goes with the answer: nothing for want of memory, and a front where the device failed, which
+/// it does for want of memory of its own.
+fn goes_with(written: &[u8], answer: Result<u8, SameFault<V4>>) -> bool {
+    let whole = "different\n".as_bytes();
+    match answer {
+        Ok(status) => status == 1 && written == whole,
+        Err(SameFault::Replay(ReplayFault::Memory)) => written.is_empty(),
+        Err(SameFault::Replay(ReplayFault::Output)) => whole.starts_with(written),
+        Err(_) => false,
+    }
+}
+
+// With each allocation refused in turn (`tools/refuse_memory.sh`).
 #[test]
 fn refused_memory_tells_nothing(rt: HostRuntime) {
     let device = Device {
         most: 64,
         fails_from: NEVER,
     };
-    let Some((text, answer)) = compared(rt.alloc(), ONE, EMPTY, device) else {
-        return;
-    };
-    match answer {
-        Ok(status) => {
-            assert_eq!(rt; status, 1);
-            assert_eq!(rt; text.written(), "different\n".as_bytes());
-        }
-        Err(_) => assert!(rt; text.written().is_empty()),
+    if let Some((text, answer)) = compared(rt.alloc(), ONE, EMPTY, device) {
+        assert!(rt; goes_with(text.written(), answer));
     }
 }

@@ -5,7 +5,7 @@ use pim_addr::{Routes, V4};
 use pim_down::Record;
 use pim_frame::{MessageType, all_routers, seal};
 use pim_hello::{Heard, KnownNeighbour};
-use pim_router::{Config, ConfigFault, Router, Verdict};
+use pim_router::{Config, ConfigFault, Router, Step, Verdict};
 use std::alloc::{AllocError, Global};
 
 /// A Hello with a holdtime of 60 s, without its header.
@@ -117,10 +117,12 @@ fn refusals_change_nothing(rt: HostRuntime) {
         return;
     };
     assert_eq!(rt; router.ports().count_on(0), 0);
+    assert!(rt; router.run_to(7) == Step::Reached);
     // where what is left can't be noted down, nothing can be compared
     let Ok(told) = forty_are_told(rt.alloc(), &mut router) else {
         return;
     };
     assert!(rt; told);
+    assert_eq!(rt; router.now(), 7);
     assert_eq!(rt; router.ports().count_on(0), 80);
 }

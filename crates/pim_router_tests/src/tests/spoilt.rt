@@ -2,8 +2,8 @@
 //! what a router tells of them, beside what a reader of its own, in another language, tells (`tools/changed_bytes.py`).
 
 use super::spoilt_rows::{
-    HELLO, LISTS, LISTS_V6, OF_ANOTHER_TYPE, OF_HELLO, OF_HELLO_V6, OF_LISTS, OF_LISTS_V6, OTHER,
-    Told,
+    HELLO, LISTS, LISTS_V6, OF_ANOTHER_TYPE, OF_ANOTHER_TYPE_V6, OF_HELLO, OF_HELLO_V6, OF_LISTS,
+    OF_LISTS_V6, OF_NEIGHBOUR, OF_NEIGHBOUR_V6, OTHER, Told,
 };
 use pim_addr::{Family, Routes, V4, V6};
 use pim_frame::{FrameFault, MessageType, all_routers, seal};
@@ -82,6 +82,9 @@ impl Told {
         self.digest = self.digest.wrapping_mul(31).wrapping_add(all);
     }
 }
+
+/// A Hello with a holdtime for ever, and with no checksum yet.
+const GREETING: [u8; 10] = [0x20, 0, 0, 0, 0, 1, 0, 2, 0xff, 0xff];
 
 const NOTHING: Told = Told {
     counts: [0; 23],
@@ -237,6 +240,32 @@ fn spoilt_on<F: Family>(
     Ok((told, router.ports().count_on(0)))
 }
 
+/// A Hello of the sender comes, with a holdtime for ever.
+fn greet<F: Family>(router: &mut Router<'_, F>, from: F::Addr) -> Result<(), AllocError> {
+    let mut hello = GREETING;
+    let mut told = NOTHING;
+    mend::<F>(from, &mut hello);
+    tell(router, from, &mut told, &hello)
+}
+
+/// What is told on a new router of one port, of which the sender is a neighbour.
+fn spoilt_by_neighbour<F: Family>(
+    alloc: Global,
+    ports: &[PortConfig<F::Addr>],
+    from: F::Addr,
+    bytes: &mut [u8],
+) -> Result<[Told; 3], Fail> {
+    let routes = Routes::<F>::new(alloc);
+    let config = Config {
+        ports,
+        routes: &routes,
+        limit: 100_000,
+    };
+    let mut router = Router::new(alloc, &config)?;
+    greet(&mut router, from)?;
+    Ok(spoilt(&mut router, from, bytes)?)
+}
+
 /// A port of 10.0.0.2.
 pub(super) const PORT: PortConfig<[u8; 4]> = PortConfig {
     address: [10, 0, 0, 2],
@@ -293,5 +322,29 @@ fn spoilt_messages_of_another_type(rt: HostRuntime) -> Result<(), Fail> {
     let mut other = OTHER;
     let told = spoilt_on::<V4>(rt.alloc(), &[PORT], SENDER, &mut other)?;
     assert_eq!(rt; told, (OF_ANOTHER_TYPE, 0));
+    Ok(())
+}
+
+#[test]
+fn spoilt_messages_of_another_type_over_ipv6(rt: HostRuntime) -> Result<(), Fail> {
+    let mut other = OTHER;
+    let told = spoilt_on::<V6>(rt.alloc(), &[PORT_V6], SENDER_V6, &mut other)?;
+    assert_eq!(rt; told, (OF_ANOTHER_TYPE_V6, 0));
+    Ok(())
+}
+
+#[test]
+fn spoilt_join_prunes_of_a_neighbour(rt: HostRuntime) -> Result<(), Fail> {
+    let mut lists = LISTS;
+    let told = spoilt_by_neighbour::<V4>(rt.alloc(), &[PORT], SENDER, &mut lists)?;
+    assert_eq!(rt; told, OF_NEIGHBOUR);
+    Ok(())
+}
+
+#[test]
+fn spoilt_join_prunes_of_a_neighbour_over_ipv6(rt: HostRuntime) -> Result<(), Fail> {
+    let mut lists = LISTS_V6;
+    let told = spoilt_by_neighbour::<V6>(rt.alloc(), &[PORT_V6], SENDER_V6, &mut lists)?;
+    assert_eq!(rt; told, OF_NEIGHBOUR_V6);
     Ok(())
 }

@@ -6,7 +6,7 @@ use std::test::Fail;
 
 /// What is to be shown of a plan or of a fault.
 #[derive(Clone, Copy, Debug, PartialEq, Eq)]
-enum Shown<'a> {
+pub(super) enum Shown<'a> {
     /// The values of a command with captures: its ports, whether it has an RP, its limit and what it runs on.
     Captures(usize, bool, usize, u64),
     /// A holdtime and a budget of `same`.
@@ -60,11 +60,11 @@ fn shown_task<'a, A>(task: &Task<'a, A>, is_ipv6: bool) -> Shown<'a> {
     }
 }
 
-const A: &str = "10.0.0.2@a.pcap";
+pub(super) const A: &str = "10.0.0.2@a.pcap";
 
 const R: &str = "replay";
 
-const S: &[&str] = &[
+pub(super) const S: &[&str] = &[
     "p",
     "same",
     "--rp",
@@ -75,7 +75,7 @@ const S: &[&str] = &[
     "10.0.0.1",
 ];
 
-const C: &[&str] = &[
+pub(super) const C: &[&str] = &[
     "p",
     "change",
     "--rp",
@@ -304,109 +304,8 @@ const ROWS: [(&[&str], Shown<'static>); 43] = [
     (&["p", "emits"], Shown::Clap),
 ];
 
-/// Words behind those of `same`, with what is made of them.
-const SAME_ROWS: [(&[&str], Shown<'static>); 11] = [
-    (
-        &["a=10.0.0.2@a.pcap", "b=10.0.0.2@a.pcap"],
-        Shown::Writing(210, 1460),
-    ),
-    (
-        &[
-            "b=10.0.0.2@x",
-            "a=10.0.0.2@y",
-            "--holdtime",
-            "99",
-            "--budget",
-            "70",
-        ],
-        Shown::Writing(99, 70),
-    ),
-    (
-        &[
-            "--holdtime",
-            "65535",
-            "a=10.0.0.2@y",
-            "--budget",
-            "65000",
-            "b=1.1.1.1@x",
-        ],
-        Shown::Writing(65_535, 65_000),
-    ),
-    (
-        &["--holdtime", "98", "a=10.0.0.2@y", "b=10.0.0.2@x"],
-        Shown::Clap,
-    ),
-    (
-        &["--budget", "65001", "a=10.0.0.2@y", "b=10.0.0.2@x"],
-        Shown::Clap,
-    ),
-    (&["a=10.0.0.2@a.pcap"], Shown::NoPort(Side::B)),
-    (&["b=10.0.0.2@a.pcap"], Shown::NoPort(Side::A)),
-    (&["a=10.0.0.300@x"], Shown::Address("a=10.0.0.300@x")),
-    (&["c=10.0.0.2@x"], Shown::Word("c=10.0.0.2@x")),
-    (&["a=10.0.0.2"], Shown::Word("a=10.0.0.2")),
-    (
-        &["a=10.0.0.2@x", "b=224.0.0.1@x"],
-        Shown::Config(ConfigCause::Address),
-    ),
-];
-
-/// Words behind those of `change`, with what is made of them.
-const CHANGE_ROWS: [(&[&str], Shown<'static>); 13] = [
-    (
-        &["a=10.0.0.2@a.pcap", "b=10.0.0.2@a.pcap"],
-        Shown::Change(210, 1460, 2),
-    ),
-    (
-        &[
-            "b=10.0.0.2@x",
-            "a=10.0.0.2@y",
-            "--holdtime",
-            "99",
-            "--budget",
-            "70",
-            "b=10.0.1.2@z",
-        ],
-        Shown::Change(99, 70, 3),
-    ),
-    (
-        &[
-            "--routes",
-            "r",
-            "--limit=1",
-            "--after",
-            "5",
-            "a=10.0.0.2@y",
-            "b=1.1.1.1@x",
-        ],
-        Shown::Change(210, 1460, 2),
-    ),
-    (
-        &["--holdtime", "98", "a=10.0.0.2@y", "b=10.0.0.2@x"],
-        Shown::Clap,
-    ),
-    (
-        &["--budget", "69", "a=10.0.0.2@y", "b=10.0.0.2@x"],
-        Shown::Clap,
-    ),
-    (
-        &["--limit", "0", "a=10.0.0.2@y", "b=10.0.0.2@x"],
-        Shown::Clap,
-    ),
-    (&["a=10.0.0.2@a.pcap"], Shown::NoPort(Side::B)),
-    (&["b=10.0.0.2@a.pcap"], Shown::NoPort(Side::A)),
-    (&["b=10.0.0.300@x"], Shown::Address("b=10.0.0.300@x")),
-    (&["10.0.0.2@x"], Shown::Word("10.0.0.2@x")),
-    (&["b=10.0.0.2"], Shown::Word("b=10.0.0.2")),
-    (&["a=10.0.0.2@x", "b=fe80::2@x"], Shown::Family),
-    (
-        &["a=10.0.0.2@x", "b=224.0.0.1@x"],
-        Shown::Config(ConfigCause::Address),
-    ),
-];
-
 /// What is made of these words.
-fn made<'a>(alloc: Global, words: &'a [&'a str]) -> Shown<'a> {
+pub(super) fn made<'a>(alloc: Global, words: &'a [&'a str]) -> Shown<'a> {
     match plan(alloc, words) {
         Ok(Plan::V4(task)) => shown_task(&task, false),
         Ok(Plan::V6(task)) => shown_task(&task, true),
@@ -419,26 +318,6 @@ fn words_make_plans_and_faults(rt: HostRuntime) {
     for (words, shown) in ROWS {
         assert_eq!(rt; made(rt.alloc(), words), shown);
     }
-}
-
-#[test]
-fn words_of_two_routers_make_plans_and_faults(rt: HostRuntime) -> Result<(), Fail> {
-    for (words, shown) in SAME_ROWS {
-        let mut all = Vec::from_slice(rt.alloc(), S)?;
-        all.extend_from_slice(words)?;
-        assert_eq!(rt; made(rt.alloc(), &all), shown);
-    }
-    Ok(())
-}
-
-#[test]
-fn words_of_a_change_make_plans_and_faults(rt: HostRuntime) -> Result<(), Fail> {
-    for (words, shown) in CHANGE_ROWS {
-        let mut all = Vec::from_slice(rt.alloc(), C)?;
-        all.extend_from_slice(words)?;
-        assert_eq!(rt; made(rt.alloc(), &all), shown);
-    }
-    Ok(())
 }
 
 /// Sixty-five words are too many, and sixty-four aren't.
@@ -490,98 +369,5 @@ fn options_give_the_ends(rt: HostRuntime) {
             Err(_) => false,
         };
         assert!(rt; is_so);
-    }
-}
-
-/// Requests for help, with a part of the answer.
-const HELP: [(&[&str], &str); 22] = [
-    (
-        &["p", "--help"],
-        "What does this message say, or where is it wrong?",
-    ),
-    (
-        &["p", "--help"],
-        "What state did this router hold, and why?",
-    ),
-    (
-        &["p", "--help"],
-        "Do these two routers want the same traffic?",
-    ),
-    (
-        &["p", "--help"],
-        "Which messages make a fresh router want what this router wants?",
-    ),
-    (
-        &["p", "--help"],
-        "By which messages does this router ask its upstream neighbour?",
-    ),
-    (
-        &["p", "--help"],
-        "Which messages tell the upstream neighbour of the change from what a wants to what b wants?",
-    ),
-    (
-        &["p", "check", "--help"],
-        "pimtree check < examples/join-star.pim",
-    ),
-    (&["p", "check", "--help"], "[default: 224.0.0.13]"),
-    (&["p", "replay", "--help"], "1 to 100000 [default: 100000]"),
-    (
-        &["p", "replay", "--help"],
-        "in milliseconds, 0 to 1000000000",
-    ),
-    (
-        &["p", "replay", "--help"],
-        "pimtree replay --rp 10.9.9.9 10.0.0.2@examples/lan.pcap",
-    ),
-    (
-        &["p", "same", "--help"],
-        "in seconds, 99 to 65535, which is for ever [default: 210]",
-    ),
-    (&["p", "same", "--help"], "70 to 65000 [default: 1460]"),
-    (&["p", "same", "--help"], "a=ADDRESS@FILE or b=ADDRESS@FILE"),
-    (
-        &["p", "same", "--help"],
-        "a=10.0.0.2@examples/lan.pcap b=10.0.0.2@examples/lost.pcap",
-    ),
-    (&["p", "mirror", "--help"], "70 to 65000 [default: 1460]"),
-    (
-        &["p", "mirror", "--help"],
-        "10.0.0.1 10.0.0.2@examples/lan.pcap",
-    ),
-    (&["p", "emit", "--help"], "70 to 65000 [default: 1460]"),
-    (
-        &["p", "emit", "--help"],
-        "behind two bytes of its length, of which the first counts 256 times",
-    ),
-    (
-        &["p", "emit", "--help"],
-        "10.0.0.1 10.0.0.2@examples/lan.pcap > messages",
-    ),
-    (
-        &["p", "change", "--help"],
-        "a=ADDRESS@FILE or b=ADDRESS@FILE",
-    ),
-    (
-        &["p", "change", "--help"],
-        "a=10.0.0.2@examples/lan.pcap b=10.0.0.2@examples/lost.pcap",
-    ),
-];
-
-/// Whether a fault is `clap`'s text with this part in it.
-fn shows(fault: &Fault<'_>, part: &str) -> bool {
-    match fault {
-        Fault::Clap(refusal) => refusal.text.contains(part),
-        _ => false,
-    }
-}
-
-#[test]
-fn help_names_units_ranges_and_defaults(rt: HostRuntime) {
-    for (words, part) in HELP {
-        let is_shown = match plan(rt.alloc(), words) {
-            Ok(_) => false,
-            Err(fault) => shows(&fault, part),
-        };
-        assert!(rt; is_shown);
     }
 }

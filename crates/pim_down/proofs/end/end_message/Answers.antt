@@ -1,28 +1,52 @@
-use Rattle.std.proofs.Common.{List, refl, sym, subst}
+use Rattle.std.proofs.Common.{◌≡◌, ◌+◌, ◌∙◌, List, ℕ, true, refl, sym, subst, drop, arith}
 use Rattle.pim_jp.specs.Message.{GroupSet}
-use Rattle.pim_down.specs.Running.{AreOverIn}
+use Rattle.pim_down.specs.Running.{AreOverIn, is_group_of}
 use Rattle.pim_down.specs.Seen.{records_seen}
-use Rattle.pim_down.proofs.Ending.{ends_group, ends_message}
+use Rattle.pim_down.proofs.Ending.{ends_group, ends_later, ends_message}
+use Rattle.pim_down.proofs.Stays.{set_at, rest_at}
 use Rattle.pim_down.proofs.end.end_message.Goals as goal
 
 pub loop-set-init : goal.loop-set-init
 loop-set-init g c =
     let seen = records_seen g.F.Family.bytes_of c.args.records.now.items in
+    let items = c.into_iter-set-iterator.ensures.into_iter_gives ∙ c.sets-set-items.ensures in
     record {
-      ascending = c.requires.ascending;
-      left = subst (λ (sets : List GroupSet). AreOverIn c.args.port sets seen) (sym c.into_iter-set-iterator.ensures.into_iter_gives) c.requires.groups;
-      same = refl;
+      sets = items;
+      ends = record {
+        ascending = c.requires.ascending;
+        left = subst (λ (sets : List GroupSet). AreOverIn c.args.port sets seen) (sym items) c.requires.groups;
+        same = refl;
+      };
     }
 
+pub overflow_add-number : goal.overflow_add-number
+overflow_add-number g c =
+    let at = set_at c.args.message.now.sets c.loop-set.number c.in-Some.set c.next.new.self (sym c.loop-set.invariant.sets ∙ c.in-Some.ensures.steps) in
+    omega (arith, at.within, c.set_count-most.ensures, c.set_count-most.type_inv)
+
 pub end_group-requires : goal.end_group-requires
-end_group-requires g c = c.loop-set.invariant.ascending
+end_group-requires g c = c.loop-set.invariant.ends.ascending
+
+pub loop-set-preserved-then-not-comes_again : goal.loop-set-preserved-then-not-comes_again
+loop-set-preserved-then-not-comes_again g c =
+    let bytes_of = g.F.Family.bytes_of in
+    record {
+      sets = rest_at c.args.message.now.sets c.loop-set.number (c.loop-set.number + 1) c.in-Some.set c.next.new.self refl (sym c.loop-set.invariant.sets ∙ c.in-Some.ensures.steps);
+      ends = ends_group c.args.port (records_seen bytes_of c.args.records.now.items) (records_seen bytes_of c.loop-set.records.items) (records_seen bytes_of c.end_group.new.records.items) c.loop-set.set-iterator c.next.new.self c.in-Some.set c.in-Some.ensures.steps (rw c.group-group.ensures at c.end_group.ensures) c.loop-set.invariant.ends;
+    }
 
 pub loop-set-preserved : goal.loop-set-preserved
 loop-set-preserved g c =
     let bytes_of = g.F.Family.bytes_of in
-    ends_group c.args.port (records_seen bytes_of c.args.records.now.items) (records_seen bytes_of c.loop-set.records.items) (records_seen bytes_of c.end_group.new.records.items) c.loop-set.set-iterator c.next.new.self c.in-Some.set c.in-Some.ensures.steps (rw c.group.ensures at c.end_group.ensures) c.loop-set.invariant
+    let sets = c.args.message.now.sets in
+    let rest : c.next.new.self ≡ drop (c.loop-set.number + 1) sets = rest_at sets c.loop-set.number (c.loop-set.number + 1) c.in-Some.set c.next.new.self refl (sym c.loop-set.invariant.sets ∙ c.in-Some.ensures.steps) in
+    let later : is_group_of (drop (c.loop-set.number + 1) sets) c.in-Some.set.group ≡ true = subst (λ (group : List ℕ). is_group_of (drop (c.loop-set.number + 1) sets) group ≡ true) c.group-group.ensures (c.comes_again.ensures c.if-not-comes_again.false) in
+    record {
+      sets = rest;
+      ends = ends_later c.args.port (records_seen bytes_of c.args.records.now.items) (records_seen bytes_of c.loop-set.records.items) c.loop-set.set-iterator c.next.new.self c.in-Some.set c.in-Some.ensures.steps (subst (λ (s : List GroupSet). is_group_of s c.in-Some.set.group ≡ true) (sym rest) later) c.loop-set.invariant.ends;
+    }
 
 pub returns : goal.returns
 returns g c =
     let bytes_of = g.F.Family.bytes_of in
-    ends_message c.args.port (records_seen bytes_of c.args.records.now.items) (records_seen bytes_of c.loop-set.records.items) c.loop-set.set-iterator c.in-None.ensures.steps.0 c.loop-set.invariant
+    ends_message c.args.port (records_seen bytes_of c.args.records.now.items) (records_seen bytes_of c.loop-set.records.items) c.loop-set.set-iterator c.in-None.ensures.steps.0 c.loop-set.invariant.ends

@@ -2,7 +2,6 @@ use Rattle.std.proofs.Common.{◌≡◌, ◌+◌, ◌≤◌, ◌∙◌, sym, ap,
 use Rattle.std.specs.Prelude.{is_err}
 use Rattle.std.specs.List.{flat_map}
 use Rattle.std.proofs.lemmas.List.{length-map}
-use Rattle.pim_jp.specs.Message.{GroupSet}
 use Rattle.pim_down.specs.declared.machine.Record.{Record}
 use Rattle.pim_down.specs.Records.{IsAscending}
 use Rattle.pim_down.specs.Hearing.{set_events}
@@ -28,14 +27,14 @@ hear_sets-requires-clause-room g c =
     let items = ap length c.reserve.ensures.items in
     let space = ok_then c.reserve.result (length c.reserve.new.self.items + c.count_sets-fresh.result ≤ c.reserve.new.self.capacity) (sym c.is_err.ensures.value ∙ c.if-is_err.false) c.reserve.ensures.ok in
     let room = room_for c.args.port (start_seen c.args.start) c.reserve.new.self.capacity events held c.requires.ascending (omega (arith, items, space, long, count)) in
-    rw (c.reserve.ensures.items, c.sets-2.ensures) room
+    rw c.reserve.ensures.items room
 
 pub end_message-requires-clause-ascending : goal.end_message-requires-clause-ascending
 end_message-requires-clause-ascending g c =
     let bytes_of = g.F.Family.bytes_of in
     let start = start_seen c.args.start in
     let events = flat_map (set_events (known_in g.F.Family.family c.args.routes.now)) c.args.message.now.sets in
-    let left = rw (c.sets-2.ensures, c.reserve.ensures.items) at c.hear_sets.ensures.records in
+    let left = rw c.reserve.ensures.items at c.hear_sets.ensures.records in
     subst IsAscending (sym left) (IsAscending-act_all c.args.port start events (records_seen bytes_of c.args.records.now.items) c.requires.ascending)
 
 pub end_message-requires-clause-groups : goal.end_message-requires-clause-groups
@@ -44,6 +43,6 @@ end_message-requires-clause-groups g c =
     let start = start_seen c.args.start in
     let known = known_in g.F.Family.family c.args.routes.now in
     let sets = c.args.message.now.sets in
-    let left = rw (c.sets-2.ensures, c.reserve.ensures.items) at c.hear_sets.ensures.records in
+    let left = rw c.reserve.ensures.items at c.hear_sets.ensures.records in
     let over = over_heard c.args.port known start sets (records_seen bytes_of c.args.records.now.items) c.requires.settled in
-    subst (λ (s : List GroupSet). AreOverIn c.args.port s (records_seen bytes_of c.hear_sets.new.records.items)) (sym c.sets-3.ensures) (subst (λ (rs : List (Record (List ℕ))). AreOverIn c.args.port sets rs) (sym left) over)
+    subst (λ (rs : List (Record (List ℕ))). AreOverIn c.args.port sets rs) (sym left) over

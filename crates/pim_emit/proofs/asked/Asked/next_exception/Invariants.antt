@@ -6,12 +6,12 @@ use Rattle.pim_emit.proofs.CountAbove.{count_above}
 use Rattle.pim_emit.proofs.asked.Asked.next_exception.Given as goal
 
 -- no exception was passed over
-abbrev pub invariant-loop-source : goal.invariant-loop-source
-invariant-loop-source g l =
+abbrev pub invariant-loop-held : goal.invariant-loop-held
+invariant-loop-held g l =
     next_above (Some (g.F.Family.bytes_of l.bound)) (exceptions_in (g.F.Family.bytes_of l.group) l.self.form)
     ≡ next_above (option_map g.F.Family.bytes_of l.fn.bound) (exceptions_in (g.F.Family.bytes_of l.group) l.self.form)
 
 -- records of sources above the bound
-abbrev pub decreases-loop-source : goal.decreases-loop-source
-decreases-loop-source g l =
+abbrev pub decreases-loop-held : goal.decreases-loop-held
+decreases-loop-held g l =
     count_above (λ (held : Record (List ℕ)). source_of held.key.what) (Some (g.F.Family.bytes_of l.bound)) l.self-inside.ports.records

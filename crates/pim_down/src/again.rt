@@ -1,0 +1,228 @@
+//! A group that comes again within a message. A second Join(*,G) leaves the (S,G,rpt) machines as the one before left
+//! them (RFC 7761, 4.5.3), but for those that were pruned in between: so it goes to these alone.
+
+ghost use Rattle.std.specs.Prelude.{◌≡◌, ◌<◌, ◌+◌, ℕ, Bool, ◌||◌, true, false, slice_index_or, slice_set, drop, List};
+ghost use Rattle.pim_down.specs.declared.key.Key.{Key};
+ghost use Rattle.pim_down.specs.Tables.{on_star_join};
+ghost use Rattle.pim_down.specs.Records.{IsAscending, changed, each_changed};
+ghost use Rattle.pim_down.specs.Hearing.{on_rpts};
+ghost use Rattle.pim_down.specs.Running.{is_group_of};
+ghost use Rattle.pim_down.specs.Seen.{records_seen};
+ghost use Rattle.pim_down.specs.Stars.{StayBut, AllStay, rpt_key, is_pruned_by, AreMarked, AreFewer};
+
+use crate::edits::{find_place, place_of, replace_at};
+use crate::hear::join_rpts;
+use crate::key::{Key, OfFamily, What};
+use crate::machine::on_star_join;
+use crate::store::Store;
+use pim_addr::Family;
+use pim_jp::{Entries, Entry, JpView, Sets};
+use sorted_blocks::Place;
+
+/// The sets of a message that are gone by, and for each group which of them had the last Join(*,G).
+#[derive(Drop)]
+pub(crate) struct Stars {
+    /// So many sets, from the first one on.
+    pub(crate) gone: u8,
+    /// The sets, by their number, that had the last Join(*,G) of their group.
+    pub(crate) last: [bool; 256],
+    /// Whether a group may come again. It is only a hint: where it is wrong, more machines are gone through.
+    pub(crate) repeat: bool,
+}
+
+impl Stars {
+    /// No set is gone by.
+    pub(crate) fn new(repeat: bool) -> Self
+        ensures { result.gone ≡ 0 }
+    {
+        Stars {
+            gone: 0,
+            last: [false; 256],
+            repeat,
+        }
+    }
+
+    /// One more set is gone by, which had a Join(*,G) or had none.
+    pub(crate) fn pass(&mut self, starred: bool)
+        requires { self.old.gone < 255 }
+        ensures gone { self.new.gone ≡ self.old.gone + 1 }
+        ensures last { self.new.last ≡ slice_set self.old.last self.old.gone starred }
+    {
+        self.last[usize::from(self.gone)] = starred;
+        self.gone += 1;
+    }
+
+    /// Whether this set had the last Join(*,G) of its group. It has it no longer: another one came.
+    fn take(&mut self, set: u8) -> bool
+        ensures was { result ≡ slice_index_or self.old.last set false }
+        ensures gone { self.new.gone ≡ self.old.gone }
+        ensures last { self.new.last ≡ slice_set self.old.last set false }
+    {
+        let was = self.last[usize::from(set)];
+        self.last[usize::from(set)] = false;
+        was
+    }
+}
+
+/// Whether a group may come again: not where the groups ascend, as they do in a message that was packed in order.
+pub(crate) fn may_repeat<F: Family>(sets: Sets<'_, F>) -> bool {
+    let mut last: Option<F::Addr> = None;
+    for set in sets {
+        let group = set.group();
+        if let Some(other) = last {
+            if other >= group {
+                return true;
+            }
+        }
+        last = Some(group);
+    }
+    false
+}
+
+/// Whether a set behind the one of this number has this group, too. It takes a step for each set of the message.
+pub(crate) fn comes_again<F: Family>(
+    message: &JpView<'_, F>,
+    number: u8,
+    group: F::Addr,
+    repeat: bool,
+) -> bool
+    ensures { result ≡ true → is_group_of (drop (number + 1) message.now.sets) (F.bytes_of group) ≡ true }
+{
+    if !repeat {
+        return false;
+    }
+    let _most = message.set_count();
+    let mut next = 0;
+    for set in message.sets() {
+        let this = next;
+        next += 1;
+        if this > number && set.group() == group {
+            return true;
+        }
+    }
+    false
+}
+
+/// A Join(*,G) comes to the (S,G,rpt) machine of this source. It begins to look near this place, and leaves one there.
+fn join_rpt<F: Family>(
+    records: &mut Store<F::Addr, OfFamily<F>>,
+    near: &mut Place,
+    port: usize,
+    group: F::Addr,
+    source: F::Addr,
+)
+    requires { IsAscending (records_seen F.bytes_of records.old.items) }
+    ensures records { records_seen F.bytes_of records.new.items
+        ≡ changed (rpt_key port (F.bytes_of group) (F.bytes_of source)) on_star_join
+        (records_seen F.bytes_of records.old.items) }
+    ensures capacity { records.new.capacity ≡ records.old.capacity }
+{
+    let key = Key {
+        port,
+        group,
+        what: What::Rpt(source),
+    };
+    let found = find_place::<F>(records, *near, &key);
+    *near = place_of(found);
+    match found {
+        Ok(place) => {
+            let machine = on_star_join(records.get(place).machine);
+            replace_at(records, place, Some(machine));
+        }
+        Err(_) => {}
+    }
+}
+
+/// A Join(*,G) comes to the machines that a pruned list of its group names by a Prune(S,G,rpt).
+fn join_pruned<F: Family>(
+    records: &mut Store<F::Addr, OfFamily<F>>,
+    near: &mut Place,
+    port: usize,
+    group: F::Addr,
+    pruned: Entries<'_, F>,
+)
+    requires { IsAscending (records_seen F.bytes_of records.old.items) }
+    ensures ascending { IsAscending (records_seen F.bytes_of records.new.items) }
+    ensures same { each_changed (on_rpts port (F.bytes_of group)) (records_seen F.bytes_of records.new.items)
+        ≡ each_changed (on_rpts port (F.bytes_of group)) (records_seen F.bytes_of records.old.items) }
+    ensures stay { (but : Key (List ℕ) → Bool) → StayBut port (F.bytes_of group)
+        (λ key. is_pruned_by port (F.bytes_of group) pruned.entry key || but key)
+        (records_seen F.bytes_of records.old.items)
+        → StayBut port (F.bytes_of group) but (records_seen F.bytes_of records.new.items) }
+    ensures capacity { records.new.capacity ≡ records.old.capacity }
+{
+    for entry in pruned {
+        match entry {
+            Entry::Rpt(source) => join_rpt::<F>(records, near, port, group, source),
+            Entry::Star(_) | Entry::Source(_) => {}
+        }
+    }
+}
+
+/// A Join(*,G) comes to the machines that were pruned since the last one of its group. The answer is whether there was
+/// one; then it came to all.
+///
+/// It takes a step for each set that is gone by, and one look-up for each Prune(S,G,rpt) that came since. No other
+/// Join(*,G) goes over these again.
+fn join_since<F: Family>(
+    records: &mut Store<F::Addr, OfFamily<F>>,
+    near: &mut Place,
+    port: usize,
+    group: F::Addr,
+    message: &JpView<'_, F>,
+    stars: &mut Stars,
+) -> bool
+    requires ascending { IsAscending (records_seen F.bytes_of records.old.items) }
+    requires marked { AreMarked port message.now.sets stars.old (records_seen F.bytes_of records.old.items) }
+    ensures ascending { IsAscending (records_seen F.bytes_of records.new.items) }
+    ensures same { each_changed (on_rpts port (F.bytes_of group)) (records_seen F.bytes_of records.new.items)
+        ≡ each_changed (on_rpts port (F.bytes_of group)) (records_seen F.bytes_of records.old.items) }
+    ensures all { result ≡ true → AllStay port (F.bytes_of group) (records_seen F.bytes_of records.new.items) }
+    ensures capacity { records.new.capacity ≡ records.old.capacity }
+    ensures fewer { AreFewer stars.new stars.old }
+{
+    let _most = message.set_count();
+    let gone = stars.gone;
+    let mut since = false;
+    let mut number = 0;
+    for set in message.sets() {
+        if number == gone {
+            return since;
+        }
+        let this = number;
+        number += 1;
+        if set.group() == group {
+            since |= stars.take(this);
+            if since {
+                join_pruned::<F>(records, near, port, group, set.pruned());
+            }
+        }
+    }
+    since
+}
+
+/// A Join(*,G) comes to the (S,G,rpt) machines of its group: to all of them, or where one came before in the message to
+/// those that were pruned since.
+pub(crate) fn join_group<F: Family>(
+    records: &mut Store<F::Addr, OfFamily<F>>,
+    near: &mut Place,
+    port: usize,
+    group: F::Addr,
+    message: &JpView<'_, F>,
+    stars: &mut Stars,
+)
+    requires ascending { IsAscending (records_seen F.bytes_of records.old.items) }
+    requires marked { AreMarked port message.now.sets stars.old (records_seen F.bytes_of records.old.items) }
+    ensures records { records_seen F.bytes_of records.new.items
+        ≡ each_changed (on_rpts port (F.bytes_of group)) (records_seen F.bytes_of records.old.items) }
+    ensures capacity { records.new.capacity ≡ records.old.capacity }
+    ensures fewer { AreFewer stars.new stars.old }
+{
+    if !stars.repeat {
+        join_rpts::<F>(records, port, group);
+        return;
+    }
+    if !join_since::<F>(records, near, port, group, message, stars) {
+        join_rpts::<F>(records, port, group);
+    }
+}

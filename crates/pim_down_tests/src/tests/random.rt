@@ -1,0 +1,259 @@
+//! Random messages and runs, each told alike by `Ports` and by the slow list.
+
+use super::bodies::{hear_body, table};
+use super::slow::{Named, Slow, SlowRecord};
+use super::{ONE_RP, RP};
+use pim_addr::{Routes, V4};
+use pim_down::{HearFault, Key, Machine, Pending, Ports, Record, Timing, What};
+use pim_jp::Entry;
+use std::alloc::{AllocError, Global};
+use std::test::Fail;
+
+/// How many records a port may have.
+const LIMIT: usize = 700;
+
+const STEPS: u32 = 10_000;
+
+/// Holdtimes, in seconds; the last one is for ever.
+const HOLDTIMES: [u16; 4] = [3, 60, 210, 0xffff];
+
+/// Numbers that look random.
+#[derive(Drop)]
+struct Numbers(u64);
+
+impl Numbers {
+    /// A number below this one.
+    fn below(&mut self, bound: u64) -> u64 {
+        let next = self
+            .0
+            .wrapping_mul(6_364_136_223_846_793_005)
+            .wrapping_add(1_442_695_040_888_963_407);
+        self.0 = next;
+        (next >> 33).checked_rem(bound).unwrap_or(0)
+    }
+
+    /// A byte below this one.
+    fn byte(&mut self, bound: u64) -> u8 {
+        (self.below(bound) & 0xff) as u8
+    }
+
+    /// One of 64 sources.
+    fn source(&mut self) -> [u8; 4] {
+        [192, 0, 2, self.byte(64)]
+    }
+
+    /// An entry of one of eight groups: mostly of a source.
+    fn named(&mut self) -> Named {
+        let entry = match self.below(32) {
+            0 => Entry::Star(RP),
+            1 => Entry::Star([10, 9, 9, 8]),
+            number if number < 16 => Entry::Source(self.source()),
+            _ => Entry::Rpt(self.source()),
+        };
+        let joins = match entry {
+            Entry::Rpt(_) => self.below(4) == 0,
+            Entry::Star(_) | Entry::Source(_) => self.below(4) != 0,
+        };
+        let group = [239, 1, 1, self.byte(8)];
+        Named {
+            joins,
+            group,
+            entry,
+        }
+    }
+
+    fn timing(&mut self) -> Timing {
+        Timing {
+            override_ms: self.below(5_000),
+            several: self.below(2) == 0,
+        }
+    }
+
+    fn holdtime(&mut self) -> u16 {
+        HOLDTIMES[(self.below(4) & 3) as usize]
+    }
+}
+
+/// Appends a set of one entry.
+fn push_set(body: &mut Vec<u8>, named: Named) -> Result<(), AllocError> {
+    let (flags, address) = match named.entry {
+        Entry::Star(rp) => (7, rp),
+        Entry::Source(source) => (4, source),
+        Entry::Rpt(source) => (5, source),
+    };
+    let [_, _, _, group] = named.group;
+    let [a, b, c, d] = address;
+    let (joined, pruned) = (u8::from(named.joins), u8::from(!named.joins));
+    body.extend_from_slice(&[1, 0, 0, 32, 239, 1, 1, group, 0, joined, 0, pruned])?;
+    body.extend_from_slice(&[1, 0, flags, 32, a, b, c, d])
+}
+
+/// The body of a message with a set for each entry.
+fn body(alloc: Global, holdtime: u16, message: &[Named]) -> Result<Vec<u8>, AllocError> {
+    let [high, low] = holdtime.to_be_bytes();
+    let sets = (message.len() % 256) as u8;
+    let mut body = Vec::from_slice(alloc, &[1, 0, 10, 0, 0, 2, 0, sets, high, low])?;
+    for named in message {
+        push_set(&mut body, *named)?;
+    }
+    Ok(body)
+}
+
+/// Up to ten entries.
+fn message(alloc: Global, numbers: &mut Numbers) -> Result<Vec<Named>, AllocError> {
+    let mut entries = Vec::new(alloc);
+    for _ in 0..numbers.below(10).saturating_add(1) {
+        entries.push(numbers.named())?;
+    }
+    Ok(entries)
+}
+
+/// Both hear a message: whether they answer alike.
+fn hear(
+    alloc: Global,
+    numbers: &mut Numbers,
+    routes: &Routes<V4>,
+    ports: &mut Ports<V4>,
+    slow: &mut Slow,
+) -> Result<bool, AllocError> {
+    let message = message(alloc, numbers)?;
+    let holdtime = numbers.holdtime();
+    let timing = numbers.timing();
+    let port = usize::from(numbers.byte(2));
+    let body = body(alloc, holdtime, &message)?;
+    let told = hear_body(ports, routes, port, &body, timing);
+    let wanted = match slow.hear(port, &message, holdtime, timing)? {
+        None => Ok(()),
+        Some(needed) => Err(HearFault::Full { needed }),
+    };
+    Ok(told == Some(wanted))
+}
+
+/// Both run on: whether they tell alike.
+fn run(numbers: &mut Numbers, ports: &mut Ports<V4>, slow: &mut Slow) -> bool {
+    let moment = ports.now().saturating_add(numbers.below(2_000));
+    if moment > 1_000_000_000_000_000 {
+        return false;
+    }
+    Some(ports.run_to(moment)) == slow.run_to(moment)
+}
+
+/// Whether moments and counts are the same.
+fn is_alike(ports: &Ports<V4>, slow: &Slow) -> bool {
+    ports.now() == slow.moment
+        && ports.next_due() == slow.next_due()
+        && ports.port_count() == 2
+        && ports.count_on(0) == slow.count_on(0)
+        && ports.count_on(1) == slow.count_on(1)
+}
+
+/// A record of the slow list, as it is told at this moment.
+fn told(held: &SlowRecord, moment: u64) -> Record<[u8; 4]> {
+    let SlowRecord { key, course } = *held;
+    let pending = course.pending.map(|(ends_at, several)| Pending {
+        ends_in: ends_at.saturating_sub(moment),
+        several,
+    });
+    let expires_in = course
+        .expires_at
+        .map(|ends_at| ends_at.saturating_sub(moment));
+    Record {
+        key,
+        machine: Machine {
+            state: course.state,
+            expires_in,
+            pending,
+        },
+    }
+}
+
+/// Whether the same records are told.
+fn holds_alike(ports: &Ports<V4>, slow: &Slow) -> bool {
+    let mut records = ports.records();
+    for held in &slow.records {
+        if records.next() != Some(told(held, slow.moment)) {
+            return false;
+        }
+    }
+    records.next().is_none()
+}
+
+/// The least group above this one with a record on the port.
+fn group_after(slow: &Slow, port: usize, group: [u8; 4]) -> Option<[u8; 4]> {
+    let is_next = |held: &&SlowRecord| held.key.port == port && held.key.group > group;
+    Some(slow.records.iter().find(is_next)?.key.group)
+}
+
+/// The next (S,G) or (S,G,rpt) of the group behind an (S,G).
+fn is_behind(key: Key<[u8; 4]>, port: usize, group: [u8; 4], source: [u8; 4]) -> bool {
+    let is_later = match key.what {
+        What::Star => false,
+        What::Source(other) => other > source,
+        What::Rpt(_) => true,
+    };
+    key.port == port && key.group == group && is_later
+}
+
+fn source_after(
+    slow: &Slow,
+    port: usize,
+    group: [u8; 4],
+    source: [u8; 4],
+) -> Option<Record<[u8; 4]>> {
+    let is_next = |held: &&SlowRecord| is_behind(held.key, port, group, source);
+    Some(told(slow.records.iter().find(is_next)?, slow.moment))
+}
+
+/// Whether look-ups of a machine, a group and a machine behind one answer alike.
+fn answers_alike(numbers: &mut Numbers, ports: &Ports<V4>, slow: &Slow) -> bool {
+    let port = usize::from(numbers.byte(2));
+    let group = [239, 1, 1, numbers.byte(8)];
+    let source = numbers.source();
+    let what = What::Rpt(source);
+    let state = slow
+        .course(Key { port, group, what })
+        .map(|course| course.state);
+    ports.state_of(port, group, what) == state
+        && ports.group_after(port, Some(group)) == group_after(slow, port, group)
+        && ports.record_after(port, group, What::Source(source))
+            == source_after(slow, port, group, source)
+}
+
+/// A step of both: whether they go alike.
+fn step(
+    alloc: Global,
+    numbers: &mut Numbers,
+    routes: &Routes<V4>,
+    ports: &mut Ports<V4>,
+    slow: &mut Slow,
+) -> Result<bool, AllocError> {
+    let goes = if numbers.below(4) == 0 {
+        run(numbers, ports, slow)
+    } else {
+        hear(alloc, numbers, routes, ports, slow)?
+    };
+    Ok(goes && is_alike(ports, slow) && answers_alike(numbers, ports, slow))
+}
+
+/// The first step after which they differ; each hundredth one compares all records.
+fn first_difference(alloc: Global, seed: u64) -> Result<Option<u32>, AllocError> {
+    let mut numbers = Numbers(seed);
+    let Some(routes) = table(alloc, &ONE_RP) else {
+        return Ok(Some(0));
+    };
+    let mut ports: Ports<V4> = Ports::new(alloc, 2, LIMIT);
+    let mut slow = Slow::new(alloc, LIMIT);
+    for number in 1..STEPS {
+        let goes = step(alloc, &mut numbers, &routes, &mut ports, &mut slow)?;
+        if !goes || number % 100 == 0 && !holds_alike(&ports, &slow) {
+            return Ok(Some(number));
+        }
+    }
+    Ok(None)
+}
+
+#[test]
+fn random_runs_go_as_the_slow_list(rt: HostRuntime) -> Result<(), Fail> {
+    assert_eq!(rt; first_difference(rt.alloc(), 7)?, None);
+    Ok(())
+}

@@ -1,0 +1,67 @@
+-- What comes next on each port, where what comes next of all is passed.
+use Rattle.std.proofs.Common.{◌≡◌, ◌∙◌, ℕ, ◌+◌, ◌<◌, ◌≤◌, true, false, ◌&&◌, List, Option, None, Some, length, get_or, sym, subst, arith, ⊎_elim}
+use Rattle.std.proofs.Math.ListN.{set}
+use Rattle.std.proofs.lemmas.Bool.{false≢true, and_parts, and_from, cases_lt}
+use Rattle.std.proofs.lemmas.List.{get_or-set_same, get_or-set_other}
+use Rattle.std.specs.Ordering.{is_le}
+use Rattle.pim_down.specs.After.{is_above}
+use Rattle.pim_down.specs.Key.{address_cmp}
+use Rattle.pim_down.specs.Time.{Downstream}
+use Rattle.pim_form.specs.Wants.{some_below}
+use Rattle.pim_emit.specs.Ahead.{is_this, IsNextOn, IsNextSource}
+use Rattle.pim_emit.specs.Machines.{is_source_joined}
+use Rattle.pim_emit.proofs.Addresses.{lt_less, above_less, le_above}
+use Rattle.pim_emit.proofs.Above.{by_test}
+use Rattle.pim_emit.proofs.PortsBelow.{found_below, and_below}
+
+-- ---- a list that is written place by place
+
+-- two lists are the same from this place on
+abbrev pub AreSameFrom : {A : Type 0} → ℕ → List A → List A → Type 0
+AreSameFrom {A} from these those = (k : ℕ) (d : A) → from ≤ k → get_or these k d ≡ get_or those k d
+
+module _ {A : Type 0} (xs : List A) (i : ℕ) (x : A) where
+  -- what holds of each place before this one, and of what is written there, holds of each up to it
+  pub each_set : (P : ℕ → A → Type 0) → i < length xs → ((k : ℕ) (d : A) → k < i → P k (get_or xs k d)) → P i x
+      → (k : ℕ) (d : A) → k < i + 1 → P k (get_or (set xs i x) k d)
+  each_set P within before here k d below =
+      ⊎_elim
+      (λ (early : k < i). subst (P k) (sym (get_or-set_other xs i k x d (omega (arith, early)))) (before k d early))
+      (λ (late : i ≤ k).
+      let same : i ≡ k = omega (arith, late, below) in
+      subst (λ n. P n (get_or (set xs i x) n d)) same (subst (P i) (sym (get_or-set_same xs i x d within)) here))
+      (cases_lt k i)
+
+  -- those behind it stay
+  pub left_set : (ys : List A) → AreSameFrom i xs ys → AreSameFrom (i + 1) (set xs i x) ys
+  left_set ys left k d behind = get_or-set_other xs i k x d (omega (arith, behind)) ∙ left k d (omega (arith, behind))
+
+-- ---- one is passed
+
+module _ (state : Downstream) (group : List ℕ) (port : ℕ) (below : port < state.ports) (bound : Option (List ℕ)) (passed : List ℕ) (least : IsNextSource state group bound (Some passed)) where
+  passed_above : is_above bound passed ≡ true
+  passed_above =
+      (and_parts (is_above bound passed) (some_below state.ports (is_source_joined state group passed))
+      (sym (and_below (is_above bound passed) (is_source_joined state group passed) state.ports) ∙ least.0)).0
+
+  -- what is behind it is above the bound
+  raised : (source : List ℕ) → (is_above (Some passed) source && is_source_joined state group source port) ≡ true
+      → (is_above bound source && is_source_joined state group source port) ≡ true
+  raised source passes =
+      let parts = and_parts (is_above (Some passed) source) (is_source_joined state group source port) passes in
+      and_from (is_above bound source) (is_source_joined state group source port)
+      (above_less bound passed source passed_above (lt_less (address_cmp passed source) parts.0)) parts.1
+
+  -- what comes next on a port, if it is another one, comes next behind it
+  pub stays_next : (next : Option (List ℕ)) → IsNextOn state group bound port next → is_this passed next ≡ false → IsNextOn state group (Some passed) port next
+  stays_next None none apart = λ source.
+      by_test (is_above (Some passed) source && is_source_joined state group source port)
+      (λ e. absurd (false≢true (sym (none source) ∙ raised source e)))
+      (λ e. e)
+  stays_next (Some next) is apart =
+      let parts = and_parts (is_above bound next) (is_source_joined state group next port) is.0 in
+      let up_to : is_le (address_cmp passed next) ≡ true =
+      least.1 next (found_below (λ n. is_above bound next && is_source_joined state group next n) state.ports port below is.0) in (
+        and_from (is_above (Some passed) next) (is_source_joined state group next port) (le_above passed next up_to apart) parts.1,
+        λ source passes. is.1 source (raised source passes),
+      )

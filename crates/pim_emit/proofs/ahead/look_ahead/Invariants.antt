@@ -1,0 +1,10 @@
+use Rattle.std.proofs.Common.{◌≡◌, length, option_map}
+use Rattle.pim_emit.specs.Ahead.{AreNextBelow}
+use Rattle.pim_emit.proofs.ahead.look_ahead.Given as goal
+
+-- the ports before this one are looked up
+abbrev pub invariant-loop-port : goal.invariant-loop-port
+invariant-loop-port g l = record {
+  long : length l.nexts ≡ length l.initial.nexts;
+  next : AreNextBelow g.F.Family.bytes_of l.ports (g.F.Family.bytes_of l.group) (option_map g.F.Family.bytes_of l.bound) l.port l.nexts;
+}

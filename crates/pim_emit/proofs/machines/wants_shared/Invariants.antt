@@ -1,9 +1,0 @@
-use Rattle.std.proofs.Common.{◌≡◌, false}
-use Rattle.pim_form.specs.declared.tree.Tree.TheVariants.{Shared}
-use Rattle.pim_form.specs.Wants.{wants_on, some_below}
-use Rattle.pim_emit.proofs.machines.wants_shared.Given as goal
-
--- no port before this one wants it
-abbrev pub invariant-loop-port : goal.invariant-loop-port
-invariant-loop-port g l =
-    some_below l.port (wants_on l.ports.records (g.F.Family.bytes_of l.source) (g.F.Family.bytes_of l.group) Shared) ≡ false

@@ -1,0 +1,216 @@
+//! Long messages, byte by byte, and a device that fails at each byte.
+
+use super::rows::is_written;
+use super::{
+    GROUP, GROUP6, RP, RP6, State, address6, hear, hear_200, source, state4, state6, write_to,
+};
+use pim_addr::{V4, V6};
+use pim_device::ScriptedDrain;
+use pim_emit::WriteFault;
+use pim_jp::Entry;
+use std::alloc::{AllocError, Global};
+use std::test::Fail;
+
+/// The front of the first message of 200 sources, behind its length; the second one's.
+const FIRST_OF_200: [u8; 28] = [
+    5, 0xc2, 0x23, 0, 0xec, 0x9b, 1, 0, 10, 0, 0, 2, 0, 1, 0, 210, 1, 0, 0, 32, 239, 1, 1, 1, 0,
+    0xb5, 0, 0,
+];
+
+const SECOND_OF_200: [u8; 28] = [
+    0, 0xb2, 0x23, 0, 0xb2, 0x53, 1, 0, 10, 0, 0, 2, 0, 1, 0, 210, 1, 0, 0, 32, 239, 1, 1, 1, 0,
+    0x13, 0, 0,
+];
+
+/// The front of the message of a star with 180 exceptions, behind its length.
+const STAR_BUT_180: [u8; 36] = [
+    5, 0xc2, 0x23, 0, 0x2d, 0x3f, 1, 0, 10, 0, 0, 2, 0, 1, 0, 210, 1, 0, 0, 32, 239, 1, 1, 1, 0, 1,
+    0, 0xb4, 1, 0, 7, 32, 10, 9, 9, 9,
+];
+
+/// The front of the message of 255 stars, behind its length; the message of the last one.
+const STARS_255: [u8; 16] = [
+    0x13, 0xfa, 0x23, 0, 0x07, 0xf5, 1, 0, 10, 0, 0, 2, 0, 255, 0, 210,
+];
+
+const LAST_STAR: [u8; 36] = [
+    0, 0x22, 0x23, 0, 0xc4, 0xd6, 1, 0, 10, 0, 0, 2, 0, 1, 0, 210, 1, 0, 0, 32, 239, 1, 0, 255, 0,
+    1, 0, 0, 1, 0, 7, 32, 10, 9, 9, 9,
+];
+
+/// Appends the entries of the sources 10.1.0.N from this one to that one, with these flags.
+fn push_entries(bytes: &mut Vec<u8>, flags: u8, first: u8, last: u8) -> Result<(), AllocError> {
+    for number in first..=last {
+        bytes.extend_from_slice(&[1, 0, flags, 32, 10, 1, 0, number])?;
+    }
+    Ok(())
+}
+
+/// The two messages of 200 sources, each behind its length.
+pub(super) fn messages_of_200(alloc: Global) -> Result<Vec<u8>, AllocError> {
+    let mut bytes = Vec::from_slice(alloc, &FIRST_OF_200)?;
+    push_entries(&mut bytes, 4, 1, 181)?;
+    bytes.extend_from_slice(&SECOND_OF_200)?;
+    push_entries(&mut bytes, 4, 182, 200)?;
+    Ok(bytes)
+}
+
+/// The two messages of the stars of 239.1.0.0 to 239.1.0.255, each behind its length.
+pub(super) fn messages_of_256_stars(alloc: Global) -> Result<Vec<u8>, AllocError> {
+    let mut bytes = Vec::from_slice(alloc, &STARS_255)?;
+    for number in 0..255 {
+        bytes.extend_from_slice(&[1, 0, 0, 32, 239, 1, 0, number])?;
+        bytes.extend_from_slice(&[0, 1, 0, 0, 1, 0, 7, 32, 10, 9, 9, 9])?;
+    }
+    bytes.extend_from_slice(&LAST_STAR)?;
+    Ok(bytes)
+}
+
+/// Whether a device that fails from this byte on was written the bytes before it, as is told.
+fn is_cut(
+    alloc: Global,
+    state: &State<V4>,
+    bytes: &[u8],
+    fails_from: usize,
+) -> Result<bool, AllocError> {
+    let mut out = ScriptedDrain::new(alloc, 64, fails_from);
+    let told = write_to(alloc, state, &mut out)?;
+    let (front, _) = bytes.split_at(fails_from.min(bytes.len()));
+    let sent = fails_from as u64;
+    Ok(told == Err(WriteFault::Output { sent }) && out.written() == front)
+}
+
+/// The first byte at which a device that fails there isn't written and told so.
+fn first_wrong_failure(
+    alloc: Global,
+    state: &State<V4>,
+    bytes: &[u8],
+) -> Result<Option<usize>, AllocError> {
+    for fails_from in 0..bytes.len() {
+        if !is_cut(alloc, state, bytes, fails_from)? {
+            return Ok(Some(fails_from));
+        }
+    }
+    Ok(None)
+}
+
+/// Hears the star of the group, with so many exceptions.
+fn hear_excepted(alloc: Global, state: &mut State<V4>, count: u8) -> Result<bool, AllocError> {
+    let mut pruned = Vec::new(alloc);
+    for number in 1..=count {
+        pruned.push(Entry::Rpt(source(number)))?;
+    }
+    hear(alloc, state, 0, GROUP, &[Entry::Star(RP)], &pruned)
+}
+
+/// Whether these are the bytes of two messages, and a device that fails at any of them was written the ones before.
+fn are_told(alloc: Global, state: &State<V4>, bytes: &[u8]) -> Result<bool, AllocError> {
+    let all = bytes.len() == 1656 && is_written(alloc, state, 2, bytes)?;
+    Ok(all && first_wrong_failure(alloc, state, bytes)?.is_none())
+}
+
+/// The same where 200 sources were heard.
+fn are_told_of_200(alloc: Global, state: &State<V4>) -> Result<bool, AllocError> {
+    let bytes = messages_of_200(alloc)?;
+    are_told(alloc, state, &bytes)
+}
+
+/// The same where they are heard now.
+fn are_heard_and_told(alloc: Global, state: &mut State<V4>) -> Result<bool, AllocError> {
+    Ok(hear_200(alloc, state)? && are_told_of_200(alloc, state)?)
+}
+
+/// The same of a new state.
+fn each_byte_is_told(alloc: Global) -> Result<bool, AllocError> {
+    match state4(alloc, 1, 1480) {
+        Some(mut state) => are_heard_and_told(alloc, &mut state),
+        None => Ok(false),
+    }
+}
+
+#[test]
+fn each_byte_of_200_sources(rt: HostRuntime) -> Result<(), Fail> {
+    assert!(rt; each_byte_is_told(rt.alloc())?);
+    Ok(())
+}
+
+/// The message of a star with 180 exceptions, behind its length.
+fn message_of_180(alloc: Global) -> Result<Vec<u8>, AllocError> {
+    let mut bytes = Vec::from_slice(alloc, &STAR_BUT_180)?;
+    push_entries(&mut bytes, 5, 1, 180)?;
+    Ok(bytes)
+}
+
+/// Whether it is what is written.
+fn is_told_of_180(alloc: Global, state: &State<V4>) -> Result<bool, AllocError> {
+    let bytes = message_of_180(alloc)?;
+    is_written(alloc, state, 1, &bytes)
+}
+
+/// The same where the star is heard now.
+fn is_heard_and_told(alloc: Global, state: &mut State<V4>) -> Result<bool, AllocError> {
+    Ok(hear_excepted(alloc, state, 180)? && is_told_of_180(alloc, state)?)
+}
+
+/// The same of a new state.
+fn exceptions_fit(alloc: Global) -> Result<bool, AllocError> {
+    match state4(alloc, 1, 1480) {
+        Some(mut state) => is_heard_and_told(alloc, &mut state),
+        None => Ok(false),
+    }
+}
+
+#[test]
+fn as_many_exceptions_as_fit(rt: HostRuntime) -> Result<(), Fail> {
+    assert!(rt; exceptions_fit(rt.alloc())?);
+    Ok(())
+}
+
+/// Hears the star of the group of IPv6, with so many exceptions.
+fn hear_excepted6(alloc: Global, state: &mut State<V6>, count: u8) -> Result<bool, AllocError> {
+    let mut pruned = Vec::new(alloc);
+    for number in 1..=count {
+        pruned.push(Entry::Rpt(address6(number)))?;
+    }
+    hear(alloc, state, 0, GROUP6, &[Entry::Star(RP6)], &pruned)
+}
+
+/// Whether a message of so many bytes is written to a device that takes one byte a call, behind this length; of none
+/// the star is too big, and nothing is.
+fn is_told(alloc: Global, state: &State<V6>, length: [u8; 2]) -> Result<bool, AllocError> {
+    let mut out = ScriptedDrain::new(alloc, 1, 10_000);
+    let told = write_to(alloc, state, &mut out)?;
+    if length == [0, 0] {
+        return Ok(told == Err(WriteFault::TooBig(GROUP6)) && out.written().is_empty());
+    }
+    let count = 2 + usize::from(u16::from_be_bytes(length));
+    let written = out.written();
+    Ok(told == Ok(1) && written.len() == count && written.starts_with(&length))
+}
+
+/// The same where so many exceptions are heard now.
+fn is_told_behind(
+    alloc: Global,
+    state: &mut State<V6>,
+    count: u8,
+    length: [u8; 2],
+) -> Result<bool, AllocError> {
+    Ok(hear_excepted6(alloc, state, count)? && is_told(alloc, state, length)?)
+}
+
+/// The same of a new state, for messages of at most so many bytes.
+fn fits6(alloc: Global, budget: usize, count: u8, length: [u8; 2]) -> Result<bool, AllocError> {
+    match state6(alloc, budget) {
+        Some(mut state) => is_told_behind(alloc, &mut state, count, length),
+        None => Ok(false),
+    }
+}
+
+#[test]
+fn as_many_exceptions_of_ipv6_as_fit(rt: HostRuntime) -> Result<(), Fail> {
+    assert!(rt; fits6(rt.alloc(), 1460, 69, [5, 0xaa])?);
+    assert!(rt; fits6(rt.alloc(), 1460, 70, [0, 0])?);
+    assert!(rt; fits6(rt.alloc(), 70, 0, [0, 0x46])?);
+    assert!(rt; fits6(rt.alloc(), 70, 1, [0, 0])?);
+    Ok(())
+}

@@ -1,0 +1,144 @@
+//! Ports that want of one group, up to 64, or of groups by turns.
+
+use super::long::{messages_of_200, messages_of_256_stars};
+use super::rows::{EXCEPT_A, is_written};
+use super::{GROUP, NEXT_GROUP, RP, State, hear, is_packed, source, state4, write_to};
+use pim_addr::V4;
+use pim_device::ScriptedDrain;
+use pim_jp::Entry;
+use std::alloc::{AllocError, Global};
+use std::test::Fail;
+
+/// On each port the star is joined, and 192.0.2.1 pruned, and a source of the port's own.
+fn hear_meeting(alloc: Global, state: &mut State<V4>) -> Result<bool, AllocError> {
+    for port in 0..64 {
+        let pruned = [
+            Entry::Rpt([192, 0, 2, 1]),
+            Entry::Rpt(source((port + 1) as u8)),
+        ];
+        if !hear(alloc, state, port, GROUP, &[Entry::Star(RP)], &pruned)? {
+            return Ok(false);
+        }
+    }
+    Ok(true)
+}
+
+/// Whether the exception of all ports is told alone.
+fn exceptions_meet(alloc: Global, state: &mut State<V4>) -> Result<bool, AllocError> {
+    Ok(hear_meeting(alloc, state)? && is_written(alloc, state, 1, &EXCEPT_A)?)
+}
+
+#[test]
+fn exceptions_of_64_ports_meet(rt: HostRuntime) -> Result<(), Fail> {
+    let Some(mut state) = state4(rt.alloc(), 64, 1480) else {
+        assert!(rt; false);
+        return Ok(());
+    };
+    assert!(rt; exceptions_meet(rt.alloc(), &mut state)?);
+    Ok(())
+}
+
+/// 200 sources of the group, one a port by turns.
+fn hear_by_turns(alloc: Global, state: &mut State<V4>) -> Result<bool, AllocError> {
+    for number in 1..201 {
+        let joined = [Entry::Source(source(number as u8))];
+        if !hear(alloc, state, (number - 1) % 64, GROUP, &joined, &[])? {
+            return Ok(false);
+        }
+    }
+    Ok(true)
+}
+
+/// Whether they are told in their order.
+fn are_told_in_order(alloc: Global, state: &State<V4>) -> Result<bool, AllocError> {
+    let bytes = messages_of_200(alloc)?;
+    is_written(alloc, state, 2, &bytes)
+}
+
+/// The same where they are heard now.
+fn sources_meet(alloc: Global, state: &mut State<V4>) -> Result<bool, AllocError> {
+    Ok(hear_by_turns(alloc, state)? && are_told_in_order(alloc, state)?)
+}
+
+#[test]
+fn sources_of_64_ports_meet(rt: HostRuntime) -> Result<(), Fail> {
+    let Some(mut state) = state4(rt.alloc(), 64, 1480) else {
+        assert!(rt; false);
+        return Ok(());
+    };
+    assert!(rt; sources_meet(rt.alloc(), &mut state)?);
+    Ok(())
+}
+
+/// The stars of 239.1.0.0 to 239.1.0.255, one a port by turns.
+fn hear_stars(alloc: Global, state: &mut State<V4>) -> Result<bool, AllocError> {
+    for number in 0..256 {
+        let group = [239, 1, 0, number as u8];
+        if !hear(alloc, state, number % 64, group, &[Entry::Star(RP)], &[])? {
+            return Ok(false);
+        }
+    }
+    Ok(true)
+}
+
+/// Whether they are told in their order.
+fn stars_are_told(alloc: Global, state: &State<V4>) -> Result<bool, AllocError> {
+    let bytes = messages_of_256_stars(alloc)?;
+    Ok(bytes.len() == 5152 && is_written(alloc, state, 2, &bytes)?)
+}
+
+/// The same where they are heard now.
+fn groups_take_turns(alloc: Global, state: &mut State<V4>) -> Result<bool, AllocError> {
+    Ok(hear_stars(alloc, state)? && stars_are_told(alloc, state)?)
+}
+
+#[test]
+fn groups_of_64_ports_take_turns(rt: HostRuntime) -> Result<(), Fail> {
+    let Some(mut state) = state4(rt.alloc(), 64, 6000) else {
+        assert!(rt; false);
+        return Ok(());
+    };
+    assert!(rt; groups_take_turns(rt.alloc(), &mut state)?);
+    Ok(())
+}
+
+/// Ports that want of the group: all but the last a star, each but one source more than the one before, and all but
+/// three of the same sources; the last some sources. Every second one wants the next group too.
+fn hear_on_all(alloc: Global, state: &mut State<V4>) -> Result<bool, AllocError> {
+    let last = state.ports.port_count().saturating_sub(1);
+    for port in 0..last {
+        let mut pruned = Vec::new(alloc);
+        for number in 0..port.min(37) + 3 {
+            pruned.push(Entry::Rpt(source((200 - number % 100) as u8)))?;
+        }
+        if !hear(alloc, state, port, GROUP, &[Entry::Star(RP)], &pruned)? {
+            return Ok(false);
+        }
+        let two = [
+            Entry::Source(source((port % 7 + 1) as u8)),
+            Entry::Source(source(90)),
+        ];
+        if port % 2 == 1 && !hear(alloc, state, port, NEXT_GROUP, &two, &[])? {
+            return Ok(false);
+        }
+    }
+    let some = [Entry::Source(source(5)), Entry::Source(source(3))];
+    hear(alloc, state, last, GROUP, &some, &[Entry::Rpt(source(199))])
+}
+
+#[test]
+fn merges_the_ports(rt: HostRuntime) -> Result<(), Fail> {
+    for count in [1, 2, 3, 7, 64] {
+        for budget in [70, 100, 1480] {
+            let Some(mut state) = state4(rt.alloc(), count, budget) else {
+                assert!(rt; false);
+                return Ok(());
+            };
+            assert!(rt; hear_on_all(rt.alloc(), &mut state)?);
+            let mut out = ScriptedDrain::new(rt.alloc(), 33, 100_000);
+            assert!(rt; write_to(rt.alloc(), &state, &mut out)?.is_ok());
+            assert!(rt; is_packed(rt.alloc(), &state, out.written()));
+        }
+    }
+    Ok(())
+}

@@ -1,0 +1,276 @@
+//! Rows with their bytes, written to a device that takes one byte a call.
+
+use super::{GROUP, RP, STAR, State, body, hear_body, is_packed, state4, write_to};
+use pim_addr::{Family, Routes, V4};
+use pim_device::ScriptedDrain;
+use pim_down::Ports;
+use pim_form::Writer;
+use pim_jp::Entry;
+use std::alloc::{AllocError, Global};
+use std::test::Fail;
+
+const A: [u8; 4] = [192, 0, 2, 1];
+
+const B: [u8; 4] = [192, 0, 2, 2];
+
+/// What a port hears of a group, in a message of one set.
+#[derive(Clone, Copy)]
+struct Heard {
+    port: usize,
+    joined: &'static [Entry<[u8; 4]>],
+    pruned: &'static [Entry<[u8; 4]>],
+    /// Whether prunes wait for other neighbours.
+    several: bool,
+}
+
+/// What is heard, and how many messages of which bytes are written then.
+#[derive(Clone, Copy)]
+struct Row {
+    heard: &'static [Heard],
+    messages: u64,
+    bytes: &'static [u8],
+}
+
+/// A port joins the star, and prunes A.
+const STAR_EXCEPT_A: Heard = Heard {
+    port: 0,
+    joined: &[Entry::Star(RP)],
+    pruned: &[Entry::Rpt(A)],
+    several: false,
+};
+
+/// Another one prunes B, too.
+const STAR_EXCEPT_BOTH: Heard = Heard {
+    port: 1,
+    pruned: &[Entry::Rpt(A), Entry::Rpt(B)],
+    ..STAR_EXCEPT_A
+};
+
+/// One without the star prunes B.
+const LONE_PRUNE: Heard = Heard {
+    port: 2,
+    joined: &[],
+    pruned: &[Entry::Rpt(B)],
+    several: false,
+};
+
+/// The star but A, behind its length.
+pub(super) const EXCEPT_A: [u8; 44] = [
+    0, 0x2a, 0x23, 0, 0xfc, 0xb1, 1, 0, 10, 0, 0, 2, 0, 1, 0, 210, 1, 0, 0, 32, 239, 1, 1, 1, 0, 1,
+    0, 1, 1, 0, 7, 32, 10, 9, 9, 9, 1, 0, 5, 32, 192, 0, 2, 1,
+];
+
+/// The source A by its own tree.
+const SOURCE_A: [u8; 36] = [
+    0, 0x22, 0x23, 0, 0x18, 0xe5, 1, 0, 10, 0, 0, 2, 0, 1, 0, 210, 1, 0, 0, 32, 239, 1, 1, 1, 0, 1,
+    0, 0, 1, 0, 4, 32, 192, 0, 2, 1,
+];
+
+const ROWS: [Row; 6] = [
+    // Sources that each port with the star has pruned are exceptions.
+    Row {
+        heard: &[STAR_EXCEPT_A, STAR_EXCEPT_BOTH, LONE_PRUNE],
+        messages: 1,
+        bytes: &EXCEPT_A,
+    },
+    // The same message again.
+    Row {
+        heard: &[STAR_EXCEPT_A, STAR_EXCEPT_A],
+        messages: 1,
+        bytes: &EXCEPT_A,
+    },
+    // Prunes alone ask for nothing.
+    Row {
+        heard: &[Heard {
+            pruned: &[Entry::Rpt(A), Entry::Rpt(B)],
+            ..LONE_PRUNE
+        }],
+        messages: 0,
+        bytes: &[],
+    },
+    // A prune of a source on the tree of the RP is none by its own tree.
+    Row {
+        heard: &[Heard {
+            joined: &[Entry::Source(A)],
+            pruned: &[Entry::Rpt(A)],
+            ..LONE_PRUNE
+        }],
+        messages: 1,
+        bytes: &SOURCE_A,
+    },
+    // A star in Prune-Pending is wanted.
+    Row {
+        heard: &[
+            STAR_EXCEPT_A,
+            Heard {
+                pruned: &[],
+                ..STAR_EXCEPT_BOTH
+            },
+            Heard {
+                port: 1,
+                joined: &[],
+                pruned: &[Entry::Star(RP)],
+                several: true,
+            },
+        ],
+        messages: 1,
+        bytes: &STAR,
+    },
+    // And so is a source.
+    Row {
+        heard: &[
+            Heard {
+                joined: &[Entry::Source(A)],
+                pruned: &[],
+                ..LONE_PRUNE
+            },
+            Heard {
+                pruned: &[Entry::Source(A)],
+                several: true,
+                ..LONE_PRUNE
+            },
+        ],
+        messages: 1,
+        bytes: &SOURCE_A,
+    },
+];
+
+/// Whether so many messages of these bytes are written to a device that takes one byte a call, and kept, and packed.
+pub(super) fn is_written<F: Family>(
+    alloc: Global,
+    state: &State<F>,
+    messages: u64,
+    bytes: &[u8],
+) -> Result<bool, AllocError> {
+    let mut out = ScriptedDrain::new(alloc, 1, 10_000);
+    let told = write_to(alloc, state, &mut out)?;
+    let counted = told.is_ok_and(|count| count == messages);
+    Ok(counted && out.written() == bytes && is_packed(alloc, state, bytes))
+}
+
+/// Whether a port takes what it hears of a group.
+fn is_taken(
+    alloc: Global,
+    state: &mut State<V4>,
+    group: [u8; 4],
+    heard: &Heard,
+) -> Result<bool, AllocError> {
+    let upstream = state.writer.upstream();
+    let body = body::<V4>(alloc, upstream, group, heard.joined, heard.pruned)?;
+    Ok(hear_body(state, heard.port, &body, heard.several))
+}
+
+/// Whether ports take all that they hear of a group.
+fn are_taken(
+    alloc: Global,
+    state: &mut State<V4>,
+    group: [u8; 4],
+    heard: &[Heard],
+) -> Result<bool, AllocError> {
+    for one in heard {
+        if !is_taken(alloc, state, group, one)? {
+            return Ok(false);
+        }
+    }
+    Ok(true)
+}
+
+/// Whether a row is so.
+fn is_so(alloc: Global, row: &Row) -> Result<bool, AllocError> {
+    let Some(mut state) = state4(alloc, 3, 1480) else {
+        return Ok(false);
+    };
+    let taken = are_taken(alloc, &mut state, GROUP, row.heard)?;
+    Ok(taken && is_written(alloc, &state, row.messages, row.bytes)?)
+}
+
+/// The number of the first row that isn't so.
+fn first_wrong(alloc: Global, rows: &[Row]) -> Result<Option<usize>, AllocError> {
+    for number in 0..rows.len() {
+        if !is_so(alloc, &rows[number])? {
+            return Ok(Some(number));
+        }
+    }
+    Ok(None)
+}
+
+#[test]
+fn rows_are_written(rt: HostRuntime) -> Result<(), Fail> {
+    assert_eq!(rt; first_wrong(rt.alloc(), &ROWS)?, None);
+    Ok(())
+}
+
+/// What is asked of 10.0.0.2: the source B, and the star of the other group.
+const OF_ONE: [u8; 56] = [
+    0, 0x36, 0x23, 0, 0x0b, 0x8d, 1, 0, 10, 0, 0, 2, 0, 2, 0, 210, 1, 0, 0, 32, 239, 1, 1, 1, 0, 1,
+    0, 0, 1, 0, 4, 32, 192, 0, 2, 2, 1, 0, 0, 32, 239, 1, 2, 1, 0, 1, 0, 0, 1, 0, 7, 32, 10, 9, 9,
+    9,
+];
+
+/// What is asked of 10.0.0.6: the star but A, and A of the other group.
+const OF_OTHER: [u8; 64] = [
+    0, 0x3e, 0x23, 0, 0x44, 0x69, 1, 0, 10, 0, 0, 6, 0, 2, 0, 210, 1, 0, 0, 32, 239, 1, 1, 1, 0, 1,
+    0, 1, 1, 0, 7, 32, 10, 8, 8, 8, 1, 0, 5, 32, 192, 0, 2, 1, 1, 0, 0, 32, 239, 1, 2, 1, 0, 1, 0,
+    0, 1, 0, 4, 32, 192, 0, 2, 1,
+];
+
+/// The star of the group with the RP 10.8.8.8 but A, and B there.
+const FIRST_GROUP: Heard = Heard {
+    port: 0,
+    joined: &[Entry::Star([10, 8, 8, 8]), Entry::Source(B)],
+    pruned: &[Entry::Rpt(A)],
+    several: false,
+};
+
+/// The star of the other group, and A there.
+const OTHER_GROUP: Heard = Heard {
+    port: 0,
+    joined: &[Entry::Star(RP), Entry::Source(A)],
+    pruned: &[],
+    several: false,
+};
+
+/// A table that leads some groups and sources to 10.0.0.6, and the others to 10.0.0.2.
+fn two_ways(alloc: Global) -> Option<Routes<V4>> {
+    let mut routes = Routes::new(alloc);
+    routes.add_rp([239, 1, 0, 0], 16, RP).ok()?;
+    routes.add_rp([239, 1, 1, 0], 24, [10, 8, 8, 8]).ok()?;
+    routes.add_via([0; 4], 0, [10, 0, 0, 2]).ok()?;
+    routes.add_via([10, 8, 0, 0], 16, [10, 0, 0, 6]).ok()?;
+    routes.add_via([192, 0, 2, 0], 24, [10, 0, 0, 6]).ok()?;
+    routes.add_via(B, 32, [10, 0, 0, 2]).ok()?;
+    Some(routes)
+}
+
+/// One port under that table, and a writer to this neighbour from this address.
+fn between_two(alloc: Global, upstream: [u8; 4], own: [u8; 4]) -> Option<State<V4>> {
+    let routes = two_ways(alloc)?;
+    let writer = Writer::new(upstream, own, 210, 1480).ok()?;
+    Some(State {
+        ports: Ports::new(alloc, 1, 1000),
+        routes,
+        writer,
+    })
+}
+
+/// Whether a neighbour is asked by a message of these bytes for its part of both groups.
+fn is_asked(
+    alloc: Global,
+    upstream: [u8; 4],
+    own: [u8; 4],
+    bytes: &[u8],
+) -> Result<bool, AllocError> {
+    let Some(mut state) = between_two(alloc, upstream, own) else {
+        return Ok(false);
+    };
+    let taken = is_taken(alloc, &mut state, GROUP, &FIRST_GROUP)?
+        && is_taken(alloc, &mut state, [239, 1, 2, 1], &OTHER_GROUP)?;
+    Ok(taken && is_written(alloc, &state, 1, bytes)?)
+}
+
+#[test]
+fn each_neighbour_is_asked_for_its_part(rt: HostRuntime) -> Result<(), Fail> {
+    assert!(rt; is_asked(rt.alloc(), [10, 0, 0, 2], [10, 0, 0, 1], &OF_ONE)?);
+    assert!(rt; is_asked(rt.alloc(), [10, 0, 0, 6], [10, 0, 0, 5], &OF_OTHER)?);
+    Ok(())
+}
