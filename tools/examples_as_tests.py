@@ -1,14 +1,14 @@
 #!/usr/bin/env python3
-"""Writes the shipped captures, with their words and reports, as constants of the tests of pimtree, and the first of them
+"""Writes the shipped captures, with their words and reports, as constants of the tests of pim_commands, and the first of them
 as the program's stored run (args, data and stdout of crates/pimtree):
 
-    python3 tools/examples_as_tests.py && cd crates/pimtree && rt fmt
+    python3 tools/examples_as_tests.py && cd crates/pim_commands_tests && rt fmt
 """
 import os
 
 TOP = os.path.join(os.path.dirname(os.path.abspath(__file__)), "..")
 NAMES = ["lan", "lost", "ipv6", "fault"]
-PLACE = os.path.join(TOP, "crates", "pimtree", "src", "examples.rt")
+PLACE = os.path.join(TOP, "crates", "pim_commands_tests", "src", "tests", "examples.rt")
 
 
 def content(name, kind):

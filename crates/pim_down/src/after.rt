@@ -7,7 +7,7 @@ ghost use Rattle.pim_down.specs.Records.{IsAscending};
 ghost use Rattle.pim_down.specs.Seen.{what_seen, key_seen, record_seen, records_seen};
 
 use crate::held::Held;
-use crate::key::{Key, OfFamily, compare_keys};
+use crate::key::{Key, OfFamily, compare_groups, compare_keys};
 use crate::near::Near;
 use crate::rows::Bound;
 use crate::store::Store;
@@ -30,7 +30,7 @@ impl<F: Family> Bound<F::Addr> for GroupsAbove<F> {
     fn is_before(&self, key: &Key<F::Addr>) -> bool {
         match self.bound {
             None => key.port < self.port,
-            Some(group) => key.port.cmp(&self.port).then(key.group.cmp(&group)).is_le(),
+            Some(group) => compare_groups::<F>(key, self.port, group).is_le(),
         }
     }
 }

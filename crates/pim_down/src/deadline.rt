@@ -38,8 +38,13 @@ fn compare_kinds(a: TimerKind, b: TimerKind) -> Ordering
 pub(crate) fn compare_deadlines<A, O: KeyOrder<A>>(a: &Deadline<A>, b: &Deadline<A>) -> Ordering
     ensures { result ≡ deadline_cmp (deadline_seen O.bytes_of a.now) (deadline_seen O.bytes_of b.now) }
 {
-    a.ends_at
-        .cmp(&b.ends_at)
-        .then(compare_kinds(a.timer, b.timer))
-        .then(O::compare(&a.key, &b.key))
+    let by_end = a.ends_at.cmp(&b.ends_at);
+    if by_end.is_ne() {
+        return by_end;
+    }
+    let by_kind = compare_kinds(a.timer, b.timer);
+    if by_kind.is_ne() {
+        return by_kind;
+    }
+    O::compare(&a.key, &b.key)
 }

@@ -17,7 +17,7 @@ use crate::again::{Stars, join_group};
 use crate::edits::{find_place, machine_of, put_machine};
 use crate::event::{Event, Timing};
 use crate::held::{Start, Timed, Waiting};
-use crate::key::{Key, OfFamily, What};
+use crate::key::{Key, OfFamily, What, compare_groups};
 use crate::machine::{on_join, on_prune, on_rpt_prune, on_star_join};
 use crate::rows::Bound;
 use crate::store::Store;
@@ -133,9 +133,7 @@ impl<F: Family> Bound<F::Addr> for RptsOf<F> {
     ghost is_before = { λ bound key. is_before_rpts bound.port (F.bytes_of bound.group) (key_seen F.bytes_of key) };
 
     fn is_before(&self, key: &Key<F::Addr>) -> bool {
-        key.port
-            .cmp(&self.port)
-            .then(key.group.cmp(&self.group))
+        compare_groups::<F>(key, self.port, self.group)
             .then(beside_rpts(&key.what))
             .is_lt()
     }

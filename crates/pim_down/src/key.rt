@@ -1,10 +1,11 @@
 //! Which machine is meant, and the order in which machines are held and told.
 
 ghost use Rattle.std.specs.Prelude.{◌≡◌};
-ghost use Rattle.pim_down.specs.Key.{what_cmp, key_cmp};
+ghost use Rattle.std.specs.Ordering.{nat_cmp, ordering_then};
+ghost use Rattle.pim_down.specs.Key.{address_cmp, what_cmp, key_cmp};
 ghost use Rattle.pim_down.specs.Seen.{what_seen, key_seen};
 
-use pim_addr::Family;
+use pim_addr::{Family, numbers_are_in_order};
 use std::cmp::Ordering;
 use std::marker::PhantomData;
 
@@ -30,6 +31,16 @@ pub struct Key<A> {
     pub what: What<A>,
 }
 
+/// In the order of their bytes, which is that of their numbers: these a processor compares at once.
+fn compare_addresses<F: Family>(a: F::Addr, b: F::Addr) -> Ordering
+    ensures { result ≡ address_cmp (F.bytes_of a) (F.bytes_of b) }
+{
+    F::address_has_its_bytes(a);
+    F::address_has_its_bytes(b);
+    numbers_are_in_order();
+    F::number(a).cmp(&F::number(b))
+}
+
 /// (*,G) first, then (S,G) by source, then (S,G,rpt) by source.
 #[tactic(auto, unfolding(crate::specs::Key::what_cmp))]
 fn compare_whats<F: Family>(a: &What<F::Addr>, b: &What<F::Addr>) -> Ordering
@@ -41,9 +52,21 @@ fn compare_whats<F: Family>(a: &What<F::Addr>, b: &What<F::Addr>) -> Ordering
         (_, What::Star) => Ordering::Greater,
         (What::Source(_), What::Rpt(_)) => Ordering::Less,
         (What::Rpt(_), What::Source(_)) => Ordering::Greater,
-        (What::Source(s), What::Source(t)) => s.cmp(t),
-        (What::Rpt(s), What::Rpt(t)) => s.cmp(t),
+        (What::Source(s), What::Source(t)) => compare_addresses::<F>(*s, *t),
+        (What::Rpt(s), What::Rpt(t)) => compare_addresses::<F>(*s, *t),
     }
+}
+
+/// By port, then by group.
+pub(crate) fn compare_groups<F: Family>(key: &Key<F::Addr>, port: usize, group: F::Addr) -> Ordering
+    ensures { result ≡ ordering_then (nat_cmp key.now.port port)
+        (address_cmp (F.bytes_of key.now.group) (F.bytes_of group)) }
+{
+    let by_port = key.port.cmp(&port);
+    if by_port.is_ne() {
+        return by_port;
+    }
+    compare_addresses::<F>(key.group, group)
 }
 
 /// By port, then by group, then by machine.
@@ -51,10 +74,11 @@ fn compare_whats<F: Family>(a: &What<F::Addr>, b: &What<F::Addr>) -> Ordering
 pub(crate) fn compare_keys<F: Family>(a: &Key<F::Addr>, b: &Key<F::Addr>) -> Ordering
     ensures { result ≡ key_cmp (key_seen F.bytes_of a.now) (key_seen F.bytes_of b.now) }
 {
-    a.port
-        .cmp(&b.port)
-        .then(a.group.cmp(&b.group))
-        .then(compare_whats::<F>(&a.what, &b.what))
+    let by_group = compare_groups::<F>(a, b.port, b.group);
+    if by_group.is_ne() {
+        return by_group;
+    }
+    compare_whats::<F>(&a.what, &b.what)
 }
 
 /// How keys are compared, with the bytes of their addresses.

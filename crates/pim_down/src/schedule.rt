@@ -41,7 +41,7 @@ impl<A: Copy, O: KeyOrder<A>> Probe<Deadline<A>> for Wanted<A, O> {
 /// The timers that run, in the order in which they fire. Contracts see them, and how many fit without memory.
 #[derive(Drop)]
 pub(crate) struct Schedule<A: Copy, O: KeyOrder<A>> {
-    list: Blocks<Deadline<A>, 32>,
+    list: Blocks<Deadline<A>, 64>,
     /// Where a timer was put in last: a place to begin at.
     put: Place,
     /// Where one was taken out last.
@@ -58,7 +58,7 @@ impl<A: Copy, O: KeyOrder<A>> Model for Schedule<A, O> {
 
     ghost view = { λ s. record {
       timers = map (deadline_seen O.bytes_of) (items s.list);
-      capacity = capacity 32 s.list;
+      capacity = capacity 64 s.list;
     } };
 
     ghost invariant = { λ s. IsInOrder deadline_cmp (map (deadline_seen O.bytes_of) (items s.list)) };
@@ -66,7 +66,7 @@ impl<A: Copy, O: KeyOrder<A>> Model for Schedule<A, O> {
 
 /// Where the timer belongs among these.
 fn slot_of<A: Copy, O: KeyOrder<A>>(
-    list: &Blocks<Deadline<A>, 32>,
+    list: &Blocks<Deadline<A>, 64>,
     near: Place,
     deadline: Deadline<A>,
 ) -> Place

@@ -7,52 +7,12 @@
 
 ghost use Rattle.pim_words.specs.Plan.{IsInRange};
 
-#[cfg(test)]
-mod captures;
-mod causes;
-#[cfg(test)]
-mod change_tests;
-mod changing;
-mod check;
-mod comparing;
-#[cfg(test)]
-mod emit_tests;
-mod emitting;
-#[cfg(test)]
-mod examples;
-mod fault;
-mod hello_text;
-#[cfg(test)]
-mod mirror_tests;
-mod mirroring;
-#[cfg(test)]
-mod replay_tests;
-mod replaying;
-#[cfg(test)]
-mod same_tests;
-mod telling;
-#[cfg(test)]
-mod tests;
-mod text;
-#[cfg(test)]
-mod words_tests;
-mod writing;
-#[cfg(test)]
-mod writing_tests;
-
-use changing::change;
-use check::check_task;
-use comparing::same;
-use emitting::emit;
-use fault::Fault;
-use mirroring::mirror;
 use pim_addr::{Counted, Drain, Family, V4, V6};
+use pim_commands::{FAULTY, Fault, change, check_task, emit, mirror, replay, same, tell_into};
 use pim_words::{Plan, Task, plan};
-use replaying::replay;
 use std::io::{BufWriter, Write};
 use std::process::ExitCode;
 use std::{env, io};
-use telling::{FAULTY, tell_into};
 
 /// The words of the command line, of which the first is the program's name.
 fn words_given(rt: &HostRuntime) -> io::Result<Vec<String>> {

@@ -1,0 +1,89 @@
+-- What is told of a new router's mirror.
+use Rattle.std.proofs.Common.{◌≡◌, inr, refl, sym, ap, subst, ◌∙◌, ℕ, false, List, Option, Result, Ok, Err}
+use Rattle.pim_addr.specs.declared.family.AddressFamily.{AddressFamily}
+use Rattle.pim_form.specs.Messages.{Writing}
+use Rattle.pim_form.specs.Writer.{has_bad_address}
+use Rattle.pim_merge.specs.Next.{MergeState}
+use Rattle.pim_replay.specs.declared.mirror_text.MirrorTextFault.{MirrorTextFault}
+use Rattle.pim_replay.specs.declared.mirror_text.MirrorTextFault.TheVariants as of_mirror
+use Rattle.pim_replay.specs.declared.replay.ReplayFault.TheVariants as of_replay
+use Rattle.pim_replay.specs.MirrorText.{TellsMirror, failures_of_mirror}
+use Rattle.pim_router.specs.Config.{config_faults}
+use Rattle.pim_router.specs.State.{RouterState, Setup, new_router}
+use Rattle.pim_commands.specs.declared.fault.Fault.{Fault}
+use Rattle.pim_commands.specs.Mirroring.{mirrored, mirror_causes, MirrorAnswer, IsMirrored, MirrorsNew}
+use Rattle.pim_commands.specs.Replaying.{IsUnmade, IsFirstCause}
+use Rattle.pim_commands.specs.Report.{write_failures_after}
+use Rattle.pim_commands.specs.Writing.{IsWriterOf}
+use Rattle.pim_commands.proofs.Compared.{first_cause}
+use Rattle.pim_commands.proofs.Routers.{capture_is_read}
+
+-- ---- the first cause
+
+pub not_mirrored : (family : AddressFamily) (writing : Writing) (setup : Setup) (fault : Fault) → IsWriterOf family writing (Err fault)
+    → IsFirstCause (mirror_causes family writing setup) fault
+not_mirrored family writing setup fault is = rw (is.0, is.1) refl
+
+pub unmade_mirror : (family : AddressFamily) (writing : Writing) (setup : Setup) (fault : Fault) → has_bad_address family writing ≡ false
+    → IsUnmade (config_faults family setup) fault → IsFirstCause (mirror_causes family writing setup) fault
+unmade_mirror family writing setup fault fine is = rw (fine) (first_cause (config_faults family setup) fault is)
+
+-- ---- the answer
+
+abbrev pub retold : {F A N : Type 0} → Result ℕ (MirrorTextFault F A N) → MirrorAnswer A
+retold (Ok status) = Ok status
+retold (Err (of_mirror.Replay told)) = Err (of_mirror.Replay told)
+retold (Err (of_mirror.TooBig group)) = Err (of_mirror.TooBig group)
+retold (Err (of_mirror.Full needed)) = Err (of_mirror.Full needed)
+
+made_so : {A : Type 0} (family : AddressFamily) (bytes_of : A → List ℕ) (after_ms limit : ℕ) (merge merge' : MergeState) (old new : Option (List ℕ)) (by writing : Writing) (setup : Setup) (router after : RouterState)
+    (told : MirrorAnswer A) → by ≡ writing → router ≡ new_router setup → TellsMirror family after_ms by limit merge merge' router after bytes_of old new told
+    → TellsMirror family after_ms writing limit merge merge' (new_router setup) after bytes_of old new told
+made_so family bytes_of after_ms limit merge merge' old new by writing setup router after told same made is =
+    subst (λ (w : Writing). TellsMirror family after_ms w limit merge merge' (new_router setup) after bytes_of old new told) same
+    (subst (λ (s : RouterState). TellsMirror family after_ms by limit merge merge' s after bytes_of old new told) made is)
+
+module _ {F A N : Type 0} (family : AddressFamily) (bytes_of : A → List ℕ) (after_ms limit : ℕ) (merge merge' : MergeState) (old new : Option (List ℕ)) where
+  pub same_told : (told : Result ℕ (MirrorTextFault F A N)) → mirrored family bytes_of told ≡ mirrored family bytes_of (retold told)
+  same_told (Ok status) = refl
+  same_told (Err (of_mirror.Replay told)) = refl
+  same_told (Err (of_mirror.TooBig group)) = refl
+  same_told (Err (of_mirror.Full needed)) = refl
+
+  mirrors_retold : (writing : Writing) (router after : RouterState) (told : Result ℕ (MirrorTextFault F A N))
+      → TellsMirror family after_ms writing limit merge merge' router after bytes_of old new told
+      → TellsMirror family after_ms writing limit merge merge' router after bytes_of old new (retold told)
+  mirrors_retold writing router after (Ok status) is = is
+  mirrors_retold writing router after (Err (of_mirror.TooBig group)) is = is
+  mirrors_retold writing router after (Err (of_mirror.Full needed)) is = is
+  mirrors_retold writing router after (Err (of_mirror.Replay (of_replay.Capture told))) is = is
+  mirrors_retold writing router after (Err (of_mirror.Replay of_replay.Output)) is = is
+  mirrors_retold writing router after (Err (of_mirror.Replay of_replay.Memory)) is = is
+
+  is_mirrored : (by writing : Writing) (setup : Setup) (router after : RouterState) (told : Result ℕ (MirrorTextFault F A N)) → by ≡ writing → router ≡ new_router setup
+      → TellsMirror family after_ms by limit merge merge' router after bytes_of old new told
+      → IsMirrored family bytes_of after_ms limit writing merge merge' setup old new (mirrored family bytes_of told)
+  is_mirrored by writing setup router after told same made is = record {
+    after = after;
+    told = retold told;
+    mirrors = made_so family bytes_of after_ms limit merge merge' old new by writing setup router after (retold told) same made (mirrors_retold by router after told is);
+    answer = same_told told;
+  }
+
+  pub mirrored_new : (by writing : Writing) (setup wanted : Setup) (router after : RouterState) (told : Result ℕ (MirrorTextFault F A N)) (result : Result ℕ Fault) → by ≡ writing
+      → setup ≡ wanted → router ≡ new_router setup → TellsMirror family after_ms by limit merge merge' router after bytes_of old new told
+      → result ≡ mirrored family bytes_of told → MirrorsNew family bytes_of after_ms limit writing merge merge' wanted old new result
+  mirrored_new by writing setup wanted router after (Ok status) result same_by same made is answer =
+      rw (answer) (is_mirrored by writing wanted router after (Ok status) same_by (made ∙ ap new_router same) is)
+  mirrored_new by writing setup wanted router after (Err fault) result same_by same made is answer =
+      rw (answer) (inr (is_mirrored by writing wanted router after (Err fault) same_by (made ∙ ap new_router same) is))
+
+-- the device's failures are those that are told
+pub failures_mirrored : {F A N : Type 0} (family : AddressFamily) (bytes_of : A → List ℕ) (before : ℕ) (told : Result ℕ (MirrorTextFault F A N))
+    → failures_of_mirror before told ≡ write_failures_after before (mirrored family bytes_of told)
+failures_mirrored family bytes_of before (Ok status) = refl
+failures_mirrored family bytes_of before (Err (of_mirror.TooBig group)) = refl
+failures_mirrored family bytes_of before (Err (of_mirror.Full needed)) = refl
+failures_mirrored family bytes_of before (Err (of_mirror.Replay (of_replay.Capture told))) = sym (capture_is_read before told.fault)
+failures_mirrored family bytes_of before (Err (of_mirror.Replay of_replay.Output)) = refl
+failures_mirrored family bytes_of before (Err (of_mirror.Replay of_replay.Memory)) = refl

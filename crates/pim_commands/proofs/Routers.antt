@@ -1,0 +1,116 @@
+-- Routers that are made, and what is told of their replays; captures that are added one by one.
+use Rattle.std.proofs.Common.{◌≡◌, ◌≤◌, inl, inr, refl, sym, ap, subst, ◌∙◌, ℕ, ◌+◌, Bool, List, [], ◌∷◌, ◌++◌, length, map, option_map, Option, None, Some, Result, Ok, Err, true, false, arith}
+use Rattle.std.specs.Prelude.{IfSome}
+use Rattle.std.proofs.lemmas.Bool.{not-false}
+use Rattle.std.proofs.lemmas.List.{length-append, length-map}
+use Rattle.pim_addr.specs.declared.family.AddressFamily.{AddressFamily}
+use Rattle.pim_addr.specs.Address.{is_source}
+use Rattle.pim_addr.specs.Routes.{RouteTable}
+use Rattle.pim_capture.specs.declared.fault.CaptureFault.{CaptureFault}
+use Rattle.pim_capture.specs.declared.fault.CaptureFault.TheVariants as of_capture
+use Rattle.pim_capture.specs.Capture.{Answer}
+use Rattle.pim_capture.specs.Next.{latest_moment}
+use Rattle.pim_merge.specs.Lane.{LaneState, coming_on}
+use Rattle.pim_merge.specs.Next.{MergeState}
+use Rattle.pim_replay.specs.declared.replay.ReplayFault.{ReplayFault}
+use Rattle.pim_replay.specs.declared.replay.ReplayFault.TheVariants as of_replay
+use Rattle.pim_replay.specs.Report.{Replays, failures_of_device}
+use Rattle.pim_router.specs.declared.config.ConfigFault.{ConfigFault}
+use Rattle.pim_router.specs.declared.config.ConfigFault.TheVariants as of_config
+use Rattle.pim_router.specs.declared.config.PortConfig.{PortConfig}
+use Rattle.pim_router.specs.Config.{IsMadeUnless, config_faults}
+use Rattle.pim_router.specs.Seen.{port_seen, setup_seen}
+use Rattle.pim_router.specs.State.{RouterState, Setup, new_router}
+use Rattle.pim_words.specs.declared.task.Port.{Port}
+use Rattle.pim_commands.specs.declared.fault.Fault.{Fault}
+use Rattle.pim_commands.specs.Replaying.{config_of, config_fault, capture_fault, answer_of, is_bad, IsUnmade, ReplaysNew}
+use Rattle.pim_commands.specs.Report.{write_failures_after}
+
+-- a value that was made
+pub made_is : {A : Type 0} (faults : List ConfigFault) (value made : A) → IsMadeUnless faults value (Ok made) → (faults ≡ []) × (made ≡ value)
+made_is [] value made is = (refl, is)
+made_is (first ∷ others) value made is = absurd cc
+
+-- the first cause is told, or want of memory
+told_first : (first : ConfigFault) (others : List ConfigFault) → IsUnmade (first ∷ others) (config_fault first)
+told_first of_config.Ports others = refl
+told_first (of_config.Address port) others = refl
+told_first (of_config.Delay port) others = refl
+told_first of_config.Limit others = refl
+told_first of_config.Memory others = tt
+
+pub unmade_is : {A : Type 0} (faults : List ConfigFault) (value : A) (told : ConfigFault) → IsMadeUnless faults value (Err told) → IsUnmade faults (config_fault told)
+unmade_is [] value told is = rw (is) tt
+unmade_is (first ∷ others) value told is = let same : told ≡ first = cc in rw (same) (told_first first others)
+
+-- ---- the table that the options of a command give
+
+-- an address that is given is a valid source
+pub not_bad : {A : Type 0} (family : AddressFamily) (bytes_of : A → List ℕ) (address : Option A) → is_bad family (option_map bytes_of address) ≡ false
+    → IfSome address (λ a. is_source family (bytes_of a) ≡ true)
+not_bad family bytes_of None fine = tt
+not_bad family bytes_of (Some address) fine = not-false (is_source family (bytes_of address)) fine
+
+-- ---- what is answered of a new router's replay
+
+-- there is none
+pub unmade : (family : AddressFamily) (via : Bool) (after_ms : ℕ) (merge : MergeState) (setup wanted : Setup) (written : Option (List ℕ)) (fault : Fault) → setup ≡ wanted
+    → IsUnmade (config_faults family setup) fault → ReplaysNew family via after_ms merge merge wanted written written (Err fault)
+unmade family via after_ms merge setup wanted written fault same is = inl (subst (λ (s : Setup). IsUnmade (config_faults family s) fault) same is, refl, refl)
+
+pub replayed : (family : AddressFamily) (via : Bool) (after_ms : ℕ) (merge merge' : MergeState) (setup wanted : Setup) (router after : RouterState) (old new : Option (List ℕ))
+    (told : Result ℕ ReplayFault) (result : Result ℕ Fault) → setup ≡ wanted → router ≡ new_router setup → Replays family via after_ms merge merge' router after old new told
+    → result ≡ answer_of told → ReplaysNew family via after_ms merge merge' wanted old new result
+replayed family via after_ms merge merge' setup wanted router after old new (Ok status) result same made is answer =
+    rw (answer) (record {
+      after = after;
+      told = Ok status;
+      replays = subst (λ (s : RouterState). Replays family via after_ms merge merge' s after old new (Ok status)) (made ∙ ap new_router same) is;
+      answer = refl;
+    })
+replayed family via after_ms merge merge' setup wanted router after old new (Err fault) result same made is answer =
+    rw (answer) (inr (record {
+      after = after;
+      told = Err fault;
+      replays = subst (λ (s : RouterState). Replays family via after_ms merge merge' s after old new (Err fault)) (made ∙ ap new_router same) is;
+      answer = refl;
+    }))
+
+pub capture_is_read : (before : ℕ) (fault : CaptureFault) → write_failures_after {A = ℕ} before (Err (capture_fault fault)) ≡ before
+capture_is_read before of_capture.Magic = refl
+capture_is_read before of_capture.LinkType = refl
+capture_is_read before of_capture.Truncated = refl
+capture_is_read before of_capture.TooLong = refl
+capture_is_read before of_capture.Read = refl
+capture_is_read before of_capture.Failed = refl
+capture_is_read before of_capture.Memory = refl
+
+-- the device's failures are those that are told
+pub failures_are_told : (before : ℕ) (told : Result ℕ ReplayFault) → failures_of_device before told ≡ write_failures_after before (answer_of told)
+failures_are_told before (Ok status) = refl
+failures_are_told before (Err (of_replay.Capture told)) = sym (capture_is_read before told.fault)
+failures_are_told before (Err of_replay.Output) = refl
+failures_are_told before (Err of_replay.Memory) = refl
+
+-- ---- the conditions of a replay
+
+-- as many ports as words
+pub as_many : {A : Type 0} (bytes_of : A → List ℕ) (ports : List (Port A)) (configs : List (PortConfig A)) (routes : RouteTable) (limit : ℕ) (router : RouterState)
+    → configs ≡ map config_of ports → router ≡ new_router (setup_seen bytes_of configs routes limit) → length router.ports ≡ length ports
+as_many {A} bytes_of ports configs routes limit router same made =
+    ap (λ (s : RouterState). length s.ports) made ∙ ap (λ (l : List (PortConfig A)). length (map (port_seen bytes_of) l)) same
+    ∙ length-map (map config_of ports) (port_seen bytes_of) ∙ length-map ports config_of
+
+pub begins : (setup : Setup) (router : RouterState) → router ≡ new_router setup → router.machines.moment ≤ latest_moment
+begins setup router made = omega (arith, ap (λ (s : RouterState). s.machines.moment) made)
+
+-- ---- captures
+
+-- as many captures as their answers
+same_length : (lanes : List LaneState) (answers : List (Option (List Answer))) → map coming_on lanes ≡ answers → length lanes ≡ length answers
+same_length lanes answers same = sym (length-map lanes coming_on) ∙ ap length same
+
+-- one capture was added
+pub one_longer : (old new : List LaneState) (last : Option (List Answer)) → map coming_on new ≡ map coming_on old ++ last ∷ [] → length new ≡ length old + 1
+one_longer old new last same =
+    same_length new (map coming_on old ++ last ∷ []) same ∙ length-append (map coming_on old) (last ∷ []) ∙ ap (λ (n : ℕ). n + 1) (length-map old coming_on)

@@ -1,0 +1,11 @@
+use Rattle.std.proofs.Common.{◌≡◌, ◌++◌}
+use Rattle.std.specs.List.{flat_map}
+use Rattle.pim_hello.specs.Seen.{addresses_seen}
+use Rattle.pim_commands.specs.HelloText.{address_line}
+use Rattle.pim_commands.proofs.hello_text.push_addresses.Given as goal
+
+-- what is there, with the lines of the addresses that are left, is all
+abbrev pub invariant-loop-address : goal.invariant-loop-address
+invariant-loop-address g l =
+    l.text.items ++ flat_map (address_line g.F.Family.family) (addresses_seen g.F.Family.family l.address-iterator)
+    ≡ l.fn.text.items ++ flat_map (address_line g.F.Family.family) (addresses_seen g.F.Family.family l.fn.addresses)

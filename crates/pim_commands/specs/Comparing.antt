@@ -1,0 +1,77 @@
+-- The comparison that a task asks for: its two routers, and what is answered and written of their captures.
+use Rattle.std.specs.Prelude.{◌≡◌, ◌⊎◌, ℕ, cond, Bool, List, ◌++◌, map, filter, Option, Result, Ok, Err}
+use Rattle.pim_addr.specs.Routes.{RouteTable}
+use Rattle.pim_addr.specs.declared.family.AddressFamily.{AddressFamily}
+use Rattle.pim_form.specs.Messages.{Writing}
+use Rattle.pim_form.specs.Writer.{has_bad_address}
+use Rattle.pim_merge.specs.Next.{MergeState}
+use Rattle.pim_replay.specs.declared.same.SameFault.{SameFault}
+use Rattle.pim_replay.specs.declared.same.SameFault.TheVariants as of_same
+use Rattle.pim_replay.specs.Same.{Compares}
+use Rattle.pim_router.specs.Config.{config_faults}
+use Rattle.pim_router.specs.Seen.{setup_seen}
+use Rattle.pim_router.specs.State.{Setup, RouterState, new_router}
+use Rattle.pim_words.specs.declared.fault.Side.{Side}
+use Rattle.pim_words.specs.declared.task.Port.{Port}
+use Rattle.pim_words.specs.Faults.{is_side}
+use Rattle.pim_words.specs.Typed.{address_in}
+use Rattle.pim_commands.specs.declared.fault.Fault.{Fault}
+use Rattle.pim_commands.specs.declared.fault.Fault.TheVariants.{TooBig}
+use Rattle.pim_commands.specs.Replaying.{config_of, config_fault, replay_fault, IsFirstCause}
+use Rattle.pim_commands.specs.Writing.{writer_causes}
+
+-- the port is one of this router
+abbrev pub is_of : {A : Type 0} → Side → Port A → Bool
+is_of side port = is_side side port.side
+
+-- one port, where it is this router's
+abbrev pub one_of : Side → Side → ℕ
+one_of side other = cond (is_side side other) 1 0
+
+-- what one of the two routers is made from
+abbrev pub side_setup : {A : Type 0} → (A → List ℕ) → Side → List (Port A) → RouteTable → ℕ → Setup
+side_setup bytes_of side ports routes limit =
+    setup_seen bytes_of (map config_of (filter (is_of side) ports)) routes limit
+
+-- ---- faults, as the program tells them
+
+module _ {F A N : Type 0} (family : AddressFamily) (bytes_of : A → List ℕ) where
+  abbrev pub same_fault : SameFault F A N → Fault
+  same_fault (of_same.Replay told) = replay_fault told
+  same_fault (of_same.TooBig group) = TooBig (address_in family (bytes_of group))
+
+  abbrev pub compared : Result ℕ (SameFault F A N) → Result ℕ Fault
+  compared (Ok status) = Ok status
+  compared (Err fault) = Err (same_fault fault)
+
+-- ---- two new routers' comparison
+
+-- what is wrong with the writer, then with router a, then with router b
+abbrev pub causes : AddressFamily → Writing → Setup → Setup → List Fault
+causes family writing a b =
+    writer_causes (has_bad_address family writing)
+    ++ (map config_fault (config_faults family a) ++ map config_fault (config_faults family b))
+
+-- an answer of the engine, for any family of addresses that are these
+abbrev pub ComparisonAnswer : Type 0 → Type 0
+ComparisonAnswer A = Result ℕ (SameFault (Unit {0}) A (Unit {0}))
+
+-- New routers of these set-ups are compared, and the engine's answer is told so.
+pub record IsCompared {A : Type 0} (family : AddressFamily) (bytes_of : A → List ℕ) (after_ms : ℕ) (writing : Writing)
+    (merge merge' other other' : MergeState) (a b : Setup) (old new : Option (List ℕ)) (result : Result ℕ Fault)
+    : Type 0 where
+  pub after : RouterState
+  pub after_of : RouterState
+  pub told : ComparisonAnswer A
+  pub compares : Compares family after_ms writing merge merge' (new_router a) after other other' (new_router b) after_of
+      bytes_of old new told
+  pub answer : result ≡ compared family bytes_of told
+
+-- They are compared, or there is no writer or no router, and nothing is written.
+abbrev pub ComparesNew : {A : Type 0} → AddressFamily → (A → List ℕ) → ℕ → Writing → MergeState → MergeState →
+    MergeState → MergeState → Setup → Setup → Option (List ℕ) → Option (List ℕ) → Result ℕ Fault → Type 0
+ComparesNew family bytes_of after_ms writing merge merge' other other' a b old new (Ok status) =
+    IsCompared family bytes_of after_ms writing merge merge' other other' a b old new (Ok status)
+ComparesNew family bytes_of after_ms writing merge merge' other other' a b old new (Err fault) =
+    (IsFirstCause (causes family writing a b) fault × (new ≡ old) × (merge' ≡ merge) × (other' ≡ other))
+    ⊎ IsCompared family bytes_of after_ms writing merge merge' other other' a b old new (Err fault)

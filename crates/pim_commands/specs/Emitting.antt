@@ -1,0 +1,48 @@
+-- The messages that a task has written: its router and writer, and what is answered and written of its captures.
+use Rattle.std.specs.Prelude.{◌≡◌, ◌⊎◌, ℕ, List, Option, Result, Ok, Err}
+use Rattle.pim_addr.specs.declared.family.AddressFamily.{AddressFamily}
+use Rattle.pim_form.specs.Messages.{Writing}
+use Rattle.pim_merge.specs.Next.{MergeState}
+use Rattle.pim_replay.specs.declared.emit.EmitFault.{EmitFault}
+use Rattle.pim_replay.specs.declared.emit.EmitFault.TheVariants as of_emission
+use Rattle.pim_replay.specs.Emit.{Emits}
+use Rattle.pim_router.specs.State.{Setup, RouterState, new_router}
+use Rattle.pim_words.specs.Typed.{address_in}
+use Rattle.pim_commands.specs.declared.fault.Fault.{Fault}
+use Rattle.pim_commands.specs.declared.fault.Fault.TheVariants.{TooBig}
+use Rattle.pim_commands.specs.Mirroring.{mirror_causes}
+use Rattle.pim_commands.specs.Replaying.{replay_fault, IsFirstCause}
+
+-- ---- faults, as the program tells them
+
+module _ {F A N : Type 0} (family : AddressFamily) (bytes_of : A → List ℕ) where
+  abbrev pub emit_fault : EmitFault F A N → Fault
+  emit_fault (of_emission.Replay told) = replay_fault told
+  emit_fault (of_emission.TooBig group) = TooBig (address_in family (bytes_of group))
+
+  abbrev pub emitted : Result ℕ (EmitFault F A N) → Result ℕ Fault
+  emitted (Ok status) = Ok status
+  emitted (Err fault) = Err (emit_fault fault)
+
+-- ---- a new router's messages
+
+-- an answer of the engine, for any family of addresses that are these
+abbrev pub EmissionAnswer : Type 0 → Type 0
+EmissionAnswer A = Result ℕ (EmitFault (Unit {0}) A (Unit {0}))
+
+-- A new router of this set-up is replayed and its messages are written, and the engine's answer is told so.
+pub record IsEmitted {A : Type 0} (family : AddressFamily) (bytes_of : A → List ℕ) (after_ms : ℕ) (writing : Writing)
+    (merge merge' : MergeState) (setup : Setup) (old new : Option (List ℕ)) (result : Result ℕ Fault) : Type 0 where
+  pub after : RouterState
+  pub told : EmissionAnswer A
+  pub emits : Emits family after_ms writing merge merge' (new_router setup) after bytes_of old new told
+  pub answer : result ≡ emitted family bytes_of told
+
+-- They are, or there is no writer or no router, as for a mirror, and nothing is written.
+abbrev pub EmitsNew : {A : Type 0} → AddressFamily → (A → List ℕ) → ℕ → Writing → MergeState → MergeState → Setup →
+    Option (List ℕ) → Option (List ℕ) → Result ℕ Fault → Type 0
+EmitsNew family bytes_of after_ms writing merge merge' setup old new (Ok status) =
+    IsEmitted family bytes_of after_ms writing merge merge' setup old new (Ok status)
+EmitsNew family bytes_of after_ms writing merge merge' setup old new (Err fault) =
+    (IsFirstCause (mirror_causes family writing setup) fault × (new ≡ old) × (merge' ≡ merge))
+    ⊎ IsEmitted family bytes_of after_ms writing merge merge' setup old new (Err fault)

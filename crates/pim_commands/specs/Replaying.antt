@@ -1,0 +1,100 @@
+-- The replay that a task asks for: its router, and what is answered and written of its captures.
+use Rattle.std.specs.Prelude.{◌≡◌, ◌⊎◌, ⊤, ℕ, Bool, false, not, List, [], ◌∷◌, ◌++◌}
+use Rattle.std.specs.Prelude.{Option, None, Some, Result, Ok, Err}
+use Rattle.pim_addr.specs.declared.family.AddressFamily.{AddressFamily}
+use Rattle.pim_addr.specs.Address.{is_source}
+use Rattle.pim_addr.specs.Faults.{fault_if}
+use Rattle.pim_capture.specs.declared.fault.CaptureFault.{CaptureFault}
+use Rattle.pim_capture.specs.declared.fault.CaptureFault.TheVariants as of_capture
+use Rattle.pim_merge.specs.Next.{MergeState}
+use Rattle.pim_replay.specs.declared.replay.ReplayFault.{ReplayFault}
+use Rattle.pim_replay.specs.declared.replay.ReplayFault.TheVariants as of_replay
+use Rattle.pim_replay.specs.Report.{Replays}
+use Rattle.pim_router.specs.declared.config.ConfigFault.{ConfigFault}
+use Rattle.pim_router.specs.declared.config.ConfigFault.TheVariants as of_config
+use Rattle.pim_router.specs.declared.config.PortConfig.{PortConfig}
+use Rattle.pim_router.specs.Config.{config_faults}
+use Rattle.pim_router.specs.State.{Setup, RouterState, new_router}
+use Rattle.pim_words.specs.declared.fault.ConfigCause.{ConfigCause}
+use Rattle.pim_words.specs.declared.fault.ConfigCause.TheVariants as cause
+use Rattle.pim_words.specs.declared.fault.Fault.TheVariants as of_words
+use Rattle.pim_words.specs.declared.task.Port.{Port}
+use Rattle.pim_commands.specs.declared.causes.CaptureCause.TheVariants as capture
+use Rattle.pim_commands.specs.declared.fault.Fault.{Fault}
+use Rattle.pim_commands.specs.declared.fault.Fault.TheVariants.{Words, Capture, Output, Memory}
+
+-- a port that a word names, with the delays that every port has, in milliseconds (RFC 7761, 4.11)
+abbrev pub config_of : {A : Type 0} → Port A → PortConfig A
+config_of port = record { address = port.address; propagation = 500; override_ms = 2500 }
+
+-- ---- faults, as the program tells them
+
+abbrev pub config_told : ConfigCause → Fault
+config_told cause = Words (of_words.Config cause)
+
+abbrev pub config_fault : ConfigFault → Fault
+config_fault (of_config.Address port) = config_told cause.Address
+config_fault of_config.Memory = Memory
+config_fault other = config_told cause.Ports
+
+abbrev pub capture_fault : CaptureFault → Fault
+capture_fault of_capture.Magic = Capture capture.Magic
+capture_fault of_capture.LinkType = Capture capture.LinkType
+capture_fault of_capture.Truncated = Capture capture.Truncated
+capture_fault of_capture.TooLong = Capture capture.TooLong
+capture_fault of_capture.Memory = Memory
+capture_fault other = Capture capture.Read
+
+abbrev pub replay_fault : ReplayFault → Fault
+replay_fault (of_replay.Capture told) = capture_fault told.fault
+replay_fault of_replay.Output = Output
+replay_fault of_replay.Memory = Memory
+
+abbrev pub answer_of : Result ℕ ReplayFault → Result ℕ Fault
+answer_of (Ok status) = Ok status
+answer_of (Err fault) = Err (replay_fault fault)
+
+abbrev pub writer_told : Fault
+writer_told = Words of_words.WriterAddress
+
+-- This is the first of these causes, or memory is wanting.
+abbrev pub IsFirstCause : List Fault → Fault → Type 0
+IsFirstCause all Memory = ⊤
+IsFirstCause [] fault = ⊥
+IsFirstCause (first ∷ others) fault = fault ≡ first
+
+-- ---- the table that the options of a command give
+
+-- the address is given and isn't a valid source
+abbrev pub is_bad : AddressFamily → Option (List ℕ) → Bool
+is_bad family None = false
+is_bad family (Some address) = not (is_source family address)
+
+abbrev pub table_causes : AddressFamily → Option (List ℕ) → Option (List ℕ) → List Fault
+table_causes family rp upstream =
+    fault_if (is_bad family upstream) writer_told ++ fault_if (is_bad family rp) (config_told cause.Rp)
+
+-- ---- a new router's replay
+
+-- There is no such router, for the first of these causes, or for want of memory.
+abbrev pub IsUnmade : List ConfigFault → Fault → Type 0
+IsUnmade faults Memory = ⊤
+IsUnmade [] fault = ⊥
+IsUnmade (first ∷ others) fault = fault ≡ config_fault first
+
+-- A new router of this set-up is replayed, and the engine's answer is told so.
+pub record IsReplayed (family : AddressFamily) (tells_via : Bool) (after_ms : ℕ) (merge merge' : MergeState)
+    (setup : Setup) (old new : Option (List ℕ)) (result : Result ℕ Fault) : Type 0 where
+  pub after : RouterState
+  pub told : Result ℕ ReplayFault
+  pub replays : Replays family tells_via after_ms merge merge' (new_router setup) after old new told
+  pub answer : result ≡ answer_of told
+
+-- It is replayed, or there is none, and nothing is written.
+abbrev pub ReplaysNew : AddressFamily → Bool → ℕ → MergeState → MergeState → Setup → Option (List ℕ) → Option (List ℕ) →
+    Result ℕ Fault → Type 0
+ReplaysNew family tells_via after_ms merge merge' setup old new (Ok status) =
+    IsReplayed family tells_via after_ms merge merge' setup old new (Ok status)
+ReplaysNew family tells_via after_ms merge merge' setup old new (Err fault) =
+    (IsUnmade (config_faults family setup) fault × (new ≡ old) × (merge' ≡ merge))
+    ⊎ IsReplayed family tells_via after_ms merge merge' setup old new (Err fault)

@@ -1,0 +1,87 @@
+-- The line of a fault.
+use Rattle.std.specs.Prelude.{ℕ, List, ◌++◌, codes, decimal, unwrap_or}
+use Rattle.clap.specs.declared.error.kind.ErrorKind.{ErrorKind}
+use Rattle.clap.specs.Values.{kind_text}
+use Rattle.pim_replay.specs.Malformed.{frame_words, hello_words, join_prune_words}
+use Rattle.pim_addr.specs.declared.family.AddressFamily.TheVariants.{Ipv4, Ipv6}
+use Rattle.pim_addr.specs.Text.{address_text}
+use Rattle.pim_routes_file.specs.declared.fault.RoutesFault.{RoutesFault}
+use Rattle.pim_routes_file.specs.declared.fault.RoutesFault.TheVariants as routes
+use Rattle.pim_words.specs.declared.addresses.Address.{Address as Either}
+use Rattle.pim_words.specs.declared.addresses.Address.TheVariants as either
+use Rattle.pim_words.specs.declared.fault.Side.{Side}
+use Rattle.pim_words.specs.declared.fault.Side.TheVariants as side
+use Rattle.pim_words.specs.declared.fault.ConfigCause.{ConfigCause}
+use Rattle.pim_words.specs.declared.fault.ConfigCause.TheVariants as config
+use Rattle.pim_words.specs.declared.fault.Fault.{Fault as WordsFault}
+use Rattle.pim_words.specs.declared.fault.Fault.TheVariants as words
+use Rattle.pim_commands.specs.declared.causes.CaptureCause.{CaptureCause}
+use Rattle.pim_commands.specs.declared.causes.CaptureCause.TheVariants as capture
+use Rattle.pim_commands.specs.declared.fault.Fault.{Fault}
+use Rattle.pim_commands.specs.declared.fault.Fault.TheVariants.{Words, File, RoutesTooLong, RoutesRead, RoutesLine, Capture}
+use Rattle.pim_commands.specs.declared.fault.Fault.TheVariants.{Frame, Hello, JoinPrune, TooBig, Full, InputTooLong}
+use Rattle.pim_commands.specs.declared.fault.Fault.TheVariants.{InputRead, Output, Memory}
+use Rattle.pim_commands.specs.Text.{line}
+
+-- the short text that `clap` has on a kind of error; it has none on a request for help
+abbrev pub refusal_words : ErrorKind → List ℕ
+refusal_words kind = unwrap_or (kind_text kind) (codes "help")
+
+abbrev pub no_port_words : Side → List ℕ
+no_port_words side.A = codes "no port for a"
+no_port_words side.B = codes "no port for b"
+
+abbrev pub config_words : ConfigCause → List ℕ
+config_words config.Ports = codes "config ports"
+config_words config.Address = codes "config address"
+config_words config.Rp = codes "config rp"
+
+abbrev pub capture_words : CaptureCause → List ℕ
+capture_words capture.Magic = codes "capture magic"
+capture_words capture.LinkType = codes "capture link-type"
+capture_words capture.Truncated = codes "capture truncated"
+capture_words capture.TooLong = codes "capture too-long"
+capture_words capture.Read = codes "capture read"
+
+-- the text of an address of either family
+abbrev pub address_words : Either → List ℕ
+address_words (either.V4 address) = address_text Ipv4 address
+address_words (either.V6 address) = address_text Ipv6 address
+
+-- the fault of a routes file
+abbrev pub routes_fault : RoutesFault → Fault
+routes_fault routes.TooLong = RoutesTooLong
+routes_fault routes.Read = RoutesRead
+routes_fault (routes.Line number) = RoutesLine number
+routes_fault routes.Memory = Memory
+
+-- why the words of the command line make no plan
+abbrev pub plan_words : WordsFault → List ℕ
+plan_words (words.Clap refusal) = refusal_words refusal.kind
+plan_words (words.Address word) = codes "address " ++ word.now
+plan_words (words.Word word) = codes "word " ++ word.now
+plan_words words.Family = codes "family"
+plan_words (words.NoPort side) = no_port_words side
+plan_words words.WriterAddress = codes "writer address"
+plan_words (words.Config cause) = config_words cause
+plan_words words.Memory = codes "memory"
+
+abbrev pub fault_words : Fault → List ℕ
+fault_words (Words fault) = plan_words fault
+fault_words (File word) = codes "file " ++ word.now
+fault_words RoutesTooLong = codes "routes too-long"
+fault_words RoutesRead = codes "routes read"
+fault_words (RoutesLine number) = codes "routes line " ++ decimal number
+fault_words (Capture cause) = capture_words cause
+fault_words (Frame fault) = frame_words fault
+fault_words (Hello fault) = hello_words fault
+fault_words (JoinPrune fault) = join_prune_words fault
+fault_words (TooBig group) = codes "too big " ++ address_words group
+fault_words (Full needed) = codes "full " ++ decimal needed
+fault_words InputTooLong = codes "input too-long"
+fault_words InputRead = codes "input read"
+fault_words Output = codes "output"
+fault_words Memory = codes "memory"
+
+abbrev pub fault_text : Fault → List ℕ
+fault_text fault = line (codes "pimtree: " ++ fault_words fault)

@@ -1,0 +1,96 @@
+//! The command `change`: the captures of two routers, opened and handed to the engine.
+
+ghost use Rattle.std.specs.Prelude.{◌≡◌, length, filter};
+ghost use Rattle.pim_form.specs.Seen.{writing_seen};
+ghost use Rattle.pim_words.specs.Plan.{IsBounded, IsLimited, IsWritable};
+ghost use Rattle.pim_commands.specs.Comparing.{is_of, side_setup};
+ghost use Rattle.pim_commands.specs.Changing.{ChangesNew};
+ghost use Rattle.pim_commands.specs.Report.{write_failures_after};
+
+use crate::comparing::{Pair, open_both, side_configs};
+use crate::fault::Fault;
+use crate::mirroring::mirrored;
+use crate::replaying::{router_of, table};
+use crate::writing::writer_of;
+use pim_addr::{Drain, Family, Feed, Routes};
+use pim_replay::change_into;
+use pim_words::{Captures, Side, Writing};
+use std::alloc::Global;
+
+/// Replays the captures of two routers, one for each port and in their order, writes the messages that tell the
+/// upstream neighbour how what it is asked for changes from what router a asks to what b asks, and whether a fresh
+/// router that mirrors a and hears them asks as b; answers the status.
+pub fn change_opened<F: Family, R: Feed + Drop, W: Drain>(
+    alloc: Global,
+    captures: &Captures<'_, F::Addr>,
+    writing: &Writing<F::Addr>,
+    routes: &Routes<F>,
+    pair: &mut Pair<R>,
+    writer: &mut W,
+) -> Result<u8, Fault<'static>>
+    requires after { IsBounded captures.now }
+    requires limit { IsLimited captures.now }
+    requires writing { IsWritable writing.now }
+    requires a { length pair.old.a.lanes ≡ length (filter (is_of Side.A) captures.now.ports.items) }
+    requires b { length pair.old.b.lanes ≡ length (filter (is_of Side.B) captures.now.ports.items) }
+    ensures text { ChangesNew F.family F.bytes_of captures.now.after_ms captures.now.limit
+        (writing_seen F.bytes_of writing.now.upstream writing.now.own writing.now.holdtime writing.now.budget)
+        pair.old.a pair.new.a pair.old.b pair.new.b
+        (side_setup F.bytes_of Side.A captures.now.ports.items routes.now captures.now.limit)
+        (side_setup F.bytes_of Side.B captures.now.ports.items routes.now captures.now.limit)
+        (W.contents writer.old) (W.contents writer.new) result }
+    ensures count { W.failures writer.new ≡ write_failures_after (W.failures writer.old) result }
+{
+    let by = match writer_of::<F>(writing) {
+        Ok(by) => by,
+        Err(fault) => return Err(fault),
+    };
+    let Ok(ports_a) = side_configs(alloc, &captures.ports, Side::A) else {
+        return Err(Fault::Memory);
+    };
+    let Ok(ports_b) = side_configs(alloc, &captures.ports, Side::B) else {
+        return Err(Fault::Memory);
+    };
+    let mut a = match router_of::<F>(alloc, &ports_a, routes, captures.limit) {
+        Ok(router) => router,
+        Err(fault) => return Err(fault),
+    };
+    let mut b = match router_of::<F>(alloc, &ports_b, routes, captures.limit) {
+        Ok(router) => router,
+        Err(fault) => return Err(fault),
+    };
+    mirrored::<F>(change_into::<F, R, W>(
+        alloc,
+        &mut pair.a,
+        &mut a,
+        &mut pair.b,
+        &mut b,
+        captures.after_ms,
+        &by,
+        captures.limit,
+        writer,
+    ))
+}
+
+/// Tells by which messages the upstream neighbour learns of the change from router a to router b, whose captures the
+/// words name, and whether a fresh router that mirrors a and hears them asks as b; answers the status. The file of
+/// routes is read first; then all captures are opened before a record of any is read. Without a file of routes all
+/// addresses are reached by the upstream neighbour.
+///
+/// # Errors
+/// `File` of the first file that can't be opened, a fault of the file of routes or of a capture, `TooBig` of a's, then
+/// of b's messages, `Full`, `Output` and `Memory`.
+pub fn change<'a, F: Family, W: Drain>(
+    rt: &HostRuntime,
+    captures: &Captures<'a, F::Addr>,
+    writing: &Writing<F::Addr>,
+    writer: &mut W,
+) -> Result<u8, Fault<'a>>
+    requires after { IsBounded captures.now }
+    requires limit { IsLimited captures.now }
+    requires writing { IsWritable writing.now }
+{
+    let routes = table::<F>(rt, captures, Some(writing.upstream))?;
+    let mut pair = open_both(rt, &captures.ports)?;
+    change_opened::<F, _, W>(rt.alloc(), captures, writing, &routes, &mut pair, writer)
+}

@@ -1,0 +1,148 @@
+//! The command `check`: one message, read and printed.
+
+ghost use Rattle.std.specs.Prelude.{◌≡◌, ◌≤◌, length, IfOk, IfSome, IfErr, vec_len};
+ghost use Rattle.pim_device.specs.Device.{ConsumesAtMost};
+ghost use Rattle.pim_commands.specs.Ends.{IsCheckTask, task_source, task_destination};
+ghost use Rattle.pim_commands.specs.Report.{body_report, hello_report, message_report, input_report, read_failures_after};
+ghost use Rattle.pim_commands.specs.Report.{write_failures_after};
+ghost use Rattle.pim_commands.specs.Report.{Reports, GivesReport, GivesInput, IsReadFault};
+
+use crate::fault::Fault;
+use crate::hello_text::hello_text;
+use crate::text::{message_text, type_text};
+use pim_addr::{Drain, Failed, Family, Feed, read_up_to, write_all};
+use pim_frame::{Body, open};
+use pim_hello::Hello;
+use pim_jp::JpView;
+use pim_words::Task;
+use std::alloc::Global;
+
+/// The most bytes that an input may have.
+const INPUT_LIMIT: usize = 65_536;
+
+/// A buffer of so many bytes.
+fn blank(alloc: Global, length: usize) -> Result<Vec<u8>, Fault<'static>>
+    ensures length { IfOk result (λ buffer. vec_len buffer ≡ length) }
+    ensures memory { IfErr result (λ fault. fault ≡ Fault.Memory) }
+{
+    vec![in alloc; 0u8; length].map_err(|_| Fault::Memory)
+}
+
+/// Reads the input to its end.
+fn read_input<R: Feed>(alloc: Global, reader: &mut R) -> Result<Vec<u8>, Fault<'static>>
+    ensures input { IfSome (R.remaining reader.old) (λ all. GivesInput (λ v. v.items) all result) }
+    ensures causes { IfErr result IsReadFault }
+    ensures failed { R.failures reader.new ≡ read_failures_after (R.failures reader.old) result }
+    ensures taken { ConsumesAtMost 65537 (R.remaining reader.old) (R.remaining reader.new) }
+    ensures small { IfOk result (λ input. length input.items ≤ 65536) }
+{
+    let mut input = blank(alloc, INPUT_LIMIT + 1)?;
+    let Ok(length) = read_up_to(reader, &mut input) else {
+        return Err(Fault::InputRead);
+    };
+    if length > INPUT_LIMIT {
+        return Err(Fault::InputTooLong);
+    }
+    input.truncate(length);
+    Ok(input)
+}
+
+/// What is to be printed of the body of a Join/Prune.
+#[tactic(auto, using(crate::proofs::Reports::told_fault, crate::proofs::Reports::told_text))]
+fn report_join_prune<F: Family>(alloc: Global, body: &[u8]) -> Result<Vec<u8>, Fault<'static>>
+    ensures { GivesReport (λ v. v.items) (body_report F.family body.now) result }
+{
+    match JpView::<F>::read(body) {
+        Ok(message) => message_text(alloc, &message).map_err(|_| Fault::Memory),
+        Err(fault) => Err(Fault::JoinPrune(fault)),
+    }
+}
+
+/// What is to be printed of the body of a Hello.
+#[tactic(auto, using(crate::proofs::Reports::told_hello_fault, crate::proofs::Reports::told_hello))]
+fn report_hello<F: Family>(alloc: Global, body: &[u8]) -> Result<Vec<u8>, Fault<'static>>
+    ensures { GivesReport (λ v. v.items) (hello_report F.family body.now) result }
+{
+    match Hello::<F>::read(body) {
+        Ok(hello) => match hello_text(alloc, &hello) {
+            Ok(text) => Ok(text),
+            Err(_) => Err(Fault::Memory),
+        },
+        Err(fault) => Err(Fault::Hello(fault)),
+    }
+}
+
+/// What is to be printed of a message.
+#[tactic(auto, using(crate::proofs::Reports::framed_body, crate::proofs::Reports::framed_hello))]
+fn report<F: Family>(
+    alloc: Global,
+    src: F::Addr,
+    dst: F::Addr,
+    message: &[u8],
+) -> Result<Vec<u8>, Fault<'static>>
+    requires { length message.now ≤ 65536 }
+    ensures { GivesReport (λ v. v.items)
+        (message_report F.family (F.bytes_of src) (F.bytes_of dst) message.now) result }
+{
+    match open::<F>(src, dst, message) {
+        Err(fault) => Err(Fault::Frame(fault)),
+        Ok(Body::Hello(body)) => report_hello::<F>(alloc, body),
+        Ok(Body::JoinPrune(body)) => report_join_prune::<F>(alloc, body),
+        Ok(Body::Other(kind)) => type_text(alloc, kind).map_err(|_| Fault::Memory),
+    }
+}
+
+/// Reads one message, which went from `src` to `dst`, to the reader's end, and writes what it says. The answer
+/// is the status, 0. Of an input at most 65,537 bytes are read: the last one shows that it is too long.
+///
+/// # Errors
+/// The first of: `Memory` (at any time before the writing), `InputRead`, `InputTooLong` (above 65,536 bytes),
+/// `Frame`, `Hello`, `JoinPrune`, after which nothing was written, and `Output`, after which a front of the text
+/// was. No device fails without that answer.
+pub fn check_into<F: Family, R: Feed, W: Drain>(
+    alloc: Global,
+    reader: &mut R,
+    writer: &mut W,
+    src: F::Addr,
+    dst: F::Addr,
+) -> Result<u8, Fault<'static>>
+    ensures report { IfSome (R.remaining reader.old) (λ input.
+        Reports (input_report F.family (F.bytes_of src) (F.bytes_of dst) input)
+        (W.contents writer.old) (W.contents writer.new) result) }
+    ensures status { IfOk result (λ status. status ≡ 0) }
+    ensures input_read { R.failures reader.new ≡ read_failures_after (R.failures reader.old) result }
+    ensures output { W.failures writer.new ≡ write_failures_after (W.failures writer.old) result }
+    ensures taken { ConsumesAtMost 65537 (R.remaining reader.old) (R.remaining reader.new) }
+{
+    let input = read_input(alloc, reader)?;
+    let text = report::<F>(alloc, src, dst, &input)?;
+    match write_all(writer, &text) {
+        Ok(()) => Ok(0),
+        Err(Failed) => Err(Fault::Output),
+    }
+}
+
+/// `check_into` of the message that a task asks for.
+///
+/// # Errors
+/// Those of `check_into`.
+pub fn check_task<F: Family, R: Feed, W: Drain>(
+    alloc: Global,
+    reader: &mut R,
+    writer: &mut W,
+    task: &Task<'_, F::Addr>,
+) -> Result<u8, Fault<'static>>
+    requires { IsCheckTask task.now }
+    ensures report { IfSome (R.remaining reader.old) (λ input.
+        Reports (input_report F.family (task_source F.bytes_of task.now) (task_destination F.bytes_of task.now) input)
+        (W.contents writer.old) (W.contents writer.new) result) }
+    ensures status { IfOk result (λ status. status ≡ 0) }
+    ensures input_read { R.failures reader.new ≡ read_failures_after (R.failures reader.old) result }
+    ensures output { W.failures writer.new ≡ write_failures_after (W.failures writer.old) result }
+    ensures taken { ConsumesAtMost 65537 (R.remaining reader.old) (R.remaining reader.new) }
+{
+    match task {
+        Task::Check { src, dst } => check_into::<F, _, _>(alloc, reader, writer, *src, *dst),
+        _ => unreachable!(),
+    }
+}

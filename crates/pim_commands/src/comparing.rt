@@ -1,0 +1,186 @@
+//! The command `same`: the captures of two routers, opened and handed to the engine.
+
+ghost use Rattle.std.specs.Prelude.{◌≡◌, ◌+◌, length, map, filter, IfOk};
+ghost use Rattle.pim_form.specs.Seen.{writing_seen};
+ghost use Rattle.pim_words.specs.Plan.{IsBounded, IsWritable};
+ghost use Rattle.pim_commands.specs.Replaying.{config_of};
+ghost use Rattle.pim_commands.specs.Comparing.{same_fault, compared, is_of, one_of, side_setup, ComparesNew};
+ghost use Rattle.pim_commands.specs.Report.{write_failures_after};
+
+use crate::fault::Fault;
+use crate::replaying::{config, open_port, replay_fault, router_of, table};
+use crate::writing::{address_of, writer_of};
+use pim_addr::{Counted, Drain, Family, Feed, Routes};
+use pim_merge::Merge;
+use pim_replay::{SameFault, same_into};
+use pim_router::PortConfig;
+use pim_words::{Captures, Port, Side, Writing};
+use std::alloc::{AllocError, Global};
+use std::fs::File;
+use std::io::BufReader;
+
+/// The captures of two routers, each with one for each of its ports.
+#[derive(Drop)]
+pub struct Pair<R: Feed + Drop> {
+    /// Those of router a.
+    pub a: Merge<R>,
+    /// Those of router b.
+    pub b: Merge<R>,
+}
+
+/// A fault of a comparison.
+fn same_fault<F: Family>(fault: SameFault<F>) -> Fault<'static>
+    ensures { result ≡ same_fault F.family F.bytes_of fault }
+{
+    match fault {
+        SameFault::Replay(fault) => replay_fault(fault),
+        SameFault::TooBig(group) => Fault::TooBig(address_of::<F>(group)),
+    }
+}
+
+/// What the program answers of a comparison.
+fn compared<F: Family>(told: Result<u8, SameFault<F>>) -> Result<u8, Fault<'static>>
+    ensures { result ≡ compared F.family F.bytes_of told }
+{
+    match told {
+        Ok(status) => Ok(status),
+        Err(fault) => Err(same_fault::<F>(fault)),
+    }
+}
+
+/// Whether the port is one of this router.
+fn is_of<A: Copy>(side: Side, port: &Port<'_, A>) -> bool
+    ensures { result ≡ is_of side port.now }
+{
+    match (side, port.side) {
+        (Side::A, Side::A) | (Side::B, Side::B) => true,
+        _ => false,
+    }
+}
+
+/// The configurations of the ports of one of the two routers.
+pub fn side_configs<A: Copy>(
+    alloc: Global,
+    ports: &[Port<'_, A>],
+    side: Side,
+) -> Result<Vec<PortConfig<A>>, AllocError>
+    ensures { IfOk result (λ configs. configs.items ≡ map config_of (filter (is_of side) ports.now)) }
+{
+    let mut configs = Vec::new(alloc);
+    for port in ports {
+        if is_of(side, port) {
+            configs.push(config(port))?;
+        }
+    }
+    Ok(configs)
+}
+
+/// Adds the capture that this reader gives to those of a router.
+pub fn add_to<R: Feed + Drop>(
+    alloc: Global,
+    pair: &mut Pair<R>,
+    side: Side,
+    reader: R,
+) -> Result<(), AllocError>
+    ensures a { IfOk result (λ done. length pair.new.a.lanes ≡ length pair.old.a.lanes + one_of Side.A side) }
+    ensures b { IfOk result (λ done. length pair.new.b.lanes ≡ length pair.old.b.lanes + one_of Side.B side) }
+{
+    match side {
+        Side::A => pair.a.add(alloc, reader),
+        Side::B => pair.b.add(alloc, reader),
+    }
+}
+
+/// Opens the capture of each port, in the order of the words.
+pub fn open_both<'a, A>(
+    rt: &HostRuntime,
+    ports: &[Port<'a, A>],
+) -> Result<Pair<Counted<BufReader<File>>>, Fault<'a>>
+    ensures a { IfOk result (λ pair. length pair.a.lanes ≡ length (filter (is_of Side.A) ports.now)) }
+    ensures b { IfOk result (λ pair. length pair.b.lanes ≡ length (filter (is_of Side.B) ports.now)) }
+{
+    let mut pair = Pair {
+        a: Merge::new(rt.alloc()),
+        b: Merge::new(rt.alloc()),
+    };
+    for port in ports {
+        let reader = open_port(rt, port)?;
+        let Ok(()) = add_to(rt.alloc(), &mut pair, port.side, reader) else {
+            return Err(Fault::Memory);
+        };
+    }
+    Ok(pair)
+}
+
+/// Replays the captures of two routers, one for each port and in their order, tells whether the two want the same, and
+/// answers the status.
+pub fn same_opened<F: Family, R: Feed + Drop, W: Drain>(
+    alloc: Global,
+    captures: &Captures<'_, F::Addr>,
+    writing: &Writing<F::Addr>,
+    routes: &Routes<F>,
+    pair: &mut Pair<R>,
+    writer: &mut W,
+) -> Result<u8, Fault<'static>>
+    requires after { IsBounded captures.now }
+    requires writing { IsWritable writing.now }
+    requires a { length pair.old.a.lanes ≡ length (filter (is_of Side.A) captures.now.ports.items) }
+    requires b { length pair.old.b.lanes ≡ length (filter (is_of Side.B) captures.now.ports.items) }
+    ensures report { ComparesNew F.family F.bytes_of captures.now.after_ms
+        (writing_seen F.bytes_of writing.now.upstream writing.now.own writing.now.holdtime writing.now.budget)
+        pair.old.a pair.new.a pair.old.b pair.new.b
+        (side_setup F.bytes_of Side.A captures.now.ports.items routes.now captures.now.limit)
+        (side_setup F.bytes_of Side.B captures.now.ports.items routes.now captures.now.limit)
+        (W.contents writer.old) (W.contents writer.new) result }
+    ensures count { W.failures writer.new ≡ write_failures_after (W.failures writer.old) result }
+{
+    let by = match writer_of::<F>(writing) {
+        Ok(by) => by,
+        Err(fault) => return Err(fault),
+    };
+    let Ok(ports_a) = side_configs(alloc, &captures.ports, Side::A) else {
+        return Err(Fault::Memory);
+    };
+    let Ok(ports_b) = side_configs(alloc, &captures.ports, Side::B) else {
+        return Err(Fault::Memory);
+    };
+    let mut a = match router_of::<F>(alloc, &ports_a, routes, captures.limit) {
+        Ok(router) => router,
+        Err(fault) => return Err(fault),
+    };
+    let mut b = match router_of::<F>(alloc, &ports_b, routes, captures.limit) {
+        Ok(router) => router,
+        Err(fault) => return Err(fault),
+    };
+    compared::<F>(same_into::<F, R, W>(
+        alloc,
+        &mut pair.a,
+        &mut a,
+        &mut pair.b,
+        &mut b,
+        captures.after_ms,
+        &by,
+        writer,
+    ))
+}
+
+/// Tells whether the two routers whose captures the words name want the same, and answers the status. The file of
+/// routes is read first; then all captures are opened before a record of any is read. Without a file of routes all
+/// addresses are reached by the upstream neighbour.
+///
+/// # Errors
+/// `File` of the first file that can't be opened, a fault of the file of routes or of a capture, `TooBig`, `Output` and
+/// `Memory`.
+pub fn same<'a, F: Family, W: Drain>(
+    rt: &HostRuntime,
+    captures: &Captures<'a, F::Addr>,
+    writing: &Writing<F::Addr>,
+    writer: &mut W,
+) -> Result<u8, Fault<'a>>
+    requires after { IsBounded captures.now }
+    requires writing { IsWritable writing.now }
+{
+    let routes = table::<F>(rt, captures, Some(writing.upstream))?;
+    let mut pair = open_both(rt, &captures.ports)?;
+    same_opened::<F, _, W>(rt.alloc(), captures, writing, &routes, &mut pair, writer)
+}

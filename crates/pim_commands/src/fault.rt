@@ -1,0 +1,199 @@
+//! What ends a run, and its line.
+
+ghost use Rattle.std.specs.Prelude.{◌≡◌, ◌≤◌, ◌++◌, take, decimal};
+ghost use Rattle.pim_device.specs.Device.{AppendsAll, failures_after};
+ghost use Rattle.pim_replay.specs.Malformed.{malformed_words};
+ghost use Rattle.pim_commands.specs.declared.fault.Fault.TheVariants.{Words};
+ghost use Rattle.pim_commands.specs.Text.{line};
+ghost use Rattle.pim_commands.specs.Words.{refusal_words, address_words, plan_words, fault_words, fault_text, routes_fault};
+
+use crate::causes::{CaptureCause, capture_words, config_words, no_port_words};
+use clap::error::ErrorKind;
+use itoa::Buffer;
+use pim_addr::{Drain, Failed, V4, V6, write_all, write_text};
+use pim_frame::FrameFault;
+use pim_hello::HelloFault;
+use pim_jp::JpFault;
+use pim_replay::write_malformed_words;
+use pim_router::Malformed;
+use pim_routes_file::RoutesFault;
+use pim_words::Address;
+
+/// Why a run ended before its end.
+#[derive(Debug, Drop)]
+pub enum Fault<'a> {
+    /// The words make no plan.
+    Words(pim_words::Fault<'a>),
+    /// The file that this word names can't be opened.
+    File(&'a str),
+    /// The routes file has more than 1,048,576 bytes.
+    RoutesTooLong,
+    /// The routes file can't be read.
+    RoutesRead,
+    /// The line of this number, from 1, of the routes file has another form, or its row is refused.
+    RoutesLine(usize),
+    /// A capture is at fault.
+    Capture(CaptureCause),
+    /// The message's header is at fault.
+    Frame(FrameFault),
+    /// The body of a Hello is at fault.
+    Hello(HelloFault),
+    /// The body of a Join/Prune is at fault.
+    JoinPrune(JpFault),
+    /// The star of this group, with its exceptions, doesn't fit one message.
+    TooBig(Address),
+    /// A port would need so many records, which is more than its limit.
+    Full(usize),
+    /// The input has more than 65,536 bytes.
+    InputTooLong,
+    /// The input can't be read.
+    InputRead,
+    /// The output can't be written.
+    Output,
+    /// Memory ran out.
+    Memory,
+}
+
+impl<'a> From<pim_words::Fault<'a>> for Fault<'a> {
+    ghost from_gives = { λ fault told. told ≡ Words fault };
+
+    fn from(fault: pim_words::Fault<'a>) -> Fault<'a> {
+        Fault::Words(fault)
+    }
+}
+
+impl From<RoutesFault> for Fault<'static> {
+    ghost from_gives = { λ fault told. told ≡ routes_fault fault };
+
+    fn from(fault: RoutesFault) -> Fault<'static> {
+        match fault {
+            RoutesFault::TooLong => Fault::RoutesTooLong,
+            RoutesFault::Read => Fault::RoutesRead,
+            RoutesFault::Line(number) => Fault::RoutesLine(number),
+            RoutesFault::Memory => Fault::Memory,
+        }
+    }
+}
+
+/// Writes the words and ends the line.
+fn write_plain<W: Drain>(writer: &mut W, words: &[u8]) -> Result<(), Failed>
+    ensures bytes { AppendsAll (W.contents writer.old) (W.contents writer.new) result (line words.now) }
+    ensures count { W.failures writer.new ≡ failures_after (W.failures writer.old) result }
+{
+    write_all(writer, words)?;
+    write_all(writer, b"\n")
+}
+
+/// Writes the words and a number, and ends the line.
+fn write_numbered<W: Drain>(writer: &mut W, words: &[u8], number: usize) -> Result<(), Failed>
+    ensures bytes { AppendsAll (W.contents writer.old) (W.contents writer.new) result
+        (line (words.now ++ decimal number)) }
+    ensures count { W.failures writer.new ≡ failures_after (W.failures writer.old) result }
+{
+    write_all(writer, words)?;
+    write_all(writer, Buffer::new().format(number).as_bytes())?;
+    write_all(writer, b"\n")
+}
+
+/// Writes the words of what is wrong with a message and ends the line.
+fn write_malformed<W: Drain>(fault: Malformed, writer: &mut W) -> Result<(), Failed>
+    ensures bytes { AppendsAll (W.contents writer.old) (W.contents writer.new) result (line (malformed_words fault)) }
+    ensures count { W.failures writer.new ≡ failures_after (W.failures writer.old) result }
+{
+    write_malformed_words(writer, fault)?;
+    write_all(writer, b"\n")
+}
+
+/// Writes words with a word of the command line behind them, and ends the line.
+fn write_word<W: Drain>(writer: &mut W, words: &[u8], word: &str) -> Result<(), Failed>
+    ensures bytes { AppendsAll (W.contents writer.old) (W.contents writer.new) result (line (words.now ++ word.now)) }
+    ensures count { W.failures writer.new ≡ failures_after (W.failures writer.old) result }
+{
+    write_all(writer, words)?;
+    write_all(writer, word.as_bytes())?;
+    write_all(writer, b"\n")
+}
+
+/// Writes the text of an address at the front of a text, and answers how long it is.
+fn address_at_front(address: Address, text: &mut [u8; 39]) -> usize
+    ensures short { result ≤ 39 }
+    ensures text { take result text.new ≡ address_words address }
+{
+    match address {
+        Address::V4(address) => write_text::<V4>(address, text),
+        Address::V6(address) => write_text::<V6>(address, text),
+    }
+}
+
+/// Writes words and an address behind them, and ends the line.
+fn write_address<W: Drain>(writer: &mut W, words: &[u8], address: Address) -> Result<(), Failed>
+    ensures bytes { AppendsAll (W.contents writer.old) (W.contents writer.new) result
+        (line (words.now ++ address_words address)) }
+    ensures count { W.failures writer.new ≡ failures_after (W.failures writer.old) result }
+{
+    let mut text = [0; 39];
+    let length = address_at_front(address, &mut text);
+    write_all(writer, words)?;
+    write_plain(writer, &text[..length])
+}
+
+/// The short text that `clap` has on a kind of error. What it has to say in full is printed by itself.
+fn refusal_words(kind: ErrorKind) -> &'static str
+    ensures { result.now ≡ refusal_words kind }
+{
+    kind.as_str().unwrap_or("help")
+}
+
+/// Writes the words of why the command line makes no plan, and ends the line.
+fn write_plan_words<W: Drain>(fault: &pim_words::Fault<'_>, writer: &mut W) -> Result<(), Failed>
+    ensures bytes { AppendsAll (W.contents writer.old) (W.contents writer.new) result (line (plan_words fault.now)) }
+    ensures count { W.failures writer.new ≡ failures_after (W.failures writer.old) result }
+{
+    match fault {
+        pim_words::Fault::Clap(refusal) => write_plain(
+            writer,
+            refusal_words(refusal.kind).as_bytes(),
+        ),
+        pim_words::Fault::Address(word) => write_word(writer, b"address ", word),
+        pim_words::Fault::Word(word) => write_word(writer, b"word ", word),
+        pim_words::Fault::Family => write_plain(writer, b"family"),
+        pim_words::Fault::NoPort(side) => write_plain(writer, no_port_words(*side)),
+        pim_words::Fault::WriterAddress => write_plain(writer, b"writer address"),
+        pim_words::Fault::Config(cause) => write_plain(writer, config_words(*cause)),
+        pim_words::Fault::Memory => write_plain(writer, b"memory"),
+    }
+}
+
+/// Writes the words of a fault and ends the line.
+fn write_words<W: Drain>(fault: &Fault<'_>, writer: &mut W) -> Result<(), Failed>
+    ensures bytes { AppendsAll (W.contents writer.old) (W.contents writer.new) result (line (fault_words fault.now)) }
+    ensures count { W.failures writer.new ≡ failures_after (W.failures writer.old) result }
+{
+    match fault {
+        Fault::Words(fault) => write_plan_words(fault, writer),
+        Fault::File(word) => write_word(writer, b"file ", word),
+        Fault::RoutesTooLong => write_plain(writer, b"routes too-long"),
+        Fault::RoutesRead => write_plain(writer, b"routes read"),
+        Fault::RoutesLine(number) => write_numbered(writer, b"routes line ", *number),
+        Fault::Capture(cause) => write_plain(writer, capture_words(*cause)),
+        Fault::Frame(fault) => write_malformed(Malformed::Frame(*fault), writer),
+        Fault::Hello(fault) => write_malformed(Malformed::Hello(*fault), writer),
+        Fault::JoinPrune(fault) => write_malformed(Malformed::JoinPrune(*fault), writer),
+        Fault::TooBig(group) => write_address(writer, b"too big ", *group),
+        Fault::Full(needed) => write_numbered(writer, b"full ", *needed),
+        Fault::InputTooLong => write_plain(writer, b"input too-long"),
+        Fault::InputRead => write_plain(writer, b"input read"),
+        Fault::Output => write_plain(writer, b"output"),
+        Fault::Memory => write_plain(writer, b"memory"),
+    }
+}
+
+/// Writes the line of a fault: `pimtree: `, its words and a line feed. Where the writer fails, a front of the
+/// line went out.
+pub fn fault_line<W: Drain>(fault: &Fault<'_>, writer: &mut W) -> Result<(), Failed>
+    ensures bytes { AppendsAll (W.contents writer.old) (W.contents writer.new) result (fault_text fault.now) }
+    ensures count { W.failures writer.new ≡ failures_after (W.failures writer.old) result }
+{
+    write_all(writer, b"pimtree: ")?;
+    write_words(fault, writer)
+}

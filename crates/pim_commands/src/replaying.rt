@@ -1,0 +1,257 @@
+//! The command `replay`: the files that its words name, opened and handed to the engine.
+
+ghost use Rattle.std.specs.Prelude.{◌≡◌, ◌≤◌, [], length, map, is_some, option_map, IfOk, MatchResult};
+ghost use Rattle.pim_router.specs.Config.{config_faults};
+ghost use Rattle.pim_router.specs.Seen.{setup_seen};
+ghost use Rattle.pim_router.specs.State.{new_router};
+ghost use Rattle.pim_commands.specs.Replaying.{config_of, config_fault, capture_fault, replay_fault, answer_of, is_bad};
+ghost use Rattle.pim_words.specs.Table.{given_table};
+ghost use Rattle.pim_commands.specs.Replaying.{table_causes, IsFirstCause, IsUnmade, ReplaysNew};
+ghost use Rattle.pim_commands.specs.Report.{write_failures_after};
+
+use crate::causes::CaptureCause;
+use crate::fault::Fault;
+use pim_addr::{Counted, Drain, Family, Feed, Routes};
+use pim_capture::CaptureFault;
+use pim_merge::Merge;
+use pim_replay::{ReplayFault, replay_into};
+use pim_router::{Config, ConfigFault, PortConfig, Router};
+use pim_routes_file::read_routes;
+use pim_words::{Captures, ConfigCause, Port, given_table};
+use std::alloc::{AllocError, Global};
+use std::fs::File;
+use std::io::BufReader;
+
+/// The propagation delay of each port, in milliseconds.
+const PROPAGATION: u16 = 500;
+
+/// The override delay of each port, in milliseconds.
+const OVERRIDE: u16 = 2_500;
+
+/// The configuration of a port.
+pub fn config<A: Copy>(port: &Port<'_, A>) -> PortConfig<A>
+    ensures { result ≡ config_of port.now }
+{
+    PortConfig {
+        address: port.address,
+        propagation: PROPAGATION,
+        override_ms: OVERRIDE,
+    }
+}
+
+/// The configurations of a router's ports.
+pub fn configs<A: Copy>(
+    alloc: Global,
+    ports: &[Port<'_, A>],
+) -> Result<Vec<PortConfig<A>>, AllocError>
+    ensures { IfOk result (λ configs. configs.items ≡ map config_of ports.now) }
+{
+    let mut configs = Vec::new(alloc);
+    for port in ports {
+        configs.push(config(port))?;
+    }
+    Ok(configs)
+}
+
+/// A fault of the configuration.
+fn config_fault(fault: ConfigFault) -> Fault<'static>
+    ensures { result ≡ config_fault fault }
+{
+    let cause = match fault {
+        ConfigFault::Address { .. } => ConfigCause::Address,
+        ConfigFault::Memory => return Fault::Memory,
+        _ => ConfigCause::Ports,
+    };
+    Fault::Words(pim_words::Fault::Config(cause))
+}
+
+/// A fault of a capture.
+fn capture_fault(fault: CaptureFault) -> Fault<'static>
+    ensures { result ≡ capture_fault fault }
+{
+    match fault {
+        CaptureFault::Magic => Fault::Capture(CaptureCause::Magic),
+        CaptureFault::LinkType => Fault::Capture(CaptureCause::LinkType),
+        CaptureFault::Truncated => Fault::Capture(CaptureCause::Truncated),
+        CaptureFault::TooLong => Fault::Capture(CaptureCause::TooLong),
+        CaptureFault::Read | CaptureFault::Failed => Fault::Capture(CaptureCause::Read),
+        CaptureFault::Memory => Fault::Memory,
+    }
+}
+
+/// A fault of a replay.
+pub fn replay_fault(fault: ReplayFault) -> Fault<'static>
+    ensures { result ≡ replay_fault fault }
+{
+    match fault {
+        ReplayFault::Capture(told) => capture_fault(told.fault),
+        ReplayFault::Output => Fault::Output,
+        ReplayFault::Memory => Fault::Memory,
+    }
+}
+
+/// What the program answers of a replay.
+fn answer_of(told: Result<u8, ReplayFault>) -> Result<u8, Fault<'static>>
+    ensures { result ≡ answer_of told }
+{
+    match told {
+        Ok(status) => Ok(status),
+        Err(fault) => Err(replay_fault(fault)),
+    }
+}
+
+/// Whether this address is given and isn't a valid source.
+fn is_bad<F: Family>(address: Option<F::Addr>) -> bool
+    ensures { result ≡ is_bad F.family (option_map F.bytes_of address) }
+{
+    match address {
+        Some(address) => !F::is_source(address),
+        None => false,
+    }
+}
+
+/// The route table without a file's rows: all groups have this RP, and all addresses are reached by this upstream
+/// neighbour, where they are given.
+pub fn first_rows<F: Family>(
+    alloc: Global,
+    rp: Option<F::Addr>,
+    upstream: Option<F::Addr>,
+) -> Result<Routes<F>, Fault<'static>>
+    ensures { MatchResult result
+        (λ table. table ≡ given_table F.family (option_map F.bytes_of rp) (option_map F.bytes_of upstream))
+        (IsFirstCause (table_causes F.family (option_map F.bytes_of rp) (option_map F.bytes_of upstream))) }
+{
+    if is_bad::<F>(upstream) {
+        return Err(Fault::Words(pim_words::Fault::WriterAddress));
+    }
+    if is_bad::<F>(rp) {
+        return Err(Fault::Words(pim_words::Fault::Config(ConfigCause::Rp)));
+    }
+    match given_table::<F>(alloc, rp, upstream) {
+        Ok(routes) => Ok(routes),
+        Err(_) => Err(Fault::Memory),
+    }
+}
+
+/// The route table of captures: that of the RP and of the upstream neighbour, or of the RP and the rows of the file.
+pub fn table<'a, F: Family>(
+    rt: &HostRuntime,
+    captures: &Captures<'a, F::Addr>,
+    upstream: Option<F::Addr>,
+) -> Result<Routes<F>, Fault<'a>> {
+    let Some(name) = captures.routes else {
+        return first_rows::<F>(rt.alloc(), captures.rp, upstream);
+    };
+    let mut routes = first_rows::<F>(rt.alloc(), captures.rp, None)?;
+    let Ok(file) = File::open(rt, name) else {
+        return Err(Fault::File(name));
+    };
+    let mut reader = Counted::new(file);
+    match read_routes::<F, _>(rt.alloc(), &mut reader, &mut routes) {
+        Ok(()) => Ok(routes),
+        Err(fault) => Err(Fault::from(fault)),
+    }
+}
+
+/// Opens the capture of a port.
+pub fn open_port<'a, A>(
+    rt: &HostRuntime,
+    port: &Port<'a, A>,
+) -> Result<Counted<BufReader<File>>, Fault<'a>> {
+    let Ok(file) = File::open(rt, port.file) else {
+        return Err(Fault::File(port.word));
+    };
+    match BufReader::new(rt.alloc(), file) {
+        Ok(reader) => Ok(Counted::new(reader)),
+        Err(_) => Err(Fault::Memory),
+    }
+}
+
+/// Opens the capture of each port, in order.
+pub fn open_all<'a, A>(
+    rt: &HostRuntime,
+    ports: &[Port<'a, A>],
+) -> Result<Merge<Counted<BufReader<File>>>, Fault<'a>>
+    ensures { IfOk result (λ merge. length merge.lanes ≡ length ports.now) }
+{
+    let mut merge = Merge::new(rt.alloc());
+    for port in ports {
+        let reader = open_port(rt, port)?;
+        let Ok(()) = merge.add(rt.alloc(), reader) else {
+            return Err(Fault::Memory);
+        };
+    }
+    Ok(merge)
+}
+
+/// A new router with these ports and this table.
+pub fn router_of<'r, F: Family>(
+    alloc: Global,
+    ports: &'r [PortConfig<F::Addr>],
+    routes: &'r Routes<F>,
+    limit: usize,
+) -> Result<Router<'r, F>, Fault<'static>>
+    ensures { MatchResult result
+        (λ router. (config_faults F.family (setup_seen F.bytes_of ports.now routes.now limit) ≡ [])
+        × (router ≡ new_router (setup_seen F.bytes_of ports.now routes.now limit)))
+        (IsUnmade (config_faults F.family (setup_seen F.bytes_of ports.now routes.now limit))) }
+{
+    let config = Config {
+        ports,
+        routes,
+        limit,
+    };
+    match Router::<F>::new(alloc, &config) {
+        Ok(router) => Ok(router),
+        Err(fault) => Err(config_fault(fault)),
+    }
+}
+
+/// Replays captures, one for each port and in their order, and answers the status.
+pub fn replay_opened<F: Family, R: Feed + Drop, W: Drain>(
+    alloc: Global,
+    captures: &Captures<'_, F::Addr>,
+    routes: &Routes<F>,
+    merge: &mut Merge<R>,
+    writer: &mut W,
+) -> Result<u8, Fault<'static>>
+    requires after { captures.now.after_ms ≤ 1000000000 }
+    requires ports { length merge.old.lanes ≡ length captures.now.ports.items }
+    ensures report { ReplaysNew F.family (is_some captures.now.routes) captures.now.after_ms merge.old merge.new
+        (setup_seen F.bytes_of (map config_of captures.now.ports.items) routes.now captures.now.limit)
+        (W.contents writer.old) (W.contents writer.new) result }
+    ensures count { W.failures writer.new ≡ write_failures_after (W.failures writer.old) result }
+{
+    let Ok(ports) = configs(alloc, &captures.ports) else {
+        return Err(Fault::Memory);
+    };
+    let mut router = match router_of::<F>(alloc, &ports, routes, captures.limit) {
+        Ok(router) => router,
+        Err(fault) => return Err(fault),
+    };
+    answer_of(replay_into::<F, R, W>(
+        alloc,
+        merge,
+        &mut router,
+        captures.after_ms,
+        captures.routes.is_some(),
+        writer,
+    ))
+}
+
+/// Replays the captures that the words name, and answers the status. The file of routes is read first; then all
+/// captures are opened before a record of any is read.
+///
+/// # Errors
+/// `File` of the first file that can't be opened, a fault of the file of routes or of a capture, `Output` and `Memory`.
+pub fn replay<'a, F: Family, W: Drain>(
+    rt: &HostRuntime,
+    captures: &Captures<'a, F::Addr>,
+    writer: &mut W,
+) -> Result<u8, Fault<'a>>
+    requires { captures.now.after_ms ≤ 1000000000 }
+{
+    let routes = table::<F>(rt, captures, None)?;
+    let mut merge = open_all(rt, &captures.ports)?;
+    replay_opened::<F, _, W>(rt.alloc(), captures, &routes, &mut merge, writer)
+}

@@ -1,0 +1,133 @@
+//! The text that `check` prints of a message.
+
+ghost use Rattle.std.specs.Prelude.{◌≡◌, ◌++◌, decimal, OnOk, IfOk};
+ghost use Rattle.std.specs.List.{flat_map};
+ghost use Rattle.pim_addr.specs.Text.{address_text};
+ghost use Rattle.pim_jp.specs.Seen.{entry_seen};
+ghost use Rattle.pim_commands.specs.Text.{message_line, set_line, entry_words, entry_line, set_text, message_text};
+ghost use Rattle.pim_commands.specs.Text.{type_text};
+
+use itoa::Buffer;
+use pim_addr::{Family, write_text};
+use pim_jp::{Entries, Entry, JpView, SetView};
+use std::alloc::{AllocError, Global};
+
+/// Adds some words and the address behind them.
+pub fn push_address<F: Family>(
+    text: &mut Vec<u8>,
+    words: &[u8],
+    address: F::Addr,
+) -> Result<(), AllocError>
+    ensures { OnOk result (text.new.items
+        ≡ text.old.items ++ (words.now ++ address_text F.family (F.bytes_of address))) }
+{
+    let mut shown = [0; 39];
+    let length = write_text::<F>(address, &mut shown);
+    text.extend_from_slice(words)?;
+    text.extend_from_slice(&shown[..length])
+}
+
+/// Adds some words and the number behind them.
+pub fn push_number(text: &mut Vec<u8>, words: &[u8], number: usize) -> Result<(), AllocError>
+    ensures { OnOk result (text.new.items ≡ text.old.items ++ (words.now ++ decimal number)) }
+{
+    text.extend_from_slice(words)?;
+    text.extend_from_slice(Buffer::new().format(number).as_bytes())
+}
+
+/// Adds the first line of a message.
+fn push_message_line<F: Family>(
+    text: &mut Vec<u8>,
+    message: &JpView<'_, F>,
+) -> Result<(), AllocError>
+    ensures { OnOk result (text.new.items ≡ text.old.items ++ message_line F.family message.now) }
+{
+    push_address::<F>(text, b"join/prune upstream ", message.upstream())?;
+    push_number(text, b" holdtime ", usize::from(message.holdtime()))?;
+    push_number(text, b" sets ", usize::from(message.set_count()))?;
+    text.extend_from_slice(b"\n")?;
+    Ok(())
+}
+
+/// Adds the first line of a set.
+fn push_set_line<F: Family>(text: &mut Vec<u8>, set: &SetView<'_, F>) -> Result<(), AllocError>
+    ensures { OnOk result (text.new.items ≡ text.old.items ++ set_line F.family set.now) }
+{
+    push_address::<F>(text, b"set ", set.group())?;
+    push_number(text, b" joined ", usize::from(set.joined_count()))?;
+    push_number(text, b" pruned ", usize::from(set.pruned_count()))?;
+    text.extend_from_slice(b"\n")
+}
+
+/// Adds what an entry is, and its address.
+fn push_entry<F: Family>(text: &mut Vec<u8>, entry: Entry<F::Addr>) -> Result<(), AllocError>
+    ensures { OnOk result (text.new.items ≡ text.old.items ++ entry_words F.family (entry_seen F.bytes_of entry)) }
+{
+    match entry {
+        Entry::Star(rp) => push_address::<F>(text, b"star ", rp),
+        Entry::Source(source) => push_address::<F>(text, b"source ", source),
+        Entry::Rpt(source) => push_address::<F>(text, b"rpt ", source),
+    }
+}
+
+/// Adds the line of an entry of the list that the word names.
+fn push_entry_line<F: Family>(
+    text: &mut Vec<u8>,
+    list: &[u8],
+    entry: Entry<F::Addr>,
+) -> Result<(), AllocError>
+    ensures { OnOk result (text.new.items
+        ≡ text.old.items ++ entry_line F.family list.now (entry_seen F.bytes_of entry)) }
+{
+    text.extend_from_slice(list)?;
+    push_entry::<F>(text, entry)?;
+    text.extend_from_slice(b"\n")
+}
+
+/// Adds the lines of the entries of one list.
+fn push_entries<F: Family>(
+    text: &mut Vec<u8>,
+    list: &[u8],
+    entries: Entries<'_, F>,
+) -> Result<(), AllocError>
+    ensures { OnOk result (text.new.items ≡ text.old.items ++ flat_map (entry_line F.family list.now) entries.entry) }
+{
+    for entry in entries {
+        push_entry_line::<F>(text, list, entry)?;
+    }
+    Ok(())
+}
+
+/// Adds a set with its entries.
+fn push_set<F: Family>(text: &mut Vec<u8>, set: &SetView<'_, F>) -> Result<(), AllocError>
+    ensures { OnOk result (text.new.items ≡ text.old.items ++ set_text F.family set.now) }
+{
+    push_set_line(text, set)?;
+    push_entries(text, b"join ", set.joined())?;
+    push_entries(text, b"prune ", set.pruned())
+}
+
+/// The text of a Join/Prune.
+pub fn message_text<F: Family>(
+    alloc: Global,
+    message: &JpView<'_, F>,
+) -> Result<Vec<u8>, AllocError>
+    ensures { IfOk result (λ text. text.items ≡ message_text F.family message.now) }
+{
+    let mut text = Vec::new(alloc);
+    push_message_line(&mut text, message)?;
+    for set in message.sets() {
+        push_set(&mut text, &set)?;
+    }
+    Ok(text)
+}
+
+/// The text of a message of another type.
+pub fn type_text(alloc: Global, kind: u8) -> Result<Vec<u8>, AllocError>
+    ensures { IfOk result (λ text. text.items ≡ type_text kind) }
+{
+    let mut text = Vec::new(alloc);
+    push_number(&mut text, b"type ", usize::from(kind))?;
+    text.extend_from_slice(b"\n")?;
+    Ok(text)
+}

@@ -1,0 +1,49 @@
+//! By what messages are written: the addresses and numbers of the words, and what is wrong with them.
+
+ghost use Rattle.std.specs.Prelude.{◌≡◌};
+ghost use Rattle.pim_form.specs.Seen.{writing_seen};
+ghost use Rattle.pim_words.specs.Plan.{IsWritable};
+ghost use Rattle.pim_words.specs.Typed.{address_in};
+ghost use Rattle.pim_commands.specs.Writing.{IsWriterOf};
+
+use crate::fault::Fault;
+use pim_addr::{AddressFamily, Family};
+use pim_form::{Writer, WriterFault};
+use pim_words::{Address, Writing};
+
+/// The address, as faults tell it.
+pub fn address_of<F: Family>(address: F::Addr) -> Address
+    ensures { result ≡ address_in F.family (F.bytes_of address) }
+{
+    match F::family() {
+        AddressFamily::Ipv4 => {
+            let mut bytes = [0; 4];
+            F::put(address, &mut bytes);
+            Address::V4(bytes)
+        }
+        AddressFamily::Ipv6 => {
+            let mut bytes = [0; 16];
+            F::put(address, &mut bytes);
+            Address::V6(bytes)
+        }
+    }
+}
+
+/// By what the messages are written.
+pub fn writer_of<F: Family>(writing: &Writing<F::Addr>) -> Result<Writer<F>, Fault<'static>>
+    requires { IsWritable writing.now }
+    ensures { IsWriterOf F.family
+        (writing_seen F.bytes_of writing.now.upstream writing.now.own writing.now.holdtime writing.now.budget)
+        result }
+{
+    match Writer::<F>::new(
+        writing.upstream,
+        writing.own,
+        writing.holdtime,
+        writing.budget,
+    ) {
+        Ok(writer) => Ok(writer),
+        Err(WriterFault::Address) => Err(Fault::Words(pim_words::Fault::WriterAddress)),
+        Err(WriterFault::Holdtime | WriterFault::Budget) => unreachable!(),
+    }
+}

@@ -1,8 +1,0 @@
-use Rattle.std.proofs.Common.{◌≡◌, ◌++◌}
-use Rattle.std.specs.List.{flat_map}
-use Rattle.pimtree.specs.Text.{set_text, message_text}
-use Rattle.pimtree.proofs.text.message_text.Given as goal
-
--- what is there, with the texts of the sets that are left, is all
-abbrev pub invariant-loop-set : goal.invariant-loop-set
-invariant-loop-set g l = l.text.items ++ flat_map (set_text g.F.Family.family) l.set-iterator ≡ message_text g.F.Family.family l.message
