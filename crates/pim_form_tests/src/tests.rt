@@ -3,6 +3,7 @@
 mod asked;
 mod forms;
 mod kept;
+mod lengths;
 mod packing;
 mod settling;
 mod toward;
@@ -10,7 +11,7 @@ mod wanting;
 mod writers;
 
 use pim_addr::{Routes, V4};
-use pim_down::{Ports, Timing};
+use pim_down::{Ports, Step, Timing};
 use pim_form::{Tree, wants};
 use pim_jp::{Entry, JpView};
 use std::alloc::{AllocError, Global};
@@ -57,16 +58,6 @@ fn alone<'a>(port: usize, joined: &'a [Entry<[u8; 4]>], pruned: &'a [Entry<[u8; 
     Heard {
         port,
         timing: ALONE,
-        joined,
-        pruned,
-    }
-}
-
-/// A message that is heard on a port with several neighbours.
-fn among<'a>(port: usize, joined: &'a [Entry<[u8; 4]>], pruned: &'a [Entry<[u8; 4]>]) -> Heard<'a> {
-    Heard {
-        port,
-        timing: SEVERAL,
         joined,
         pruned,
     }
@@ -121,6 +112,44 @@ fn hear(alloc: Global, ports: &mut Ports<V4>, message: &Heard<'_>) -> Result<boo
         return Ok(false);
     }
     Ok(ports.hear(message.port, &view, &routes, timing).is_ok())
+}
+
+/// A message of one set of the group: the port that hears it, with how many neighbours, the joined and the pruned entries.
+type Message<'a> = (usize, Timing, &'a [Entry<[u8; 4]>], &'a [Entry<[u8; 4]>]);
+
+/// Hears messages, and lets time pass until a moment: whether all were taken, and nothing is echoed.
+fn hear_until(
+    alloc: Global,
+    ports: &mut Ports<V4>,
+    messages: &[Message<'_>],
+    until: u64,
+) -> Result<bool, AllocError> {
+    for &(port, timing, joined, pruned) in messages {
+        let message = Heard {
+            port,
+            timing,
+            joined,
+            pruned,
+        };
+        if !hear(alloc, ports, &message)? {
+            return Ok(false);
+        }
+    }
+    Ok(until <= 3_000 && ports.run_to(until) == Step::Reached)
+}
+
+/// Three ports that heard these messages at 0, at a later moment; `None` where one wasn't taken.
+fn ports_after(
+    alloc: Global,
+    messages: &[Message<'_>],
+    until: u64,
+) -> Result<Option<Ports<V4>>, AllocError> {
+    let mut ports: Ports<V4> = Ports::new(alloc, 3, 100);
+    if hear_until(alloc, &mut ports, messages, until)? {
+        Ok(Some(ports))
+    } else {
+        Ok(None)
+    }
 }
 
 /// Whether the sources 192.0.2.1 and 192.0.2.2 are wanted on the shared tree, and on their own.

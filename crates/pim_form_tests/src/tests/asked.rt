@@ -93,9 +93,29 @@ const ALL_TO_TWO: [Row; 2] = [(true, [224, 0, 0, 0], 4, RP), (false, [0, 0, 0, 0
 /// form by the same one; `None` where something is refused.
 fn tells_all(alloc: Global, ports: &Ports<V4>, bytes: &[u8]) -> Option<[bool; 2]> {
     let routes = table(alloc, &ALL_TO_TWO)?;
-    let writer = Writer::<V4>::new(TWO, [10, 0, 0, 1], 210, 1480).ok()?;
+    tells_all_by(alloc, ports, &routes, bytes)
+}
+
+/// The same under this table.
+fn tells_all_by(
+    alloc: Global,
+    ports: &Ports<V4>,
+    routes: &Routes<V4>,
+    bytes: &[u8],
+) -> Option<[bool; 2]> {
     let form = NormalForm::of(alloc, ports).ok()?;
-    both_told(alloc, &form, &routes, &writer, bytes)
+    form_tells_all(alloc, &form, routes, bytes)
+}
+
+/// The same of this form.
+fn form_tells_all(
+    alloc: Global,
+    form: &NormalForm<V4>,
+    routes: &Routes<V4>,
+    bytes: &[u8],
+) -> Option<[bool; 2]> {
+    let writer = Writer::<V4>::new(TWO, [10, 0, 0, 1], 210, 1480).ok()?;
+    both_told(alloc, form, routes, &writer, bytes)
 }
 
 /// What comes to three ports: the star without 192.0.2.1, without both sources, and a prune of 192.0.2.2 without a star.

@@ -1,6 +1,7 @@
 //! Forms that are packed: the bytes and the lengths of their messages, and stars that are too big.
 
 use super::ALONE;
+use super::lengths::length_at;
 use pim_addr::{Family, Routes, V4, V6};
 use pim_down::{Ports, Step};
 use pim_form::{FormFault, Messages, NormalForm, Writer, is_toward, normal_again, pack};
@@ -10,23 +11,23 @@ use std::test::Fail;
 
 /// A router with one port, and the table and the writer by which it tells its upstream neighbour.
 #[derive(Drop)]
-struct Router<F: Family> {
-    ports: Ports<F>,
-    routes: Routes<F>,
-    writer: Writer<F>,
+pub(super) struct Router<F: Family> {
+    pub(super) ports: Ports<F>,
+    pub(super) routes: Routes<F>,
+    pub(super) writer: Writer<F>,
 }
 
-const GROUP: [u8; 4] = [239, 1, 1, 1];
+pub(super) const GROUP: [u8; 4] = [239, 1, 1, 1];
 
-const RP: [u8; 4] = [10, 9, 9, 9];
+pub(super) const RP: [u8; 4] = [10, 9, 9, 9];
 
 const FIRST: [u8; 4] = [192, 0, 2, 1];
 
 /// A group of IPv6.
-const GROUP6: [u8; 16] = [255, 62, 0, 0, 0, 0, 0, 0, 0, 0, 0, 0, 0, 0, 0, 1];
+pub(super) const GROUP6: [u8; 16] = [255, 62, 0, 0, 0, 0, 0, 0, 0, 0, 0, 0, 0, 0, 0, 1];
 
 /// Its RP.
-const RP6: [u8; 16] = [32, 1, 13, 184, 0, 0, 0, 0, 0, 0, 0, 0, 0, 0, 9, 9];
+pub(super) const RP6: [u8; 16] = [32, 1, 13, 184, 0, 0, 0, 0, 0, 0, 0, 0, 0, 0, 9, 9];
 
 /// The star of the group: one message of 34 bytes.
 const STAR_MESSAGE: [u8; 34] = [
@@ -41,7 +42,7 @@ pub(super) const EXCEPT_MESSAGE: [u8; 42] = [
 ];
 
 /// A router of IPv4: all groups have one RP, and all addresses are reached by 10.0.0.2.
-fn router4(alloc: Global, budget: usize) -> Option<Router<V4>> {
+pub(super) fn router4(alloc: Global, budget: usize) -> Option<Router<V4>> {
     let writer = Writer::new([10, 0, 0, 2], [10, 0, 0, 1], 210, budget).ok()?;
     let mut routes = Routes::new(alloc);
     routes.add_rp([224, 0, 0, 0], 4, RP).ok()?;
@@ -54,17 +55,17 @@ fn router4(alloc: Global, budget: usize) -> Option<Router<V4>> {
 }
 
 /// A source of IPv4.
-fn source(number: u8) -> [u8; 4] {
+pub(super) fn source(number: u8) -> [u8; 4] {
     [10, 1, 0, number]
 }
 
 /// A source of IPv6: 2001:db8:: and this number.
-fn source6(number: u8) -> [u8; 16] {
+pub(super) fn source6(number: u8) -> [u8; 16] {
     [32, 1, 13, 184, 0, 0, 0, 0, 0, 0, 0, 0, 0, 0, 0, number]
 }
 
 /// A router of IPv6: all groups have one RP, and all addresses are reached by one neighbour.
-fn router6(alloc: Global, budget: usize) -> Option<Router<V6>> {
+pub(super) fn router6(alloc: Global, budget: usize) -> Option<Router<V6>> {
     let writer = Writer::new(source6(2), source6(1), 210, budget).ok()?;
     let mut routes = Routes::new(alloc);
     routes
@@ -79,7 +80,7 @@ fn router6(alloc: Global, budget: usize) -> Option<Router<V6>> {
 }
 
 /// Hears a message of one set, and lets its prunes act: whether it was taken.
-fn hear<F: Family>(
+pub(super) fn hear<F: Family>(
     alloc: Global,
     router: &mut Router<F>,
     group: F::Addr,
@@ -107,34 +108,15 @@ fn hear<F: Family>(
 }
 
 /// The messages of what the router wants; `None` where it doesn't want it all of its neighbour, or its form isn't made.
-fn told<F: Family>(alloc: Global, router: &Router<F>) -> Option<Result<Messages, FormFault<F>>> {
+pub(super) fn told<F: Family>(
+    alloc: Global,
+    router: &Router<F>,
+) -> Option<Result<Messages, FormFault<F>>> {
     let form = NormalForm::of(alloc, &router.ports).ok()?;
     if !is_toward(&form, &router.routes, router.writer.upstream()) {
         return None;
     }
     Some(pack(alloc, &form, &router.writer, &router.routes))
-}
-
-/// How long the messages of what the router wants are, if there are two at most; or why there are none.
-fn lengths<F: Family>(
-    alloc: Global,
-    router: &Router<F>,
-) -> Option<Result<(usize, [usize; 2]), FormFault<F>>> {
-    match told(alloc, router)? {
-        Ok(messages) => Some(Ok((
-            messages.count(),
-            [length_at(&messages, 0), length_at(&messages, 1)],
-        ))),
-        Err(fault) => Some(Err(fault)),
-    }
-}
-
-/// How long a message is; 0 where it isn't there.
-fn length_at(messages: &Messages, index: usize) -> usize {
-    match messages.get(index) {
-        Some(message) => message.len(),
-        None => 0,
-    }
 }
 
 /// Whether messages are none, and are the same as themselves.
@@ -203,103 +185,6 @@ fn packs_a_star_with_an_exception(rt: HostRuntime) -> Result<(), Fail> {
     assert!(rt; hear(rt.alloc(), &mut router, GROUP, &star, &without)?);
     let told = both_told_so(rt.alloc(), &router, &EXCEPT_MESSAGE);
     assert_eq!(rt; told, Some([true, true]));
-    Ok(())
-}
-
-#[test]
-fn fills_messages_with_sources(rt: HostRuntime) -> Result<(), Fail> {
-    let Some(mut router) = router4(rt.alloc(), 1480) else {
-        assert!(rt; false);
-        return Ok(());
-    };
-    let mut joined = Vec::new(rt.alloc());
-    for number in 1..201 {
-        joined.push(Entry::Source(source(number)))?;
-    }
-    let heard = hear(rt.alloc(), &mut router, GROUP, &joined, &[])?;
-    assert!(rt; heard);
-    let told = lengths(rt.alloc(), &router);
-    assert_eq!(rt; told, Some(Ok((2, [1474, 178]))));
-    Ok(())
-}
-
-#[test]
-fn takes_255_groups_a_message(rt: HostRuntime) -> Result<(), Fail> {
-    let Some(mut router) = router4(rt.alloc(), 6000) else {
-        assert!(rt; false);
-        return Ok(());
-    };
-    for number in 0..=255 {
-        let group = [239, 1, 0, number];
-        let heard = hear(rt.alloc(), &mut router, group, &[Entry::Star(RP)], &[])?;
-        assert!(rt; heard);
-    }
-    let told = lengths(rt.alloc(), &router);
-    assert_eq!(rt; told, Some(Ok((2, [5114, 34]))));
-    Ok(())
-}
-
-/// A budget, how many exceptions the star has, and how long its only message is; none where it is too big.
-type Row = (usize, u8, Option<usize>);
-
-#[test]
-fn tells_stars_that_are_too_big(rt: HostRuntime) -> Result<(), Fail> {
-    let rows: [Row; 3] = [
-        (1480, 180, Some(1474)),
-        (1480, 181, None),
-        (70, 0, Some(34)),
-    ];
-    for (budget, count, wanted) in rows {
-        let Some(mut router) = router4(rt.alloc(), budget) else {
-            assert!(rt; false);
-            return Ok(());
-        };
-        let mut pruned = Vec::new(rt.alloc());
-        for number in 0..count {
-            pruned.push(Entry::Rpt(source(number)))?;
-        }
-        let heard = hear(rt.alloc(), &mut router, GROUP, &[Entry::Star(RP)], &pruned)?;
-        assert!(rt; heard);
-        let told = lengths(rt.alloc(), &router);
-        match wanted {
-            Some(length) => assert_eq!(rt; told, Some(Ok((1, [length, 0])))),
-            None => assert_eq!(rt; told, Some(Err(FormFault::TooBig(GROUP)))),
-        }
-    }
-    Ok(())
-}
-
-#[test]
-fn tells_stars_of_ipv6_that_are_too_big(rt: HostRuntime) -> Result<(), Fail> {
-    let rows: [Row; 4] = [
-        (1460, 69, Some(1450)),
-        (1460, 70, None),
-        (70, 0, Some(70)),
-        (70, 1, None),
-    ];
-    for (budget, count, wanted) in rows {
-        let Some(mut router) = router6(rt.alloc(), budget) else {
-            assert!(rt; false);
-            return Ok(());
-        };
-        let mut pruned = Vec::new(rt.alloc());
-        for number in 0..count {
-            pruned.push(Entry::Rpt(source6(number)))?;
-        }
-        let heard = hear(
-            rt.alloc(),
-            &mut router,
-            GROUP6,
-            &[Entry::Star(RP6)],
-            &pruned,
-        )?;
-        assert!(rt; heard);
-        let told = lengths(rt.alloc(), &router);
-        match wanted {
-            Some(length) => assert_eq!(rt; told, Some(Ok((1, [length, 0])))),
-            None => assert_eq!(rt; told, Some(Err(FormFault::TooBig(GROUP6)))),
-        }
-    }
     Ok(())
 }
 

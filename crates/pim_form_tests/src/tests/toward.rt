@@ -32,9 +32,8 @@ pub(super) const ROWS: [Row; 6] = [
     (false, SECOND, 32, TWO),
 ];
 
-/// A table of these rows; `None` where one is refused.
-pub(super) fn table(alloc: Global, rows: &[Row]) -> Option<Routes<V4>> {
-    let mut routes: Routes<V4> = Routes::new(alloc);
+/// Adds these rows; whether each was taken.
+fn add_all(routes: &mut Routes<V4>, rows: &[Row]) -> bool {
     for &(is_rp, prefix, length, to) in rows {
         let added = if is_rp {
             routes.add_rp(prefix, length, to)
@@ -42,10 +41,20 @@ pub(super) fn table(alloc: Global, rows: &[Row]) -> Option<Routes<V4>> {
             routes.add_via(prefix, length, to)
         };
         if added.is_err() {
-            return None;
+            return false;
         }
     }
-    Some(routes)
+    true
+}
+
+/// A table of these rows; `None` where one is refused.
+pub(super) fn table(alloc: Global, rows: &[Row]) -> Option<Routes<V4>> {
+    let mut routes: Routes<V4> = Routes::new(alloc);
+    if add_all(&mut routes, rows) {
+        Some(routes)
+    } else {
+        None
+    }
 }
 
 /// To 10.0.0.2 with the holdtime 210: of the first group the star, the source 192.0.2.2 and the exception 192.0.2.1, of

@@ -1,96 +1,92 @@
 //! What machines want after some messages.
 
 use super::{
-    GROUP, Heard, JOIN_FIRST, RPT_FIRST, RPT_SECOND, SECOND, STAR, alone, among, hear, wanted,
+    ALONE, GROUP, JOIN_FIRST, Message, RPT_FIRST, RPT_SECOND, SECOND, SEVERAL, STAR, alone, hear,
+    ports_after, wanted,
 };
 use pim_addr::{V4, V6};
-use pim_down::{Ports, Step};
+use pim_down::Ports;
 use pim_form::{Tree, wants};
+use std::alloc::{AllocError, Global};
 use std::test::Fail;
 
 /// Messages that are heard at 0 on three ports, which then run to a moment; and what is wanted then: the two sources on
 /// the shared tree, and on their own.
-#[derive(Clone, Copy)]
-struct Row<'a> {
-    messages: &'a [Heard<'a>],
-    until: u64,
-    wanted: [bool; 4],
+type Row<'a> = (&'a [Message<'a>], u64, [bool; 4]);
+
+const ROWS: [Row<'static>; 8] = [
+    // a source is excepted only where each port with the star excepts it; a prune without a star counts for nothing
+    (
+        &[
+            (0, ALONE, &[STAR], &[RPT_FIRST]),
+            (1, ALONE, &[STAR], &[RPT_FIRST, RPT_SECOND]),
+            (2, ALONE, &[], &[RPT_SECOND]),
+        ],
+        0,
+        [false, true, false, false],
+    ),
+    // a (*,G) in Prune-Pending still wants
+    (
+        &[
+            (0, ALONE, &[STAR], &[RPT_FIRST]),
+            (1, SEVERAL, &[STAR], &[]),
+            (1, SEVERAL, &[], &[STAR]),
+        ],
+        2_999,
+        [true, true, false, false],
+    ),
+    (
+        &[
+            (0, ALONE, &[STAR], &[RPT_FIRST]),
+            (1, SEVERAL, &[STAR], &[]),
+            (1, ALONE, &[], &[STAR]),
+        ],
+        0,
+        [false, true, false, false],
+    ),
+    // on its own tree, whatever is pruned on the shared one
+    (
+        &[(0, ALONE, &[JOIN_FIRST], &[RPT_FIRST])],
+        0,
+        [false, false, true, false],
+    ),
+    // an (S,G,rpt) in Prune-Pending doesn't hold back yet
+    (
+        &[(0, SEVERAL, &[STAR], &[RPT_FIRST])],
+        2_999,
+        [true, true, false, false],
+    ),
+    (
+        &[(0, SEVERAL, &[STAR], &[RPT_FIRST])],
+        3_000,
+        [false, true, false, false],
+    ),
+    // nothing held, and lone prunes
+    (&[], 0, [false, false, false, false]),
+    (
+        &[(0, ALONE, &[], &[RPT_FIRST, RPT_SECOND])],
+        0,
+        [false, false, false, false],
+    ),
+];
+
+/// The first row that isn't so.
+fn wrong(alloc: Global) -> Result<Option<usize>, AllocError> {
+    for (index, &(messages, until, wants)) in ROWS.iter().enumerate() {
+        let is_so = match ports_after(alloc, messages, until)? {
+            Some(ports) => wanted(&ports) == wants,
+            None => false,
+        };
+        if !is_so {
+            return Ok(Some(index));
+        }
+    }
+    Ok(None)
 }
 
 #[test]
 fn wants_by_the_macros(rt: HostRuntime) -> Result<(), Fail> {
-    let rows = [
-        // a source is excepted only where each port with the star excepts it; a prune without a star counts for nothing
-        Row {
-            messages: &[
-                alone(0, &[STAR], &[RPT_FIRST]),
-                alone(1, &[STAR], &[RPT_FIRST, RPT_SECOND]),
-                alone(2, &[], &[RPT_SECOND]),
-            ],
-            until: 0,
-            wanted: [false, true, false, false],
-        },
-        // a (*,G) in Prune-Pending still wants
-        Row {
-            messages: &[
-                alone(0, &[STAR], &[RPT_FIRST]),
-                among(1, &[STAR], &[]),
-                among(1, &[], &[STAR]),
-            ],
-            until: 2999,
-            wanted: [true, true, false, false],
-        },
-        Row {
-            messages: &[
-                alone(0, &[STAR], &[RPT_FIRST]),
-                among(1, &[STAR], &[]),
-                alone(1, &[], &[STAR]),
-            ],
-            until: 0,
-            wanted: [false, true, false, false],
-        },
-        // on its own tree, whatever is pruned on the shared one
-        Row {
-            messages: &[alone(0, &[JOIN_FIRST], &[RPT_FIRST])],
-            until: 0,
-            wanted: [false, false, true, false],
-        },
-        // an (S,G,rpt) in Prune-Pending doesn't hold back yet
-        Row {
-            messages: &[among(0, &[STAR], &[RPT_FIRST])],
-            until: 2999,
-            wanted: [true, true, false, false],
-        },
-        Row {
-            messages: &[among(0, &[STAR], &[RPT_FIRST])],
-            until: 3000,
-            wanted: [false, true, false, false],
-        },
-        // nothing held, and lone prunes
-        Row {
-            messages: &[],
-            until: 0,
-            wanted: [false, false, false, false],
-        },
-        Row {
-            messages: &[alone(0, &[], &[RPT_FIRST, RPT_SECOND])],
-            until: 0,
-            wanted: [false, false, false, false],
-        },
-    ];
-    for (index, row) in rows.iter().enumerate() {
-        let mut ports: Ports<V4> = Ports::new(rt.alloc(), 3, 100);
-        for message in row.messages {
-            assert_eq!(rt;
-                (index, hear(rt.alloc(), &mut ports, message)?),
-                (index, true)
-            );
-        }
-        if row.until <= 1_000_000_000_000_000 {
-            assert_eq!(rt; ports.run_to(row.until), Step::Reached);
-        }
-        assert_eq!(rt; (index, wanted(&ports)), (index, row.wanted));
-    }
+    assert_eq!(rt; wrong(rt.alloc())?, None);
     Ok(())
 }
 

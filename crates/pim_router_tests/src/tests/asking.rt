@@ -5,7 +5,7 @@ use super::world::{
     are, table,
 };
 use super::{JOIN_FIRST, JOIN_STAR, RPT_FIRST};
-use pim_addr::V4;
+use pim_addr::{Routes, V4};
 use pim_form::Writer;
 use pim_router::Router;
 use std::alloc::Global;
@@ -132,13 +132,24 @@ const HEARD_AGAIN: [Event<'static>; 4] = [
     WITHOUT_FIRST,
 ];
 
+/// Whether the router's two records last until 210 s, and the neighbour is asked as at first; `None` where something
+/// went wrong.
+fn lasts_until(alloc: Global, router: &Router<'_, V4>) -> Option<[bool; 3]> {
+    let asks = asks_by(alloc, router, &EXCEPT_FIRST)?;
+    Some([has_two(router), all_end_in(router, 210_000), asks])
+}
+
+/// The same of a router under this table that heard a message again at 5 s.
+fn lasts_anew_by(alloc: Global, routes: &Routes<V4>) -> Option<[bool; 3]> {
+    let router = after(alloc, &THREE, routes, &HEARD_AGAIN)?;
+    lasts_until(alloc, &router)
+}
+
 /// Whether a message that is heard again at 5 s makes its two records last as long as at first, and changes no byte of
 /// what is asked; `None` where something went wrong.
 fn lasts_anew(alloc: Global) -> Option<[bool; 3]> {
     let routes = table(alloc, &ONE_EACH)?;
-    let router = after(alloc, &THREE, &routes, &HEARD_AGAIN)?;
-    let asks = asks_by(alloc, &router, &EXCEPT_FIRST)?;
-    Some([has_two(&router), all_end_in(&router, 210_000), asks])
+    lasts_anew_by(alloc, &routes)
 }
 
 #[test]

@@ -4,12 +4,12 @@ use super::world::{
     Event, ONE, ONE_EACH, Set, THREE, TWO, after, hear, neighbour, started, table, take,
 };
 use super::{GROUP, JOIN_STAR};
-use pim_addr::{Family, Routes, V4, V6};
+use pim_addr::{Family, RouteFault, Routes, V4, V6};
 use pim_form::{FormFault, Messages, Writer};
 use pim_frame::MessageType;
 use pim_jp::Entry;
 use pim_router::{Config, PortConfig, Router, Step};
-use std::alloc::Global;
+use std::alloc::{AllocError, Global};
 use std::test::Fail;
 
 /// How many messages there are, and how long the first two are; 0 where one isn't there.
@@ -40,13 +40,21 @@ fn of_router(alloc: Global, router: &Router<'_, V4>, budget: usize) -> Told<V4> 
     Some(lengths(alloc, router, &writer))
 }
 
+/// Adds the sources 10.1.0.1 to 10.1.0.200.
+fn push_sources(joined: &mut Vec<Entry<[u8; 4]>>) -> Result<(), AllocError> {
+    for number in 1..201 {
+        joined.push(Entry::Source([10, 1, 0, number]))?;
+    }
+    Ok(())
+}
+
 /// The sources 10.1.0.1 to 10.1.0.200; `None` where something went wrong.
 fn sources(alloc: Global) -> Option<Vec<Entry<[u8; 4]>>> {
     let mut joined = Vec::new(alloc);
-    for number in 1..201 {
-        joined.push(Entry::Source([10, 1, 0, number])).ok()?;
+    match push_sources(&mut joined) {
+        Ok(()) => Some(joined),
+        Err(_) => None,
     }
-    Some(joined)
 }
 
 /// Lets a router hear 200 sources of one group: whether it took them.
@@ -66,14 +74,25 @@ fn messages_of(alloc: Global, router: &Router<'_, V4>) -> Option<Messages> {
     router.canonical(alloc, &writer).ok()
 }
 
+/// The messages by which a router asks that hears 200 sources, too; `None` where something went wrong.
+fn messages_of_200_more(alloc: Global, router: &mut Router<'_, V4>) -> Option<Messages> {
+    if hear_200_sources(alloc, router) == Some(true) {
+        messages_of(alloc, router)
+    } else {
+        None
+    }
+}
+
+/// The messages by which 200 sources of one group are asked for under this table; `None` where something went wrong.
+fn messages_under(alloc: Global, routes: &Routes<V4>) -> Option<Messages> {
+    let mut router = started(alloc, &THREE, routes)?;
+    messages_of_200_more(alloc, &mut router)
+}
+
 /// The messages by which 200 sources of one group are asked for; `None` where something went wrong.
 pub(super) fn messages_of_200_sources(alloc: Global) -> Option<Messages> {
     let routes = table(alloc, &ONE_EACH)?;
-    let mut router = started(alloc, &THREE, &routes)?;
-    if hear_200_sources(alloc, &mut router) != Some(true) {
-        return None;
-    }
-    messages_of(alloc, &router)
+    messages_under(alloc, &routes)
 }
 
 /// What 200 sources of one group are asked for by; `None` where something went wrong.
@@ -86,15 +105,20 @@ fn of_200_sources(alloc: Global) -> Told<V4> {
     of_router(alloc, &router, 1480)
 }
 
+/// Lets a router hear the star of a group: whether it took it.
+fn hear_star(alloc: Global, router: &mut Router<'_, V4>, group: [u8; 4]) -> bool {
+    let set = Set {
+        group,
+        joined: &[JOIN_STAR],
+        pruned: &[],
+    };
+    hear::<V4>(alloc, router, 0, neighbour(0), &set) == Some(true)
+}
+
 /// Lets a router hear 256 stars: whether it took them.
 fn hear_256_stars(alloc: Global, router: &mut Router<'_, V4>) -> bool {
     for number in 0..=255 {
-        let set = Set {
-            group: [239, 1, 0, number],
-            joined: &[JOIN_STAR],
-            pruned: &[],
-        };
-        if hear::<V4>(alloc, router, 0, neighbour(0), &set) != Some(true) {
+        if !hear_star(alloc, router, [239, 1, 0, number]) {
             return false;
         }
     }
@@ -121,12 +145,17 @@ fn fills_messages(rt: HostRuntime) -> Result<(), Fail> {
 /// A budget, how many exceptions the star has, and how long its only message is; none where it is too big.
 type Row = (usize, u8, Option<usize>);
 
+/// The messages of a router under this table that heard a star without so many sources; `None` where something went wrong.
+fn of_star_under(alloc: Global, routes: &Routes<V4>, budget: usize, count: u8) -> Told<V4> {
+    let events = [Event::Star(GROUP, count), Event::Passes(0)];
+    let router = after(alloc, &THREE, routes, &events)?;
+    of_router(alloc, &router, budget)
+}
+
 /// The messages of a star without so many sources; `None` where something went wrong.
 fn of_star(alloc: Global, budget: usize, count: u8) -> Told<V4> {
     let routes = table(alloc, &ONE_EACH)?;
-    let events = [Event::Star(GROUP, count), Event::Passes(0)];
-    let router = after(alloc, &THREE, &routes, &events)?;
-    of_router(alloc, &router, budget)
+    of_star_under(alloc, &routes, budget, count)
 }
 
 #[test]
@@ -169,13 +198,53 @@ const PORT6: [PortConfig<[u8; 16]>; 1] = [PortConfig {
     override_ms: 2500,
 }];
 
+/// Adds one RP and one neighbour for all.
+fn lead_all(routes: &mut Routes<V6>) -> Result<(), RouteFault> {
+    let groups = [255, 0, 0, 0, 0, 0, 0, 0, 0, 0, 0, 0, 0, 0, 0, 0];
+    routes.add_rp(groups, 8, RP6)?;
+    routes.add_via([0; 16], 0, source6(2))
+}
+
 /// A table of IPv6 with one RP and one neighbour for all.
 fn table6(alloc: Global) -> Option<Routes<V6>> {
     let mut routes: Routes<V6> = Routes::new(alloc);
-    let groups = [255, 0, 0, 0, 0, 0, 0, 0, 0, 0, 0, 0, 0, 0, 0, 0];
-    routes.add_rp(groups, 8, RP6).ok()?;
-    routes.add_via([0; 16], 0, source6(2)).ok()?;
-    Some(routes)
+    match lead_all(&mut routes) {
+        Ok(()) => Some(routes),
+        Err(_) => None,
+    }
+}
+
+fn push_exceptions(pruned: &mut Vec<Entry<[u8; 16]>>, count: u8) -> Result<(), AllocError> {
+    for number in 0..count {
+        pruned.push(Entry::Rpt(source6(number)))?;
+    }
+    Ok(())
+}
+
+/// Lets a router hear a star without these, of a neighbour that it comes to know.
+fn hear_without(
+    alloc: Global,
+    router: &mut Router<'_, V6>,
+    pruned: &[Entry<[u8; 16]>],
+) -> Option<bool> {
+    let mut hello = [0, 0, 0, 0, 0, 1, 0, 2, 255, 255];
+    take(router, 0, NEIGHBOUR6, MessageType::Hello, &mut hello)?;
+    let set = Set {
+        group: GROUP6,
+        joined: &[Entry::Star(RP6)],
+        pruned,
+    };
+    hear::<V6>(alloc, router, 0, NEIGHBOUR6, &set)
+}
+
+/// Lets a router hear a star without so many sources: whether it took it, and nothing is echoed.
+fn hear_without_some(alloc: Global, router: &mut Router<'_, V6>, count: u8) -> bool {
+    let mut pruned = Vec::new(alloc);
+    let heard = match push_exceptions(&mut pruned, count) {
+        Ok(()) => hear_without(alloc, router, &pruned),
+        Err(_) => None,
+    };
+    heard == Some(true) && router.run_to(0) == Step::Reached
 }
 
 /// A router of IPv6 whose port has heard a star without so many sources; `None` where something went wrong.
@@ -191,24 +260,11 @@ fn started6<'a>(
         limit: 1000,
     };
     let mut router = Router::new(alloc, &config).ok()?;
-    let mut hello = [0, 0, 0, 0, 0, 1, 0, 2, 255, 255];
-    take(&mut router, 0, NEIGHBOUR6, MessageType::Hello, &mut hello)?;
-    let mut pruned = Vec::new(alloc);
-    for number in 0..count {
-        pruned.push(Entry::Rpt(source6(number))).ok()?;
+    if hear_without_some(alloc, &mut router, count) {
+        Some(router)
+    } else {
+        None
     }
-    let set = Set {
-        group: GROUP6,
-        joined: &[Entry::Star(RP6)],
-        pruned: &pruned,
-    };
-    if hear::<V6>(alloc, &mut router, 0, NEIGHBOUR6, &set) != Some(true) {
-        return None;
-    }
-    if router.run_to(0) != Step::Reached {
-        return None;
-    }
-    Some(router)
 }
 
 /// How long the messages of this budget are by which a router of IPv6 asks; `None` where something went wrong.

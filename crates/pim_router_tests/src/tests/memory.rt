@@ -104,25 +104,34 @@ fn made<'a>(alloc: Global, config: &Config<'a, V4>) -> Option<Router<'a, V4>> {
     }
 }
 
+/// Whether the forty are told as they have to be at 7 ms; `None` where what is left can't be noted down, so that nothing
+/// can be compared.
+fn are_told_at_7(alloc: Global, router: &mut Router<'_, V4>) -> Option<bool> {
+    if router.port_count() != 2 || router.ports().count_on(0) != 0 {
+        return Some(false);
+    }
+    if router.run_to(7) != Step::Reached {
+        return Some(false);
+    }
+    let told = forty_are_told(alloc, router).ok()?;
+    Some(told && router.now() == 7 && router.port_count() == 2 && router.ports().count_on(0) == 80)
+}
+
+/// The same of a new router under this table; no router is wrong, too.
+fn are_told_under(alloc: Global, routes: &Routes<V4>) -> Option<bool> {
+    let config = Config {
+        ports: &PORTS,
+        routes,
+        limit: 100,
+    };
+    match made(alloc, &config) {
+        Some(mut router) => are_told_at_7(alloc, &mut router),
+        None => Some(false),
+    }
+}
+
 #[test]
 fn refusals_change_nothing(rt: HostRuntime) {
     let routes = Routes::new(rt.alloc());
-    let config = Config {
-        ports: &PORTS,
-        routes: &routes,
-        limit: 100,
-    };
-    let Some(mut router) = made(rt.alloc(), &config) else {
-        assert!(rt; false);
-        return;
-    };
-    assert_eq!(rt; router.ports().count_on(0), 0);
-    assert!(rt; router.run_to(7) == Step::Reached);
-    // where what is left can't be noted down, nothing can be compared
-    let Ok(told) = forty_are_told(rt.alloc(), &mut router) else {
-        return;
-    };
-    assert!(rt; told);
-    assert_eq!(rt; router.now(), 7);
-    assert_eq!(rt; router.ports().count_on(0), 80);
+    assert!(rt; are_told_under(rt.alloc(), &routes) != Some(false));
 }

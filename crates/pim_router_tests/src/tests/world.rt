@@ -47,9 +47,8 @@ pub(super) const ONE_EACH: [Route; 2] = [
     (false, [0, 0, 0, 0], 0, TWO),
 ];
 
-/// A table of these rows; `None` where one is refused.
-pub(super) fn table(alloc: Global, rows: &[Route]) -> Option<Routes<V4>> {
-    let mut routes: Routes<V4> = Routes::new(alloc);
+/// Adds these rows; whether each was taken.
+fn add_all(routes: &mut Routes<V4>, rows: &[Route]) -> bool {
     for &(is_rp, prefix, length, to) in rows {
         let added = if is_rp {
             routes.add_rp(prefix, length, to)
@@ -57,10 +56,20 @@ pub(super) fn table(alloc: Global, rows: &[Route]) -> Option<Routes<V4>> {
             routes.add_via(prefix, length, to)
         };
         if added.is_err() {
-            return None;
+            return false;
         }
     }
-    Some(routes)
+    true
+}
+
+/// A table of these rows; `None` where one is refused.
+pub(super) fn table(alloc: Global, rows: &[Route]) -> Option<Routes<V4>> {
+    let mut routes: Routes<V4> = Routes::new(alloc);
+    if add_all(&mut routes, rows) {
+        Some(routes)
+    } else {
+        None
+    }
 }
 
 /// A set of a message: its group, and the joined and the pruned entries.
