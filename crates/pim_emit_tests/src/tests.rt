@@ -4,12 +4,14 @@ mod long;
 mod many;
 mod rows;
 
+use long::hear_excepted;
 use pim_addr::{Family, Routes, V4, V6};
 use pim_device::ScriptedDrain;
 use pim_down::{Ports, Step, Timing};
 use pim_emit::{WriteFault, canonical_messages, write_canonical};
 use pim_form::{FormFault, Messages, NormalForm, Writer, is_toward, pack};
 use pim_jp::{Entry, JpView, head_length, put_head, put_set, set_length};
+use rows::is_written;
 use std::alloc::{AllocError, Global};
 use std::test::Fail;
 
@@ -198,161 +200,142 @@ fn source(number: u8) -> [u8; 4] {
     [10, 1, 0, number]
 }
 
-/// Hears 200 sources of the group on the first port.
-fn hear_200(alloc: Global, state: &mut State<V4>) -> Result<bool, AllocError> {
-    let mut joined = Vec::new(alloc);
+/// Adds the sources 10.1.0.1 to 10.1.0.200.
+fn push_sources(joined: &mut Vec<Entry<[u8; 4]>>) -> Result<(), AllocError> {
     for number in 1..201 {
         joined.push(Entry::Source(source(number)))?;
     }
-    hear(alloc, state, 0, GROUP, &joined, &[])
+    Ok(())
+}
+
+/// Hears 200 sources of the group on the first port.
+fn hear_200(alloc: Global, state: &mut State<V4>) -> Result<bool, AllocError> {
+    let mut joined = Vec::new(alloc);
+    match push_sources(&mut joined) {
+        Ok(()) => hear(alloc, state, 0, GROUP, &joined, &[]),
+        Err(error) => Err(error),
+    }
+}
+
+/// Whether so many messages, of so many bytes in all, are written, and kept, and packed.
+fn is_long<F: Family>(
+    alloc: Global,
+    state: &State<F>,
+    messages: u64,
+    length: usize,
+) -> Result<bool, AllocError> {
+    let mut out = ScriptedDrain::new(alloc, 7, 100_000);
+    let told = write_to(alloc, state, &mut out)?;
+    let counted = told.is_ok_and(|count| count == messages);
+    Ok(counted && out.written().len() == length && is_packed(alloc, state, out.written()))
+}
+
+/// Whether nothing is written of no records, and then the star of the group.
+fn tells_a_star(alloc: Global, state: &mut State<V4>) -> Result<bool, AllocError> {
+    Ok(
+        is_written(alloc, state, 0, &[])?
+            && hear(alloc, state, 0, GROUP, &[Entry::Star(RP)], &[])?
+            && is_written(alloc, state, 1, &STAR)?,
+    )
+}
+
+/// The same of a new state.
+fn star_is_told(alloc: Global) -> Result<bool, AllocError> {
+    match state4(alloc, 1, 1480) {
+        Some(mut state) => tells_a_star(alloc, &mut state),
+        None => Ok(false),
+    }
 }
 
 #[test]
 fn writes_a_star(rt: HostRuntime) -> Result<(), Fail> {
-    let Some(mut state) = state4(rt.alloc(), 1, 1480) else {
-        assert!(rt; false);
-        return Ok(());
-    };
-    let mut nothing = ScriptedDrain::new(rt.alloc(), 1, 1000);
-    assert_eq!(rt; write_to(rt.alloc(), &state, &mut nothing)?, Ok(0));
-    assert!(rt; nothing.written().is_empty());
-    assert!(rt; hear(rt.alloc(), &mut state, 0, GROUP, &[Entry::Star(RP)], &[])?);
-    let mut bytewise = ScriptedDrain::new(rt.alloc(), 1, 1000);
-    assert_eq!(rt; write_to(rt.alloc(), &state, &mut bytewise)?, Ok(1));
-    assert!(rt; bytewise.written() == STAR.as_slice());
+    assert!(rt; star_is_told(rt.alloc())?);
     Ok(())
+}
+
+/// Whether the star of the group of IPv6 is told without two sources.
+fn tells_a_star_of_ipv6(alloc: Global, state: &mut State<V6>) -> Result<bool, AllocError> {
+    let pruned = [Entry::Rpt(address6(3)), Entry::Rpt(address6(4))];
+    Ok(
+        hear(alloc, state, 0, GROUP6, &[Entry::Star(RP6)], &pruned)?
+            && is_long(alloc, state, 1, 112)?,
+    )
+}
+
+/// The same of a new state.
+fn star_of_ipv6_is_told(alloc: Global) -> Result<bool, AllocError> {
+    match state6(alloc, 1480) {
+        Some(mut state) => tells_a_star_of_ipv6(alloc, &mut state),
+        None => Ok(false),
+    }
 }
 
 #[test]
 fn writes_a_star_of_ipv6(rt: HostRuntime) -> Result<(), Fail> {
-    let Some(mut state) = state6(rt.alloc(), 1480) else {
-        assert!(rt; false);
-        return Ok(());
-    };
-    let pruned = [Entry::Rpt(address6(3)), Entry::Rpt(address6(4))];
-    assert!(rt;
-        hear(
-            rt.alloc(),
-            &mut state,
-            0,
-            GROUP6,
-            &[Entry::Star(RP6)],
-            &pruned
-        )?
-    );
-    let mut out = ScriptedDrain::new(rt.alloc(), 7, 1000);
-    assert_eq!(rt; write_to(rt.alloc(), &state, &mut out)?, Ok(1));
-    assert_eq!(rt; out.written().len(), 112);
-    assert!(rt; is_packed(rt.alloc(), &state, out.written()));
+    assert!(rt; star_of_ipv6_is_told(rt.alloc())?);
     Ok(())
 }
 
-#[test]
-fn cuts_200_sources_in_two(rt: HostRuntime) -> Result<(), Fail> {
-    let Some(mut state) = state4(rt.alloc(), 1, 1480) else {
-        assert!(rt; false);
-        return Ok(());
-    };
-    assert!(rt; hear_200(rt.alloc(), &mut state)?);
-    let mut out = ScriptedDrain::new(rt.alloc(), 100, 10_000);
-    assert_eq!(rt; write_to(rt.alloc(), &state, &mut out)?, Ok(2));
-    let written = out.written();
-    assert_eq!(rt; written.len(), 1656);
-    assert!(rt; written.starts_with(&[5, 0xc2]));
-    let (_, second) = written.split_at(written.len().min(1476));
-    assert!(rt; second.starts_with(&[0, 0xb2]));
-    assert!(rt; is_packed(rt.alloc(), &state, written));
-    Ok(())
+/// Whether the group is told to be too big, and nothing is written.
+fn is_too_big(alloc: Global, state: &State<V4>) -> Result<bool, AllocError> {
+    let mut out = ScriptedDrain::new(alloc, 64, 10_000);
+    let told = write_to(alloc, state, &mut out)?;
+    Ok(
+        told == Err(WriteFault::TooBig(GROUP))
+            && out.written().is_empty()
+            && fault_of_kept(alloc, state) == Some(FormFault::TooBig(GROUP)),
+    )
 }
 
-#[test]
-fn tells_how_much_went_out(rt: HostRuntime) -> Result<(), Fail> {
-    let Some(mut state) = state4(rt.alloc(), 1, 1480) else {
-        assert!(rt; false);
-        return Ok(());
-    };
-    assert!(rt; hear_200(rt.alloc(), &mut state)?);
-    for fails_from in [0, 1, 2, 40, 1475, 1476, 1477, 1655] {
-        let mut out = ScriptedDrain::new(rt.alloc(), 64, fails_from);
-        let sent = fails_from as u64;
-        assert_eq!(rt;
-            write_to(rt.alloc(), &state, &mut out)?,
-            Err(WriteFault::Output { sent })
-        );
-        assert_eq!(rt; out.written().len(), fails_from);
-        assert_eq!(rt; out.failures(), 1);
+/// The same where a star of the group before and 181 exceptions are heard now.
+fn tells_too_big(alloc: Global, state: &mut State<V4>) -> Result<bool, AllocError> {
+    let before = [239, 1, 1, 0];
+    Ok(
+        hear(alloc, state, 0, before, &[Entry::Star(RP)], &[])?
+            && hear_excepted(alloc, state, 181)?
+            && is_too_big(alloc, state)?,
+    )
+}
+
+/// The same of a new state.
+fn too_big_is_told(alloc: Global) -> Result<bool, AllocError> {
+    match state4(alloc, 1, 1480) {
+        Some(mut state) => tells_too_big(alloc, &mut state),
+        None => Ok(false),
     }
-    Ok(())
 }
 
 #[test]
 fn writes_nothing_of_a_star_that_is_too_big(rt: HostRuntime) -> Result<(), Fail> {
-    let Some(mut state) = state4(rt.alloc(), 1, 1480) else {
-        assert!(rt; false);
-        return Ok(());
-    };
-    assert!(rt;
-        hear(
-            rt.alloc(),
-            &mut state,
-            0,
-            [239, 1, 1, 0],
-            &[Entry::Star(RP)],
-            &[]
-        )?
-    );
-    let mut pruned = Vec::new(rt.alloc());
-    for number in 1..182 {
-        pruned.push(Entry::Rpt(source(number)))?;
-    }
-    assert!(rt;
-        hear(
-            rt.alloc(),
-            &mut state,
-            0,
-            GROUP,
-            &[Entry::Star(RP)],
-            &pruned
-        )?
-    );
-    let mut out = ScriptedDrain::new(rt.alloc(), 64, 10_000);
-    assert_eq!(rt;
-        write_to(rt.alloc(), &state, &mut out)?,
-        Err(WriteFault::TooBig(GROUP))
-    );
-    assert!(rt; out.written().is_empty());
-    assert_eq!(rt;
-        fault_of_kept(rt.alloc(), &state),
-        Some(FormFault::TooBig(GROUP))
-    );
+    assert!(rt; too_big_is_told(rt.alloc())?);
     Ok(())
+}
+
+/// Whether 127 of 200 sources are told where the others, and the next group's RP, are reached by another neighbour.
+fn passes_over(alloc: Global, state: &mut State<V4>) -> Result<bool, AllocError> {
+    let via = state.routes.add_via([10, 1, 0, 128], 25, [10, 0, 0, 6]);
+    let rp = state.routes.add_rp([239, 1, 1, 2], 32, [10, 1, 0, 200]);
+    let star = [Entry::Star([10, 1, 0, 200])];
+    Ok(
+        via.is_ok()
+            && rp.is_ok()
+            && hear_200(alloc, state)?
+            && hear(alloc, state, 1, NEXT_GROUP, &star, &[])?
+            && is_long(alloc, state, 1, 2 + 26 + 127 * 8)?,
+    )
+}
+
+/// The same of a new state.
+fn others_are_passed_over(alloc: Global) -> Result<bool, AllocError> {
+    match state4(alloc, 2, 1480) {
+        Some(mut state) => passes_over(alloc, &mut state),
+        None => Ok(false),
+    }
 }
 
 #[test]
 fn passes_over_what_others_are_asked_for(rt: HostRuntime) -> Result<(), Fail> {
-    let Some(mut state) = state4(rt.alloc(), 2, 1480) else {
-        assert!(rt; false);
-        return Ok(());
-    };
-    assert!(rt;
-        state
-            .routes
-            .add_via([10, 1, 0, 128], 25, [10, 0, 0, 6])
-            .is_ok()
-    );
-    assert!(rt;
-        state
-            .routes
-            .add_rp([239, 1, 1, 2], 32, [10, 1, 0, 200])
-            .is_ok()
-    );
-    assert!(rt; hear_200(rt.alloc(), &mut state)?);
-    let star = [Entry::Star([10, 1, 0, 200])];
-    assert!(rt; hear(rt.alloc(), &mut state, 1, NEXT_GROUP, &star, &[])?);
-    let mut out = ScriptedDrain::new(rt.alloc(), 33, 100_000);
-    assert_eq!(rt; write_to(rt.alloc(), &state, &mut out)?, Ok(1));
-    assert_eq!(rt; out.written().len(), 2 + 26 + 127 * 8);
-    assert!(rt; is_packed(rt.alloc(), &state, out.written()));
+    assert!(rt; others_are_passed_over(rt.alloc())?);
     Ok(())
 }
 

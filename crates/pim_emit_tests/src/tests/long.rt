@@ -77,7 +77,7 @@ fn is_cut(
     let told = write_to(alloc, state, &mut out)?;
     let (front, _) = bytes.split_at(fails_from.min(bytes.len()));
     let sent = fails_from as u64;
-    Ok(told == Err(WriteFault::Output { sent }) && out.written() == front)
+    Ok(told == Err(WriteFault::Output { sent }) && out.written() == front && out.failures() == 1)
 }
 
 /// The first byte at which a device that fails there isn't written and told so.
@@ -94,13 +94,24 @@ fn first_wrong_failure(
     Ok(None)
 }
 
-/// Hears the star of the group, with so many exceptions.
-fn hear_excepted(alloc: Global, state: &mut State<V4>, count: u8) -> Result<bool, AllocError> {
-    let mut pruned = Vec::new(alloc);
+fn push_exceptions(pruned: &mut Vec<Entry<[u8; 4]>>, count: u8) -> Result<(), AllocError> {
     for number in 1..=count {
         pruned.push(Entry::Rpt(source(number)))?;
     }
-    hear(alloc, state, 0, GROUP, &[Entry::Star(RP)], &pruned)
+    Ok(())
+}
+
+/// Hears the star of the group, with so many exceptions.
+pub(super) fn hear_excepted(
+    alloc: Global,
+    state: &mut State<V4>,
+    count: u8,
+) -> Result<bool, AllocError> {
+    let mut pruned = Vec::new(alloc);
+    match push_exceptions(&mut pruned, count) {
+        Ok(()) => hear(alloc, state, 0, GROUP, &[Entry::Star(RP)], &pruned),
+        Err(error) => Err(error),
+    }
 }
 
 /// Whether these are the bytes of two messages, and a device that fails at any of them was written the ones before.
@@ -166,13 +177,20 @@ fn as_many_exceptions_as_fit(rt: HostRuntime) -> Result<(), Fail> {
     Ok(())
 }
 
-/// Hears the star of the group of IPv6, with so many exceptions.
-fn hear_excepted6(alloc: Global, state: &mut State<V6>, count: u8) -> Result<bool, AllocError> {
-    let mut pruned = Vec::new(alloc);
+fn push_exceptions6(pruned: &mut Vec<Entry<[u8; 16]>>, count: u8) -> Result<(), AllocError> {
     for number in 1..=count {
         pruned.push(Entry::Rpt(address6(number)))?;
     }
-    hear(alloc, state, 0, GROUP6, &[Entry::Star(RP6)], &pruned)
+    Ok(())
+}
+
+/// Hears the star of the group of IPv6, with so many exceptions.
+fn hear_excepted6(alloc: Global, state: &mut State<V6>, count: u8) -> Result<bool, AllocError> {
+    let mut pruned = Vec::new(alloc);
+    match push_exceptions6(&mut pruned, count) {
+        Ok(()) => hear(alloc, state, 0, GROUP6, &[Entry::Star(RP6)], &pruned),
+        Err(error) => Err(error),
+    }
 }
 
 /// Whether a message of so many bytes is written to a device that takes one byte a call, behind this length; of none

@@ -102,23 +102,41 @@ fn groups_of_64_ports_take_turns(rt: HostRuntime) -> Result<(), Fail> {
     Ok(())
 }
 
+fn push_pruned(pruned: &mut Vec<Entry<[u8; 4]>>, port: usize) -> Result<(), AllocError> {
+    for number in 0..port.min(37) + 3 {
+        pruned.push(Entry::Rpt(source((200 - number % 100) as u8)))?;
+    }
+    Ok(())
+}
+
+/// A port joins the star, without one source more than the port before it.
+fn hear_star_on(alloc: Global, state: &mut State<V4>, port: usize) -> Result<bool, AllocError> {
+    let mut pruned = Vec::new(alloc);
+    match push_pruned(&mut pruned, port) {
+        Ok(()) => hear(alloc, state, port, GROUP, &[Entry::Star(RP)], &pruned),
+        Err(error) => Err(error),
+    }
+}
+
+/// Every second port joins two sources of the next group.
+fn hear_next_group_on(
+    alloc: Global,
+    state: &mut State<V4>,
+    port: usize,
+) -> Result<bool, AllocError> {
+    let two = [
+        Entry::Source(source((port % 7 + 1) as u8)),
+        Entry::Source(source(90)),
+    ];
+    Ok(port % 2 == 0 || hear(alloc, state, port, NEXT_GROUP, &two, &[])?)
+}
+
 /// Ports that want of the group: all but the last a star, each but one source more than the one before, and all but
 /// three of the same sources; the last some sources. Every second one wants the next group too.
 fn hear_on_all(alloc: Global, state: &mut State<V4>) -> Result<bool, AllocError> {
     let last = state.ports.port_count().saturating_sub(1);
     for port in 0..last {
-        let mut pruned = Vec::new(alloc);
-        for number in 0..port.min(37) + 3 {
-            pruned.push(Entry::Rpt(source((200 - number % 100) as u8)))?;
-        }
-        if !hear(alloc, state, port, GROUP, &[Entry::Star(RP)], &pruned)? {
-            return Ok(false);
-        }
-        let two = [
-            Entry::Source(source((port % 7 + 1) as u8)),
-            Entry::Source(source(90)),
-        ];
-        if port % 2 == 1 && !hear(alloc, state, port, NEXT_GROUP, &two, &[])? {
+        if !hear_star_on(alloc, state, port)? || !hear_next_group_on(alloc, state, port)? {
             return Ok(false);
         }
     }
@@ -126,18 +144,26 @@ fn hear_on_all(alloc: Global, state: &mut State<V4>) -> Result<bool, AllocError>
     hear(alloc, state, last, GROUP, &some, &[Entry::Rpt(source(199))])
 }
 
+/// Whether the packed messages are written.
+fn are_merged(alloc: Global, state: &State<V4>) -> Result<bool, AllocError> {
+    let mut out = ScriptedDrain::new(alloc, 33, 100_000);
+    let told = write_to(alloc, state, &mut out)?;
+    Ok(told.is_ok() && is_packed(alloc, state, out.written()))
+}
+
+/// The same of a new state of so many ports.
+fn merges(alloc: Global, count: usize, budget: usize) -> Result<bool, AllocError> {
+    match state4(alloc, count, budget) {
+        Some(mut state) => { Ok(hear_on_all(alloc, &mut state)? && are_merged(alloc, &state)?) }
+        None => Ok(false),
+    }
+}
+
 #[test]
 fn merges_the_ports(rt: HostRuntime) -> Result<(), Fail> {
     for count in [1, 2, 3, 7, 64] {
         for budget in [70, 100, 1480] {
-            let Some(mut state) = state4(rt.alloc(), count, budget) else {
-                assert!(rt; false);
-                return Ok(());
-            };
-            assert!(rt; hear_on_all(rt.alloc(), &mut state)?);
-            let mut out = ScriptedDrain::new(rt.alloc(), 33, 100_000);
-            assert!(rt; write_to(rt.alloc(), &state, &mut out)?.is_ok());
-            assert!(rt; is_packed(rt.alloc(), &state, out.written()));
+            assert!(rt; merges(rt.alloc(), count, budget)?);
         }
     }
     Ok(())
