@@ -137,6 +137,8 @@ fn wrong(alloc: Global) -> Result<Option<usize>, AllocError> {
 #[test]
 fn forms_by_the_macros(rt: HostRuntime) -> Result<(), Fail> {
     assert_eq!(rt; wrong(rt.alloc())?, None);
+    // so that where no growth is refused the test of refusals looks at these ports
+    assert!(rt; is_so(rt.alloc(), &HELD)?);
     Ok(())
 }
 
