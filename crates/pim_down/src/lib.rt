@@ -10,6 +10,7 @@
 
 mod after;
 mod again;
+mod blocks;
 mod deadline;
 mod edits;
 mod end;
@@ -28,6 +29,8 @@ mod run;
 mod schedule;
 mod step;
 mod store;
+#[cfg(test)]
+mod tests;
 mod timers;
 mod walk;
 

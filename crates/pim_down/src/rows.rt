@@ -10,6 +10,7 @@ ghost use Rattle.pim_down.specs.declared.held.Held.{Held};
 ghost use Rattle.pim_down.specs.Records.{count_on};
 ghost use Rattle.pim_down.specs.Seen.{records_seen};
 
+use crate::blocks::HALF_BLOCK;
 use crate::held::{Held, Timed};
 use crate::key::Key;
 use sorted_blocks::{Place, Probe};
@@ -58,7 +59,7 @@ impl<'a, A, B: Bound<A>> Probe<Held<A>> for Side<'a, B> {
 /// The records of all ports. Contracts see their list, its places, and how many records fit without memory.
 #[derive(Drop)]
 pub(crate) struct Rows<A: Copy> {
-    list: SortedSlab<Held<A>, 64>,
+    list: SortedSlab<Held<A>, HALF_BLOCK>,
     /// How many records each port has.
     counts: [usize; 64],
 }
@@ -215,7 +216,7 @@ impl<A: Copy> Rows<A> {
     }
 
     /// So many records from this place on, in order, or those that there are.
-    pub(crate) fn walk(&self, place: Place, count: usize) -> Walk<'_, Held<A>, 64>
+    pub(crate) fn walk(&self, place: Place, count: usize) -> Walk<'_, Held<A>, HALF_BLOCK>
         requires { IsPlace self.now place }
         ensures { result ≡ take count (drop (at self.now place) self.now.items) }
     {
@@ -223,7 +224,7 @@ impl<A: Copy> Rows<A> {
     }
 
     /// All records, in order.
-    pub(crate) fn iter(&self) -> Walk<'_, Held<A>, 64>
+    pub(crate) fn iter(&self) -> Walk<'_, Held<A>, HALF_BLOCK>
         ensures { result ≡ self.now.items }
     {
         self.list.walk(self.list.first(), self.list.len())

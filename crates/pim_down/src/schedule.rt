@@ -38,10 +38,11 @@ impl<A: Copy, O: KeyOrder<A>> Probe<Deadline<A>> for Wanted<A, O> {
     }
 }
 
-/// The timers that run, in the order in which they fire. Contracts see them, and how many fit without memory.
+/// The timers that run, in the order in which they fire, in blocks of up to twice `HALF`. Contracts see them, and how
+/// many fit without memory.
 #[derive(Drop)]
-pub(crate) struct Schedule<A: Copy, O: KeyOrder<A>> {
-    list: Blocks<Deadline<A>, 64>,
+pub(crate) struct Schedule<A: Copy, O: KeyOrder<A>, const HALF: usize> {
+    list: Blocks<Deadline<A>, HALF>,
     /// Where a timer was put in last: a place to begin at.
     put: Place,
     /// Where one was taken out last.
@@ -49,7 +50,7 @@ pub(crate) struct Schedule<A: Copy, O: KeyOrder<A>> {
     order: PhantomData<O>,
 }
 
-impl<A: Copy, O: KeyOrder<A>> Model for Schedule<A, O> {
+impl<A: Copy, O: KeyOrder<A>, const HALF: usize> Model for Schedule<A, O, HALF> {
     ghost use Rattle.std.specs.Prelude.{map};
     ghost use Rattle.sorted_blocks.specs.Shape.{items, capacity};
     ghost use Rattle.pim_down.specs.Schedule.{Scheduled, deadline_cmp, deadline_seen, IsInOrder};
@@ -58,15 +59,15 @@ impl<A: Copy, O: KeyOrder<A>> Model for Schedule<A, O> {
 
     ghost view = { λ s. record {
       timers = map (deadline_seen O.bytes_of) (items s.list);
-      capacity = capacity 64 s.list;
+      capacity = capacity HALF s.list;
     } };
 
     ghost invariant = { λ s. IsInOrder deadline_cmp (map (deadline_seen O.bytes_of) (items s.list)) };
 }
 
 /// Where the timer belongs among these.
-fn slot_of<A: Copy, O: KeyOrder<A>>(
-    list: &Blocks<Deadline<A>, 64>,
+fn slot_of<A: Copy, O: KeyOrder<A>, const HALF: usize>(
+    list: &Blocks<Deadline<A>, HALF>,
     near: Place,
     deadline: Deadline<A>,
 ) -> Place
@@ -88,9 +89,11 @@ fn slot_of<A: Copy, O: KeyOrder<A>>(
     }
 }
 
-impl<A: Copy, O: KeyOrder<A>> Schedule<A, O> {
+impl<A: Copy, O: KeyOrder<A>, const HALF: usize> Schedule<A, O, HALF> {
     /// No timer; it takes no memory.
     pub(crate) fn new(alloc: Global) -> Self
+        requires some { 1 ≤ HALF }
+        requires small { HALF ≤ 65536 }
         ensures { result.timers ≡ [] }
     {
         Schedule {
@@ -143,7 +146,7 @@ impl<A: Copy, O: KeyOrder<A>> Schedule<A, O> {
         ensures timers { self.new.timers ≡ placed deadline_cmp (deadline_seen O.bytes_of deadline) self.old.timers }
         ensures capacity { self.new.capacity ≡ self.old.capacity }
     {
-        let place = slot_of::<A, O>(&self.list, self.put, deadline);
+        let place = slot_of::<A, O, HALF>(&self.list, self.put, deadline);
         let stands = self.list.insert_within(place, deadline);
         self.put = stands;
     }

@@ -11,6 +11,7 @@ ghost use Rattle.pim_down.specs.Records.{count_on};
 ghost use Rattle.pim_down.specs.Schedule.{deadline_seen, timers_of};
 ghost use Rattle.pim_down.specs.Seen.{records_seen};
 
+use crate::blocks::HALF_BLOCK;
 use crate::deadline::Deadline;
 use crate::held::{Held, Timed};
 use crate::key::KeyOrder;
@@ -26,7 +27,7 @@ use std::marker::Model;
 #[derive(Drop)]
 pub(crate) struct Store<A: Copy, O: KeyOrder<A>> {
     rows: Rows<A>,
-    schedule: Schedule<A, O>,
+    schedule: Schedule<A, O, HALF_BLOCK>,
     /// The schedule has room for the timers of so many records.
     room: usize,
 }
@@ -179,7 +180,7 @@ impl<A: Copy, O: KeyOrder<A>> Store<A, O> {
     }
 
     /// So many records from this place on, in order, or those that there are.
-    pub(crate) fn walk(&self, place: Place, count: usize) -> Walk<'_, Held<A>, 64>
+    pub(crate) fn walk(&self, place: Place, count: usize) -> Walk<'_, Held<A>, HALF_BLOCK>
         requires { IsPlace self.now place }
         ensures { result ≡ take count (drop (at self.now place) self.now.items) }
     {
@@ -187,7 +188,7 @@ impl<A: Copy, O: KeyOrder<A>> Store<A, O> {
     }
 
     /// All records, in order.
-    pub(crate) fn iter(&self) -> Walk<'_, Held<A>, 64>
+    pub(crate) fn iter(&self) -> Walk<'_, Held<A>, HALF_BLOCK>
         ensures { result ≡ self.now.items }
     {
         self.rows.iter()

@@ -7,6 +7,7 @@ ghost use Rattle.pim_down.specs.Records.{IsAscending, is_on, count_on};
 ghost use Rattle.pim_down.specs.Time.{machine_after, record_after};
 ghost use Rattle.pim_down.specs.Seen.{timed_seen, record_seen, told_seen, records_seen, shown};
 
+use crate::blocks::HALF_BLOCK;
 use crate::held::{Held, Timed};
 use crate::key::{Key, OfFamily};
 use crate::machine::{Machine, Pending, Record};
@@ -69,7 +70,7 @@ impl<A> Bound<A> for OfPort {
 pub(crate) fn on_port<F: Family>(
     records: &Store<F::Addr, OfFamily<F>>,
     port: usize,
-) -> Walk<'_, Held<F::Addr>, 64>
+) -> Walk<'_, Held<F::Addr>, HALF_BLOCK>
     requires ascending { IsAscending (records_seen F.bytes_of records.now.items) }
     requires port { port < 64 }
     ensures { records_seen F.bytes_of result ≡ filter (is_on port) (records_seen F.bytes_of records.now.items) }
@@ -91,7 +92,7 @@ pub(crate) fn count_on<F: Family>(records: &Store<F::Addr, OfFamily<F>>, port: u
 /// The records in key order, with what is left of their timers. Contracts see those that are left.
 #[derive(Drop)]
 pub struct Records<'a, F: Family> {
-    left: Walk<'a, Held<F::Addr>, 64>,
+    left: Walk<'a, Held<F::Addr>, HALF_BLOCK>,
     moment: u64,
     family: PhantomData<F>,
 }
@@ -108,7 +109,7 @@ impl<'a, F: Family> Model for Records<'a, F> {
 
 impl<'a, F: Family> Records<'a, F> {
     /// These records, as they stand at this moment.
-    pub(crate) fn new(left: Walk<'a, Held<F::Addr>, 64>, moment: u64) -> Self
+    pub(crate) fn new(left: Walk<'a, Held<F::Addr>, HALF_BLOCK>, moment: u64) -> Self
         ensures { result ≡ shown F.bytes_of moment left.entry }
     {
         Records {

@@ -3,14 +3,11 @@
 //! far longer to prove.
 
 mod bodies;
-mod courses;
 mod hearing;
 mod limits;
 mod looks;
 mod nexts;
-mod random;
 mod running;
-mod slow;
 mod tables;
 
 use bodies::{body, hear_body, table};
