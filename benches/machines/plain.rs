@@ -58,7 +58,7 @@ struct Deadline {
 type Place = (usize, usize);
 
 /// A list in order, in blocks of up to 128 items, each its own piece of memory. The first items of the blocks stand in one
-/// row. Neighbouring blocks have more than half a block together.
+/// row. Where an item goes, its block is merged with a neighbour if both together fill half a block at most.
 struct Blocks<T> {
     blocks: Vec<Vec<T>>,
     firsts: Vec<T>,
@@ -273,7 +273,7 @@ impl List {
         if additional > 0 {
             let records = self.index.len + additional;
             self.index.reserve_for(records);
-            self.slab.reserve(records - self.slab.len());
+            self.slab.reserve(records.saturating_sub(self.slab.len()));
             self.schedule.list.reserve_for(2 * records + 2);
         }
     }
