@@ -33,6 +33,7 @@ pub mod Real
 pub mod SoundHeard
 pub mod Stays
 pub mod OnPort
+pub mod Passing
 pub mod Runs
 pub mod Silence
 pub mod Echo

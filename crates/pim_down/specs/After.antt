@@ -33,6 +33,21 @@ is_machine_after port group what held =
 abbrev pub next_in_group : ℕ → List ℕ → What (List ℕ) → List (Record (List ℕ)) → Option (Record (List ℕ))
 next_in_group port group what records = find (is_machine_after port group what) records
 
+-- ---- the machines of a group on a port, told one after another
+
+-- Of these records those of the key's port and group are told that stand behind its machine.
+pub record MachinesLeft : Type 0 where
+  pub records : List (Record (List ℕ))
+  pub behind : Key (List ℕ)
+
+abbrev pub next_machine : MachinesLeft → Option (Record (List ℕ))
+next_machine left = next_in_group left.behind.port left.behind.group left.behind.what left.records
+
+-- those behind the one that was told; where none was, nothing has changed
+abbrev pub left_behind : MachinesLeft → Option (Record (List ℕ)) → MachinesLeft
+left_behind left None = left
+left_behind left (Some told) = record { records = left.records; behind = told.key }
+
 -- ---- what a search passes over
 
 -- the key stands before all groups of the port above the bound

@@ -3,13 +3,15 @@ use Rattle.std.specs.Prelude.{◌≡◌, ℕ, ◌<◌, ◌≤◌, Bool, true, fa
 use Rattle.std.specs.Prelude.{Result, Ok, Err}
 use Rattle.std.specs.declared.cmp.Ordering.{Ordering}
 use Rattle.std.specs.declared.cmp.Ordering.TheVariants.{Less, Greater}
+use Rattle.std.specs.List.Sorted.{IsPartitionPoint}
 use Rattle.sorted_blocks.specs.declared.place.Place.{Place}
 use Rattle.sorted_slab.specs.Listed.{Listed, at, IsPlace as IsListPlace, IsItem}
 use Rattle.pim_down.specs.declared.held.Held.{Held}
 use Rattle.pim_down.specs.declared.key.Key.{Key}
 use Rattle.pim_down.specs.Records.{count_on}
 use Rattle.pim_down.specs.Places.{StandsAt, WouldStandAt}
-use Rattle.pim_down.specs.Seen.{records_seen}
+use Rattle.pim_down.specs.Seen.{records_seen, key_seen}
+use Rattle.pim_down.specs.After.{is_up_to}
 
 -- each count, of 64 ports, is that of the port's records; and all records fit
 pub record IsKept {A : Type 0} (counts : List ℕ) (list : Listed (Held A)) : Type 0 where
@@ -33,3 +35,10 @@ IsPlaceOf bytes_of key list (Err place) =
 module _ {X : Type 0} where
   abbrev pub NoneBefore : (X → Bool) → List X → ℕ → Type 0
   NoneBefore test xs i = (k : ℕ) (d : X) → k < i → k < length xs → test (slice_index_or xs k d) ≡ false
+
+-- the place behind all records up to this key's
+pub record IsBehind {A : Type 0} (bytes_of : A → List ℕ) (key : Key A) (list : Listed (Held A)) (place : Place) : Type 0 where
+  pub is_place : IsListPlace list place
+  pub is_item : at list place < length list.items → IsItem list place
+  pub parts : IsPartitionPoint (λ (held : Held A). is_up_to (key_seen bytes_of key) (key_seen bytes_of held.key) ≡ true)
+      (λ (held : Held A). is_up_to (key_seen bytes_of key) (key_seen bytes_of held.key) ≡ false) list.items (at list place)

@@ -7,7 +7,7 @@ ghost use Rattle.pim_down.specs.Records.{IsAscending};
 ghost use Rattle.pim_down.specs.Seen.{what_seen, key_seen, record_seen, records_seen};
 
 use crate::held::Held;
-use crate::key::{Key, OfFamily, compare_groups, compare_keys};
+use crate::key::{Key, OfFamily, compare_addresses, compare_groups, compare_keys};
 use crate::near::Near;
 use crate::rows::Bound;
 use crate::store::Store;
@@ -61,8 +61,8 @@ pub(crate) fn first_of_groups_after<F: Family>(
 
 /// The bound behind a key.
 #[derive(Drop)]
-struct Behind<F: Family> {
-    key: Key<F::Addr>,
+pub(crate) struct Behind<F: Family> {
+    pub(crate) key: Key<F::Addr>,
 }
 
 impl<F: Family> Bound<F::Addr> for Behind<F> {
@@ -77,10 +77,10 @@ impl<F: Family> Bound<F::Addr> for Behind<F> {
 }
 
 /// Whether the key is of the port and the group of the other one.
-fn is_of_group<F: Family>(key: &Key<F::Addr>, bound: &Key<F::Addr>) -> bool
+pub(crate) fn is_of_group<F: Family>(key: &Key<F::Addr>, bound: &Key<F::Addr>) -> bool
     ensures { result ≡ is_of_group (key_seen F.bytes_of bound.now) (key_seen F.bytes_of key.now) }
 {
-    key.port == bound.port && key.group.cmp(&bound.group).is_eq()
+    key.port == bound.port && compare_addresses::<F>(key.group, bound.group).is_eq()
 }
 
 /// The first record of the key's port and group whose machine comes after the key's, and where it stands, or would

@@ -32,7 +32,7 @@ pub struct Key<A> {
 }
 
 /// In the order of their bytes, which is that of their numbers: these a processor compares at once.
-fn compare_addresses<F: Family>(a: F::Addr, b: F::Addr) -> Ordering
+pub(crate) fn compare_addresses<F: Family>(a: F::Addr, b: F::Addr) -> Ordering
     ensures { result ≡ address_cmp (F.bytes_of a) (F.bytes_of b) }
 {
     F::address_has_its_bytes(a);

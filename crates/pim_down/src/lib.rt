@@ -16,6 +16,7 @@ mod edits;
 mod end;
 mod event;
 mod fault;
+mod group;
 mod hear;
 mod held;
 mod key;
@@ -36,6 +37,7 @@ mod walk;
 
 pub use event::Timing;
 pub use fault::HearFault;
+pub use group::GroupMachines;
 pub use key::{Key, What};
 pub use laws::{
     a_map_has_one_list, change_acts_at_its_key, echo_names_a_machine, end_acts_at_each_key,

@@ -15,6 +15,7 @@ use crate::after::{first_machine_after, first_of_groups_after};
 use crate::edits::machine_near;
 use crate::event::Timing;
 use crate::fault::HearFault;
+use crate::group::GroupMachines;
 use crate::hear::start_at;
 use crate::key::{Key, OfFamily, What};
 use crate::machine::{Record, State};
@@ -245,6 +246,25 @@ impl<F: Family> Ports<F> {
             Some(first) => (Some(record_after(&first, self.moment)), place),
             None => (None, place),
         }
+    }
+
+    /// The machines of this group on the port behind this one, which need not be held, to be told one after another in
+    /// key order. They are looked for from near a place; whatever place that is, they are the same.
+    ///
+    /// To begin costs what `record_after_near` costs; each one that is told then costs no search. It takes no memory.
+    pub fn machines_after_near(
+        &self,
+        port: usize,
+        group: F::Addr,
+        what: What<F::Addr>,
+        near: Near,
+    ) -> GroupMachines<'_, F>
+        ensures { result ≡ record {
+          records = self.now.records;
+          behind = key_at F.bytes_of port group what;
+        } }
+    {
+        GroupMachines::behind(&self.records, near, Key { port, group, what }, self.moment)
     }
 
     /// Hears a message on a port. A Join(*,G) counts only where its RP is the one to which the table leads G. No timer

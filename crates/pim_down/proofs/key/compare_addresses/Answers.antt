@@ -1,4 +1,4 @@
-use Rattle.std.proofs.Common.{◌≡◌, ◌∙◌, sym, ap}
+use Rattle.std.proofs.Common.{◌∙◌, sym, ap}
 use Rattle.std.specs.Ordering.{nat_cmp}
 use Rattle.pim_addr.specs.Address.{number_of}
 use Rattle.pim_down.proofs.key.compare_addresses.Goals as goal
