@@ -1,8 +1,8 @@
 -- The star of a group that is asked for, and its exceptions, among the (S,G,rpt) machines of a port that has (*,G).
-use Rattle.std.proofs.Common.{◌≡◌, ◌∙◌, ◌<◌, ◌≤◌, ℕ, suc, Bool, true, false, ◌&&◌, not, List, [], ◌∷◌, Option, None, Some, length, refl, sym, ap, subst, option_map}
+use Rattle.std.proofs.Common.{◌≡◌, ◌∙◌, ◌<◌, ◌≤◌, ℕ, suc, Bool, true, false, ◌&&◌, not, List, Option, None, Some, length, refl, sym, ap, subst}
 use Rattle.std.specs.declared.cmp.Ordering.TheVariants.{Less}
 use Rattle.std.specs.List.{list_any}
-use Rattle.std.specs.Option.{is_some, unwrap_or}
+use Rattle.std.specs.Option.{is_some}
 use Rattle.std.proofs.lemmas.Bool.{false≢true, and_parts, and_from}
 use Rattle.pim_addr.specs.Address.{IsGroupAddress, IsSourceAddress}
 use Rattle.pim_addr.specs.Routes.{RouteTable}
@@ -27,6 +27,7 @@ use Rattle.pim_form.specs.declared.tree.Tree.TheVariants.{Shared}
 use Rattle.pim_emit.specs.Least.{IsLeast}
 use Rattle.pim_emit.specs.Left.{above, next_above, star_of, exceptions_in}
 use Rattle.pim_emit.specs.Machines.{is_starred, has_rpt, IsSomeBelow}
+use Rattle.pim_emit.specs.Rpts.{RptsLeft, AreRptsOn, AreRpts}
 use Rattle.pim_emit.specs.Stars.{IsFirstBelow, AreStars}
 use Rattle.pim_emit.specs.declared.stars.Stars.{Stars}
 use Rattle.pim_emit.proofs.Addresses.{same_itself}
@@ -34,13 +35,9 @@ use Rattle.pim_emit.proofs.Above.{by_test, above_first, above_none}
 use Rattle.pim_emit.proofs.AskedSources.{HasLists, lists_of}
 use Rattle.pim_emit.proofs.CountAbove.{count_above, fewer_above}
 use Rattle.pim_emit.proofs.FirstRecords.{held_at, any_at}
-use Rattle.pim_emit.proofs.ListedAbove.{over, AllPass, none_left, listed_next, unlisted_passed, all_listed, below_all}
+use Rattle.pim_emit.proofs.ListedAbove.{over, AllPass, none_left, listed_next, unlisted_passed, all_listed, above_all}
 use Rattle.pim_emit.proofs.NextMachines.{key_of, told_state}
 use Rattle.pim_emit.proofs.PortsBelow.{found_below}
-
-pub all_above : (addresses : List (List ℕ)) → length (above None addresses) ≡ length addresses
-all_above [] = refl
-all_above (address ∷ addresses) = ap suc (all_above addresses)
 
 pruned_is_some : (state : Option State) → is_pruned state ≡ true → is_some state ≡ true
 pruned_is_some None e = e
@@ -53,6 +50,16 @@ stars_inside seen state group stars same are = subst (λ (d : Downstream). AreSt
 pub first_of_stars : (state : Downstream) (group : List ℕ) (stars : Stars) (first : Option ℕ) → AreStars state group stars → stars.first ≡ first
     → IsFirstBelow state.ports (is_starred state group) first
 first_of_stars state group stars first are same = subst (IsFirstBelow state.ports (is_starred state group)) same are.least
+
+-- the machines that are left, in those that are seen, and on the port that is the first one
+pub rpts_inside : (state seen : Downstream) (group : List ℕ) (first : Option ℕ) (rpts : RptsLeft) → state ≡ seen → AreRpts seen group first rpts → AreRpts state group first rpts
+rpts_inside state seen group first rpts same are = subst (λ (d : Downstream). AreRpts d group first rpts) (sym same) are
+
+pub on_first : (state : Downstream) (group : List ℕ) (port : ℕ) (first : Option ℕ) (rpts : RptsLeft) → first ≡ Some port → AreRpts state group first rpts → AreRptsOn state port group rpts
+on_first state group port first rpts same are = subst (λ (f : Option ℕ). AreRpts state group f rpts) same are
+
+pub of_first : (state : Downstream) (group : List ℕ) (port : ℕ) (first : Option ℕ) (rpts : RptsLeft) → first ≡ Some port → AreRptsOn state port group rpts → AreRpts state group first rpts
+of_first state group port first rpts same are = subst (λ (f : Option ℕ). AreRpts state group f rpts) (sym same) are
 
 -- the neighbour that is asked for a star is told from the upstream
 pub is_reached : (family : AddressFamily) (table : RouteTable) (neighbour group : List ℕ) (upstream : Option (List ℕ)) (answer : Bool) → upstream ≡ via_rp (via_in family table) (known_in family table group)
@@ -92,14 +99,11 @@ module _ (family : AddressFamily) (table : RouteTable) (neighbour : List ℕ) (s
 
   -- ---- which comes next
 
-  -- looking from below all sources is looking at all
-  pub from_lowest : {A : Type 0} (bytes_of : A → List ℕ) (lowest first : A) (bound : Option A) → ((source : List ℕ) → IsSourceAddress family source → address_cmp (bytes_of lowest) source ≡ Less)
-      → first ≡ unwrap_or bound lowest → next_above (Some (bytes_of first)) (exceptions_in group form) ≡ next_above (option_map bytes_of bound) (exceptions_in group form)
-  from_lowest bytes_of lowest first None below is =
-      ap (λ a. next_above (Some (bytes_of a)) (exceptions_in group form)) is
-      ∙ below_all (bytes_of lowest) (exceptions_in group form)
-      (all_listed (IsSourceAddress family) (λ source. address_cmp (bytes_of lowest) source ≡ Less) (exceptions_in group form) lists.exceptions (λ source valid listed. below source valid))
-  from_lowest bytes_of lowest first (Some bound) below is = ap (λ a. next_above (Some (bytes_of a)) (exceptions_in group form)) is
+  -- all are above an address below all sources
+  pub all_over : (low : List ℕ) → ((source : List ℕ) → IsSourceAddress family source → address_cmp low source ≡ Less) → above (Some low) (exceptions_in group form) ≡ exceptions_in group form
+  all_over low below =
+      above_all low (exceptions_in group form)
+      (all_listed (IsSourceAddress family) (λ source. address_cmp low source ≡ Less) (exceptions_in group form) lists.exceptions (λ source valid listed. below source valid))
 
   module _ (apart : KeysAreToldApart) (sound : IsSound family state) (star : is_some (star_of group form) ≡ true) (port : ℕ) (below : port < state.ports) (starred : is_starred state group port ≡ true) where
     -- what the code looks for

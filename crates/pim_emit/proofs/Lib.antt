@@ -6,6 +6,7 @@ pub mod NextMachines
 pub mod PortsBelow
 pub mod SharedTree
 pub mod NextAhead
+pub mod Room
 pub mod NextGroups
 pub mod BelowSources
 pub mod ListedAbove

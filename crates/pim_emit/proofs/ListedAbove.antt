@@ -10,7 +10,7 @@ use Rattle.pim_down.specs.After.{is_above}
 use Rattle.pim_down.specs.Key.{address_cmp}
 use Rattle.pim_form.specs.NormalForm.{AreAscending, same_address, is_listed}
 use Rattle.pim_emit.specs.Least.{IsLeast}
-use Rattle.pim_emit.specs.Left.{next_above}
+use Rattle.pim_emit.specs.Left.{above, next_above}
 use Rattle.pim_emit.proofs.Addresses.{same_is, same_itself, back, lt_less, above_less, le_above}
 use Rattle.pim_emit.proofs.Above.{by_test}
 
@@ -83,7 +83,7 @@ all_listed P Q (x ∷ xs) all gives = (
   all_listed P Q xs all.1 (λ y p listed. gives y p (or_right (same_address y x) (is_listed y xs) listed)),
 )
 
--- an address below all of a list is no bound
-pub below_all : (low : List ℕ) (xs : List (List ℕ)) → AllByRecursion (λ x. address_cmp low x ≡ Less) xs → next_above (Some low) xs ≡ next_above None xs
-below_all low [] below = refl
-below_all low (x ∷ xs) below = let above : is_above (Some low) x ≡ true = ap is_lt below.0 in rw above refl
+-- all of a list are above an address below them
+pub above_all : (low : List ℕ) (xs : List (List ℕ)) → AllByRecursion (λ x. address_cmp low x ≡ Less) xs → above (Some low) xs ≡ xs
+above_all low [] below = refl
+above_all low (x ∷ xs) below = let here : is_above (Some low) x ≡ true = ap is_lt below.0 in rw here (ap (λ l. x ∷ l) (above_all low xs below.1))

@@ -1,16 +1,18 @@
 -- What comes next on each port, where what comes next of all is passed.
-use Rattle.std.proofs.Common.{◌≡◌, ◌∙◌, ℕ, ◌+◌, ◌<◌, ◌≤◌, true, false, ◌&&◌, List, Option, None, Some, length, get_or, sym, subst, arith, ⊎_elim}
+use Rattle.std.proofs.Common.{◌≡◌, ◌∙◌, ℕ, ◌+◌, ◌<◌, ◌≤◌, true, false, ◌&&◌, List, Option, None, Some, length, get_or, option_map, sym, subst, arith, ⊎_elim}
 use Rattle.std.proofs.Math.ListN.{set}
 use Rattle.std.proofs.lemmas.Bool.{false≢true, and_parts, and_from, cases_lt}
 use Rattle.std.proofs.lemmas.List.{get_or-set_same, get_or-set_other}
 use Rattle.std.specs.Ordering.{is_le}
-use Rattle.pim_down.specs.After.{is_above}
+use Rattle.pim_addr.specs.declared.family.AddressFamily.{AddressFamily}
+use Rattle.pim_down.specs.After.{is_above, MachinesLeft}
 use Rattle.pim_down.specs.Key.{address_cmp}
+use Rattle.pim_down.specs.Sound.{IsSound}
 use Rattle.pim_down.specs.Time.{Downstream}
 use Rattle.pim_form.specs.Wants.{some_below}
-use Rattle.pim_emit.specs.Ahead.{is_this, IsNextOn, IsNextSource}
+use Rattle.pim_emit.specs.Ahead.{is_this, IsNextOn, IsNextSource, SourceAhead, its_source, IsAheadOn, TellsNext}
 use Rattle.pim_emit.specs.Machines.{is_source_joined}
-use Rattle.pim_emit.proofs.Addresses.{lt_less, above_less, le_above}
+use Rattle.pim_emit.proofs.Addresses.{lt_less, above_less, le_above, same_is}
 use Rattle.pim_emit.proofs.Above.{by_test}
 use Rattle.pim_emit.proofs.PortsBelow.{found_below, and_below}
 
@@ -65,3 +67,19 @@ module _ (state : Downstream) (group : List ℕ) (port : ℕ) (below : port < st
         and_from (is_above (Some passed) next) (is_source_joined state group next port) (le_above passed next up_to apart) parts.1,
         λ source passes. is.1 source (raised source passes),
       )
+
+  pub stays_ahead : (next : Option SourceAhead) → IsAheadOn state group bound port next → is_this passed (its_source next) ≡ false → IsAheadOn state group (Some passed) port next
+  stays_ahead next was apart = record { next = stays_next (its_source next) was.next apart; left = was.left }
+
+  abbrev pub with_left : MachinesLeft → List ℕ → SourceAhead
+  with_left new source = record { source = source; left = new }
+
+  -- where the one that is passed came next, what stands behind it does now
+  pub goes_on : (family : AddressFamily) → IsSound family state → (ahead : SourceAhead) (new : MachinesLeft) (next : Option (List ℕ)) → IsAheadOn state group bound port (Some ahead) → is_this passed (Some ahead.source) ≡ true
+      → TellsNext family ahead.left new next → IsAheadOn state group (Some passed) port (option_map (with_left new) next)
+  goes_on family sound ahead new None was this tells =
+      let told = tells state port group (Some ahead.source) sound was.left in
+      record { next = subst (λ (s : List ℕ). IsNextOn state group (Some s) port None) (same_is ahead.source passed this) told.0; left = tt }
+  goes_on family sound ahead new (Some source) was this tells =
+      let told = tells state port group (Some ahead.source) sound was.left in
+      record { next = subst (λ (s : List ℕ). IsNextOn state group (Some s) port (Some source)) (same_is ahead.source passed this) told.0; left = told.1 }

@@ -7,7 +7,7 @@ use Rattle.std.specs.Option.{is_some}
 use Rattle.std.proofs.lemmas.Bool.{false≢true, eqb-true, eq-eqb, and_parts, and_from}
 use Rattle.std.proofs.lemmas.Cmp.{nat_cmp_total, tied_itself}
 use Rattle.pim_addr.specs.declared.family.AddressFamily.{AddressFamily}
-use Rattle.pim_down.specs.After.{is_above, next_in_group}
+use Rattle.pim_down.specs.After.{is_above, next_in_group, MachinesLeft, next_machine, left_behind}
 use Rattle.pim_down.specs.declared.key.What.{What}
 use Rattle.pim_down.specs.declared.key.What.TheVariants.{Star, Source, Rpt}
 use Rattle.pim_down.specs.declared.key.Key.{Key}
@@ -22,6 +22,7 @@ use Rattle.pim_down.specs.Seen.{what_seen, told_seen}
 use Rattle.pim_down.specs.Sound.{IsSound, IsReal, joined_or_pending}
 use Rattle.pim_down.specs.Time.{Downstream}
 use Rattle.pim_form.specs.Wants.{is_joined, state_on}
+use Rattle.pim_emit.specs.Ahead.{passed, machines_behind}
 use Rattle.pim_emit.specs.Least.{IsLeast}
 use Rattle.pim_emit.specs.Machines.{is_source_joined, has_rpt}
 use Rattle.pim_emit.proofs.Addresses.{equal_is, itself}
@@ -135,11 +136,6 @@ module _ (apart : KeysAreToldApart) {records : List (Record (List ℕ))} {port :
 
 -- ---- (S,G)
 
--- the machine behind which the sources above the bound stand
-abbrev pub passed : Option (List ℕ) → What (List ℕ)
-passed None = Star
-passed (Some source) = Source source
-
 sources_over : (bound : Option (List ℕ)) (a : List ℕ) → is_lt (what_cmp (passed bound) (Source a)) ≡ is_above bound a
 unfolding what_cmp
 sources_over None a = refl
@@ -190,6 +186,23 @@ module _ (apart : KeysAreToldApart) (family : AddressFamily) (state : Downstream
   pub other_next : (bound : Option (List ℕ)) (found : Record (List ℕ)) → next_in_group port group (passed bound) state.records ≡ Some found → ((a : List ℕ) → found.key.what ≡ Source a → ⊥)
       → IsLeast (λ source. is_above bound source && is_source_joined state group source port) None
   other_next bound found next other = other_is_next apart (sources bound) sound.ascending found next other
+
+-- ---- machines that are told one after another
+
+module _ (state : Downstream) (port : ℕ) (group : List ℕ) (what : What (List ℕ)) (old : MachinesLeft) (was : old ≡ machines_behind state port group what) where
+  pub told_next : {A : Type 0} (bytes_of : A → List ℕ) (result found : Option (Record A)) → option_map (told_seen bytes_of) result ≡ next_machine old → result ≡ found
+      → next_in_group port group what state.records ≡ option_map (told_seen bytes_of) found
+  told_next bytes_of result found told is = sym (ap next_machine was) ∙ sym told ∙ ap (option_map (told_seen bytes_of)) is
+
+  -- those behind the one that was told, of which the group and the port are these
+  pub left_of : KeysAreToldApart → (new : MachinesLeft) (found : Record (List ℕ)) (this : What (List ℕ)) → new ≡ left_behind old (next_machine old)
+      → next_in_group port group what state.records ≡ Some found → found.key.what ≡ this → new ≡ machines_behind state port group this
+  left_of apart new found this left next is =
+      let same : found.key ≡ key_of port group this = same_key_of port group what found.key (found_passes apart (after port group what) state.records found next) ∙ ap (λ w. key_of port group w) is in
+      left ∙ ap (λ (o : MachinesLeft). left_behind o (next_machine o)) was ∙ ap (left_behind (machines_behind state port group what)) next ∙ ap (at_key state) same
+    where
+      at_key : Downstream → Key (List ℕ) → MachinesLeft
+      at_key held key = record { records = held.records; behind = key }
 
 -- ---- (S,G,rpt)
 

@@ -87,3 +87,7 @@ no_more entry size place whole left old all none sum written =
     let ends : place + length {A = List ℕ} [] * size ≡ whole = subst (λ (l : List (List ℕ)). place + length l * size ≡ whole) none sum in
     let place_is : whole ≡ place = omega (arith, ends) in
     ap (λ n. take n old) place_is ∙ sym (append-nil (take place old)) ∙ ap (λ l. take place old ++ flat_map entry l) (sym none) ∙ written
+
+-- where nothing is written yet, all is as it was
+pub none_written : (at size : ℕ) (bytes : List ℕ) → take (at + 0 * size) bytes ≡ take at bytes ++ []
+none_written at size bytes = let same : at + 0 * size ≡ at = omega arith in ap (λ n. take n bytes) same ∙ sym (append-nil (take at bytes))

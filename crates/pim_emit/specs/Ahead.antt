@@ -1,6 +1,10 @@
--- Which source comes next on each port.
-use Rattle.std.specs.Prelude.{ℕ, ◌<◌, Bool, false, ◌&&◌, List, Option, None, Some, option_map, slice_index_or}
-use Rattle.pim_down.specs.After.{is_above}
+-- Which source comes next on each port, and which machines stand behind it there.
+use Rattle.std.specs.Prelude.{◌≡◌, ℕ, ◌<◌, Bool, false, ◌&&◌, List, Option, None, Some, IfSome, slice_index_or}
+use Rattle.pim_addr.specs.declared.family.AddressFamily.{AddressFamily}
+use Rattle.pim_down.specs.After.{is_above, MachinesLeft}
+use Rattle.pim_down.specs.declared.key.What.{What}
+use Rattle.pim_down.specs.declared.key.What.TheVariants.{Star, Source}
+use Rattle.pim_down.specs.Sound.{IsSound}
 use Rattle.pim_down.specs.Time.{Downstream}
 use Rattle.pim_form.specs.NormalForm.{same_address}
 use Rattle.pim_form.specs.Wants.{some_below}
@@ -23,12 +27,47 @@ IsNextSource state group bound next =
     IsLeast (λ source.
     some_below state.ports (λ port. is_above bound source && is_source_joined state group source port)) next
 
--- what comes next on each of the first so many ports
-abbrev pub AreNextBelow : {A : Type 0} → (A → List ℕ) → Downstream → List ℕ → Option (List ℕ) → ℕ →
-    List (Option A) → Type 0
-AreNextBelow {A} bytes_of state group bound count nexts = (port : ℕ) (other : Option A) → port < count →
-    IsNextOn state group bound port (option_map bytes_of (slice_index_or nexts port other))
+-- ---- machines that are left
+
+-- those of the group on the port that stand behind this one
+abbrev pub machines_behind : Downstream → ℕ → List ℕ → What (List ℕ) → MachinesLeft
+machines_behind state port group what =
+    record { records = state.records; behind = record { port = port; group = group; what = what } }
+
+-- the machine behind which the sources above the bound stand
+abbrev pub passed : Option (List ℕ) → What (List ℕ)
+passed None = Star
+passed (Some source) = Source source
+
+-- Where those of a port behind the sources up to a bound were left: the source that comes next there, and those behind
+-- it are left.
+abbrev pub TellsNext : AddressFamily → MachinesLeft → MachinesLeft → Option (List ℕ) → Type 0
+TellsNext family old new next = (state : Downstream) (port : ℕ) (group : List ℕ) (bound : Option (List ℕ)) →
+    IsSound family state → old ≡ machines_behind state port group (passed bound) →
+    IsNextOn state group bound port next × IfSome next (λ source. new ≡ machines_behind state port group (Source source))
+
+-- ---- what is kept of each port
+
+-- a source, and machines that are left
+pub record SourceAhead : Type 0 where
+  pub source : List ℕ
+  pub left : MachinesLeft
+
+abbrev pub its_source : Option SourceAhead → Option (List ℕ)
+its_source None = None
+its_source (Some ahead) = Some ahead.source
+
+-- on the port: what comes next, and the machines that stand behind it
+pub record IsAheadOn (state : Downstream) (group : List ℕ) (bound : Option (List ℕ)) (port : ℕ)
+    (ahead : Option SourceAhead) : Type 0 where
+  pub next : IsNextOn state group bound port (its_source ahead)
+  pub left : IfSome ahead (λ this. this.left ≡ machines_behind state port group (Source this.source))
+
+-- on each of the first so many ports
+abbrev pub AreNextBelow : Downstream → List ℕ → Option (List ℕ) → ℕ → List (Option SourceAhead) → Type 0
+AreNextBelow state group bound count nexts = (port : ℕ) (other : Option SourceAhead) → port < count →
+    IsAheadOn state group bound port (slice_index_or nexts port other)
 
 -- on each port
-abbrev pub AreNext : {A : Type 0} → (A → List ℕ) → Downstream → List ℕ → Option (List ℕ) → List (Option A) → Type 0
-AreNext bytes_of state group bound nexts = AreNextBelow bytes_of state group bound state.ports nexts
+abbrev pub AreNext : Downstream → List ℕ → Option (List ℕ) → List (Option SourceAhead) → Type 0
+AreNext state group bound nexts = AreNextBelow state group bound state.ports nexts

@@ -3,6 +3,7 @@ pub mod Least
 pub mod Machines
 pub mod Stars
 pub mod Ahead
+pub mod Rpts
 pub mod Left
 pub mod Sets
 pub mod Drafts

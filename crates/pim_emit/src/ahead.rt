@@ -1,40 +1,104 @@
-//! Of each port the source that comes next there, so that only where a source is passed the port is looked up anew.
+//! Of each port the source that comes next there, so that only where a source is passed the port's next machine is told.
 
 ghost use Rattle.std.specs.Prelude.{◌≡◌, ◌≤◌, ◌<◌, ℕ, List, Option, Some, IfSome, length, option_map};
-ghost use Rattle.pim_emit.specs.Ahead.{is_this, IsNextOn, IsNextSource, AreNext};
+ghost use Rattle.pim_down.specs.Seen.{what_seen};
+ghost use Rattle.pim_emit.specs.Ahead.{passed, is_this, its_source, IsAheadOn, IsNextSource, AreNext, TellsNext};
 
 use crate::least::lesser;
-use crate::machines::{least_source, source_on};
+use crate::machines::least_source;
 use crate::nearby::Nearby;
 use pim_addr::Family;
+use pim_down::{GroupMachines, What};
+use std::marker::Model;
 
-/// Looks up, on each port, the least source above the bound, or of all, with (S,G) in Join or Prune-Pending.
-pub(crate) fn look_ahead<F: Family>(
-    ports: &Nearby<'_, F>,
+/// A source that comes next on a port, and the machines of its group that are left behind it there.
+#[derive(Drop)]
+pub(crate) struct Ahead<'a, F: Family> {
+    source: F::Addr,
+    left: GroupMachines<'a, F>,
+}
+
+impl<'a, F: Family> Model for Ahead<'a, F> {
+    ghost use Rattle.pim_emit.specs.Ahead.{SourceAhead};
+
+    ghost Value = { SourceAhead };
+
+    ghost view = { λ ahead. record { source = F.bytes_of ahead.source; left = ahead.left } };
+}
+
+/// The machine behind which the sources above the bound stand, or all.
+pub(crate) fn passed<F: Family>(bound: Option<F::Addr>) -> What<F::Addr>
+    ensures { what_seen F.bytes_of result ≡ passed (option_map F.bytes_of bound) }
+{
+    match bound {
+        Some(source) => What::Source(source),
+        None => What::Star,
+    }
+}
+
+/// Tells the next of these machines: its source, if it is (S,G).
+fn next_source<F: Family>(left: &mut GroupMachines<'_, F>) -> Option<F::Addr>
+    ensures { TellsNext F.family left.old left.new (option_map F.bytes_of result) }
+{
+    pim_down::keys_are_told_apart();
+    match left.next_machine()?.key.what {
+        What::Source(source) => Some(source),
+        _ => None,
+    }
+}
+
+/// What comes next on the port above the bound, or at all.
+fn ahead_on<'a, F: Family>(
+    ports: &Nearby<'a, F>,
+    port: usize,
     group: F::Addr,
     bound: Option<F::Addr>,
-    nexts: &mut [Option<F::Addr>],
+) -> Option<Ahead<'a, F>>
+    ensures { IsAheadOn ports.now (F.bytes_of group) (option_map F.bytes_of bound) port result }
+{
+    ports.is_sound();
+    let mut left = ports.machines_after(port, group, passed::<F>(bound));
+    let source = next_source::<F>(&mut left)?;
+    Some(Ahead { source, left })
+}
+
+/// Looks up, on each port, the least source above the bound, or of all, with (S,G) in Join or Prune-Pending.
+pub(crate) fn look_ahead<'a, F: Family>(
+    ports: &Nearby<'a, F>,
+    group: F::Addr,
+    bound: Option<F::Addr>,
+    nexts: &mut [Option<Ahead<'a, F>>],
 )
     requires { ports.now.ports ≤ length nexts.old }
-    ensures next { AreNext F.bytes_of ports.now (F.bytes_of group) (option_map F.bytes_of bound) nexts.new }
+    ensures next { AreNext ports.now (F.bytes_of group) (option_map F.bytes_of bound) nexts.new }
     ensures length { length nexts.new ≡ length nexts.old }
 {
     let count = ports.port_count();
     for port in 0..count {
-        nexts[port] = source_on::<F>(ports, port, group, bound);
+        nexts[port] = ahead_on::<F>(ports, port, group, bound);
+    }
+}
+
+/// The source that comes next, if one does.
+fn source_of<F: Family>(next: &Option<Ahead<'_, F>>) -> Option<F::Addr>
+    ensures { option_map F.bytes_of result ≡ its_source next.now }
+{
+    match next {
+        Some(ahead) => Some(ahead.source),
+        None => None,
     }
 }
 
 /// The least of the sources that come next on the ports.
-fn least_ahead<F: Family>(ports: &Nearby<'_, F>, nexts: &[Option<F::Addr>]) -> Option<F::Addr>
+fn least_ahead<F: Family>(ports: &Nearby<'_, F>, nexts: &[Option<Ahead<'_, F>>]) -> Option<F::Addr>
     requires { ports.now.ports ≤ length nexts.now }
-    ensures { (group : List ℕ) (bound : Option (List ℕ)) → AreNext F.bytes_of ports.now group bound nexts.now →
+    ensures { (group : List ℕ) (bound : Option (List ℕ)) → AreNext ports.now group bound nexts.now →
         IsNextSource ports.now group bound (option_map F.bytes_of result) }
 {
     let count = ports.port_count();
     let mut least = None;
     for port in 0..count {
-        least = lesser::<F>(least, nexts[port]);
+        least = lesser::<F>(least, source_of::<F>(&nexts[port]));
     }
     least
 }
@@ -49,43 +113,37 @@ fn is_this<F: Family>(next: Option<F::Addr>, address: F::Addr) -> bool
     }
 }
 
-/// The source that comes next on the port behind the one that is passed, which came next on some port and is the least
-/// of those that did; on this port this one came next.
-fn next_behind<F: Family>(
-    ports: &Nearby<'_, F>,
-    port: usize,
-    group: F::Addr,
-    passed: F::Addr,
-    next: Option<F::Addr>,
-) -> Option<F::Addr>
-    requires { port < ports.now.ports }
-    ensures { (bound : Option (List ℕ)) →
-        IsNextOn ports.now (F.bytes_of group) bound port (option_map F.bytes_of next) →
-        IsNextSource ports.now (F.bytes_of group) bound (Some (F.bytes_of passed)) →
-        IsNextOn ports.now (F.bytes_of group) (Some (F.bytes_of passed)) port (option_map F.bytes_of result) }
+/// Goes on to what comes next on a port behind the source that is passed, which came next on some port and is the least
+/// of those that did.
+fn pass_on<F: Family>(ports: &Nearby<'_, F>, passed: F::Addr, next: &mut Option<Ahead<'_, F>>)
+    ensures { (port : ℕ) (group : List ℕ) (bound : Option (List ℕ)) → port < ports.now.ports →
+        IsAheadOn ports.now group bound port next.old → IsNextSource ports.now group bound (Some (F.bytes_of passed)) →
+        IsAheadOn ports.now group (Some (F.bytes_of passed)) port next.new }
 {
-    if is_this::<F>(next, passed) {
-        return source_on::<F>(ports, port, group, Some(passed));
+    ports.is_sound();
+    let Some(ahead) = next else {
+        return;
+    };
+    if !is_this::<F>(Some(ahead.source), passed) {
+        return;
     }
-    next
+    match next_source::<F>(&mut ahead.left) {
+        Some(source) => ahead.source = source,
+        None => *next = None,
+    }
 }
 
 /// Passes the source that comes next, so that of each port there is what comes next behind it.
-fn pass_ahead<F: Family>(
-    ports: &Nearby<'_, F>,
-    group: F::Addr,
-    passed: F::Addr,
-    nexts: &mut [Option<F::Addr>],
-)
+fn pass_ahead<F: Family>(ports: &Nearby<'_, F>, passed: F::Addr, nexts: &mut [Option<Ahead<'_, F>>])
     requires { ports.now.ports ≤ length nexts.old }
-    ensures next { (bound : Option (List ℕ)) → AreNext F.bytes_of ports.now (F.bytes_of group) bound nexts.old →
-        IsNextSource ports.now (F.bytes_of group) bound (Some (F.bytes_of passed)) →
-        AreNext F.bytes_of ports.now (F.bytes_of group) (Some (F.bytes_of passed)) nexts.new }
+    ensures next { (group : List ℕ) (bound : Option (List ℕ)) → AreNext ports.now group bound nexts.old →
+        IsNextSource ports.now group bound (Some (F.bytes_of passed)) →
+        AreNext ports.now group (Some (F.bytes_of passed)) nexts.new }
     ensures length { length nexts.new ≡ length nexts.old }
 {
     let count = ports.port_count();
     for port in 0..count {
-        nexts[port] = next_behind::<F>(ports, port, group, passed, nexts[port]);
+        pass_on::<F>(ports, passed, &mut nexts[port]);
     }
 }
 
@@ -96,14 +154,14 @@ pub(crate) fn take_next<F: Family>(
     ports: &Nearby<'_, F>,
     group: F::Addr,
     bound: Option<F::Addr>,
-    nexts: &mut [Option<F::Addr>],
+    nexts: &mut [Option<Ahead<'_, F>>],
 ) -> Option<F::Addr>
     requires { ports.now.ports ≤ length nexts.old →
-        AreNext F.bytes_of ports.now (F.bytes_of group) (option_map F.bytes_of bound) nexts.old }
+        AreNext ports.now (F.bytes_of group) (option_map F.bytes_of bound) nexts.old }
     ensures least { IsNextSource ports.now (F.bytes_of group) (option_map F.bytes_of bound)
         (option_map F.bytes_of result) }
     ensures next { ports.now.ports ≤ length nexts.old → IfSome result (λ source.
-        AreNext F.bytes_of ports.now (F.bytes_of group) (Some (F.bytes_of source)) nexts.new) }
+        AreNext ports.now (F.bytes_of group) (Some (F.bytes_of source)) nexts.new) }
     ensures length { length nexts.new ≡ length nexts.old }
 {
     if nexts.len() < ports.port_count() {
@@ -112,6 +170,6 @@ pub(crate) fn take_next<F: Family>(
     let Some(source) = least_ahead::<F>(ports, nexts) else {
         return None;
     };
-    pass_ahead::<F>(ports, group, source, nexts);
+    pass_ahead::<F>(ports, source, nexts);
     Some(source)
 }

@@ -7,13 +7,15 @@ ghost use Rattle.pim_form.specs.NormalForm.{groups_of, IsNormal};
 ghost use Rattle.pim_form.specs.Units.{units_of};
 ghost use Rattle.pim_form.specs.Toward.{is_neighbour};
 ghost use Rattle.pim_emit.specs.Asking.{rps_of};
-ghost use Rattle.pim_emit.specs.Left.{next_above, star_of, exceptions_in, sources_in};
+ghost use Rattle.pim_emit.specs.Left.{above, next_above, star_of, exceptions_in, sources_in};
 ghost use Rattle.pim_emit.specs.Stars.{AreStars};
 ghost use Rattle.pim_emit.specs.Ahead.{AreNext};
+ghost use Rattle.pim_emit.specs.Rpts.{AreRpts};
 
-use crate::ahead::{look_ahead, take_next};
-use crate::machines::{first_starred, least_group, lowest, rpt_after};
+use crate::ahead::{Ahead, look_ahead, take_next};
+use crate::machines::{first_starred, least_group};
 use crate::nearby::Nearby;
+use crate::rpts::{Rpts, next_rpt, rpts_of};
 use crate::stars::{Stars, stars_of, wants_shared};
 use pim_addr::{Family, Routes};
 use pim_down::Ports;
@@ -114,7 +116,7 @@ impl<'a, F: Family> Asked<'a, F> {
         ensures { option_map F.bytes_of result
             ≡ next_above (option_map F.bytes_of bound) (sources_in (F.bytes_of group) self.now.form) }
     {
-        let mut nowhere = [None; 0];
+        let mut nowhere: [Option<Ahead<'a, F>>; 0] = [];
         self.next_ahead(group, bound, &mut nowhere)
     }
 
@@ -125,15 +127,20 @@ impl<'a, F: Family> Asked<'a, F> {
         self.ports.port_count()
     }
 
+    /// What is kept of a port before it is looked up.
+    pub(crate) fn nothing_ahead(&self) -> Option<Ahead<'a, F>> {
+        None
+    }
+
     /// Looks up what comes next of the group above the bound, or at all, on each port, if there is a place for each.
     pub(crate) fn look_ahead(
         &self,
         group: F::Addr,
         bound: Option<F::Addr>,
-        nexts: &mut [Option<F::Addr>],
+        nexts: &mut [Option<Ahead<'a, F>>],
     )
         ensures next { self.now.machines.ports ≤ length nexts.old →
-            AreNext F.bytes_of self.now.machines (F.bytes_of group) (option_map F.bytes_of bound) nexts.new }
+            AreNext self.now.machines (F.bytes_of group) (option_map F.bytes_of bound) nexts.new }
         ensures length { length nexts.new ≡ length nexts.old }
     {
         if nexts.len() < self.port_count() {
@@ -148,15 +155,15 @@ impl<'a, F: Family> Asked<'a, F> {
         &self,
         group: F::Addr,
         bound: Option<F::Addr>,
-        nexts: &mut [Option<F::Addr>],
+        nexts: &mut [Option<Ahead<'a, F>>],
     ) -> Option<F::Addr>
         requires group { IsGroupAddress F.family (F.bytes_of group) }
         requires next { self.now.machines.ports ≤ length nexts.old →
-            AreNext F.bytes_of self.now.machines (F.bytes_of group) (option_map F.bytes_of bound) nexts.old }
+            AreNext self.now.machines (F.bytes_of group) (option_map F.bytes_of bound) nexts.old }
         ensures source { option_map F.bytes_of result
             ≡ next_above (option_map F.bytes_of bound) (sources_in (F.bytes_of group) self.now.form) }
         ensures next { self.now.machines.ports ≤ length nexts.old → IfSome result (λ source.
-            AreNext F.bytes_of self.now.machines (F.bytes_of group) (Some (F.bytes_of source)) nexts.new) }
+            AreNext self.now.machines (F.bytes_of group) (Some (F.bytes_of source)) nexts.new) }
         ensures length { length nexts.new ≡ length nexts.old }
     {
         self.ports.is_sound();
@@ -179,29 +186,45 @@ impl<'a, F: Family> Asked<'a, F> {
         stars_of::<F>(&self.ports, group)
     }
 
-    /// The least exception above the bound, or of all, of the group's star, which it has on these ports.
+    /// The (S,G,rpt) machines among which those of the exceptions of the group's star are, if the ports that have the
+    /// star are these.
+    pub(crate) fn rpts(&self, group: F::Addr, stars: &Stars) -> Rpts<'a, F>
+        requires { IsGroupAddress F.family (F.bytes_of group) }
+        ensures all { above (Some result.bound) (exceptions_in (F.bytes_of group) self.now.form)
+            ≡ exceptions_in (F.bytes_of group) self.now.form }
+        ensures rpts { AreRpts self.now.machines (F.bytes_of group) stars.now.first result }
+    {
+        self.ports.is_sound();
+        pim_form::form_of_what_is_asked();
+        rpts_of::<F>(&self.ports, group, stars)
+    }
+
+    /// The least exception above the bound of what is left, of the group's star, which it has on these ports. Then what
+    /// stands behind it is left.
     pub(crate) fn next_exception(
         &self,
         group: F::Addr,
         stars: &Stars,
-        bound: Option<F::Addr>,
+        rpts: &mut Rpts<'a, F>,
     ) -> Option<F::Addr>
         requires group { IsGroupAddress F.family (F.bytes_of group) }
         requires star { is_some (star_of (F.bytes_of group) self.now.form) ≡ true }
         requires stars { AreStars self.now.machines (F.bytes_of group) stars.now }
-        ensures { option_map F.bytes_of result
-            ≡ next_above (option_map F.bytes_of bound) (exceptions_in (F.bytes_of group) self.now.form) }
+        requires rpts { AreRpts self.now.machines (F.bytes_of group) stars.now.first rpts.old }
+        ensures exception { option_map F.bytes_of result
+            ≡ next_above (Some rpts.old.bound) (exceptions_in (F.bytes_of group) self.now.form) }
+        ensures bound { IfSome result (λ exception. rpts.new.bound ≡ F.bytes_of exception) }
+        ensures rpts { IfSome result (λ _.
+            AreRpts self.now.machines (F.bytes_of group) stars.now.first rpts.new) }
     {
         self.ports.is_sound();
         pim_down::keys_are_told_apart();
         pim_form::form_of_what_is_asked();
         let port = stars.first?;
-        let mut bound = bound.unwrap_or(lowest::<F>());
-        while let Some(held) = rpt_after::<F>(&self.ports, port, group, bound) {
+        while let Some(held) = next_rpt::<F>(&self.ports, rpts) {
             if !wants_shared::<F>(&self.ports, stars, port, &held, group) {
                 return Some(held.source);
             }
-            bound = held.source;
         }
         None
     }
@@ -233,11 +256,10 @@ impl<'a, F: Family> Asked<'a, F> {
         self.ports.is_sound();
         pim_form::form_of_what_is_asked();
         let stars = self.stars(group);
+        let mut rpts = self.rpts(group, &stars);
         let mut count = 0;
-        let mut bound = None;
-        while let Some(exception) = self.next_exception(group, &stars, bound) {
+        while let Some(_exception) = self.next_exception(group, &stars, &mut rpts) {
             count += 1;
-            bound = Some(exception);
         }
         count
     }

@@ -19,6 +19,7 @@ mod message;
 mod nearby;
 mod piece;
 mod position;
+mod rpts;
 mod sending;
 mod set;
 mod stars;

@@ -1,15 +1,13 @@
 //! The machines of a group, over all ports: which source, and which group, comes next.
 
-ghost use Rattle.std.specs.Prelude.{◌≡◌, ◌&&◌, Some, IfSome, List, ℕ, option_map};
+ghost use Rattle.std.specs.Prelude.{◌≡◌, ◌&&◌, List, ℕ, option_map};
 ghost use Rattle.std.specs.declared.cmp.Ordering.TheVariants.{Less};
 ghost use Rattle.pim_addr.specs.Address.{IsSourceAddress};
 ghost use Rattle.pim_down.specs.After.{is_above};
 ghost use Rattle.pim_down.specs.Key.{address_cmp};
-ghost use Rattle.pim_down.specs.declared.key.What.TheVariants.{Rpt};
-ghost use Rattle.pim_form.specs.Wants.{state_on, some_below};
+ghost use Rattle.pim_form.specs.Wants.{some_below};
 ghost use Rattle.pim_emit.specs.Least.{IsLeast};
-ghost use Rattle.pim_emit.specs.Machines.{is_starred, is_source_joined, has_rpt, has_group, IsSomeBelow};
-ghost use Rattle.pim_emit.specs.Machines.{source_held};
+ghost use Rattle.pim_emit.specs.Machines.{is_starred, is_source_joined, has_group, IsSomeBelow};
 
 use crate::least::lesser;
 use crate::nearby::Nearby;
@@ -85,30 +83,6 @@ pub(crate) struct Held<A> {
     pub(crate) source: A,
     /// Its state.
     pub(crate) state: State,
-}
-
-/// The machine of the least source above this address whose (S,G,rpt) machine is held on the port.
-pub(crate) fn rpt_after<F: Family>(
-    ports: &Nearby<'_, F>,
-    port: usize,
-    group: F::Addr,
-    bound: F::Addr,
-) -> Option<Held<F::Addr>>
-    ensures least { IsLeast (λ source. is_above (Some (F.bytes_of bound)) source
-        && has_rpt ports.now port (F.bytes_of group) source) (option_map (source_held F.bytes_of) result) }
-    ensures state { IfSome result (λ held. state_on ports.now.records port (F.bytes_of group)
-        (Rpt (F.bytes_of held.source)) ≡ Some held.state) }
-{
-    ports.is_sound();
-    pim_down::keys_are_told_apart();
-    let record = ports.record_after(port, group, What::Rpt(bound))?;
-    match record.key.what {
-        What::Rpt(source) => Some(Held {
-            source,
-            state: record.machine.state,
-        }),
-        _ => None,
-    }
 }
 
 /// The address before all valid sources.

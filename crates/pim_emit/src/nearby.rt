@@ -5,10 +5,11 @@ ghost use Rattle.pim_down.specs.Records.{state_of};
 ghost use Rattle.pim_down.specs.Seen.{key_at, what_seen, told_seen};
 ghost use Rattle.pim_down.specs.After.{group_after, next_in_group};
 ghost use Rattle.pim_down.specs.Sound.{IsSound};
+ghost use Rattle.pim_emit.specs.Ahead.{machines_behind};
 
 use crate::hints::Hints;
 use pim_addr::Family;
-use pim_down::{Near, Ports, Record, State, What};
+use pim_down::{GroupMachines, Near, Ports, Record, State, What};
 use std::marker::Model;
 
 /// The records of all ports, with hints where look-ups on each port begin. Contracts see the records alone: no answer
@@ -86,6 +87,21 @@ impl<'a, F: Family> Nearby<'a, F> {
         let (next, place) = self.ports.record_after_near(port, group, what, near);
         self.keep_next(port, &what, &next, place);
         next
+    }
+
+    /// The machines of this group on the port behind this one, to be told one after another.
+    pub(crate) fn machines_after(
+        &self,
+        port: usize,
+        group: F::Addr,
+        what: What<F::Addr>,
+    ) -> GroupMachines<'a, F>
+        ensures { result ≡ machines_behind self.now port (F.bytes_of group) (what_seen F.bytes_of what) }
+    {
+        let near = self.hints.machine(port, &what);
+        let left = self.ports.machines_after_near(port, group, what, near);
+        self.hints.keep_machine(port, &what, left.near());
+        left
     }
 
     /// Keeps where the record that was found stands, for others of its kind; where none was, where it would stand, for

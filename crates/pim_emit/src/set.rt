@@ -14,6 +14,7 @@ ghost use Rattle.pim_emit.specs.Left.{star_of, exceptions_in, piece_seen, piece_
 ghost use Rattle.pim_emit.specs.Sets.{source_entries, exception_entries, cut_piece, AreTold, told_seen};
 ghost use Rattle.pim_emit.specs.Sets.{set_entries, entry_count, set_size};
 
+use crate::ahead::Ahead;
 use crate::asked::Asked;
 use crate::hints::PORTS;
 use crate::piece::Piece;
@@ -25,7 +26,7 @@ use std::mem::size_of_val;
 const FEW: usize = 8;
 
 /// What comes next on a port is kept where it has so few bytes.
-const LARGEST: usize = 64;
+const LARGEST: usize = 256;
 
 /// The sources that a set tells: how many they are, and up to which one sources are told then.
 #[derive(Clone, Copy)]
@@ -48,12 +49,12 @@ fn write_entry_at<F: Family>(entry: Entry<F::Addr>, at: usize, bytes: &mut [u8])
 
 /// Writes the sources of a piece, but at most so many, from this place on. What comes next on each port is kept in
 /// these places, if there is one for each.
-fn write_sources_ahead<F: Family>(
-    asked: &Asked<'_, F>,
+fn write_sources_ahead<'a, F: Family>(
+    asked: &Asked<'a, F>,
     piece: &Piece<F::Addr>,
     most: usize,
     at: usize,
-    nexts: &mut [Option<F::Addr>],
+    nexts: &mut [Option<Ahead<'a, F>>],
     bytes: &mut [u8],
 ) -> ToldSources<F::Addr>
     requires group { IsGroupAddress F.family (F.bytes_of piece.now.group) }
@@ -96,16 +97,16 @@ fn write_sources<F: Family>(
         ++ source_entries F.family (cut_piece result.count (piece_seen F.bytes_of piece.now) asked.now.form).sources }
     ensures length { length bytes.new ≡ length bytes.old }
 {
-    let none = None;
+    let none: Option<Ahead<'_, F>> = None;
     if size_of_val(&none) > LARGEST {
-        let mut nowhere = [none; 0];
+        let mut nowhere: [Option<Ahead<'_, F>>; 0] = [];
         return write_sources_ahead::<F>(asked, piece, most, at, &mut nowhere, bytes);
     }
     if asked.port_count() <= FEW {
-        let mut nexts = [none; FEW];
+        let mut nexts: [Option<Ahead<'_, F>>; FEW] = std::array::from_fn(|_| asked.nothing_ahead());
         return write_sources_ahead::<F>(asked, piece, most, at, &mut nexts, bytes);
     }
-    let mut nexts = [none; PORTS];
+    let mut nexts: [Option<Ahead<'_, F>>; PORTS] = std::array::from_fn(|_| asked.nothing_ahead());
     write_sources_ahead::<F>(asked, piece, most, at, &mut nexts, bytes)
 }
 
@@ -122,12 +123,11 @@ fn write_exceptions<F: Family>(asked: &Asked<'_, F>, group: F::Addr, at: usize, 
 {
     asked.is_normal();
     let stars = asked.stars(group);
+    let mut rpts = asked.rpts(group, &stars);
     let mut place = at;
-    let mut bound = None;
-    while let Some(exception) = asked.next_exception(group, &stars, bound) {
+    while let Some(exception) = asked.next_exception(group, &stars, &mut rpts) {
         write_entry_at::<F>(Entry::Rpt(exception), place, bytes);
         place += source_length::<F>();
-        bound = Some(exception);
     }
 }
 

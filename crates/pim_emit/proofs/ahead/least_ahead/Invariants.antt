@@ -8,6 +8,6 @@ use Rattle.pim_emit.proofs.ahead.least_ahead.Given as goal
 
 -- the least of the ports before this one
 abbrev pub invariant-loop-port : goal.invariant-loop-port
-invariant-loop-port g l = (group : List ℕ) (bound : Option (List ℕ)) → AreNext g.F.Family.bytes_of l.ports group bound l.nexts →
+invariant-loop-port g l = (group : List ℕ) (bound : Option (List ℕ)) → AreNext l.ports group bound l.nexts →
     IsLeast (λ source. some_below l.port (λ port. is_above bound source && is_source_joined l.ports group source port))
     (option_map g.F.Family.bytes_of l.least)

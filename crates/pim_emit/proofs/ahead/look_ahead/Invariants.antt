@@ -6,5 +6,5 @@ use Rattle.pim_emit.proofs.ahead.look_ahead.Given as goal
 abbrev pub invariant-loop-port : goal.invariant-loop-port
 invariant-loop-port g l = record {
   long : length l.nexts ≡ length l.initial.nexts;
-  next : AreNextBelow g.F.Family.bytes_of l.ports (g.F.Family.bytes_of l.group) (option_map g.F.Family.bytes_of l.bound) l.port l.nexts;
+  next : AreNextBelow l.ports (g.F.Family.bytes_of l.group) (option_map g.F.Family.bytes_of l.bound) l.port l.nexts;
 }

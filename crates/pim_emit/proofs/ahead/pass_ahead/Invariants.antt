@@ -6,11 +6,9 @@ use Rattle.pim_emit.proofs.ahead.pass_ahead.Given as goal
 -- it is passed on the ports before this one, and from this one on all is as it was
 abbrev pub invariant-loop-port : goal.invariant-loop-port
 invariant-loop-port g l =
-    let bytes_of = g.F.Family.bytes_of in
-    let group = bytes_of l.group in
-    let passed = bytes_of l.passed in record {
+    let passed = g.F.Family.bytes_of l.passed in record {
       long : length l.nexts ≡ length l.initial.nexts;
       left : AreSameFrom l.port l.nexts l.initial.nexts;
-      next : (bound : Option (List ℕ)) → AreNext bytes_of l.ports group bound l.initial.nexts → IsNextSource l.ports group bound (Some passed) →
-          AreNextBelow bytes_of l.ports group (Some passed) l.port l.nexts;
+      next : (group : List ℕ) (bound : Option (List ℕ)) → AreNext l.ports group bound l.initial.nexts → IsNextSource l.ports group bound (Some passed) →
+          AreNextBelow l.ports group (Some passed) l.port l.nexts;
     }

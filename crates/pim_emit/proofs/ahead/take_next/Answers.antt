@@ -17,4 +17,4 @@ pub returns-clause-next : goal.returns-clause-next
 returns-clause-next g c =
     let group = g.F.Family.bytes_of c.args.group in
     let bound = option_map g.F.Family.bytes_of c.args.bound in
-    λ places. c.pass_ahead.ensures.next bound (c.requires places) (c.in-Some.ensures group bound (c.requires places))
+    λ places. c.pass_ahead.ensures.next group bound (c.requires places) (c.in-Some.ensures group bound (c.requires places))

@@ -1,6 +1,7 @@
 use Rattle.std.proofs.Common.{refl, ap, Some, None, option_map}
 use Rattle.pim_down.specs.Seen.{what_seen, told_seen}
-use Rattle.pim_emit.proofs.NextMachines.{passed, no_source_next, source_next, other_next, no_source_seen, next_seen}
+use Rattle.pim_emit.specs.Ahead.{passed}
+use Rattle.pim_emit.proofs.NextMachines.{no_source_next, source_next, other_next, no_source_seen, next_seen}
 use Rattle.pim_emit.proofs.machines.source_on.Goals.{in-Some, in-None}
 use Rattle.pim_emit.proofs.machines.source_on.Goals as goal
 

@@ -1,4 +1,4 @@
-use Rattle.std.proofs.Common.{◌≡◌, ◌∙◌, ◌∷◌, ◌*◌, ◌+◌, ◌++◌, List, ℕ, Some, length, take, option_map, sym, ap, refl, arith}
+use Rattle.std.proofs.Common.{◌≡◌, ◌∙◌, ◌∷◌, ◌*◌, ◌+◌, ◌<◌, ◌++◌, subst, List, ℕ, Some, length, take, option_map, sym, ap, refl, arith}
 use Rattle.pim_addr.specs.Encoded.{source_length}
 use Rattle.pim_jp.specs.declared.entry.Entry.TheVariants.{Rpt}
 use Rattle.pim_jp.specs.Canonical.{canonical_entry}
@@ -6,14 +6,14 @@ use Rattle.pim_emit.specs.Left.{above, exceptions_in}
 use Rattle.pim_emit.specs.Sets.{exception_entries}
 use Rattle.pim_emit.proofs.Above.{above_first, above_none}
 use Rattle.pim_emit.proofs.InForm.{exceptions_ascend}
-use Rattle.pim_emit.proofs.Writing.{all_unbounded, one_fewer, room_of_one, room_of_fewer, fewer_left, no_more}
+use Rattle.pim_emit.proofs.Writing.{one_fewer, room_of_one, room_of_fewer, fewer_left, no_more}
 use Rattle.pim_emit.proofs.set.write_exceptions.Goals as goal
 
 pub loop-exception-init : goal.loop-exception-init
 loop-exception-init g c =
-    let all = exceptions_in (g.F.Family.bytes_of c.args.group) c.args.asked.now.form in
-    let whole = all_unbounded all in
+    let whole = c.rpts-rpts.ensures.all in
     record {
+      rpts = c.rpts-rpts.ensures.rpts;
       long = refl;
       place = ap (λ (l : List (List ℕ)). c.args.at + length l * source_length g.F.Family.family) whole;
       written = ap (λ (l : List (List ℕ)). take c.args.at c.args.bytes.now ++ exception_entries g.F.Family.family l) whole;
@@ -25,11 +25,11 @@ write_entry_at-requires g c =
     let bytes_of = g.F.Family.bytes_of in
     let size = source_length family in
     let all = exceptions_in (bytes_of c.args.group) c.args.asked.now.form in
-    let bound = option_map bytes_of c.loop-exception.bound in
+    let bound = Some c.loop-exception.rpts.bound in
     let exception = bytes_of c.in-Some.exception in
     let is : above bound all ≡ exception ∷ above (Some exception) all =
     above_first bound all exception (exceptions_ascend family (bytes_of c.args.group) c.args.asked.now.form c.is_normal.ensures.normal)
-    (sym c.next_exception.ensures ∙ ap (option_map bytes_of) c.in-Some.is) in
+    (sym c.next_exception.ensures.exception ∙ ap (option_map bytes_of) c.in-Some.is) in
     room_of_one c.loop-exception.place size (c.args.at + length all * size) (length c.loop-exception.bytes) (above bound all) exception (above (Some exception) all) is
     c.loop-exception.invariant.place (omega (arith, c.requires.room, c.loop-exception.invariant.long))
 
@@ -39,12 +39,13 @@ loop-exception-smaller g c =
     let bytes_of = g.F.Family.bytes_of in
     let size = source_length family in
     let all = exceptions_in (bytes_of c.args.group) c.args.asked.now.form in
-    let bound = option_map bytes_of c.loop-exception.bound in
+    let bound = Some c.loop-exception.rpts.bound in
     let exception = bytes_of c.in-Some.exception in
     let is : above bound all ≡ exception ∷ above (Some exception) all =
     above_first bound all exception (exceptions_ascend family (bytes_of c.args.group) c.args.asked.now.form c.is_normal.ensures.normal)
-    (sym c.next_exception.ensures ∙ ap (option_map bytes_of) c.in-Some.is) in
-    fewer_left (above bound all) exception (above (Some exception) all) is
+    (sym c.next_exception.ensures.exception ∙ ap (option_map bytes_of) c.in-Some.is) in
+    subst (λ (e : List ℕ). length (above (Some e) all) < length (above bound all)) (sym c.in-Some.ensures.bound)
+    (fewer_left (above bound all) exception (above (Some exception) all) is)
 
 pub loop-exception-preserved : goal.loop-exception-preserved
 loop-exception-preserved g c =
@@ -52,19 +53,23 @@ loop-exception-preserved g c =
     let bytes_of = g.F.Family.bytes_of in
     let size = source_length family in
     let all = exceptions_in (bytes_of c.args.group) c.args.asked.now.form in
-    let bound = option_map bytes_of c.loop-exception.bound in
+    let bound = Some c.loop-exception.rpts.bound in
     let exception = bytes_of c.in-Some.exception in
     let is : above bound all ≡ exception ∷ above (Some exception) all =
     above_first bound all exception (exceptions_ascend family (bytes_of c.args.group) c.args.asked.now.form c.is_normal.ensures.normal)
-    (sym c.next_exception.ensures ∙ ap (option_map bytes_of) c.in-Some.is) in
+    (sym c.next_exception.ensures.exception ∙ ap (option_map bytes_of) c.in-Some.is) in
     let length_is = c.source_length-place.ensures in
     let written : take (c.loop-exception.place + size) c.write_entry_at.new.bytes ≡ take c.loop-exception.place c.loop-exception.bytes ++ canonical_entry family (Rpt exception) =
     c.write_entry_at.ensures.written in
+    let behind : above (Some c.next_exception.new.rpts.bound) all ≡ above (Some exception) all = ap (λ (e : List ℕ). above (Some e) all) c.in-Some.ensures.bound in
     record {
+      rpts = c.in-Some.ensures.rpts;
       long = c.write_entry_at.ensures.length ∙ c.loop-exception.invariant.long;
-      place = ap (λ n. c.loop-exception.place + n + length (above (Some exception) all) * size) length_is
+      place = ap (λ (l : List (List ℕ)). c.loop-exception.place + c.source_length-place.result + length l * size) behind
+          ∙ ap (λ n. c.loop-exception.place + n + length (above (Some exception) all) * size) length_is
           ∙ room_of_fewer c.loop-exception.place size (c.args.at + length all * size) (above bound all) exception (above (Some exception) all) is c.loop-exception.invariant.place;
-      written = ap (λ n. take (c.loop-exception.place + n) c.write_entry_at.new.bytes ++ exception_entries family (above (Some exception) all)) length_is
+      written = ap (λ (l : List (List ℕ)). take (c.loop-exception.place + c.source_length-place.result) c.write_entry_at.new.bytes ++ exception_entries family l) behind
+          ∙ ap (λ n. take (c.loop-exception.place + n) c.write_entry_at.new.bytes ++ exception_entries family (above (Some exception) all)) length_is
           ∙ one_fewer (λ s. canonical_entry family (Rpt s)) size c.loop-exception.place (above bound all) exception (above (Some exception) all) c.loop-exception.bytes
           c.write_entry_at.new.bytes _ is c.loop-exception.invariant.written written;
     }
@@ -74,6 +79,6 @@ returns-clause-written g c =
     let family = g.F.Family.family in
     let bytes_of = g.F.Family.bytes_of in
     let all = exceptions_in (bytes_of c.args.group) c.args.asked.now.form in
-    let bound = option_map bytes_of c.loop-exception.bound in
+    let bound = Some c.loop-exception.rpts.bound in
     no_more (λ s. canonical_entry family (Rpt s)) (source_length family) c.loop-exception.place (c.args.at + length all * source_length family) (above bound all) c.loop-exception.bytes _
-    (above_none bound all (sym c.next_exception.ensures ∙ ap (option_map bytes_of) c.in_default.is)) c.loop-exception.invariant.place c.loop-exception.invariant.written
+    (above_none bound all (sym c.next_exception.ensures.exception ∙ ap (option_map bytes_of) c.in_default.is)) c.loop-exception.invariant.place c.loop-exception.invariant.written

@@ -1,6 +1,7 @@
-use Rattle.std.proofs.Common.{◌≡◌, ◌+◌, ◌*◌, ◌++◌, length, take, option_map}
+use Rattle.std.proofs.Common.{◌≡◌, ◌+◌, ◌*◌, ◌++◌, length, take, Some}
 use Rattle.pim_addr.specs.Encoded.{source_length}
 use Rattle.pim_emit.specs.Left.{above, exceptions_in}
+use Rattle.pim_emit.specs.Rpts.{AreRpts}
 use Rattle.pim_emit.specs.Sets.{exception_entries}
 use Rattle.pim_emit.proofs.set.write_exceptions.Given as goal
 
@@ -8,7 +9,8 @@ use Rattle.pim_emit.proofs.set.write_exceptions.Given as goal
 abbrev pub invariant-loop-exception : goal.invariant-loop-exception
 invariant-loop-exception g l =
     let all = exceptions_in (g.F.Family.bytes_of l.group) l.asked.form in
-    let left = above (option_map g.F.Family.bytes_of l.bound) all in record {
+    let left = above (Some l.rpts.bound) all in record {
+      rpts : AreRpts l.asked.machines (g.F.Family.bytes_of l.group) l.stars.first l.rpts;
       long : length l.bytes ≡ length l.initial.bytes;
       place : l.place + length left * source_length g.F.Family.family ≡ l.at + length all * source_length g.F.Family.family;
       written : take l.place l.bytes ++ exception_entries g.F.Family.family left
@@ -16,4 +18,4 @@ invariant-loop-exception g l =
     }
 
 abbrev pub decreases-loop-exception : goal.decreases-loop-exception
-decreases-loop-exception g l = length (above (option_map g.F.Family.bytes_of l.bound) (exceptions_in (g.F.Family.bytes_of l.group) l.asked.form))
+decreases-loop-exception g l = length (above (Some l.rpts.bound) (exceptions_in (g.F.Family.bytes_of l.group) l.asked.form))

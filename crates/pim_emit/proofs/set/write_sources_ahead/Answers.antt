@@ -1,13 +1,23 @@
-use Rattle.std.proofs.Common.{◌≡◌, ◌∙◌, ◌∷◌, ◌*◌, ◌+◌, Some, length, drop, option_map, take, ◌++◌, sym, ap, subst, arith}
+use Rattle.std.proofs.Common.{◌≡◌, ◌∙◌, ◌∷◌, ◌*◌, ◌+◌, Some, length, drop, option_map, take, ◌++◌, sym, ap, refl, subst, arith}
 use Rattle.pim_addr.specs.Encoded.{source_length}
 use Rattle.pim_jp.specs.declared.entry.Entry.TheVariants.{Source}
 use Rattle.pim_jp.specs.Canonical.{canonical_entry}
 use Rattle.pim_emit.specs.Left.{above, sources_in, piece_seen, piece_form}
 use Rattle.pim_emit.proofs.Above.{above_first, above_none}
 use Rattle.pim_emit.proofs.InForm.{sources_ascend}
-use Rattle.pim_emit.proofs.Writing.{cut_before, one_more, all_cut, the_most, the_whole}
+use Rattle.pim_emit.proofs.Writing.{none_written, cut_before, one_more, all_cut, the_most, the_whole}
 use Rattle.pim_emit.proofs.set.write_sources_ahead.Goals.{else-loop-count-test, then-loop-count-test+in_default}
 use Rattle.pim_emit.proofs.set.write_sources_ahead.Goals as goal
+
+pub loop-count-init : goal.loop-count-init
+loop-count-init g c = record {
+  most = omega arith;
+  within = omega arith;
+  long = refl;
+  next = λ places. c.look_ahead.ensures.next (omega (arith, places, c.look_ahead.ensures.length));
+  left = refl;
+  written = none_written c.args.at (source_length g.F.Family.family) c.args.bytes.now;
+}
 
 pub loop-count-preserved : goal.loop-count-preserved
 loop-count-preserved g c =

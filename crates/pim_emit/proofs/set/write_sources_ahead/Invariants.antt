@@ -14,7 +14,7 @@ invariant-loop-count g l =
       within : l.count ≤ length all;
       long : length l.bytes ≡ length l.initial.bytes;
       next : l.asked.machines.ports ≤ length l.nexts →
-          AreNext g.F.Family.bytes_of l.asked.machines (g.F.Family.bytes_of l.piece.group) (option_map g.F.Family.bytes_of l.last) l.nexts;
+          AreNext l.asked.machines (g.F.Family.bytes_of l.piece.group) (option_map g.F.Family.bytes_of l.last) l.nexts;
       left : above (option_map g.F.Family.bytes_of l.last) (sources_in (g.F.Family.bytes_of l.piece.group) l.asked.form) ≡ drop l.count all;
       written : take (l.at + l.count * source_length family) l.bytes
           ≡ take l.at l.initial.bytes ++ source_entries family (take l.count all);

@@ -1,12 +1,12 @@
-use Rattle.std.proofs.Common.{ap, option_map, arith}
+use Rattle.std.proofs.Common.{List, ℕ, Some, length, ap, arith}
 use Rattle.pim_emit.specs.Asking.{Asking}
-use Rattle.pim_emit.specs.Left.{exceptions_in}
+use Rattle.pim_emit.specs.Left.{above, exceptions_in}
 use Rattle.pim_emit.proofs.AskedSources.{asked_as_seen}
-use Rattle.pim_emit.proofs.AskedExceptions.{all_above, few_exceptions, one_exception_fewer, none_above}
+use Rattle.pim_emit.proofs.AskedExceptions.{few_exceptions, one_exception_fewer, none_above}
 use Rattle.pim_emit.proofs.asked.Asked.exception_count.Goals as goal
 
 pub loop-exception-init : goal.loop-exception-init
-loop-exception-init g c = omega (arith, all_above (exceptions_in (g.F.Family.bytes_of c.args.group) c.args.self.now.form))
+loop-exception-init g c = record { count = omega (arith, ap (λ (l : List (List ℕ)). length l) c.rpts-rpts.ensures.all); rpts = c.rpts-rpts.ensures.rpts }
 
 pub overflow_add-count : goal.overflow_add-count
 overflow_add-count g c =
@@ -18,7 +18,7 @@ overflow_add-count g c =
     let form = c.args.self.now.form in
     omega (
       arith,
-      c.loop-exception.invariant,
+      c.loop-exception.invariant.count,
       few_exceptions family table upstream state form
           (asked_as_seen c.form_of_what_is_asked.ensures family table upstream state form c.is_sound.ensures (ap (λ (s : Asking). s.form) c.self.view_is))
           (bytes_of c.args.group) c.requires.group,
@@ -34,9 +34,10 @@ loop-exception-smaller g c =
     let form = c.args.self.now.form in
     omega (
       arith,
+      ap (λ (e : List ℕ). length (above (Some e) (exceptions_in (bytes_of c.args.group) form))) c.in-Some.ensures.bound,
       one_exception_fewer family table upstream state form
           (asked_as_seen c.form_of_what_is_asked.ensures family table upstream state form c.is_sound.ensures (ap (λ (s : Asking). s.form) c.self.view_is))
-          (bytes_of c.args.group) c.requires.group (option_map bytes_of c.loop-exception.bound) (bytes_of c.in-Some.exception) c.in-Some.ensures,
+          (bytes_of c.args.group) c.requires.group (Some c.loop-exception.rpts.bound) (bytes_of c.in-Some._exception) c.in-Some.ensures.exception,
     )
 
 pub loop-exception-preserved : goal.loop-exception-preserved
@@ -47,13 +48,17 @@ loop-exception-preserved g c =
     let upstream = bytes_of c.self.inside.upstream in
     let state = c.self.inside.ports in
     let form = c.args.self.now.form in
-    omega (
-      arith,
-      c.loop-exception.invariant,
-      one_exception_fewer family table upstream state form
-          (asked_as_seen c.form_of_what_is_asked.ensures family table upstream state form c.is_sound.ensures (ap (λ (s : Asking). s.form) c.self.view_is))
-          (bytes_of c.args.group) c.requires.group (option_map bytes_of c.loop-exception.bound) (bytes_of c.in-Some.exception) c.in-Some.ensures,
-    )
+    record {
+      count = omega (
+        arith,
+        ap (λ (e : List ℕ). length (above (Some e) (exceptions_in (bytes_of c.args.group) form))) c.in-Some.ensures.bound,
+        c.loop-exception.invariant.count,
+        one_exception_fewer family table upstream state form
+            (asked_as_seen c.form_of_what_is_asked.ensures family table upstream state form c.is_sound.ensures (ap (λ (s : Asking). s.form) c.self.view_is))
+            (bytes_of c.args.group) c.requires.group (Some c.loop-exception.rpts.bound) (bytes_of c.in-Some._exception) c.in-Some.ensures.exception,
+      );
+      rpts = c.in-Some.ensures.rpts;
+    }
 
 pub returns : goal.returns
 returns g c =
@@ -65,8 +70,8 @@ returns g c =
     let form = c.args.self.now.form in
     omega (
       arith,
-      c.loop-exception.invariant,
+      c.loop-exception.invariant.count,
       none_above family table upstream state form
           (asked_as_seen c.form_of_what_is_asked.ensures family table upstream state form c.is_sound.ensures (ap (λ (s : Asking). s.form) c.self.view_is))
-          (bytes_of c.args.group) c.requires.group (option_map bytes_of c.loop-exception.bound) c.in_default.ensures,
+          (bytes_of c.args.group) c.requires.group (Some c.loop-exception.rpts.bound) c.in_default.ensures.exception,
     )

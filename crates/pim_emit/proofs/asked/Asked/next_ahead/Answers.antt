@@ -13,7 +13,7 @@ loop-source-init g c =
     record {
       source = refl;
       next = λ places.
-          subst (λ (d : Downstream). AreNext bytes_of d (bytes_of c.args.group) (option_map bytes_of c.args.bound) c.args.nexts.now)
+          subst (λ (d : Downstream). AreNext d (bytes_of c.args.group) (option_map bytes_of c.args.bound) c.args.nexts.now)
           (sym (ap (λ (s : Asking). s.machines) c.self.view_is))
           (c.requires.next (omega (arith, places, ap (λ (s : Asking). s.machines.ports) c.self.view_is)));
       long = refl;
@@ -40,7 +40,7 @@ pub returns-then-is_neighbour-clause-next : goal.returns-then-is_neighbour-claus
 returns-then-is_neighbour-clause-next g c =
     let bytes_of = g.F.Family.bytes_of in
     λ places.
-    subst (λ (d : Downstream). AreNext bytes_of d (bytes_of c.args.group) (Some (bytes_of c.in-Some.source)) c.take_next.new.nexts)
+    subst (λ (d : Downstream). AreNext d (bytes_of c.args.group) (Some (bytes_of c.in-Some.source)) c.take_next.new.nexts)
     (ap (λ (s : Asking). s.machines) c.self.view_is)
     (c.in-Some.ensures.next (omega (arith, places, c.loop-source.invariant.long, ap (λ (s : Asking). s.machines.ports) c.self.view_is)))
 

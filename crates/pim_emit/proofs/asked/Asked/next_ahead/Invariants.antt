@@ -13,7 +13,7 @@ invariant-loop-source g l =
     let bound = option_map bytes_of l.bound in record {
       source : next_above bound (sources_in (bytes_of l.group) l.self.form)
           ≡ next_above (option_map bytes_of l.fn.bound) (sources_in (bytes_of l.group) l.self.form);
-      next : l.self-inside.ports.ports ≤ length l.nexts → AreNext bytes_of l.self-inside.ports (bytes_of l.group) bound l.nexts;
+      next : l.self-inside.ports.ports ≤ length l.nexts → AreNext l.self-inside.ports (bytes_of l.group) bound l.nexts;
       long : length l.nexts ≡ length l.initial.nexts;
     }
 
