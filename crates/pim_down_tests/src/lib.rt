@@ -1,4 +1,5 @@
-//! The tests of `pim_down`, in a crate of their own: `pim_down` is proved once and not a second time with them.
+//! The tests of `pim_down`, in a crate of their own, so that `pim_down` isn't proved a second time for them; the random
+//! runs, which want blocks of another size, stand in `pim_down`.
 #![tactic(auto)]
 
 #[cfg(test)]

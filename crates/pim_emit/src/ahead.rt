@@ -58,8 +58,12 @@ fn ahead_on<'a, F: Family>(
 {
     ports.is_sound();
     let mut left = ports.machines_after(port, group, passed::<F>(bound));
-    let source = next_source::<F>(&mut left)?;
-    Some(Ahead { source, left })
+    let next = next_source::<F>(&mut left);
+    ports.keep(port, &left);
+    Some(Ahead {
+        source: next?,
+        left,
+    })
 }
 
 /// Looks up, on each port, the least source above the bound, or of all, with (S,G) in Join or Prune-Pending.
@@ -113,10 +117,16 @@ fn is_this<F: Family>(next: Option<F::Addr>, address: F::Addr) -> bool
     }
 }
 
-/// Goes on to what comes next on a port behind the source that is passed, which came next on some port and is the least
-/// of those that did.
-fn pass_on<F: Family>(ports: &Nearby<'_, F>, passed: F::Addr, next: &mut Option<Ahead<'_, F>>)
-    ensures { (port : ℕ) (group : List ℕ) (bound : Option (List ℕ)) → port < ports.now.ports →
+/// Goes on to what comes next on the port behind the source that is passed, which came next on some port and is the
+/// least of those that did.
+fn pass_on<F: Family>(
+    ports: &Nearby<'_, F>,
+    port: usize,
+    passed: F::Addr,
+    next: &mut Option<Ahead<'_, F>>,
+)
+    requires { port < ports.now.ports }
+    ensures { (group : List ℕ) (bound : Option (List ℕ)) →
         IsAheadOn ports.now group bound port next.old → IsNextSource ports.now group bound (Some (F.bytes_of passed)) →
         IsAheadOn ports.now group (Some (F.bytes_of passed)) port next.new }
 {
@@ -129,7 +139,10 @@ fn pass_on<F: Family>(ports: &Nearby<'_, F>, passed: F::Addr, next: &mut Option<
     }
     match next_source::<F>(&mut ahead.left) {
         Some(source) => ahead.source = source,
-        None => *next = None,
+        None => {
+            ports.keep(port, &ahead.left);
+            *next = None;
+        }
     }
 }
 
@@ -143,7 +156,7 @@ fn pass_ahead<F: Family>(ports: &Nearby<'_, F>, passed: F::Addr, nexts: &mut [Op
 {
     let count = ports.port_count();
     for port in 0..count {
-        pass_on::<F>(ports, passed, &mut nexts[port]);
+        pass_on::<F>(ports, port, passed, &mut nexts[port]);
     }
 }
 

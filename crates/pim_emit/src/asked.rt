@@ -226,6 +226,7 @@ impl<'a, F: Family> Asked<'a, F> {
                 return Some(held.source);
             }
         }
+        self.ports.keep(port, rpts.left());
         None
     }
 

@@ -18,15 +18,14 @@ use pim_form::Writer;
 /// are. They are those that `pack` gives for the normal form of what is asked. It makes no such form, and takes no
 /// memory: each message is made in the buffer, which has at least the writer's budget.
 ///
-/// The time goes by what is told or passed over, and by the ports: a source costs a look-up on each port that has it
-/// and one in the table, and beside that a comparison on every port; an exception a look-up on the first port that has
-/// the star, and at most one on each other that has it; a group, and a message that begins or ends within one, some
-/// look-ups on every port and one or two in the table. On each of the first 64 ports, and there are no more, a look-up
-/// begins near where an earlier one ended. Where it goes on record by record it compares two records; where it passes
-/// over others, as at the first exception or the next group, it is a search by halves in a block of up to 128 records
-/// or among all. Exceptions are walked through three times: to look for stars that are too big, to see whether a star
-/// has room, and to write them; and once more where the star begins a new message. Each of these walks begins with a
-/// look-up of the star on every port.
+/// The time goes by what is told or passed over, and by the ports: a source costs a step to the next machine on each port
+/// that has it, a look-up in the table, and a comparison on every port; an exception such a step on the first port that
+/// has the star, and at most one look-up on each other that has it; a group, and a message that begins or ends within
+/// one, some look-ups on every port and one or two in the table. On each of the first 64 ports, and there are no more, a
+/// look-up begins near where an earlier one ended. Where it passes over records, as at the next group, it is a search by
+/// halves in a block of up to 128 records or among all. Exceptions are walked through three times: to look for stars that
+/// are too big, to see whether a star has room, and to write them; and once more where the star begins a new message.
+/// Each of these walks begins with a look-up of the star on every port.
 ///
 /// # Errors
 /// `TooBig` of the least group whose star, with all its exceptions, is too big for a message of the writer's budget

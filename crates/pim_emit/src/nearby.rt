@@ -57,9 +57,9 @@ impl<'a, F: Family> Nearby<'a, F> {
     pub(crate) fn state_of(&self, port: usize, group: F::Addr, what: What<F::Addr>) -> Option<State>
         ensures { result ≡ state_of (key_at F.bytes_of port group what) self.now.records }
     {
-        let near = self.hints.machine(port, &what);
+        let near = self.hints.near(port);
         let (state, place) = self.ports.state_of_near(port, group, what, near);
-        self.hints.keep_machine(port, &what, place);
+        self.hints.keep(port, place);
         state
     }
 
@@ -67,9 +67,9 @@ impl<'a, F: Family> Nearby<'a, F> {
     pub(crate) fn group_after(&self, port: usize, group: Option<F::Addr>) -> Option<F::Addr>
         ensures { option_map F.bytes_of result ≡ group_after port (option_map F.bytes_of group) self.now.records }
     {
-        let near = self.hints.group(port);
+        let near = self.hints.near(port);
         let (next, place) = self.ports.group_after_near(port, group, near);
-        self.hints.keep_group(port, place);
+        self.hints.keep(port, place);
         next
     }
 
@@ -83,9 +83,9 @@ impl<'a, F: Family> Nearby<'a, F> {
         ensures { option_map (told_seen F.bytes_of) result
             ≡ next_in_group port (F.bytes_of group) (what_seen F.bytes_of what) self.now.records }
     {
-        let near = self.hints.machine(port, &what);
+        let near = self.hints.near(port);
         let (next, place) = self.ports.record_after_near(port, group, what, near);
-        self.keep_next(port, &what, &next, place);
+        self.hints.keep(port, place);
         next
     }
 
@@ -98,24 +98,12 @@ impl<'a, F: Family> Nearby<'a, F> {
     ) -> GroupMachines<'a, F>
         ensures { result ≡ machines_behind self.now port (F.bytes_of group) (what_seen F.bytes_of what) }
     {
-        let near = self.hints.machine(port, &what);
-        let left = self.ports.machines_after_near(port, group, what, near);
-        self.hints.keep_machine(port, &what, left.near());
-        left
+        let near = self.hints.near(port);
+        self.ports.machines_after_near(port, group, what, near)
     }
 
-    /// Keeps where the record that was found stands, for others of its kind; where none was, where it would stand, for
-    /// those of the kind that it was looked for behind.
-    fn keep_next(
-        &self,
-        port: usize,
-        behind: &What<F::Addr>,
-        next: &Option<Record<F::Addr>>,
-        place: Near,
-    ) {
-        match next {
-            Some(record) => self.hints.keep_machine(port, &record.key.what, place),
-            None => self.hints.keep_machine(port, behind, place),
-        }
+    /// Keeps where those that are left of the machines of a group on the port stand, for the next look-up there.
+    pub(crate) fn keep(&self, port: usize, left: &GroupMachines<'_, F>) {
+        self.hints.keep(port, left.near());
     }
 }

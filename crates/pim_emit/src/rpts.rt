@@ -33,6 +33,13 @@ impl<'a, F: Family> Model for Rpts<'a, F> {
     ghost view = { λ rpts. record { bound = F.bytes_of rpts.bound; left = rpts.left } };
 }
 
+impl<'a, F: Family> Rpts<'a, F> {
+    /// The machines that are left.
+    pub(crate) fn left(&self) -> &GroupMachines<'a, F> {
+        &self.left
+    }
+}
+
 /// All of them. Where no port has the star, they are those of the first port.
 pub(crate) fn rpts_of<'a, F: Family>(
     ports: &Nearby<'a, F>,

@@ -46,7 +46,10 @@ pub(super) const EXAMPLES: [Example; 2] = [
 
 /// Whether no group and no machine comes next on the first port.
 fn is_at_its_end(ports: &Ports<V6>) -> bool {
-    ports.group_after(0, None).is_none() && ports.record_after(0, [0xff; 16], What::Star).is_none()
+    let mut left = ports.machines_after_near(0, [0xff; 16], What::Star, Near::UNKNOWN);
+    ports.group_after(0, None).is_none()
+        && ports.record_after(0, [0xff; 16], What::Star).is_none()
+        && left.next_machine().is_none()
 }
 
 /// Whether the three look-ups near this place answer what those from nothing do.
@@ -89,6 +92,42 @@ const MANY: Row = Row::Hear(
     0,
     &[(GROUP, &[JOIN_STAR, JOIN_FIRST, JOIN_SECOND], &[RPT_FIRST])],
 );
+
+/// The machines of the group behind its star then, in key order.
+const TOLD: [What<[u8; 4]>; 3] = [What::Source(FIRST), What::Source(SECOND), What::Rpt(FIRST)];
+
+/// Whether these machines are told one after another, wherever they are looked for, and then no more.
+fn are_told(ports: &Ports<V4>, near: Near) -> bool {
+    let mut left = ports.machines_after_near(0, GROUP, What::Star, near);
+    for what in &TOLD {
+        let Some(told) = left.next_machine() else {
+            return false;
+        };
+        if told.key.what != *what || !is_alike_near(ports, left.near()) {
+            return false;
+        }
+    }
+    left.next_machine().is_none() && left.next_machine().is_none()
+}
+
+const ANOTHER_GROUP: Row = Row::Hear(0, &[([239, 1, 1, 2], &[JOIN_STAR], &[])]);
+
+const ANOTHER_PORT: Row = Row::Hear(1, &[(GROUP, &[JOIN_SECOND], &[])]);
+
+/// Whether they are told from a place among them, and from none.
+fn are_told_from_each(alloc: Global) -> Result<bool, AllocError> {
+    let mut ports: Ports<V4> = Ports::new(alloc, 2, 100);
+    let heard = goes(alloc, &mut ports, MANY)?
+        && goes(alloc, &mut ports, ANOTHER_GROUP)?
+        && goes(alloc, &mut ports, ANOTHER_PORT)?;
+    Ok(heard && are_told(&ports, Near::UNKNOWN) && are_told(&ports, place_in(&ports)))
+}
+
+#[test]
+fn machines_of_a_group_are_told_one_after_another(rt: HostRuntime) -> Result<(), Fail> {
+    assert!(rt; are_told_from_each(rt.alloc())?);
+    Ok(())
+}
 
 const FEW: Row = Row::Hear(0, &[(GROUP, &[JOIN_FIRST], &[])]);
 

@@ -2,17 +2,17 @@ use Rattle.std.proofs.Common.{◌∙◌, ap, option_map}
 use Rattle.pim_emit.specs.Ahead.{machines_behind}
 use Rattle.pim_emit.proofs.ahead.ahead_on.Goals as goal
 
-pub returns-in_err-source : goal.returns-in_err-source
-returns-in_err-source g c =
+pub returns-in_err-next : goal.returns-in_err-next
+returns-in_err-next g c =
     let bytes_of = g.F.Family.bytes_of in
     let group = bytes_of c.args.group in
     let was = c.machines_after-left.ensures ∙ ap (machines_behind c.args.ports.now c.args.port group) c.passed.ensures in
-    rw c.from_residual.ensures (record { next = (c.in_err-source.ensures c.args.ports.now c.args.port group (option_map bytes_of c.args.bound) c.is_sound.ensures was).0; left = tt })
+    rw c.from_residual.ensures (record { next = (c.in_err-next.ensures c.args.ports.now c.args.port group (option_map bytes_of c.args.bound) c.is_sound.ensures was).0; left = tt })
 
 pub returns : goal.returns
 returns g c =
     let bytes_of = g.F.Family.bytes_of in
     let group = bytes_of c.args.group in
     let was = c.machines_after-left.ensures ∙ ap (machines_behind c.args.ports.now c.args.port group) c.passed.ensures in
-    let told = c.in_ok-source.ensures c.args.ports.now c.args.port group (option_map bytes_of c.args.bound) c.is_sound.ensures was in
+    let told = c.in_ok-next.ensures c.args.ports.now c.args.port group (option_map bytes_of c.args.bound) c.is_sound.ensures was in
     record { next = told.0; left = told.1 }

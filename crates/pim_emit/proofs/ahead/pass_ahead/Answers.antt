@@ -23,7 +23,7 @@ loop-port-preserved g c =
       next = λ group bound are least.
           each_set nexts port new (IsAheadOn state group (Some (g.F.Family.bytes_of c.args.passed)))
           (omega (arith, c.requires, kept.long, c.port_count-count.ensures, c.loop-port-test.true)) (kept.next group bound are least)
-          (c.pass_on.ensures port group bound (omega (arith, c.port_count-count.ensures, c.loop-port-test.true))
+          (c.pass_on.ensures group bound
           (subst (IsAheadOn state group bound port) (sym (kept.left port next (omega arith)))
           (are port next (omega (arith, c.port_count-count.ensures, c.loop-port-test.true))))
           least);

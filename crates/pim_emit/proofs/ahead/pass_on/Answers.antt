@@ -8,27 +8,27 @@ this_one : (passed : List ℕ) (inside seen : SourceAhead) (answer value : Bool)
 this_one passed inside seen answer value same is answers = ap (λ (s : SourceAhead). is_this passed (Some s.source)) (sym same) ∙ sym is ∙ answers
 
 pub returns-in_default : goal.returns-in_default
-returns-in_default g c = λ port group bound below was least.
-    stays_ahead c.args.ports.now group port below bound (g.F.Family.bytes_of c.args.passed) least c.args.next.now was (ap (λ (n : Option SourceAhead). is_this (g.F.Family.bytes_of c.args.passed) (its_source n)) c.in_default.is)
+returns-in_default g c = λ group bound was least.
+    stays_ahead c.args.ports.now group c.args.port c.requires bound (g.F.Family.bytes_of c.args.passed) least c.args.next.now was (ap (λ (n : Option SourceAhead). is_this (g.F.Family.bytes_of c.args.passed) (its_source n)) c.in_default.is)
 
 pub returns-then-not-is_this : goal.returns-then-not-is_this
-returns-then-not-is_this g c = λ port group bound below was least.
+returns-then-not-is_this g c = λ group bound was least.
     let passed = g.F.Family.bytes_of c.args.passed in
-    stays_ahead c.args.ports.now group port below bound passed least (Some c.in-Some.ahead) (subst (IsAheadOn c.args.ports.now group bound port) c.in-Some.is was)
+    stays_ahead c.args.ports.now group c.args.port c.requires bound passed least (Some c.in-Some.ahead) (subst (IsAheadOn c.args.ports.now group bound c.args.port) c.in-Some.is was)
     (this_one passed (record { source = g.F.Family.bytes_of c.ahead.inside.source; left = c.ahead.inside.left }) c.in-Some.ahead c.is_this.result _ c.ahead.view_is c.is_this.ensures c.if-not-is_this.true)
 
 pub returns-in-Some-next_source : goal.returns-in-Some-next_source
-returns-in-Some-next_source g c = λ port group bound below was least.
+returns-in-Some-next_source g c = λ group bound was least.
     let passed = g.F.Family.bytes_of c.args.passed in
     let inside : SourceAhead = record { source = g.F.Family.bytes_of c.ahead.inside.source; left = c.ahead.inside.left } in
-    goes_on c.args.ports.now group port below bound passed least g.F.Family.family c.is_sound.ensures inside c.next_source.new.left (Some (g.F.Family.bytes_of c.in-Some-next_source.source))
-    (subst (λ (n : Option SourceAhead). IsAheadOn c.args.ports.now group bound port n) (c.in-Some.is ∙ ap (λ (s : SourceAhead). Some s) (sym c.ahead.view_is)) was)
+    goes_on c.args.ports.now group c.args.port c.requires bound passed least g.F.Family.family c.is_sound.ensures inside c.next_source.new.left (Some (g.F.Family.bytes_of c.in-Some-next_source.source))
+    (subst (λ (n : Option SourceAhead). IsAheadOn c.args.ports.now group bound c.args.port n) (c.in-Some.is ∙ ap (λ (s : SourceAhead). Some s) (sym c.ahead.view_is)) was)
     (sym c.is_this.ensures ∙ c.if-not-is_this.false) c.in-Some-next_source.ensures
 
 pub returns-in-None : goal.returns-in-None
-returns-in-None g c = λ port group bound below was least.
+returns-in-None g c = λ group bound was least.
     let passed = g.F.Family.bytes_of c.args.passed in
     let inside : SourceAhead = record { source = g.F.Family.bytes_of c.ahead.inside.source; left = c.ahead.inside.left } in
-    goes_on c.args.ports.now group port below bound passed least g.F.Family.family c.is_sound.ensures inside c.next_source.new.left None
-    (subst (λ (n : Option SourceAhead). IsAheadOn c.args.ports.now group bound port n) (c.in-Some.is ∙ ap (λ (s : SourceAhead). Some s) (sym c.ahead.view_is)) was)
+    goes_on c.args.ports.now group c.args.port c.requires bound passed least g.F.Family.family c.is_sound.ensures inside c.next_source.new.left None
+    (subst (λ (n : Option SourceAhead). IsAheadOn c.args.ports.now group bound c.args.port n) (c.in-Some.is ∙ ap (λ (s : SourceAhead). Some s) (sym c.ahead.view_is)) was)
     (sym c.is_this.ensures ∙ c.if-not-is_this.false) c.in-None.ensures
