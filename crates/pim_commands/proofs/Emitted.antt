@@ -1,5 +1,5 @@
 -- What is told of the messages of a new router.
-use Rattle.std.proofs.Common.{◌≡◌, inr, refl, sym, ap, subst, ◌∙◌, ℕ, false, List, Option, Result, Ok, Err}
+use Rattle.std.proofs.Common.{◌≡◌, inr, refl, sym, ap, subst, ◌∙◌, ℕ, List, Option, Result, Ok, Err}
 use Rattle.pim_addr.specs.declared.family.AddressFamily.{AddressFamily}
 use Rattle.pim_form.specs.Messages.{Writing}
 use Rattle.pim_merge.specs.Next.{MergeState}

@@ -6,3 +6,4 @@ pub mod Lines
 pub mod Reports
 pub mod Writes
 pub mod Routers
+pub mod Opened

@@ -10,3 +10,4 @@ pub mod Mirroring
 pub mod Emitting
 pub mod Changing
 pub mod Writing
+pub mod Opening

@@ -5,6 +5,7 @@ ghost use Rattle.pim_form.specs.Seen.{writing_seen};
 ghost use Rattle.pim_words.specs.Plan.{IsBounded, IsLimited, IsWritable};
 ghost use Rattle.pim_commands.specs.Comparing.{is_of, side_setup};
 ghost use Rattle.pim_commands.specs.Changing.{ChangesNew};
+ghost use Rattle.pim_commands.specs.Opening.{ChangesFiles};
 ghost use Rattle.pim_commands.specs.Report.{write_failures_after};
 
 use crate::comparing::{Pair, open_both, side_configs};
@@ -89,6 +90,9 @@ pub fn change<'a, F: Family, W: Drain>(
     requires after { IsBounded captures.now }
     requires limit { IsLimited captures.now }
     requires writing { IsWritable writing.now }
+    ensures text { ChangesFiles F.family F.bytes_of captures.now writing.now
+        (W.contents writer.old) (W.contents writer.new) result }
+    ensures count { W.failures writer.new ≡ write_failures_after (W.failures writer.old) result }
 {
     let routes = table::<F>(rt, captures, Some(writing.upstream))?;
     let mut pair = open_both(rt, &captures.ports)?;

@@ -1,10 +1,11 @@
 //! The command `same`: the captures of two routers, opened and handed to the engine.
 
-ghost use Rattle.std.specs.Prelude.{◌≡◌, ◌+◌, length, map, filter, IfOk};
+ghost use Rattle.std.specs.Prelude.{◌≡◌, ◌+◌, length, map, filter, None, IfOk, IfErr};
 ghost use Rattle.pim_form.specs.Seen.{writing_seen};
 ghost use Rattle.pim_words.specs.Plan.{IsBounded, IsWritable};
 ghost use Rattle.pim_commands.specs.Replaying.{config_of};
 ghost use Rattle.pim_commands.specs.Comparing.{same_fault, compared, is_of, one_of, side_setup, ComparesNew};
+ghost use Rattle.pim_commands.specs.Opening.{IsFaultOfSome, ComparesFiles};
 ghost use Rattle.pim_commands.specs.Report.{write_failures_after};
 
 use crate::fault::Fault;
@@ -84,6 +85,8 @@ pub fn add_to<R: Feed + Drop>(
 ) -> Result<(), AllocError>
     ensures a { IfOk result (λ done. length pair.new.a.lanes ≡ length pair.old.a.lanes + one_of Side.A side) }
     ensures b { IfOk result (λ done. length pair.new.b.lanes ≡ length pair.old.b.lanes + one_of Side.B side) }
+    ensures clock_of_a { pair.new.a.clock ≡ pair.old.a.clock }
+    ensures clock_of_b { pair.new.b.clock ≡ pair.old.b.clock }
 {
     match side {
         Side::A => pair.a.add(alloc, reader),
@@ -98,6 +101,9 @@ pub fn open_both<'a, A>(
 ) -> Result<Pair<Counted<BufReader<File>>>, Fault<'a>>
     ensures a { IfOk result (λ pair. length pair.a.lanes ≡ length (filter (is_of Side.A) ports.now)) }
     ensures b { IfOk result (λ pair. length pair.b.lanes ≡ length (filter (is_of Side.B) ports.now)) }
+    ensures untaken_of_a { IfOk result (λ pair. pair.a.clock ≡ None) }
+    ensures untaken_of_b { IfOk result (λ pair. pair.b.clock ≡ None) }
+    ensures fault { IfErr result (IsFaultOfSome ports.now) }
 {
     let mut pair = Pair {
         a: Merge::new(rt.alloc()),
@@ -179,6 +185,9 @@ pub fn same<'a, F: Family, W: Drain>(
 ) -> Result<u8, Fault<'a>>
     requires after { IsBounded captures.now }
     requires writing { IsWritable writing.now }
+    ensures report { ComparesFiles F.family F.bytes_of captures.now writing.now
+        (W.contents writer.old) (W.contents writer.new) result }
+    ensures count { W.failures writer.new ≡ write_failures_after (W.failures writer.old) result }
 {
     let routes = table::<F>(rt, captures, Some(writing.upstream))?;
     let mut pair = open_both(rt, &captures.ports)?;

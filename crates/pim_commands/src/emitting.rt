@@ -6,6 +6,7 @@ ghost use Rattle.pim_router.specs.Seen.{setup_seen};
 ghost use Rattle.pim_words.specs.Plan.{IsBounded, IsLimited, IsWritable};
 ghost use Rattle.pim_commands.specs.Replaying.{config_of};
 ghost use Rattle.pim_commands.specs.Emitting.{emit_fault, emitted, EmitsNew};
+ghost use Rattle.pim_commands.specs.Opening.{EmitsFiles};
 ghost use Rattle.pim_commands.specs.Report.{write_failures_after};
 
 use crate::fault::Fault;
@@ -88,6 +89,9 @@ pub fn emit<'a, F: Family, W: Drain>(
     requires after { IsBounded captures.now }
     requires limit { IsLimited captures.now }
     requires writing { IsWritable writing.now }
+    ensures bytes { EmitsFiles F.family F.bytes_of captures.now writing.now
+        (W.contents writer.old) (W.contents writer.new) result }
+    ensures count { W.failures writer.new ≡ write_failures_after (W.failures writer.old) result }
 {
     let routes = table::<F>(rt, captures, Some(writing.upstream))?;
     let mut merge = open_all(rt, &captures.ports)?;

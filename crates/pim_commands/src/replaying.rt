@@ -1,12 +1,13 @@
 //! The command `replay`: the files that its words name, opened and handed to the engine.
 
-ghost use Rattle.std.specs.Prelude.{◌≡◌, ◌≤◌, [], length, map, is_some, option_map, IfOk, MatchResult};
+ghost use Rattle.std.specs.Prelude.{◌≡◌, ◌≤◌, [], length, map, is_some, option_map, None, IfOk, IfErr, MatchResult};
 ghost use Rattle.pim_router.specs.Config.{config_faults};
 ghost use Rattle.pim_router.specs.Seen.{setup_seen};
 ghost use Rattle.pim_router.specs.State.{new_router};
 ghost use Rattle.pim_commands.specs.Replaying.{config_of, config_fault, capture_fault, replay_fault, answer_of, is_bad};
 ghost use Rattle.pim_words.specs.Table.{given_table};
 ghost use Rattle.pim_commands.specs.Replaying.{table_causes, IsFirstCause, IsUnmade, ReplaysNew};
+ghost use Rattle.pim_commands.specs.Opening.{IsPortFault, IsFaultOfSome, IsTable, IsTableFault, ReplaysFiles};
 ghost use Rattle.pim_commands.specs.Report.{write_failures_after};
 
 use crate::causes::CaptureCause;
@@ -138,7 +139,10 @@ pub fn table<'a, F: Family>(
     rt: &HostRuntime,
     captures: &Captures<'a, F::Addr>,
     upstream: Option<F::Addr>,
-) -> Result<Routes<F>, Fault<'a>> {
+) -> Result<Routes<F>, Fault<'a>>
+    ensures { MatchResult result (IsTable F.family F.bytes_of captures.now upstream)
+        (IsTableFault F.family F.bytes_of captures.now upstream) }
+{
     let Some(name) = captures.routes else {
         return first_rows::<F>(rt.alloc(), captures.rp, upstream);
     };
@@ -157,7 +161,9 @@ pub fn table<'a, F: Family>(
 pub fn open_port<'a, A>(
     rt: &HostRuntime,
     port: &Port<'a, A>,
-) -> Result<Counted<BufReader<File>>, Fault<'a>> {
+) -> Result<Counted<BufReader<File>>, Fault<'a>>
+    ensures { IfErr result (IsPortFault port.now) }
+{
     let Ok(file) = File::open(rt, port.file) else {
         return Err(Fault::File(port.word));
     };
@@ -172,7 +178,9 @@ pub fn open_all<'a, A>(
     rt: &HostRuntime,
     ports: &[Port<'a, A>],
 ) -> Result<Merge<Counted<BufReader<File>>>, Fault<'a>>
-    ensures { IfOk result (λ merge. length merge.lanes ≡ length ports.now) }
+    ensures each { IfOk result (λ merge. length merge.lanes ≡ length ports.now) }
+    ensures untaken { IfOk result (λ merge. merge.clock ≡ None) }
+    ensures fault { IfErr result (IsFaultOfSome ports.now) }
 {
     let mut merge = Merge::new(rt.alloc());
     for port in ports {
@@ -250,6 +258,9 @@ pub fn replay<'a, F: Family, W: Drain>(
     writer: &mut W,
 ) -> Result<u8, Fault<'a>>
     requires { captures.now.after_ms ≤ 1000000000 }
+    ensures report { ReplaysFiles F.family F.bytes_of captures.now
+        (W.contents writer.old) (W.contents writer.new) result }
+    ensures count { W.failures writer.new ≡ write_failures_after (W.failures writer.old) result }
 {
     let routes = table::<F>(rt, captures, None)?;
     let mut merge = open_all(rt, &captures.ports)?;

@@ -1,11 +1,12 @@
-use Rattle.std.proofs.Common.{◌≡◌, ◌+◌, drop, length}
+use Rattle.std.proofs.Common.{◌≡◌, ◌+◌, drop, length, None}
 use Rattle.std.specs.List.{filter}
 use Rattle.pim_words.specs.declared.fault.Side.TheVariants.{A, B}
 use Rattle.pim_commands.specs.Comparing.{is_of}
 use Rattle.pim_commands.proofs.comparing.open_both.Given as goal
 
--- as many captures of each router as words of it before this one
+-- as many captures of each router as words of it before this one, of which nothing was taken
 abbrev pub invariant-loop-port : goal.invariant-loop-port
 invariant-loop-port g l =
     (length l.pair.a.lanes + length (filter (is_of A) (drop l.port-index l.ports)) ≡ length (filter (is_of A) l.ports))
     × (length l.pair.b.lanes + length (filter (is_of B) (drop l.port-index l.ports)) ≡ length (filter (is_of B) l.ports))
+    × (l.pair.a.clock ≡ None) × (l.pair.b.clock ≡ None)
