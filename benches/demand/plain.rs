@@ -469,12 +469,28 @@ impl Draft {
     }
 }
 
+/// How many (S,G,rpt) machines each port has, as a router knows it.
+fn rpts_of(records: &[Record]) -> [usize; 64] {
+    let mut rpts = [0; 64];
+    for held in records {
+        rpts[held.port] += usize::from(matches!(held.what, What::Rpt(_)));
+    }
+    rpts
+}
+
 /// Writes the messages straight from the records, without memory but for the buffer, which is handed in.
-fn write_straight(records: &[Record], ports: usize, table: &[(Addr, Addr)], draft: &mut Draft) -> Option<usize> {
+fn write_straight(
+    records: &[Record],
+    rpts: &[usize],
+    table: &[(Addr, Addr)],
+    draft: &mut Draft,
+) -> Option<usize> {
+    let ports = rpts.len();
     let toward = |source: Addr| via(table, source) == Some(UPSTREAM);
     let mut walk = Walk::new(records, ports);
     let most = (BUDGET - 26) / 8;
-    while let Some(group) = walk.least_group() {
+    let may_be_too_big = rpts.iter().any(|count| *count >= most);
+    while let Some(group) = walk.least_group().filter(|_| may_be_too_big) {
         let starred = walk.pass_stars(group);
         if starred > 0 && walk.exception_count(group, starred) >= most {
             return None;
@@ -532,12 +548,13 @@ fn write_straight(records: &[Record], ports: usize, table: &[(Addr, Addr)], draf
     Some(draft.messages)
 }
 
-fn tell_straight(name: &str, records: &[Record]) {
+fn tell_straight(name: &str, records: &[Record], ports: usize) {
+    let rpts = rpts_of(records);
     let table = black_box(vec![([0; 4], UPSTREAM)]);
     let mut draft = Draft { bytes: vec![0; BUDGET], groups: 0, end: 14, messages: 0 };
     let start = Instant::now();
     for _ in 0..ROUNDS {
-        black_box(write_straight(black_box(records), 4, &table, &mut draft));
+        black_box(write_straight(black_box(records), black_box(&rpts[..ports]), &table, &mut draft));
     }
     let each = start.elapsed().as_nanos() * 1000 / (records.len() as u128 * u128::from(ROUNDS));
     println!("{name}: straight {each} ps a record ({} messages)", draft.messages);
@@ -547,10 +564,10 @@ fn tell(name: &str, shape: Shape, ports: u32) {
     let records = black_box(records_of(shape, ports));
     let start = Instant::now();
     for _ in 0..ROUNDS {
-        black_box(form_of(black_box(&records), 4));
+        black_box(form_of(black_box(&records), ports as usize));
     }
     let forming = start.elapsed();
-    let form = form_of(&records, 4);
+    let form = form_of(&records, ports as usize);
     let start = Instant::now();
     let mut messages = 0;
     for _ in 0..ROUNDS {
@@ -564,7 +581,7 @@ fn tell(name: &str, shape: Shape, ports: u32) {
         each(packing.as_nanos()),
         records.len()
     );
-    tell_straight(name, &records);
+    tell_straight(name, &records, ports as usize);
 }
 
 fn main() {

@@ -1,5 +1,5 @@
 -- The records of one port stand together.
-use Rattle.std.proofs.Common.{◌≡◌, ℕ, zero, suc, ◌+◌, ◌<◌, ◌≤◌, Bool, true, false, cond, List, [], ◌∷◌, map, length, take, drop, get_or, eqb, ltb, refl, sym, ap, subst, ◌∙◌, arith}
+use Rattle.std.proofs.Common.{◌≡◌, ℕ, zero, suc, ◌+◌, ◌<◌, ◌≤◌, Bool, true, false, ◌&&◌, cond, List, [], ◌∷◌, map, length, take, drop, get_or, eqb, ltb, refl, sym, ap, subst, ◌∙◌, arith}
 use Rattle.std.specs.declared.cmp.Ordering.{Ordering}
 use Rattle.std.specs.declared.cmp.Ordering.TheVariants.{Less, Greater}
 use Rattle.std.specs.Ordering.{ordering_then, nat_cmp}
@@ -14,6 +14,7 @@ use Rattle.std.proofs.lemmas.List.{get_or-drop, length-drop, length-map}
 use Rattle.pim_down.specs.declared.held.Held.{Held}
 use Rattle.pim_down.specs.declared.key.Key.{Key}
 use Rattle.pim_down.specs.declared.machine.Record.{Record}
+use Rattle.pim_down.specs.Hearing.{is_rpt, is_rpt_on, rpts_on}
 use Rattle.pim_down.specs.Key.{address_cmp, what_cmp, key_cmp}
 use Rattle.pim_down.specs.Records.{IsBelow, IsAscending, count_on, is_on}
 use Rattle.pim_down.specs.Time.{record_after}
@@ -145,3 +146,30 @@ module _ {A : Type 0} (bytes_of : A → List ℕ) (port : ℕ) (records : List (
 
   pub shown_later : (k : ℕ) (later : List (Record (List ℕ))) → later ≡ map (record_after k) records → map (record_after k) (records_seen bytes_of here) ≡ filter (is_on port) later
   shown_later k later e = ap (map (record_after k)) is ∙ on_later k port records ∙ ap (filter (is_on port)) (sym e)
+
+-- ---- how many (S,G,rpt) ones a port has
+
+module _ (port : ℕ) where
+  abbrev on_port : Record (List ℕ) → Bool
+  on_port held = is_rpt_on port held.key
+
+  pub rpts_few : (records : List (Record (List ℕ))) → rpts_on port records ≤ count_on port records
+  unfolding count_on
+  rpts_few [] = omega arith
+  rpts_few (held ∷ records) =
+      let rest = rpts_few records in
+      elim (eqb held.key.port port) as (λ b. length (cond (b && is_rpt held.key.what) (held ∷ filter on_port records) (filter on_port records)) ≤ cond b 1 0 + count_on port records) [
+        | true ↦ elim (is_rpt held.key.what) as (λ c. length (cond c (held ∷ filter on_port records) (filter on_port records)) ≤ 1 + count_on port records) [
+          | true ↦ omega (arith, rest)
+          | false ↦ omega (arith, rest)
+        ]
+        | false ↦ omega (arith, rest)
+      ]
+
+  pub rpts_later : (k : ℕ) (records : List (Record (List ℕ))) → rpts_on port (map (record_after k) records) ≡ rpts_on port records
+  rpts_later k [] = refl
+  rpts_later k (held ∷ records) =
+      elim (is_rpt_on port held.key) as (λ b. length (cond b (record_after k held ∷ filter on_port (map (record_after k) records)) (filter on_port (map (record_after k) records))) ≡ length (cond b (held ∷ filter on_port records) (filter on_port records))) [
+        | true ↦ ap suc (rpts_later k records)
+        | false ↦ rpts_later k records
+      ]

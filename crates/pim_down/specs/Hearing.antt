@@ -1,8 +1,8 @@
 -- What hearing a Join/Prune message does to the machines of a port (RFC 7761, 4.5).
 use Rattle.std.specs.Prelude.{ℕ, ◌+◌, ◌*◌, Bool, true, false, ◌&&◌, not, ◌==◌, nat_eq, if◌then◌else◌}
-use Rattle.std.specs.Prelude.{List, [], ◌∷◌, ◌++◌, Option, None, Some}
+use Rattle.std.specs.Prelude.{List, [], ◌∷◌, ◌++◌, Option, None, Some, length}
 use Rattle.std.specs.Option.{is_some}
-use Rattle.std.specs.List.{flat_map}
+use Rattle.std.specs.List.{filter, flat_map}
 use Rattle.std.specs.Cmp.Lexicographic.{pointwise}
 use Rattle.pim_jp.specs.declared.entry.Entry.{Entry}
 use Rattle.pim_jp.specs.declared.entry.Entry.TheVariants as entry
@@ -90,6 +90,10 @@ is_star_join event = event.joins && is_star event.what
 -- an (S,G,rpt) machine of the port, and one of this group
 abbrev pub is_rpt_on : ℕ → Key (List ℕ) → Bool
 is_rpt_on port key = key.port == port && is_rpt key.what
+
+-- how many a port has
+abbrev pub rpts_on : ℕ → List (Record (List ℕ)) → ℕ
+rpts_on port records = length (filter (λ held. is_rpt_on port held.key) records)
 
 abbrev pub is_rpt_of : ℕ → List ℕ → Key (List ℕ) → Bool
 is_rpt_of port group key = is_rpt_on port key && pointwise nat_eq key.group group

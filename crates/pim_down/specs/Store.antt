@@ -1,4 +1,4 @@
--- The records of all ports as they are kept: in a list with places, and with a count of each port's.
+-- The records of all ports as they are kept: in a list with places, and with counts of each port's.
 use Rattle.std.specs.Prelude.{◌≡◌, ℕ, ◌<◌, ◌≤◌, Bool, true, false, List, length, slice_index_or}
 use Rattle.std.specs.Prelude.{Result, Ok, Err}
 use Rattle.std.specs.declared.cmp.Ordering.{Ordering}
@@ -8,15 +8,18 @@ use Rattle.sorted_blocks.specs.declared.place.Place.{Place}
 use Rattle.sorted_slab.specs.Listed.{Listed, at, IsPlace as IsListPlace, IsItem}
 use Rattle.pim_down.specs.declared.held.Held.{Held}
 use Rattle.pim_down.specs.declared.key.Key.{Key}
+use Rattle.pim_down.specs.Hearing.{rpts_on}
 use Rattle.pim_down.specs.Records.{count_on}
 use Rattle.pim_down.specs.Places.{StandsAt, WouldStandAt}
 use Rattle.pim_down.specs.Seen.{records_seen, key_seen}
 use Rattle.pim_down.specs.After.{is_up_to}
 
--- each count, of 64 ports, is that of the port's records; and all records fit
-pub record IsKept {A : Type 0} (counts : List ℕ) (list : Listed (Held A)) : Type 0 where
+-- each count, of 64 ports, is that of the port's records, or of its (S,G,rpt) ones; and all records fit
+pub record IsKept {A : Type 0} (counts rpts : List ℕ) (list : Listed (Held A)) : Type 0 where
   pub counted : (bytes_of : A → List ℕ) (port : ℕ) → port < 64 →
       slice_index_or counts port 0 ≡ count_on port (records_seen bytes_of list.items)
+  pub rpts_counted : (bytes_of : A → List ℕ) (port : ℕ) → port < 64 →
+      slice_index_or rpts port 0 ≡ rpts_on port (records_seen bytes_of list.items)
   pub fits : length list.items ≤ list.capacity
 
 -- how a record stands to a bound: before it or behind it

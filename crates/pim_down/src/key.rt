@@ -31,8 +31,8 @@ pub struct Key<A> {
     pub what: What<A>,
 }
 
-/// In the order of their bytes, which is that of their numbers: these a processor compares at once.
-pub(crate) fn compare_addresses<F: Family>(a: F::Addr, b: F::Addr) -> Ordering
+/// Compares two addresses in the order of their bytes. It is that of their numbers, which a processor compares at once.
+pub fn compare_addresses<F: Family>(a: F::Addr, b: F::Addr) -> Ordering
     ensures { result ≡ address_cmp (F.bytes_of a) (F.bytes_of b) }
 {
     F::address_has_its_bytes(a);

@@ -38,7 +38,7 @@ mod walk;
 pub use event::Timing;
 pub use fault::HearFault;
 pub use group::GroupMachines;
-pub use key::{Key, What};
+pub use key::{Key, What, compare_addresses};
 pub use laws::{
     a_map_has_one_list, change_acts_at_its_key, echo_names_a_machine, end_acts_at_each_key,
     event_acts_at_each_key, event_keeps_the_order, every_state_has_a_run, hearing_acts_at_each_key,

@@ -1,4 +1,4 @@
-//! The records of all ports, in key order, and how many each port has.
+//! The records of all ports, in key order, and how many each port has, and of these how many (S,G,rpt) ones.
 
 ghost use Rattle.std.specs.Prelude.{◌≡◌, ℕ, List, ◌+◌, ◌-◌, ◌<◌, ◌≤◌, ◌↔◌, [], length, take, drop};
 ghost use Rattle.std.specs.Prelude.{slice_index_or, slice_set, OnOk, IsOk, IsTrue, Bool, true, false};
@@ -7,12 +7,13 @@ ghost use Rattle.std.specs.List.Sorted.{IsPartitionedBy, IsPartitionPoint};
 ghost use Rattle.sorted_blocks.specs.declared.place.Place.{Place};
 ghost use Rattle.sorted_slab.specs.Listed.{at, IsPlace, IsItem, IsFound};
 ghost use Rattle.pim_down.specs.declared.held.Held.{Held};
+ghost use Rattle.pim_down.specs.Hearing.{is_rpt, rpts_on};
 ghost use Rattle.pim_down.specs.Records.{count_on};
-ghost use Rattle.pim_down.specs.Seen.{records_seen};
+ghost use Rattle.pim_down.specs.Seen.{what_seen, records_seen};
 
 use crate::blocks::HALF_BLOCK;
 use crate::held::{Held, Timed};
-use crate::key::Key;
+use crate::key::{Key, What};
 use sorted_blocks::{Place, Probe};
 use sorted_slab::{SortedSlab, Walk};
 use std::alloc::{AllocError, Global};
@@ -62,6 +63,8 @@ pub(crate) struct Rows<A: Copy> {
     list: SortedSlab<Held<A>, HALF_BLOCK>,
     /// How many records each port has.
     counts: [usize; 64],
+    /// How many of them are (S,G,rpt) ones.
+    rpts: [usize; 64],
 }
 
 impl<A: Copy> Model for Rows<A> {
@@ -74,7 +77,7 @@ impl<A: Copy> Model for Rows<A> {
 
     ghost view = { λ s. s.list };
 
-    ghost invariant = { λ s. IsKept s.counts s.list };
+    ghost invariant = { λ s. IsKept s.counts s.rpts s.list };
 }
 
 /// No record on any port.
@@ -84,24 +87,31 @@ fn no_counts() -> [usize; 64]
     [0; 64]
 }
 
-/// Counts a record of this port.
-fn count_in(counts: &mut [usize; 64], port: usize)
-    requires { slice_index_or counts.old port 0 < 18446744073709551615 }
-    ensures { counts.new ≡ slice_set counts.old port (slice_index_or counts.old port 0 + 1) }
+/// So many more on this port.
+fn count_in(counts: &mut [usize; 64], port: usize, more: usize)
+    requires { slice_index_or counts.old port 0 + more ≤ 18446744073709551615 }
+    ensures { counts.new ≡ slice_set counts.old port (slice_index_or counts.old port 0 + more) }
 {
     if port < PORTS {
-        counts[port] += 1;
+        counts[port] += more;
     }
 }
 
-/// Counts a record of this port no longer.
-fn count_out(counts: &mut [usize; 64], port: usize)
-    requires { port < 64 → 1 ≤ slice_index_or counts.old port 0 }
-    ensures { counts.new ≡ slice_set counts.old port (slice_index_or counts.old port 0 - 1) }
+/// So many fewer on this port.
+fn count_out(counts: &mut [usize; 64], port: usize, fewer: usize)
+    requires { port < 64 → fewer ≤ slice_index_or counts.old port 0 }
+    ensures { counts.new ≡ slice_set counts.old port (slice_index_or counts.old port 0 - fewer) }
 {
     if port < PORTS {
-        counts[port] -= 1;
+        counts[port] -= fewer;
     }
+}
+
+/// Whether it is an (S,G,rpt) machine.
+fn is_rpt<A>(what: &What<A>) -> bool
+    ensures { (bytes_of : A → List ℕ) → result ≡ is_rpt (what_seen bytes_of what.now) }
+{
+    matches!(what, What::Rpt(_))
 }
 
 impl<A: Copy> Rows<A> {
@@ -112,6 +122,7 @@ impl<A: Copy> Rows<A> {
         Rows {
             list: SortedSlab::new(alloc),
             counts: no_counts(),
+            rpts: no_counts(),
         }
     }
 
@@ -128,6 +139,14 @@ impl<A: Copy> Rows<A> {
         ensures { (bytes_of : A → List ℕ) → result ≡ count_on port (records_seen bytes_of self.now.items) }
     {
         self.counts[port]
+    }
+
+    /// How many (S,G,rpt) ones this port has.
+    pub(crate) fn rpts_on(&self, port: usize) -> usize
+        requires { port < 64 }
+        ensures { (bytes_of : A → List ℕ) → result ≡ rpts_on port (records_seen bytes_of self.now.items) }
+    {
+        self.rpts[port]
     }
 
     /// Takes memory for so many more records: at `Ok` they fit, whichever go between. The records stay, at an `Err`
@@ -150,7 +169,9 @@ impl<A: Copy> Rows<A> {
     {
         let _most = self.list.capacity();
         let stands = self.list.insert_within(place, held);
-        count_in(&mut self.counts, held.key.port);
+        count_in(&mut self.counts, held.key.port, 1);
+        let rpts = usize::from(is_rpt(&held.key.what));
+        count_in(&mut self.rpts, held.key.port, rpts);
         stands
     }
 
@@ -164,7 +185,9 @@ impl<A: Copy> Rows<A> {
         ensures item { at self.new result < length self.new.items → IsItem self.new result }
     {
         let (gone, behind) = self.list.remove(place);
-        count_out(&mut self.counts, gone.key.port);
+        count_out(&mut self.counts, gone.key.port, 1);
+        let rpts = usize::from(is_rpt(&gone.key.what));
+        count_out(&mut self.rpts, gone.key.port, rpts);
         self.list.settled(behind)
     }
 

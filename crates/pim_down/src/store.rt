@@ -7,6 +7,7 @@ ghost use Rattle.std.specs.List.Sorted.{IsPartitionedBy, IsPartitionPoint};
 ghost use Rattle.sorted_blocks.specs.declared.place.Place.{Place};
 ghost use Rattle.sorted_slab.specs.Listed.{at, IsPlace, IsItem, IsFound};
 ghost use Rattle.pim_down.specs.declared.held.Held.{Held};
+ghost use Rattle.pim_down.specs.Hearing.{rpts_on};
 ghost use Rattle.pim_down.specs.Records.{count_on};
 ghost use Rattle.pim_down.specs.Schedule.{deadline_seen, timers_of};
 ghost use Rattle.pim_down.specs.Seen.{records_seen};
@@ -73,6 +74,14 @@ impl<A: Copy, O: KeyOrder<A>> Store<A, O> {
         ensures { (bytes_of : A → List ℕ) → result ≡ count_on port (records_seen bytes_of self.now.items) }
     {
         self.rows.count_on(port)
+    }
+
+    /// How many (S,G,rpt) records this port has.
+    pub(crate) fn rpts_on(&self, port: usize) -> usize
+        requires { port < 64 }
+        ensures { (bytes_of : A → List ℕ) → result ≡ rpts_on port (records_seen bytes_of self.now.items) }
+    {
+        self.rows.rpts_on(port)
     }
 
     /// Takes memory for so many more records: at `Ok` they fit, whichever go between. The records stay, at an `Err`

@@ -3,6 +3,7 @@
 ghost use Rattle.std.specs.Prelude.{◌≡◌, ◌<◌, ℕ, List};
 ghost use Rattle.std.specs.List.{filter};
 ghost use Rattle.std.specs.Iterator.{YieldsFirstBy, item_count};
+ghost use Rattle.pim_down.specs.Hearing.{rpts_on};
 ghost use Rattle.pim_down.specs.Records.{IsAscending, is_on, count_on};
 ghost use Rattle.pim_down.specs.Time.{machine_after, record_after};
 ghost use Rattle.pim_down.specs.Seen.{timed_seen, record_seen, told_seen, records_seen, shown};
@@ -87,6 +88,14 @@ pub(crate) fn count_on<F: Family>(records: &Store<F::Addr, OfFamily<F>>, port: u
     ensures { result ≡ count_on port (records_seen F.bytes_of records.now.items) }
 {
     records.count_on(port)
+}
+
+/// How many (S,G,rpt) records the port has.
+pub(crate) fn rpts_on<F: Family>(records: &Store<F::Addr, OfFamily<F>>, port: usize) -> usize
+    requires { port < 64 }
+    ensures { result ≡ rpts_on port (records_seen F.bytes_of records.now.items) }
+{
+    records.rpts_on(port)
 }
 
 /// The records in key order, with what is left of their timers. Contracts see those that are left.

@@ -301,6 +301,20 @@ fn tells(mut told: Records<'_, V4>, wanted: &[Held]) -> bool {
     told.next().is_none()
 }
 
+/// How many of these are (S,G,rpt) machines.
+fn rpts_among(held: &[Held]) -> usize {
+    let mut count = 0;
+    for one in held {
+        match one {
+            Held::Pruned(..) | Held::Joined(_, What::Rpt(_), _) | Held::Waiting(What::Rpt(_), ..) => {
+                count += 1
+            }
+            _ => {}
+        }
+    }
+    count
+}
+
 /// The machine of a group that comes next on the first port.
 fn machine_after(ports: &Ports<V4>, group: [u8; 4], what: What<[u8; 4]>) -> Option<What<[u8; 4]>> {
     match ports.record_after(0, group, what) {
@@ -318,7 +332,9 @@ fn is_seen(ports: &Ports<V4>, row: Row) -> bool {
         Row::StarOf(group, state) => ports.state_of(0, group, What::Star) == state,
         Row::Holds(wanted) => tells(ports.records(), wanted),
         Row::HoldsOn(port, wanted) => {
-            ports.count_on(port) == wanted.len() && tells(ports.records_on(port), wanted)
+            ports.count_on(port) == wanted.len()
+                && ports.rpts_on(port) == rpts_among(wanted)
+                && tells(ports.records_on(port), wanted)
         }
         Row::Count(port, count) => ports.count_on(port) == count,
         Row::Sizes(count, limit) => ports.port_count() == count && ports.limit() == limit,

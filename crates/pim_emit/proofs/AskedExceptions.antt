@@ -1,5 +1,5 @@
 -- The star of a group that is asked for, and its exceptions, among the (S,G,rpt) machines of a port that has (*,G).
-use Rattle.std.proofs.Common.{◌≡◌, ◌∙◌, ◌<◌, ◌≤◌, ℕ, suc, Bool, true, false, ◌&&◌, not, List, Option, None, Some, length, refl, sym, ap, subst}
+use Rattle.std.proofs.Common.{◌≡◌, ◌∙◌, ◌<◌, ◌≤◌, ℕ, suc, Bool, true, false, ◌&&◌, not, List, Option, None, Some, length, refl, sym, ap, subst, arith}
 use Rattle.std.specs.declared.cmp.Ordering.TheVariants.{Less}
 use Rattle.std.specs.List.{list_any}
 use Rattle.std.specs.Option.{is_some}
@@ -12,6 +12,7 @@ use Rattle.pim_down.specs.declared.key.Key.{Key}
 use Rattle.pim_down.specs.declared.key.What.TheVariants.{Rpt}
 use Rattle.pim_down.specs.declared.machine.Record.{Record}
 use Rattle.pim_down.specs.declared.machine.State.{State}
+use Rattle.pim_down.specs.Hearing.{rpts_on}
 use Rattle.pim_down.specs.Key.{address_cmp, source_of}
 use Rattle.pim_down.specs.Known.{known_in}
 use Rattle.pim_down.specs.Laws.{KeysAreToldApart}
@@ -20,9 +21,10 @@ use Rattle.pim_down.specs.Sound.{IsSound, IsReal}
 use Rattle.pim_down.specs.Time.{Downstream}
 use Rattle.pim_form.specs.Asked.{IsAskedForm}
 use Rattle.pim_form.specs.NormalForm.{GroupForm, most_exceptions, is_listed, same_address}
+use Rattle.pim_form.specs.Rows.{exceptions_of}
 use Rattle.pim_form.specs.Settled.{group_in}
 use Rattle.pim_form.specs.Toward.{via_in, via_rp, is_neighbour}
-use Rattle.pim_form.specs.Wants.{is_pruned, state_on, wants, wants_on}
+use Rattle.pim_form.specs.Wants.{is_pruned, some_below, state_on, wants, wants_on}
 use Rattle.pim_form.specs.declared.tree.Tree.TheVariants.{Shared}
 use Rattle.pim_emit.specs.Least.{IsLeast}
 use Rattle.pim_emit.specs.Left.{above, next_above, star_of, exceptions_in}
@@ -34,10 +36,11 @@ use Rattle.pim_emit.proofs.Addresses.{same_itself}
 use Rattle.pim_emit.proofs.Above.{by_test, above_first, above_none}
 use Rattle.pim_emit.proofs.AskedSources.{HasLists, lists_of}
 use Rattle.pim_emit.proofs.CountAbove.{count_above, fewer_above}
+use Rattle.pim_emit.proofs.FewExceptions.{few_held}
 use Rattle.pim_emit.proofs.FirstRecords.{held_at, any_at}
 use Rattle.pim_emit.proofs.ListedAbove.{over, AllPass, none_left, listed_next, unlisted_passed, all_listed, above_all}
 use Rattle.pim_emit.proofs.NextMachines.{key_of, told_state}
-use Rattle.pim_emit.proofs.PortsBelow.{found_below}
+use Rattle.pim_emit.proofs.PortsBelow.{found_below, which_below}
 
 pruned_is_some : (state : Option State) → is_pruned state ≡ true → is_some state ≡ true
 pruned_is_some None e = e
@@ -158,3 +161,20 @@ module _ (family : AddressFamily) (table : RouteTable) (neighbour : List ℕ) (s
     fewer_rpts bound source is =
         let passes = and_parts (is_above bound source) (has_rpt state port group source) is.0 in
         fewer_above (λ (held : Record (List ℕ)). source_of held.key.what) bound source state.records passes.0 (is_held source passes.1)
+
+    -- the port has no fewer (S,G,rpt) machines
+    pub few_by_rpts : length (exceptions_in group form) ≤ rpts_on port state.records
+    few_by_rpts = few_held apart state port group (exceptions_in group form) lists.exceptions_ascending all_held
+
+  bare_of_all : (most : ℕ) (star : Option (List (List ℕ))) → is_some star ≡ false → length (exceptions_of star) ≤ most
+  bare_of_all most None bare = omega arith
+  bare_of_all most (Some exceptions) bare = absurd cc
+
+  pub few_on_all : KeysAreToldApart → IsSound family state → (most : ℕ) → ((port : ℕ) → port < state.ports → rpts_on port state.records ≤ most) → length (exceptions_in group form) ≤ most
+  few_on_all apart sound most all =
+      by_test (is_some (star_of group form))
+      (λ star.
+      let starred = (and_parts (some_below state.ports (is_starred state group)) reached (sym (asked.groups group is_group).star ∙ star)).0 in
+      let found = which_below (is_starred state group) state.ports starred in
+      omega (arith, few_by_rpts apart sound star found.0 found.1 found.2, all found.0 found.1))
+      (λ bare. bare_of_all most (star_of group form) bare)

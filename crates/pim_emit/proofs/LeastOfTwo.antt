@@ -2,7 +2,7 @@
 use Rattle.std.proofs.Common.{◌≡◌, ◌∙◌, ℕ, Bool, true, false, ◌||◌, List, Option, None, Some, refl, sym, ap, subst}
 use Rattle.std.specs.declared.cmp.Ordering.{Ordering}
 use Rattle.std.specs.declared.cmp.Ordering.TheVariants.{Less, Equal, Greater}
-use Rattle.std.specs.Ordering.{is_lt, is_le, is_some_and, ordering_reverse}
+use Rattle.std.specs.Ordering.{is_lt, is_le, ordering_reverse}
 use Rattle.std.proofs.lemmas.Bool.{false≢true, or_left, or_right}
 use Rattle.pim_down.specs.Key.{address_cmp}
 use Rattle.pim_emit.specs.Least.{IsLeast}
@@ -64,9 +64,3 @@ module _ (test this : List ℕ → Bool) (one other : List ℕ) where
 pub least_of_same : (test this : List ℕ → Bool) (least : Option (List ℕ)) → ((address : List ℕ) → test address ≡ this address) → IsLeast test least → IsLeast this least
 least_of_same test this None same is = λ address. sym (same address) ∙ is address
 least_of_same test this (Some least) same is = (sym (same least) ∙ is.0, λ address passes. is.1 address (same address ∙ passes))
-
--- ---- `<` of two addresses, seen as the order of their bytes
-
-pub seen_below : (total seen : Ordering) (partial : Option Ordering) (result told : Bool) → partial ≡ Some total → total ≡ seen → result ≡ is_some_and is_lt partial → result ≡ told → is_lt seen ≡ told
-seen_below total seen partial result told matches same tests is =
-    sym (ap (λ r. is_some_and is_lt r) (matches ∙ ap (λ o. Some o) same)) ∙ sym tests ∙ is

@@ -1,19 +1,21 @@
 -- Whether a star fits a message alone, and the least group whose star doesn't.
-use Rattle.std.proofs.Common.{◌≡◌, ◌∙◌, ◌↔◌, ℕ, ◌+◌, ◌*◌, ◌≤◌, ◌<◌, true, false, List, [], ◌∷◌, Option, None, Some, length, refl, ap, subst, arith}
+use Rattle.std.proofs.Common.{◌≡◌, ◌∙◌, ◌↔◌, ℕ, zero, suc, ◌+◌, ◌*◌, ◌≤◌, ◌<◌, true, false, List, [], ◌∷◌, Option, None, Some, length, refl, sym, ap, subst, arith}
 use Rattle.std.specs.List.Sorted.{IsStrictlySortedBy}
 use Rattle.std.specs.Option.{is_some}
+use Rattle.pim_addr.specs.Address.{IsGroupAddress}
 use Rattle.pim_addr.specs.declared.family.AddressFamily.{AddressFamily}
 use Rattle.pim_addr.specs.declared.family.AddressFamily.TheVariants.{Ipv4, Ipv6}
 use Rattle.pim_form.specs.Asked.{GroupsAreCounted}
-use Rattle.pim_form.specs.NormalForm.{GroupForm, AreAscending, IsNormal, groups_of}
+use Rattle.pim_form.specs.NormalForm.{GroupForm, AreAscending, IsNormal, IsNormalGroup, groups_of}
 use Rattle.pim_form.specs.Rows.{exceptions_of}
 use Rattle.pim_form.specs.Settled.{group_in}
 use Rattle.pim_form.specs.TooBig.{star_fits, too_big}
 use Rattle.pim_form.specs.Units.{units_of, run_entries, empty_set_size, entry_size}
 use Rattle.pim_emit.specs.Drafts.{body_start, message_size}
 use Rattle.pim_emit.specs.Left.{next_above, star_of, exceptions_in, groups_above}
-use Rattle.pim_emit.proofs.Above.{next_group, no_next_group}
+use Rattle.pim_emit.proofs.Above.{by_test, next_group, next_group_holds, no_next_group}
 use Rattle.pim_emit.proofs.DraftSizes.{HasRoom, fits_by, fits_not}
+use Rattle.pim_emit.proofs.Pieces.{all_groups}
 
 -- how many entries there is room for in a message with one set
 abbrev pub IsRoomAlone : AddressFamily → ℕ → ℕ → Type 0
@@ -95,3 +97,30 @@ room_alone family budget room groups end none begins is =
 pub fewer_groups : (bound : Option (List ℕ)) (form : List GroupForm) (normal : AreAscending (groups_of form)) (group : List ℕ) → next_above bound (groups_of form) ≡ Some group
     → length (groups_above (Some group) form) < length (groups_above bound form)
 fewer_groups bound form up group found = omega (arith, ap length (next_group bound form group up found).first)
+
+-- ---- where no star has so many exceptions
+
+module _ (family : AddressFamily) (budget : ℕ) (form : List GroupForm) (normal : IsNormal family form) (counted : GroupsAreCounted) (room : ℕ) (is_room : IsRoomAlone family budget room)
+    (few : (group : List ℕ) → IsGroupAddress family group → length (exceptions_in group form) < room) where
+  step : (bound : Option (List ℕ)) (group : List ℕ) → next_above bound (groups_of form) ≡ Some group → too_big family budget (groups_above bound form) ≡ too_big family budget (groups_above (Some group) form)
+  step bound group found =
+      let is_group : IsGroupAddress family group = subst (IsGroupAddress family) (next_group bound form group normal.ascending found).named
+      (next_group_holds (IsNormalGroup family) bound form group normal.ascending normal.groups found).group in
+      by_test (is_some (star_of group form))
+      (λ starred. goes_on family budget bound form normal group found counted room is_room starred (few group is_group))
+      (λ bare. goes_on_bare family budget bound form normal group found counted room is_room bare)
+
+  empty : (groups : List GroupForm) → length groups ≤ 0 → too_big family budget groups ≡ None
+  empty [] none = refl
+  empty (this ∷ groups) none = absurd (omega none)
+
+  from : (most : ℕ) (bound : Option (List ℕ)) → length (groups_above bound form) ≤ most → too_big family budget (groups_above bound form) ≡ None
+  from zero bound within = empty (groups_above bound form) within
+  from (suc most) bound within = by (next_above bound (groups_of form)) refl
+    where
+      by : (next : Option (List ℕ)) → next_above bound (groups_of form) ≡ next → too_big family budget (groups_above bound form) ≡ None
+      by None none = none_too_big family budget bound form normal none
+      by (Some group) found = step bound group found ∙ from most (Some group) (omega (arith, within, fewer_groups bound form normal.ascending group found))
+
+  pub none_at_all : too_big family budget form ≡ None
+  none_at_all = sym (ap (too_big family budget) (all_groups form)) ∙ from (length (groups_above None form)) None (omega arith)

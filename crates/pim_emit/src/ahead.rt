@@ -2,13 +2,14 @@
 
 ghost use Rattle.std.specs.Prelude.{◌≡◌, ◌≤◌, ◌<◌, ℕ, List, Option, Some, IfSome, length, option_map};
 ghost use Rattle.pim_down.specs.Seen.{what_seen};
-ghost use Rattle.pim_emit.specs.Ahead.{passed, is_this, its_source, IsAheadOn, IsNextSource, AreNext, TellsNext};
+ghost use Rattle.pim_form.specs.NormalForm.{same_address};
+ghost use Rattle.pim_emit.specs.Ahead.{passed, its_source, IsAheadOn, IsNextSource, AreNext, TellsNext};
 
 use crate::least::lesser;
 use crate::machines::least_source;
 use crate::nearby::Nearby;
 use pim_addr::Family;
-use pim_down::{GroupMachines, What};
+use pim_down::{GroupMachines, What, compare_addresses};
 use std::marker::Model;
 
 /// A source that comes next on a port, and the machines of its group that are left behind it there.
@@ -107,14 +108,11 @@ fn least_ahead<F: Family>(ports: &Nearby<'_, F>, nexts: &[Option<Ahead<'_, F>>])
     least
 }
 
-/// Whether it is this address.
-fn is_this<F: Family>(next: Option<F::Addr>, address: F::Addr) -> bool
-    ensures { result ≡ is_this (F.bytes_of address) (option_map F.bytes_of next) }
+/// Whether the two are one address.
+fn is_same<F: Family>(one: F::Addr, other: F::Addr) -> bool
+    ensures { result ≡ same_address (F.bytes_of one) (F.bytes_of other) }
 {
-    match next {
-        Some(other) => other == address,
-        None => false,
-    }
+    compare_addresses::<F>(one, other).is_eq()
 }
 
 /// Goes on to what comes next on the port behind the source that is passed, which came next on some port and is the
@@ -134,7 +132,7 @@ fn pass_on<F: Family>(
     let Some(ahead) = next else {
         return;
     };
-    if !is_this::<F>(Some(ahead.source), passed) {
+    if !is_same::<F>(ahead.source, passed) {
         return;
     }
     match next_source::<F>(&mut ahead.left) {

@@ -1,6 +1,6 @@
 //! What an upstream neighbour is asked for, read straight from the records.
 
-ghost use Rattle.std.specs.Prelude.{◌≡◌, ◌≤◌, true, Some, IfSome, length, option_map, is_some};
+ghost use Rattle.std.specs.Prelude.{◌≡◌, ◌≤◌, ℕ, List, true, Some, IfSome, length, option_map, is_some};
 ghost use Rattle.pim_addr.specs.Address.{IsGroupAddress};
 ghost use Rattle.pim_form.specs.Asked.{asked_form};
 ghost use Rattle.pim_form.specs.NormalForm.{groups_of, IsNormal};
@@ -13,7 +13,7 @@ ghost use Rattle.pim_emit.specs.Ahead.{AreNext};
 ghost use Rattle.pim_emit.specs.Rpts.{AreRpts};
 
 use crate::ahead::{Ahead, look_ahead, take_next};
-use crate::machines::{first_starred, least_group};
+use crate::machines::{first_starred, least_group, most_rpts};
 use crate::nearby::Nearby;
 use crate::rpts::{Rpts, next_rpt, rpts_of};
 use crate::stars::{Stars, stars_of, wants_shared};
@@ -246,6 +246,17 @@ impl<'a, F: Family> Asked<'a, F> {
             bound = Some(group);
         }
         None
+    }
+
+    /// No star has more exceptions than this: each is an (S,G,rpt) machine of every port that has the star.
+    pub(crate) fn most_exceptions(&self) -> usize
+        ensures { (group : List ℕ) → IsGroupAddress F.family group →
+            length (exceptions_in group self.now.form) ≤ result }
+    {
+        self.ports.is_sound();
+        pim_down::keys_are_told_apart();
+        pim_form::form_of_what_is_asked();
+        most_rpts::<F>(&self.ports)
     }
 
     /// How many exceptions the group's star has, which it has.

@@ -4,6 +4,7 @@ ghost use Rattle.std.specs.Prelude.{ℕ, Bool, List, ◌||◌, option_map};
 ghost use Rattle.pim_emit.specs.Least.{IsLeast};
 
 use pim_addr::Family;
+use pim_down::compare_addresses;
 
 /// The lesser of the two, where both are there; else the one that is.
 pub(crate) fn lesser<F: Family>(one: Option<F::Addr>, other: Option<F::Addr>) -> Option<F::Addr>
@@ -14,5 +15,9 @@ pub(crate) fn lesser<F: Family>(one: Option<F::Addr>, other: Option<F::Addr>) ->
     let (Some(a), Some(b)) = (one, other) else {
         return one.or(other);
     };
-    if b < a { other } else { one }
+    if compare_addresses::<F>(b, a).is_lt() {
+        other
+    } else {
+        one
+    }
 }

@@ -1,9 +1,10 @@
 //! The machines of a group, over all ports: which source, and which group, comes next.
 
-ghost use Rattle.std.specs.Prelude.{◌≡◌, ◌&&◌, List, ℕ, option_map};
+ghost use Rattle.std.specs.Prelude.{◌≡◌, ◌<◌, ◌≤◌, ◌&&◌, List, ℕ, option_map};
 ghost use Rattle.std.specs.declared.cmp.Ordering.TheVariants.{Less};
 ghost use Rattle.pim_addr.specs.Address.{IsSourceAddress};
 ghost use Rattle.pim_down.specs.After.{is_above};
+ghost use Rattle.pim_down.specs.Hearing.{rpts_on};
 ghost use Rattle.pim_down.specs.Key.{address_cmp};
 ghost use Rattle.pim_form.specs.Wants.{some_below};
 ghost use Rattle.pim_emit.specs.Least.{IsLeast};
@@ -83,6 +84,18 @@ pub(crate) struct Held<A> {
     pub(crate) source: A,
     /// Its state.
     pub(crate) state: State,
+}
+
+/// So many (S,G,rpt) machines has the port that has most.
+pub(crate) fn most_rpts<F: Family>(ports: &Nearby<'_, F>) -> usize
+    ensures { (port : ℕ) → port < ports.now.ports → rpts_on port ports.now.records ≤ result }
+{
+    let count = ports.port_count();
+    let mut most = 0;
+    for port in 0..count {
+        most = most.max(ports.rpts_on(port));
+    }
+    most
 }
 
 /// The address before all valid sources.

@@ -19,6 +19,7 @@ use pim_frame::{MessageType, all_routers, seal};
 use pim_jp::{head_length, put_head};
 
 /// The least group whose star, with all its exceptions, doesn't fit a message of this budget alone, if there is one.
+/// It goes through the groups only where some port has so many (S,G,rpt) machines that one might.
 pub(crate) fn too_big<F: Family>(asked: &Asked<'_, F>, budget: usize) -> Option<F::Addr>
     requires { budget ≤ 65000 }
     ensures { option_map F.bytes_of result ≡ too_big F.family budget asked.now.form }
@@ -26,6 +27,9 @@ pub(crate) fn too_big<F: Family>(asked: &Asked<'_, F>, budget: usize) -> Option<
     asked.is_normal();
     pim_form::groups_are_counted();
     let room = room::<F>(&empty_draft::<F>(Position::Start), budget);
+    if asked.most_exceptions() < room {
+        return None;
+    }
     let mut bound = None;
     while let Some(group) = asked.next_group(bound) {
         if asked.has_star(group) && room <= asked.exception_count(group) {

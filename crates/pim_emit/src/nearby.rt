@@ -1,6 +1,7 @@
 //! The records, looked up from where look-ups ended before.
 
 ghost use Rattle.std.specs.Prelude.{◌≡◌, option_map};
+ghost use Rattle.pim_down.specs.Hearing.{rpts_on};
 ghost use Rattle.pim_down.specs.Records.{state_of};
 ghost use Rattle.pim_down.specs.Seen.{key_at, what_seen, told_seen};
 ghost use Rattle.pim_down.specs.After.{group_after, next_in_group};
@@ -51,6 +52,13 @@ impl<'a, F: Family> Nearby<'a, F> {
         ensures { result ≡ self.now.ports }
     {
         self.ports.port_count()
+    }
+
+    /// How many (S,G,rpt) machines the port has.
+    pub(crate) fn rpts_on(&self, port: usize) -> usize
+        ensures { result ≡ rpts_on port self.now.records }
+    {
+        self.ports.rpts_on(port)
     }
 
     /// The state of one machine; `None` is NoInfo.

@@ -11,11 +11,11 @@ pub returns-in_default : goal.returns-in_default
 returns-in_default g c = λ group bound was least.
     stays_ahead c.args.ports.now group c.args.port c.requires bound (g.F.Family.bytes_of c.args.passed) least c.args.next.now was (ap (λ (n : Option SourceAhead). is_this (g.F.Family.bytes_of c.args.passed) (its_source n)) c.in_default.is)
 
-pub returns-then-not-is_this : goal.returns-then-not-is_this
-returns-then-not-is_this g c = λ group bound was least.
+pub returns-then-not-is_same : goal.returns-then-not-is_same
+returns-then-not-is_same g c = λ group bound was least.
     let passed = g.F.Family.bytes_of c.args.passed in
     stays_ahead c.args.ports.now group c.args.port c.requires bound passed least (Some c.in-Some.ahead) (subst (IsAheadOn c.args.ports.now group bound c.args.port) c.in-Some.is was)
-    (this_one passed (record { source = g.F.Family.bytes_of c.ahead.inside.source; left = c.ahead.inside.left }) c.in-Some.ahead c.is_this.result _ c.ahead.view_is c.is_this.ensures c.if-not-is_this.true)
+    (this_one passed (record { source = g.F.Family.bytes_of c.ahead.inside.source; left = c.ahead.inside.left }) c.in-Some.ahead c.is_same.result _ c.ahead.view_is c.is_same.ensures c.if-not-is_same.true)
 
 pub returns-in-Some-next_source : goal.returns-in-Some-next_source
 returns-in-Some-next_source g c = λ group bound was least.
@@ -23,7 +23,7 @@ returns-in-Some-next_source g c = λ group bound was least.
     let inside : SourceAhead = record { source = g.F.Family.bytes_of c.ahead.inside.source; left = c.ahead.inside.left } in
     goes_on c.args.ports.now group c.args.port c.requires bound passed least g.F.Family.family c.is_sound.ensures inside c.next_source.new.left (Some (g.F.Family.bytes_of c.in-Some-next_source.source))
     (subst (λ (n : Option SourceAhead). IsAheadOn c.args.ports.now group bound c.args.port n) (c.in-Some.is ∙ ap (λ (s : SourceAhead). Some s) (sym c.ahead.view_is)) was)
-    (sym c.is_this.ensures ∙ c.if-not-is_this.false) c.in-Some-next_source.ensures
+    (sym c.is_same.ensures ∙ c.if-not-is_same.false) c.in-Some-next_source.ensures
 
 pub returns-in-None : goal.returns-in-None
 returns-in-None g c = λ group bound was least.
@@ -31,4 +31,4 @@ returns-in-None g c = λ group bound was least.
     let inside : SourceAhead = record { source = g.F.Family.bytes_of c.ahead.inside.source; left = c.ahead.inside.left } in
     goes_on c.args.ports.now group c.args.port c.requires bound passed least g.F.Family.family c.is_sound.ensures inside c.next_source.new.left None
     (subst (λ (n : Option SourceAhead). IsAheadOn c.args.ports.now group bound c.args.port n) (c.in-Some.is ∙ ap (λ (s : SourceAhead). Some s) (sym c.ahead.view_is)) was)
-    (sym c.is_this.ensures ∙ c.if-not-is_this.false) c.in-None.ensures
+    (sym c.is_same.ensures ∙ c.if-not-is_same.false) c.in-None.ensures

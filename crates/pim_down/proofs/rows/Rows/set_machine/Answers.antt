@@ -9,4 +9,4 @@ invariant_of-self g c =
     let s = c.self.inside in
     let held : Held g.row.A.Denot = record { key = c.get.result.now.key; machine = c.args.machine } in
     let within : at s.list c.args.place < length s.list.items = subst (λ (l : Listed (Held g.row.A.Denot)). at l c.args.place < length l.items) (sym c.self.view_is) c.requires.1 in
-    kept_set s.counts s.list c.set.new.self c.self.told c.self.invariant (at s.list c.args.place) c.get.result.now held within c.get.ensures refl c.set.ensures.items c.set.ensures.capacity
+    kept_set s.counts s.rpts s.list c.set.new.self c.self.told.0 c.self.told.1 c.self.invariant (at s.list c.args.place) c.get.result.now held within c.get.ensures refl c.set.ensures.items c.set.ensures.capacity
