@@ -5,6 +5,7 @@ pub mod Finding
 pub mod Firsts
 pub mod Joined
 pub mod Kept
+pub mod LeftOver
 pub mod Moves
 pub mod Orders
 pub mod Rooms

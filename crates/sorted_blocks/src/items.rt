@@ -72,8 +72,9 @@ impl<'a, T: Copy, const HALF: usize> Iterator for Items<'a, T, HALF> {
             return None;
         }
         let opened = &self.all_blocks[block];
-        // The field: a method's borrow of the block would have to outlive `HALF`, and no bound can say that it does.
-        let (item, rest) = opened.items.as_slice().split_first()?;
+        // The fields: a method's borrow of the block would have to outlive `HALF`, and no bound can say that it does.
+        let (_left_over, row) = opened.items.as_slice().split_at(opened.start);
+        let (item, rest) = row.split_first()?;
         self.row = rest;
         self.next_block = block + 1;
         Some(*item)

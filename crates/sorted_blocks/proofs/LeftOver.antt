@@ -1,0 +1,22 @@
+-- What an edit leaves of a block whose first items are left over.
+use Rattle.std.proofs.Common.{◌≡◌, ℕ, ◌+◌, ◌-◌, ◌≤◌, List, length, take, drop, ap, sym, ◌∙◌, arith}
+use Rattle.std.specs.List.{insert, remove}
+use Rattle.std.proofs.lemmas.List.{drop-take, drop_at, length-take-le, take-append-drop}
+use Rattle.std.proofs.lemmas.List.Edits.{insert-append_right, remove-append_right}
+
+pub insert_beyond : {X : Type 0} (start at : ℕ) (xs : List X) (y : X) → start ≤ length xs → drop start (insert xs (start + at) y) ≡ insert (drop start xs) at y
+insert_beyond start at xs y within =
+    let len : length (take start xs) ≡ start = length-take-le start xs within in
+    let apart = insert-append_right (take start xs) (drop start xs) start (start + at) y len (omega arith) in
+    let same : start + at - start ≡ at = omega arith in
+    ap (drop start) (ap (λ zs. insert zs (start + at) y) (sym (take-append-drop start xs)) ∙ apart) ∙ drop_at (take start xs) _ start len ∙ ap (λ n. insert (drop start xs) n y) same
+
+pub remove_beyond : {X : Type 0} (start at : ℕ) (xs : List X) → start ≤ length xs → drop start (remove xs (start + at)) ≡ remove (drop start xs) at
+remove_beyond start at xs within =
+    let len : length (take start xs) ≡ start = length-take-le start xs within in
+    let apart = remove-append_right (take start xs) (drop start xs) start (start + at) len (omega arith) in
+    let same : start + at - start ≡ at = omega arith in
+    ap (drop start) (ap (λ zs. remove zs (start + at)) (sym (take-append-drop start xs)) ∙ apart) ∙ drop_at (take start xs) _ start len ∙ ap (remove (drop start xs)) same
+
+pub take_beyond : {X : Type 0} (start count : ℕ) (xs : List X) → drop start (take (start + count) xs) ≡ take count (drop start xs)
+take_beyond start count xs = drop-take start count xs
