@@ -253,12 +253,6 @@ module _ {A : Type 0} (bytes_of : A → List ℕ) where
   no_source_seen (Source source) none address is = none source refl
   no_source_seen (Rpt source) none address is = cc
 
-  pub next_seen : (port : ℕ) (group : List ℕ) (records : List (Record (List ℕ))) (this : What (List ℕ)) (what : What A) (result found : Option (Record A)) → what_seen bytes_of what ≡ this
-      → option_map (told_seen bytes_of) result ≡ next_in_group port group (what_seen bytes_of what) records → result ≡ found
-      → next_in_group port group this records ≡ option_map (told_seen bytes_of) found
-  next_seen port group records this what result found is told was =
-      ap (λ w. next_in_group port group w records) (sym is) ∙ sym told ∙ ap (λ r. option_map (told_seen bytes_of) r) was
-
   pub no_rpt_seen : (what : What A) → ((source : A) → what ≡ Rpt source → ⊥) → (address : List ℕ) → what_seen bytes_of what ≡ Rpt address → ⊥
   no_rpt_seen Star none address is = cc
   no_rpt_seen (Source source) none address is = cc

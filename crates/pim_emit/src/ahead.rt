@@ -6,7 +6,6 @@ ghost use Rattle.pim_form.specs.NormalForm.{same_address};
 ghost use Rattle.pim_emit.specs.Ahead.{passed, its_source, IsAheadOn, IsNextSource, AreNext, TellsNext};
 
 use crate::least::lesser;
-use crate::machines::least_source;
 use crate::nearby::Nearby;
 use pim_addr::Family;
 use pim_down::{GroupMachines, What, compare_addresses};
@@ -92,6 +91,23 @@ fn source_of<F: Family>(next: &Option<Ahead<'_, F>>) -> Option<F::Addr>
         Some(ahead) => Some(ahead.source),
         None => None,
     }
+}
+
+/// The least source above the bound, or of all, with (S,G) in Join or Prune-Pending on some port: each is looked up.
+fn least_source<F: Family>(
+    ports: &Nearby<'_, F>,
+    group: F::Addr,
+    bound: Option<F::Addr>,
+) -> Option<F::Addr>
+    ensures { IsNextSource ports.now (F.bytes_of group) (option_map F.bytes_of bound) (option_map F.bytes_of result) }
+{
+    let count = ports.port_count();
+    let mut least = None;
+    for port in 0..count {
+        let next = ahead_on::<F>(ports, port, group, bound);
+        least = lesser::<F>(least, source_of::<F>(&next));
+    }
+    least
 }
 
 /// The least of the sources that come next on the ports.

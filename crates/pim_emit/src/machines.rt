@@ -8,7 +8,7 @@ ghost use Rattle.pim_down.specs.Hearing.{rpts_on};
 ghost use Rattle.pim_down.specs.Key.{address_cmp};
 ghost use Rattle.pim_form.specs.Wants.{some_below};
 ghost use Rattle.pim_emit.specs.Least.{IsLeast};
-ghost use Rattle.pim_emit.specs.Machines.{is_starred, is_source_joined, has_group, IsSomeBelow};
+ghost use Rattle.pim_emit.specs.Machines.{is_starred, has_group, IsSomeBelow};
 
 use crate::least::lesser;
 use crate::nearby::Nearby;
@@ -36,45 +36,6 @@ pub(crate) fn first_starred<F: Family>(ports: &Nearby<'_, F>, group: F::Addr) ->
         }
     }
     None
-}
-
-/// The least source above the bound, or of all, with (S,G) in Join or Prune-Pending on the port.
-pub(crate) fn source_on<F: Family>(
-    ports: &Nearby<'_, F>,
-    port: usize,
-    group: F::Addr,
-    bound: Option<F::Addr>,
-) -> Option<F::Addr>
-    ensures { IsLeast (λ source. is_above (option_map F.bytes_of bound) source
-        && is_source_joined ports.now (F.bytes_of group) source port) (option_map F.bytes_of result) }
-{
-    ports.is_sound();
-    pim_down::keys_are_told_apart();
-    let passed = match bound {
-        Some(source) => What::Source(source),
-        None => What::Star,
-    };
-    match ports.record_after(port, group, passed)?.key.what {
-        What::Source(source) => Some(source),
-        _ => None,
-    }
-}
-
-/// The least source above the bound, or of all, with (S,G) in Join or Prune-Pending on some port.
-pub(crate) fn least_source<F: Family>(
-    ports: &Nearby<'_, F>,
-    group: F::Addr,
-    bound: Option<F::Addr>,
-) -> Option<F::Addr>
-    ensures { IsLeast (λ source. some_below ports.now.ports (λ port. is_above (option_map F.bytes_of bound) source
-        && is_source_joined ports.now (F.bytes_of group) source port)) (option_map F.bytes_of result) }
-{
-    let count = ports.port_count();
-    let mut least = None;
-    for port in 0..count {
-        least = lesser::<F>(least, source_on::<F>(ports, port, group, bound));
-    }
-    least
 }
 
 /// An (S,G,rpt) machine that is held on a port.

@@ -3,14 +3,14 @@
 ghost use Rattle.std.specs.Prelude.{◌≡◌, option_map};
 ghost use Rattle.pim_down.specs.Hearing.{rpts_on};
 ghost use Rattle.pim_down.specs.Records.{state_of};
-ghost use Rattle.pim_down.specs.Seen.{key_at, what_seen, told_seen};
-ghost use Rattle.pim_down.specs.After.{group_after, next_in_group};
+ghost use Rattle.pim_down.specs.Seen.{key_at, what_seen};
+ghost use Rattle.pim_down.specs.After.{group_after};
 ghost use Rattle.pim_down.specs.Sound.{IsSound};
 ghost use Rattle.pim_emit.specs.Ahead.{machines_behind};
 
 use crate::hints::Hints;
 use pim_addr::Family;
-use pim_down::{GroupMachines, Near, Ports, Record, State, What};
+use pim_down::{GroupMachines, Near, Ports, State, What};
 use std::marker::Model;
 
 /// The records of all ports, with hints where look-ups on each port begin. Contracts see the records alone: no answer
@@ -77,22 +77,6 @@ impl<'a, F: Family> Nearby<'a, F> {
     {
         let near = self.hints.near(port);
         let (next, place) = self.ports.group_after_near(port, group, near);
-        self.hints.keep(port, place);
-        next
-    }
-
-    /// The next record of this group on the port, behind that of this machine.
-    pub(crate) fn record_after(
-        &self,
-        port: usize,
-        group: F::Addr,
-        what: What<F::Addr>,
-    ) -> Option<Record<F::Addr>>
-        ensures { option_map (told_seen F.bytes_of) result
-            ≡ next_in_group port (F.bytes_of group) (what_seen F.bytes_of what) self.now.records }
-    {
-        let near = self.hints.near(port);
-        let (next, place) = self.ports.record_after_near(port, group, what, near);
         self.hints.keep(port, place);
         next
     }

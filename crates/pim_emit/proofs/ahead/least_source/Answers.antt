@@ -1,8 +1,9 @@
-use Rattle.std.proofs.Common.{◌≡◌, ◌&&◌, option_map, arith}
+use Rattle.std.proofs.Common.{◌≡◌, ◌&&◌, option_map, sym, subst, arith}
 use Rattle.pim_down.specs.After.{is_above}
+use Rattle.pim_emit.specs.Ahead.{IsNextOn}
 use Rattle.pim_emit.specs.Machines.{is_source_joined}
 use Rattle.pim_emit.proofs.PortsBelow.{least_of_none, least_of_more, least_of_all}
-use Rattle.pim_emit.proofs.machines.least_source.Goals as goal
+use Rattle.pim_emit.proofs.ahead.least_source.Goals as goal
 
 pub loop-port-init : goal.loop-port-init
 loop-port-init g c =
@@ -13,8 +14,10 @@ pub loop-port-preserved : goal.loop-port-preserved
 loop-port-preserved g c =
     let bytes_of = g.F.Family.bytes_of in
     least_of_more (λ port source. is_above (option_map bytes_of c.args.bound) source && is_source_joined c.args.ports.now (bytes_of c.args.group) source port)
-    c.loop-port.port (option_map bytes_of c.loop-port.least) (option_map bytes_of c.source_on.result) (option_map bytes_of c.lesser-least.result)
-    c.loop-port.invariant c.source_on.ensures c.lesser-least.ensures
+    c.loop-port.port (option_map bytes_of c.loop-port.least) (option_map bytes_of c.source_of.result) (option_map bytes_of c.lesser-least.result)
+    c.loop-port.invariant
+    (subst (IsNextOn c.args.ports.now (bytes_of c.args.group) (option_map bytes_of c.args.bound) c.loop-port.port) (sym c.source_of.ensures) c.ahead_on-next.ensures.next)
+    c.lesser-least.ensures
 
 pub returns : goal.returns
 returns g c =

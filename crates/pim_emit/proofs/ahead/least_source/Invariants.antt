@@ -3,7 +3,7 @@ use Rattle.pim_down.specs.After.{is_above}
 use Rattle.pim_form.specs.Wants.{some_below}
 use Rattle.pim_emit.specs.Least.{IsLeast}
 use Rattle.pim_emit.specs.Machines.{is_source_joined}
-use Rattle.pim_emit.proofs.machines.least_source.Given as goal
+use Rattle.pim_emit.proofs.ahead.least_source.Given as goal
 
 -- the least of the ports before this one
 abbrev pub invariant-loop-port : goal.invariant-loop-port
