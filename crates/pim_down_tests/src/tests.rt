@@ -306,9 +306,8 @@ fn rpts_among(held: &[Held]) -> usize {
     let mut count = 0;
     for one in held {
         match one {
-            Held::Pruned(..) | Held::Joined(_, What::Rpt(_), _) | Held::Waiting(What::Rpt(_), ..) => {
-                count += 1
-            }
+            Held::Pruned(..) | Held::Joined(_, What::Rpt(_), _) | Held::Waiting(What::Rpt(_), ..) =>
+                { count += 1 }
             _ => {}
         }
     }

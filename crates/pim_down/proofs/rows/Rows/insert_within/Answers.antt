@@ -16,8 +16,16 @@ count_in-requires-2 g c =
     let s = c.self.inside in
     let none : g.row.A.Denot → List ℕ = λ _. [] in
     let room : length s.list.items < s.list.capacity = subst (λ (l : Listed (Held g.row.A.Denot)). length l.items < l.capacity) (sym c.self.view_is) c.requires.within in
-    omega (arith, room, few_rpts_on s.counts s.rpts s.list s.list c.self.told.0 c.self.told.1 c.self.invariant c.args.held.key.port,
-    c.from-rpts.ensures, ap from_bool (c.is_rpt.ensures none), few_rpts none c.args.held, c.capacity-most.ensures, c.capacity-most.type_inv)
+    omega (
+      arith,
+      room,
+      few_rpts_on s.counts s.rpts s.list s.list c.self.told.0 c.self.told.1 c.self.invariant c.args.held.key.port,
+      c.from-rpts.ensures,
+      ap from_bool (c.is_rpt.ensures none),
+      few_rpts none c.args.held,
+      c.capacity-most.ensures,
+      c.capacity-most.type_inv,
+    )
 
 pub invariant_of-self : goal.invariant_of-self
 invariant_of-self g c =
