@@ -1,4 +1,4 @@
-//! A list in blocks of four items beside a plain vector, over some thousands of steps.
+//! A list in blocks of four or eight items beside a plain vector, over some thousands of steps.
 
 ghost use Rattle.std.specs.Ordering.{nat_cmp};
 
@@ -21,7 +21,7 @@ impl Probe<u32> for Number {
 }
 
 /// Whether these are the numbers that are left of the walk.
-fn are_left(walk: Items<'_, u32, 2>, plain: &[u32]) -> bool {
+fn are_left<const HALF: usize>(walk: Items<'_, u32, HALF>, plain: &[u32]) -> bool {
     let mut left = plain;
     for item in walk {
         match left.split_first() {
@@ -33,7 +33,7 @@ fn are_left(walk: Items<'_, u32, 2>, plain: &[u32]) -> bool {
 }
 
 /// Whether the list holds just these numbers, by its places and by its walk.
-fn holds(list: &Blocks<u32, 2>, plain: &[u32]) -> bool {
+fn holds<const HALF: usize>(list: &Blocks<u32, HALF>, plain: &[u32]) -> bool {
     if list.len() != plain.len() {
         return false;
     }
@@ -156,6 +156,127 @@ fn fits_after_removals(rt: HostRuntime) -> Result<(), Fail> {
         }
         assert_eq!(rt; list.capacity(), capacity);
         assert!(rt; has_few_blocks(&list));
+    }
+    Ok(())
+}
+
+/// Puts a number in that isn't there, where it belongs.
+fn put<const HALF: usize>(list: &mut Blocks<u32, HALF>, plain: &mut Vec<u32>, number: u32) -> bool {
+    match (list.find(&Number(number)), plain.binary_search(&number)) {
+        (Err(place), Err(index)) if index <= plain.len() && list.len() < list.capacity() => {
+            let _ = list.insert_within(place, number);
+            plain.insert(index, number).is_ok()
+        }
+        _ => false,
+    }
+}
+
+/// Takes the first number out, where there is one.
+fn take_first<const HALF: usize>(list: &mut Blocks<u32, HALF>, plain: &mut Vec<u32>) -> bool {
+    let place = list.first();
+    if !list.is_item(place) || plain.is_empty() {
+        return !list.is_item(place) && plain.is_empty();
+    }
+    let (item, _next) = list.remove(place);
+    item == plain.remove(0)
+}
+
+/// Takes out the number that stands behind so many others, where there is one.
+fn take_behind<const HALF: usize>(
+    list: &mut Blocks<u32, HALF>,
+    plain: &mut Vec<u32>,
+    others: usize,
+) -> bool {
+    if others >= plain.len() {
+        return true;
+    }
+    let number = plain.remove(others);
+    match list.find(&Number(number)) {
+        Ok(place) => {
+            let (item, _next) = list.remove(place);
+            item == number
+        }
+        Err(_) => false,
+    }
+}
+
+/// Puts a number before all others or behind them, or takes one out at the front or elsewhere. A higher step has a
+/// lower number for the front and a higher one for the end.
+fn use_an_end<const HALF: usize>(
+    list: &mut Blocks<u32, HALF>,
+    plain: &mut Vec<u32>,
+    step: u32,
+    random: u64,
+) -> bool {
+    match (random >> 33) % 8 {
+        0 | 1 if plain.len() < 40 => put(list, plain, 10_000 - step % 10_000),
+        2 | 3 if plain.len() < 40 => put(list, plain, 10_000 + step % 10_000),
+        4 => take_behind(list, plain, ((random >> 40) % 40) as usize),
+        _ => take_first(list, plain),
+    }
+}
+
+#[test]
+fn is_a_queue(rt: HostRuntime) -> Result<(), Fail> {
+    let Ok(mut plain) = Vec::with_capacity(rt.alloc(), 40) else {
+        return Ok(());
+    };
+    let mut list: Blocks<u32, 4> = Blocks::new(rt.alloc());
+    if list.reserve_capacity(40).is_err() {
+        return Ok(());
+    }
+    for number in 0..4000u32 {
+        // The queue is longer by one every hundred steps.
+        if plain.len() > (number / 100) as usize {
+            assert!(rt; take_first(&mut list, &mut plain));
+            assert!(rt; holds(&list, plain.as_slice()));
+        }
+        if plain.len() < 40 {
+            assert!(rt; put(&mut list, &mut plain, number));
+            assert!(rt; holds(&list, plain.as_slice()));
+        }
+    }
+    for _number in 0..40u32 {
+        assert!(rt; take_first(&mut list, &mut plain));
+        assert!(rt; holds(&list, plain.as_slice()));
+    }
+    assert_eq!(rt; list.len(), 0);
+    Ok(())
+}
+
+#[test]
+fn is_emptied_and_filled_at_both_ends(rt: HostRuntime) -> Result<(), Fail> {
+    let Ok(mut plain) = Vec::with_capacity(rt.alloc(), 40) else {
+        return Ok(());
+    };
+    let mut few: Blocks<u32, 2> = Blocks::new(rt.alloc());
+    if few.reserve_capacity(40).is_err() {
+        return Ok(());
+    }
+    let mut random = 1u64;
+    for step in 1..8000u32 {
+        random = next_random(random);
+        assert!(rt; use_an_end(&mut few, &mut plain, step, random));
+        assert!(rt; holds(&few, plain.as_slice()));
+        assert!(rt; has_few_blocks(&few));
+    }
+    Ok(())
+}
+
+#[test]
+fn is_emptied_and_filled_at_both_ends_of_longer_blocks(rt: HostRuntime) -> Result<(), Fail> {
+    let Ok(mut plain) = Vec::with_capacity(rt.alloc(), 40) else {
+        return Ok(());
+    };
+    let mut more: Blocks<u32, 4> = Blocks::new(rt.alloc());
+    if more.reserve_capacity(40).is_err() {
+        return Ok(());
+    }
+    let mut random = 2u64;
+    for step in 1..8000u32 {
+        random = next_random(random);
+        assert!(rt; use_an_end(&mut more, &mut plain, step, random));
+        assert!(rt; holds(&more, plain.as_slice()));
     }
     Ok(())
 }
