@@ -1,6 +1,7 @@
 pub mod Addresses
 pub mod Above
 pub mod LeastOfTwo
+pub mod FewExceptions
 pub mod FirstRecords
 pub mod NextMachines
 pub mod PortsBelow
