@@ -1,10 +1,10 @@
 -- So many (S,G,rpt) machines of a group are at most those of the port, whatever their groups.
-use Rattle.std.proofs.Common.{◌≡◌, ◌∙◌, ℕ, suc, ◌<◌, ◌≤◌, Bool, true, false, ◌&&◌, ◌||◌, List, [], ◌∷◌, Option, None, Some, length, eqb, refl, sym, ap, subst, arith}
+use Rattle.std.proofs.Common.{◌≡◌, ◌∙◌, ℕ, ◌≤◌, Bool, true, false, ◌&&◌, ◌||◌, List, [], ◌∷◌, Option, None, Some, length, eqb, refl, ap, subst, arith}
 use Rattle.std.specs.declared.cmp.Ordering.TheVariants.{Less}
 use Rattle.std.specs.List.{AllByRecursion, filter, list_any}
 use Rattle.std.specs.List.Sorted.{IsStrictlySortedBy}
 use Rattle.std.specs.Ordering.{is_lt}
-use Rattle.std.proofs.lemmas.Bool.{false≢true, and_from, and_parts, eqb-false, or_left, or_right, or_parts}
+use Rattle.std.proofs.lemmas.Bool.{false≢true, and_from, eqb-false, or_left, or_right}
 use Rattle.pim_down.specs.declared.key.Key.{Key}
 use Rattle.pim_down.specs.declared.key.What.TheVariants.{Rpt}
 use Rattle.pim_down.specs.declared.machine.Record.{Record}

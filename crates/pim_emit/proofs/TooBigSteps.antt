@@ -112,15 +112,17 @@ module _ (family : AddressFamily) (budget : ℕ) (form : List GroupForm) (normal
 
   empty : (groups : List GroupForm) → length groups ≤ 0 → too_big family budget groups ≡ None
   empty [] none = refl
-  empty (this ∷ groups) none = absurd (omega none)
+  empty (this ∷ groups) none = absurd (omega (arith, none))
 
   from : (most : ℕ) (bound : Option (List ℕ)) → length (groups_above bound form) ≤ most → too_big family budget (groups_above bound form) ≡ None
   from zero bound within = empty (groups_above bound form) within
-  from (suc most) bound within = by (next_above bound (groups_of form)) refl
+  from (suc most) bound within = on (next_above bound (groups_of form)) refl (λ group found. from most (Some group) (omega (arith, within, fewer_groups bound form normal.ascending group found)))
     where
-      by : (next : Option (List ℕ)) → next_above bound (groups_of form) ≡ next → too_big family budget (groups_above bound form) ≡ None
-      by None none = none_too_big family budget bound form normal none
-      by (Some group) found = step bound group found ∙ from most (Some group) (omega (arith, within, fewer_groups bound form normal.ascending group found))
+      on : (next : Option (List ℕ)) → next_above bound (groups_of form) ≡ next
+          → ((group : List ℕ) → next_above bound (groups_of form) ≡ Some group → too_big family budget (groups_above (Some group) form) ≡ None)
+          → too_big family budget (groups_above bound form) ≡ None
+      on None none rest = none_too_big family budget bound form normal none
+      on (Some group) found rest = step bound group found ∙ rest group found
 
   pub none_at_all : too_big family budget form ≡ None
   none_at_all = sym (ap (too_big family budget) (all_groups form)) ∙ from (length (groups_above None form)) None (omega arith)

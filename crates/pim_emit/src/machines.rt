@@ -54,7 +54,10 @@ pub(crate) fn most_rpts<F: Family>(ports: &Nearby<'_, F>) -> usize
     let count = ports.port_count();
     let mut most = 0;
     for port in 0..count {
-        most = most.max(ports.rpts_on(port));
+        let rpts = ports.rpts_on(port);
+        if most < rpts {
+            most = rpts;
+        }
     }
     most
 }

@@ -4,9 +4,17 @@ use Rattle.pim_form.specs.NormalForm.{IsNormalGroup}
 use Rattle.pim_form.specs.TooBig.{too_big}
 use Rattle.pim_emit.proofs.Above.{next_group, next_group_holds}
 use Rattle.pim_emit.proofs.Pieces.{all_groups}
-use Rattle.pim_emit.proofs.TooBigSteps.{none_too_big, goes_on_bare, goes_on, ends_here, room_alone, fewer_groups}
+use Rattle.pim_emit.proofs.TooBigSteps.{none_too_big, goes_on_bare, goes_on, ends_here, room_alone, fewer_groups, none_at_all}
 use Rattle.pim_emit.proofs.message.too_big.Goals.{else-has_star-via-then-has_star+else-room-exception_count, else-has_star-via-else-has_star}
 use Rattle.pim_emit.proofs.message.too_big.Goals as goal
+
+pub returns-then-most_exceptions-room : goal.returns-then-most_exceptions-room
+returns-then-most_exceptions-room g c =
+    let family = g.F.Family.family in
+    let is_room = room_alone family c.args.budget c.room-room.result c.empty_draft.result.groups c.empty_draft.result.end
+    (λ i. (c.empty_draft.ensures i).groups) (λ i. (c.empty_draft.ensures i).end) c.room-room.ensures in
+    sym (none_at_all family c.args.budget c.args.asked.now.form c.is_normal.ensures.normal c.groups_are_counted.ensures c.room-room.result is_room
+    (λ group is_group. omega (arith, c.most_exceptions.ensures group is_group, c.if-most_exceptions-room.true)))
 
 pub loop-group-init : goal.loop-group-init
 loop-group-init g c = ap (too_big g.F.Family.family c.args.budget) (all_groups c.args.asked.now.form)
