@@ -25,7 +25,8 @@ use pim_form::Writer;
 /// look-up begins near where an earlier one ended. Where it passes over records, as at the next group, it is a search by
 /// halves in a block of up to 128 records or among all. Exceptions are walked through three times: to look for stars that
 /// are too big, to see whether a star has room, and to write them; and once more where the star begins a new message.
-/// Each of these walks begins with a look-up of the star on every port.
+/// Each of these walks begins with a look-up of the star on every port. The first, through all groups, is made only where
+/// some port has as many (S,G,rpt) machines, of whatever groups, as are too many for one message.
 ///
 /// # Errors
 /// `TooBig` of the least group whose star, with all its exceptions, is too big for a message of the writer's budget
