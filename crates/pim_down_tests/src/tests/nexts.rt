@@ -4,8 +4,9 @@ use super::{
     Example, FIRST, GROUP, JOIN_FIRST, JOIN_SECOND, JOIN_STAR, RPT_FIRST, Row, SECOND, goes,
 };
 use pim_addr::{V4, V6};
-use pim_down::{Near, Ports, What};
+use pim_down::{Near, Ports, What, compare_addresses};
 use std::alloc::{AllocError, Global};
+use std::cmp::Ordering;
 use std::test::Fail;
 
 pub(super) const EXAMPLES: [Example; 2] = [
@@ -47,7 +48,8 @@ pub(super) const EXAMPLES: [Example; 2] = [
 /// Whether no group and no machine comes next on the first port.
 fn is_at_its_end(ports: &Ports<V6>) -> bool {
     let mut left = ports.machines_after_near(0, [0xff; 16], What::Star, Near::UNKNOWN);
-    ports.group_after(0, None).is_none()
+    ports.rpts_on(0) == 0
+        && ports.group_after(0, None).is_none()
         && ports.record_after(0, [0xff; 16], What::Star).is_none()
         && left.next_machine().is_none()
 }
@@ -86,6 +88,18 @@ pub(super) fn place_in(ports: &Ports<V4>) -> Near {
 fn nothing_comes_next_where_nothing_is_held(rt: HostRuntime) {
     let ports: Ports<V6> = Ports::new(rt.alloc(), 1, 1);
     assert!(rt; is_at_its_end(&ports));
+}
+
+#[test]
+fn addresses_are_compared_byte_by_byte(rt: HostRuntime) {
+    let below = compare_addresses::<V4>([9, 255, 255, 255], [10, 0, 0, 0]);
+    assert_eq!(rt; below, Ordering::Less);
+    let above = compare_addresses::<V4>([10, 0, 1, 0], [10, 0, 0, 255]);
+    assert_eq!(rt; above, Ordering::Greater);
+    let equal = compare_addresses::<V6>([0xfe; 16], [0xfe; 16]);
+    assert_eq!(rt; equal, Ordering::Equal);
+    let higher = compare_addresses::<V6>([0xff; 16], [0x7f; 16]);
+    assert_eq!(rt; higher, Ordering::Greater);
 }
 
 const MANY: Row = Row::Hear(
