@@ -301,15 +301,19 @@ fn tells(mut told: Records<'_, V4>, wanted: &[Held]) -> bool {
     told.next().is_none()
 }
 
+/// Whether it is an (S,G,rpt) machine.
+fn is_rpt(held: &Held) -> bool {
+    matches!(
+        held,
+        Held::Pruned(..) | Held::Joined(_, What::Rpt(_), _) | Held::Waiting(What::Rpt(_), ..)
+    )
+}
+
 /// How many of these are (S,G,rpt) machines.
 fn rpts_among(held: &[Held]) -> usize {
-    let mut count = 0;
+    let mut count: usize = 0;
     for one in held {
-        match one {
-            Held::Pruned(..) | Held::Joined(_, What::Rpt(_), _) | Held::Waiting(What::Rpt(_), ..) =>
-                { count += 1 }
-            _ => {}
-        }
+        count = count.saturating_add(usize::from(is_rpt(one)));
     }
     count
 }
