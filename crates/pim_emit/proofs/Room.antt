@@ -1,5 +1,5 @@
--- What a slice of a few places takes is a number of bytes.
-use Rattle.std.proofs.Common.{◌≡◌, ◌∙◌, ℕ, ◌*◌, ◌^◌, ◌<◌, ◌≤◌, Fits, w64, arith}
+-- What a slice of a few places takes is a number of bytes, and there is room for an entry.
+use Rattle.std.proofs.Common.{◌≡◌, ◌∙◌, ℕ, ◌+◌, ◌*◌, ◌^◌, ◌<◌, ◌≤◌, Fits, w64, arith}
 use prog.Memory.{capped}
 use prog.Capped.{capped_is, capped_small}
 
@@ -13,3 +13,13 @@ few_fit count size seen is small few =
     let short : size < 2 ^ 63 = capped_small size (omega (arith, is, small)) in
     let same : seen ≡ size = is ∙ capped_is size (omega (arith, short)) in
     grind (arith, same, small, few)
+
+-- one more entry behind fewer than the most has room where the most have
+pub one_fits : (at count most size long : ℕ) → count < most → at + most * size ≤ long → at + count * size + size ≤ long
+one_fits at count most size long fewer fits = grind (arith)
+
+pub entry_fits : (at count most size long : ℕ) → count < most → at + most * size ≤ long → long ≤ 65000 → Fits w64 (count * size)
+entry_fits at count most size long fewer fits few = let behind = one_fits at count most size long fewer fits in omega (arith, behind, few)
+
+pub place_of_entry_fits : (at count most size long : ℕ) → count < most → at + most * size ≤ long → long ≤ 65000 → Fits w64 (at + count * size)
+place_of_entry_fits at count most size long fewer fits few = let behind = one_fits at count most size long fewer fits in omega (arith, behind, few)

@@ -8,7 +8,7 @@ ghost use Rattle.pim_emit.specs.Ahead.{passed, its_source, IsAheadOn, IsNextSour
 use crate::least::lesser;
 use crate::nearby::Nearby;
 use pim_addr::Family;
-use pim_down::{GroupMachines, What, compare_addresses};
+use pim_down::{GroupMachines, Near, What, compare_addresses};
 use std::marker::Model;
 
 /// A source that comes next on a port, and the machines of its group that are left behind it there.
@@ -16,6 +16,8 @@ use std::marker::Model;
 pub(crate) struct Ahead<'a, F: Family> {
     source: F::Addr,
     left: GroupMachines<'a, F>,
+    /// Where the source's machine stands. No answer goes by it.
+    near: Near,
 }
 
 impl<'a, F: Family> Model for Ahead<'a, F> {
@@ -58,11 +60,13 @@ fn ahead_on<'a, F: Family>(
 {
     ports.is_sound();
     let mut left = ports.machines_after(port, group, passed::<F>(bound));
+    let near = left.near();
     let next = next_source::<F>(&mut left);
-    ports.keep(port, &left);
+    ports.keep(port, near);
     Some(Ahead {
         source: next?,
         left,
+        near,
     })
 }
 
@@ -80,6 +84,23 @@ pub(crate) fn look_ahead<'a, F: Family>(
     let count = ports.port_count();
     for port in 0..count {
         nexts[port] = ahead_on::<F>(ports, port, group, bound);
+    }
+}
+
+/// Keeps where what comes next on the port stands.
+fn keep_on<F: Family>(ports: &Nearby<'_, F>, port: usize, next: &Option<Ahead<'_, F>>) {
+    if let Some(ahead) = next {
+        ports.keep(port, ahead.near);
+    }
+}
+
+/// Keeps where what comes next on each port stands, for the next look-up there.
+pub(crate) fn keep_ahead<F: Family>(ports: &Nearby<'_, F>, nexts: &[Option<Ahead<'_, F>>])
+    requires { ports.now.ports ≤ length nexts.now }
+{
+    let count = ports.port_count();
+    for port in 0..count {
+        keep_on::<F>(ports, port, &nexts[port]);
     }
 }
 
@@ -151,10 +172,11 @@ fn pass_on<F: Family>(
     if !is_same::<F>(ahead.source, passed) {
         return;
     }
+    ahead.near = ahead.left.near();
     match next_source::<F>(&mut ahead.left) {
         Some(source) => ahead.source = source,
         None => {
-            ports.keep(port, &ahead.left);
+            ports.keep(port, ahead.near);
             *next = None;
         }
     }

@@ -12,7 +12,7 @@ ghost use Rattle.pim_emit.specs.Stars.{AreStars};
 ghost use Rattle.pim_emit.specs.Ahead.{AreNext};
 ghost use Rattle.pim_emit.specs.Rpts.{AreRpts};
 
-use crate::ahead::{Ahead, look_ahead, take_next};
+use crate::ahead::{Ahead, keep_ahead, look_ahead, take_next};
 use crate::machines::{first_starred, least_group, most_rpts};
 use crate::nearby::Nearby;
 use crate::rpts::{Rpts, next_rpt, rpts_of};
@@ -149,6 +149,13 @@ impl<'a, F: Family> Asked<'a, F> {
         look_ahead::<F>(&self.ports, group, bound, nexts);
     }
 
+    /// Keeps where what comes next on each port stands, if there is a place for each, for the next look-up there.
+    pub(crate) fn keep_ahead(&self, nexts: &[Option<Ahead<'a, F>>]) {
+        if nexts.len() >= self.port_count() {
+            keep_ahead::<F>(&self.ports, nexts);
+        }
+    }
+
     /// The least source of the group above the bound, or of all. Where there is a place for each port, what comes next
     /// on each above the bound stands there, and behind an answer what comes next then; else each port is looked up.
     pub(crate) fn next_ahead(
@@ -226,7 +233,7 @@ impl<'a, F: Family> Asked<'a, F> {
                 return Some(held.source);
             }
         }
-        self.ports.keep(port, rpts.left());
+        self.ports.keep(port, rpts.near());
         None
     }
 

@@ -94,8 +94,8 @@ impl<'a, F: Family> Nearby<'a, F> {
         self.ports.machines_after_near(port, group, what, near)
     }
 
-    /// Keeps where those that are left of the machines of a group on the port stand, for the next look-up there.
-    pub(crate) fn keep(&self, port: usize, left: &GroupMachines<'_, F>) {
-        self.hints.keep(port, left.near());
+    /// Keeps a place of the port, for the next look-up there.
+    pub(crate) fn keep(&self, port: usize, place: Near) {
+        self.hints.keep(port, place);
     }
 }

@@ -15,7 +15,7 @@ use crate::machines::{Held, lowest};
 use crate::nearby::Nearby;
 use crate::stars::Stars;
 use pim_addr::Family;
-use pim_down::{GroupMachines, What};
+use pim_down::{GroupMachines, Near, What};
 use std::marker::Model;
 
 /// The machines that are left, and the source above which theirs are.
@@ -34,9 +34,9 @@ impl<'a, F: Family> Model for Rpts<'a, F> {
 }
 
 impl<'a, F: Family> Rpts<'a, F> {
-    /// The machines that are left.
-    pub(crate) fn left(&self) -> &GroupMachines<'a, F> {
-        &self.left
+    /// Where the next one stands, or would stand.
+    pub(crate) fn near(&self) -> Near {
+        self.left.near()
     }
 }
 

@@ -78,6 +78,7 @@ fn write_sources_ahead<'a, F: Family>(
         count += 1;
         last = Some(source);
     }
+    asked.keep_ahead(nexts);
     ToldSources { count, last }
 }
 

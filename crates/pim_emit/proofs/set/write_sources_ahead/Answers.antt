@@ -1,10 +1,11 @@
-use Rattle.std.proofs.Common.{◌≡◌, ◌∙◌, ◌∷◌, ◌*◌, ◌+◌, Some, length, drop, option_map, take, ◌++◌, sym, ap, refl, subst, arith}
+use Rattle.std.proofs.Common.{◌≡◌, ◌∙◌, ◌∷◌, ◌*◌, ◌+◌, Some, length, drop, option_map, take, ◌++◌, sym, ap, refl, subst, ◌≤◌, Fits, w64, arith}
 use Rattle.pim_addr.specs.Encoded.{source_length}
 use Rattle.pim_jp.specs.declared.entry.Entry.TheVariants.{Source}
 use Rattle.pim_jp.specs.Canonical.{canonical_entry}
 use Rattle.pim_emit.specs.Left.{above, sources_in, piece_seen, piece_form}
 use Rattle.pim_emit.proofs.Above.{above_first, above_none}
 use Rattle.pim_emit.proofs.InForm.{sources_ascend}
+use Rattle.pim_emit.proofs.Room.{one_fits, entry_fits, place_of_entry_fits}
 use Rattle.pim_emit.proofs.Writing.{none_written, cut_before, one_more, all_cut, the_most, the_whole}
 use Rattle.pim_emit.proofs.set.write_sources_ahead.Goals.{else-loop-count-test, then-loop-count-test+in_default}
 use Rattle.pim_emit.proofs.set.write_sources_ahead.Goals as goal
@@ -18,6 +19,23 @@ loop-count-init g c = record {
   left = refl;
   written = none_written c.args.at (source_length g.F.Family.family) c.args.bytes.now;
 }
+
+-- so many bytes has an entry, and there is room for the most of them
+pub overflow_mul-place : goal.overflow_mul-place
+overflow_mul-place g c =
+    subst (λ n. Fits w64 (c.loop-count.count * n)) (sym c.source_length.ensures)
+    (entry_fits c.args.at c.loop-count.count c.args.most (source_length g.F.Family.family) (length c.args.bytes.now) (omega (arith, c.loop-count-test.true)) c.requires.room c.requires.few)
+
+pub overflow_add-place : goal.overflow_add-place
+overflow_add-place g c =
+    subst (λ n. Fits w64 (c.args.at + c.loop-count.count * n)) (sym c.source_length.ensures)
+    (place_of_entry_fits c.args.at c.loop-count.count c.args.most (source_length g.F.Family.family) (length c.args.bytes.now) (omega (arith, c.loop-count-test.true)) c.requires.room c.requires.few)
+
+pub write_entry_at-requires : goal.write_entry_at-requires
+write_entry_at-requires g c =
+    let fits = one_fits c.args.at c.loop-count.count c.args.most (source_length g.F.Family.family) (length c.args.bytes.now) (omega (arith, c.loop-count-test.true)) c.requires.room in
+    subst (λ n. c.args.at + c.loop-count.count * n + source_length g.F.Family.family ≤ length c.loop-count.bytes) (sym c.source_length.ensures)
+    (subst (λ l. c.args.at + c.loop-count.count * source_length g.F.Family.family + source_length g.F.Family.family ≤ l) (sym c.loop-count.invariant.long) fits)
 
 pub loop-count-preserved : goal.loop-count-preserved
 loop-count-preserved g c =
