@@ -233,8 +233,15 @@ impl<'a, F: Family> Asked<'a, F> {
                 return Some(held.source);
             }
         }
-        self.ports.keep(port, rpts.near());
         None
+    }
+
+    /// Keeps where what is left of the (S,G,rpt) machines of the first port that has the star stands, for the next look-up
+    /// there.
+    pub(crate) fn keep_rpts(&self, stars: &Stars, rpts: &Rpts<'a, F>) {
+        if let Some(port) = stars.first {
+            self.ports.keep(port, rpts.near());
+        }
     }
 
     /// The least group above the bound, or of all.
@@ -266,8 +273,9 @@ impl<'a, F: Family> Asked<'a, F> {
         most_rpts::<F>(&self.ports)
     }
 
-    /// How many exceptions the group's star has, which it has.
-    pub(crate) fn exception_count(&self, group: F::Addr) -> usize
+    /// How many exceptions the group's star has, which it has. The next look-up begins behind the group, or where an
+    /// earlier one ended.
+    pub(crate) fn exception_count(&self, group: F::Addr, goes_on: bool) -> usize
         requires group { IsGroupAddress F.family (F.bytes_of group) }
         requires star { is_some (star_of (F.bytes_of group) self.now.form) ≡ true }
         ensures { result ≡ length (exceptions_in (F.bytes_of group) self.now.form) }
@@ -279,6 +287,9 @@ impl<'a, F: Family> Asked<'a, F> {
         let mut count = 0;
         while let Some(_exception) = self.next_exception(group, &stars, &mut rpts) {
             count += 1;
+        }
+        if goes_on {
+            self.keep_rpts(&stars, &rpts);
         }
         count
     }

@@ -130,6 +130,7 @@ fn write_exceptions<F: Family>(asked: &Asked<'_, F>, group: F::Addr, at: usize, 
         write_entry_at::<F>(Entry::Rpt(exception), place, bytes);
         place += source_length::<F>();
     }
+    asked.keep_rpts(&stars, &rpts);
 }
 
 /// Writes the star entry of a piece, if its star is to be told, and answers how many entries that is.
