@@ -6,8 +6,12 @@ ghost use Rattle.std.specs.List.{insert, remove};
 use std::alloc::{AllocError, Global};
 use std::marker::Model;
 
+/// An item with at most this part of a block's items before it is taken out by moving these. They are moved one by one, and those
+/// behind it at once, so that it must be few.
+const FRONT: usize = 8;
+
 /// Up to twice `HALF` items, with room for all of them. Taking out the first one moves no other, and nor does putting one where
-/// it stood: lists are emptied from the front, and are used as queues.
+/// it stood: lists are emptied from the front, and are used as queues. Taking out one behind a few moves these alone.
 #[derive(Drop)]
 pub(crate) struct Block<T: Copy, const HALF: usize> {
     /// What stands before `start` is left over from items that were taken out at the front.
@@ -89,12 +93,14 @@ impl<T: Copy, const HALF: usize> Block<T, HALF> {
         ensures value { result ≡ slice_index_or self.old at result }
         ensures left { self.new ≡ remove self.old at }
     {
-        if at == 0 {
-            let item = self.items[self.start];
+        let start = self.start;
+        if at <= self.len() / FRONT {
+            let item = self.items[start + at];
+            self.items.copy_within(start..start + at, start + 1);
             self.start += 1;
             return item;
         }
-        self.items.remove(self.start + at)
+        self.items.remove(start + at)
     }
 
     /// Lets go of all items.

@@ -1,6 +1,6 @@
 //! Looking up an item by the caller's comparison.
 
-ghost use Rattle.std.specs.Prelude.{◌≡◌, ℕ, ◌+◌, ◌-◌, ◌<◌, ◌≤◌, List, [], length, slice_index_or, IsTrue};
+ghost use Rattle.std.specs.Prelude.{◌≡◌, ℕ, ◌+◌, ◌-◌, ◌<◌, ◌≤◌, List, [], length, slice_index_or, IsTrue, IfSome, IfNone};
 ghost use Rattle.std.specs.List.{All};
 ghost use Rattle.sorted_blocks.specs.Shape.{items, block_at};
 ghost use Rattle.sorted_blocks.specs.Places.{IsItem};
@@ -11,6 +11,9 @@ use crate::place::Place;
 use crate::probe::Probe;
 use crate::store::Store;
 use std::cmp::Ordering;
+
+/// So many blocks behind a place are looked at before all are.
+const NEAR_BLOCKS: usize = 4;
 
 /// A guess how many items of a row are less than what is sought: right where the row has the probe's order.
 ///
@@ -205,26 +208,50 @@ impl<T: Copy, const HALF: usize> Store<T, HALF> {
         self.find_rest(near, probe)
     }
 
-    /// The answer behind an item that is less: in its block, where the next one begins with a greater item.
+    /// The answer behind an item that is less. What is sought next mostly stands in the same block or in one of the next few.
     fn find_rest<P: Probe<T>>(&self, near: Place, probe: &P) -> Result<Place, Place>
         requires can { All (P.can_compare probe.now) (items self.now) }
         requires item { IsItem self.now near }
         requires less { IsLessAt (P.order probe.now) (block_at self.now.blocks near.block) near.at }
         ensures { IsFound (P.order probe.now) self.now result }
     {
+        let mut near = near;
+        for _block in 0..NEAR_BLOCKS {
+            match self.find_to_next(near, probe) {
+                Some(found) => return found,
+                None => {
+                    near = Place {
+                        block: near.block + 1,
+                        at: 0,
+                    }
+                }
+            }
+        }
+        self.find(probe)
+    }
+
+    /// The answer behind an item that is less, where the next block begins with no lesser item.
+    fn find_to_next<P: Probe<T>>(&self, near: Place, probe: &P) -> Option<Result<Place, Place>>
+        requires can { All (P.can_compare probe.now) (items self.now) }
+        requires item { IsItem self.now near }
+        requires less { IsLessAt (P.order probe.now) (block_at self.now.blocks near.block) near.at }
+        ensures found { IfSome result (IsFound (P.order probe.now) self.now) }
+        ensures beyond { IfNone result (IsItem self.now (record { block = near.block + 1; at = 0 })
+            × IsLessAt (P.order probe.now) (block_at self.now.blocks (near.block + 1)) 0) }
+        ensures few { near.block < 4294967296 }
+    {
         let _len = self.block_len(near.block);
         let behind = near.block + 1;
         if behind >= self.block_count() {
-            return self.find_in(probe, near.block, near.at + 1);
+            return Some(self.find_in(probe, near.block, near.at + 1));
         }
-        let _len = self.block_len(behind);
-        match probe.compare(self.item_of(behind, 0)) {
-            Ordering::Less => self.find(probe),
-            Ordering::Equal => Ok(Place {
+        match probe.compare(self.first_of(behind)) {
+            Ordering::Less => None,
+            Ordering::Equal => Some(Ok(Place {
                 block: behind,
                 at: 0,
-            }),
-            Ordering::Greater => self.find_in(probe, near.block, near.at + 1),
+            })),
+            Ordering::Greater => Some(self.find_in(probe, near.block, near.at + 1)),
         }
     }
 }

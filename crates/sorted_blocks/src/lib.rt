@@ -8,8 +8,8 @@
 //! blocks of up to B.
 //!
 //! A change of n items in blocks of up to B costs about log n comparisons, and moves up to B items and, where it
-//! splits or merges blocks, a record and an item for each block behind. A walk costs a step an item, and takes no
-//! memory.
+//! splits or merges blocks, a record and an item for each block behind. Taking out the first item of a block moves none
+//! of its others, and one behind a few these alone. A walk costs a step an item, and takes no memory.
 #![tactic(auto)]
 
 mod block;
