@@ -10,7 +10,7 @@ use Rattle.sorted_slab.specs.Listed.{Listed}
 use Rattle.pim_down.specs.declared.held.Held.{Held}
 use Rattle.pim_down.specs.declared.key.Key.{Key}
 use Rattle.pim_down.specs.declared.machine.Record.{Record}
-use Rattle.pim_down.specs.Hearing.{is_rpt, is_rpt_on, rpts_on}
+use Rattle.pim_down.specs.Hearing.{is_rpt, is_rpt_on, rpt_count_on}
 use Rattle.pim_down.specs.Records.{count_on}
 use Rattle.pim_down.specs.Seen.{what_seen, record_seen, records_seen}
 use Rattle.pim_down.specs.Store.{IsKept}
@@ -64,7 +64,7 @@ module _ {A : Type 0} (bytes_of : A → List ℕ) where
   count_is port [] = refl
   count_is port (x ∷ items) = ap (λ n. cond (eqb x.key.port port) 1 0 + n) (count_is port items)
 
-  rpts_are : (port : ℕ) (items : List (Held A)) → rpts_on port (records_seen bytes_of items) ≡ sum one_rpt port items
+  rpts_are : (port : ℕ) (items : List (Held A)) → rpt_count_on port (records_seen bytes_of items) ≡ sum one_rpt port items
   unfolding sum
   rpts_are port [] = refl
   rpts_are port (x ∷ items) =
@@ -181,7 +181,7 @@ module _ {A : Type 0} (counts rpts : List ℕ) (list new : Listed (Held A)) (lon
         ∙ sym (ap (λ xs. count_on port (records_seen bytes_of xs)) items ∙ count_is bytes_of port (insert list.items i held));
     rpts_counted = λ bytes_of port small.
         summed_in rpts rpts_long (one_rpt bytes_of) list.items (rpts_summed bytes_of) i held by (is bytes_of) port small
-        ∙ sym (ap (λ xs. rpts_on port (records_seen bytes_of xs)) items ∙ rpts_are bytes_of port (insert list.items i held));
+        ∙ sym (ap (λ xs. rpt_count_on port (records_seen bytes_of xs)) items ∙ rpts_are bytes_of port (insert list.items i held));
     fits = omega (arith, room, capacity, ap length items, one_longer list.items i held);
   }
 
@@ -193,7 +193,7 @@ module _ {A : Type 0} (counts rpts : List ℕ) (list new : Listed (Held A)) (lon
         ∙ sym (ap (λ xs. count_on port (records_seen bytes_of xs)) items ∙ count_is bytes_of port (remove list.items i));
     rpts_counted = λ bytes_of port small.
         summed_out rpts rpts_long (one_rpt bytes_of) list.items (rpts_summed bytes_of) i held by w here (is bytes_of) port small
-        ∙ sym (ap (λ xs. rpts_on port (records_seen bytes_of xs)) items ∙ rpts_are bytes_of port (remove list.items i));
+        ∙ sym (ap (λ xs. rpt_count_on port (records_seen bytes_of xs)) items ∙ rpts_are bytes_of port (remove list.items i));
     fits = omega (arith, kept.fits, capacity, ap length items, length-remove list.items i w);
   }
 
@@ -211,7 +211,7 @@ module _ {A : Type 0} (counts rpts : List ℕ) (list new : Listed (Held A)) (lon
         ∙ sym (ap (λ xs. count_on port (records_seen bytes_of xs)) items ∙ count_is bytes_of port (set list.items i held));
     rpts_counted = λ bytes_of port small.
         summed_set rpts rpts_long (one_rpt bytes_of) list.items (rpts_summed bytes_of) i old held w here (ap (λ (k : Key A). k.port) same) (ap (λ (k : Key A). from_bool (is_rpt (what_seen bytes_of k.what))) same) port small
-        ∙ sym (ap (λ xs. rpts_on port (records_seen bytes_of xs)) items ∙ rpts_are bytes_of port (set list.items i held));
+        ∙ sym (ap (λ xs. rpt_count_on port (records_seen bytes_of xs)) items ∙ rpts_are bytes_of port (set list.items i held));
     fits = omega (arith, kept.fits, capacity, ap length items, length-set list.items i held);
   }
 
@@ -227,6 +227,6 @@ pub kept_none : {A : Type 0} (counts rpts : List ℕ) (list : Listed (Held A)) �
 unfolding count_on
 kept_none counts rpts list none no_rpts items = record {
   counted = λ bytes_of port small. none port ∙ sym (ap (λ (xs : List (Held _)). count_on port (records_seen bytes_of xs)) items);
-  rpts_counted = λ bytes_of port small. no_rpts port ∙ sym (ap (λ (xs : List (Held _)). rpts_on port (records_seen bytes_of xs)) items);
+  rpts_counted = λ bytes_of port small. no_rpts port ∙ sym (ap (λ (xs : List (Held _)). rpt_count_on port (records_seen bytes_of xs)) items);
   fits = omega (arith, ap length items);
 }

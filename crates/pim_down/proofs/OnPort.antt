@@ -14,7 +14,7 @@ use Rattle.std.proofs.lemmas.List.{get_or-drop, length-drop, length-map}
 use Rattle.pim_down.specs.declared.held.Held.{Held}
 use Rattle.pim_down.specs.declared.key.Key.{Key}
 use Rattle.pim_down.specs.declared.machine.Record.{Record}
-use Rattle.pim_down.specs.Hearing.{is_rpt, is_rpt_on, rpts_on}
+use Rattle.pim_down.specs.Hearing.{is_rpt, is_rpt_on, rpt_count_on}
 use Rattle.pim_down.specs.Key.{address_cmp, what_cmp, key_cmp}
 use Rattle.pim_down.specs.Records.{IsBelow, IsAscending, count_on, is_on}
 use Rattle.pim_down.specs.Time.{record_after}
@@ -153,7 +153,7 @@ module _ (port : ℕ) where
   abbrev on_port : Record (List ℕ) → Bool
   on_port held = is_rpt_on port held.key
 
-  pub rpts_few : (records : List (Record (List ℕ))) → rpts_on port records ≤ count_on port records
+  pub rpts_few : (records : List (Record (List ℕ))) → rpt_count_on port records ≤ count_on port records
   unfolding count_on
   rpts_few [] = omega arith
   rpts_few (held ∷ records) =
@@ -166,7 +166,7 @@ module _ (port : ℕ) where
         | false ↦ omega (arith, rest)
       ]
 
-  pub rpts_later : (k : ℕ) (records : List (Record (List ℕ))) → rpts_on port (map (record_after k) records) ≡ rpts_on port records
+  pub rpts_later : (k : ℕ) (records : List (Record (List ℕ))) → rpt_count_on port (map (record_after k) records) ≡ rpt_count_on port records
   rpts_later k [] = refl
   rpts_later k (held ∷ records) =
       elim (is_rpt_on port held.key) as (λ b. length (cond b (record_after k held ∷ filter on_port (map (record_after k) records)) (filter on_port (map (record_after k) records))) ≡ length (cond b (held ∷ filter on_port records) (filter on_port records))) [

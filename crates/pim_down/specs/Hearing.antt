@@ -91,12 +91,12 @@ is_star_join event = event.joins && is_star event.what
 abbrev pub is_rpt_on : ℕ → Key (List ℕ) → Bool
 is_rpt_on port key = key.port == port && is_rpt key.what
 
--- how many a port has
-abbrev pub rpts_on : ℕ → List (Record (List ℕ)) → ℕ
-rpts_on port records = length (filter (λ held. is_rpt_on port held.key) records)
-
 abbrev pub is_rpt_of : ℕ → List ℕ → Key (List ℕ) → Bool
 is_rpt_of port group key = is_rpt_on port key && pointwise nat_eq key.group group
+
+-- how many (S,G,rpt) machines a port has
+abbrev pub rpt_count_on : ℕ → List (Record (List ℕ)) → ℕ
+rpt_count_on port records = length (filter (λ held. is_rpt_on port held.key) records)
 
 -- A Join(*,G) acts on the (S,G,rpt) machines of the group too.
 abbrev pub on_rpts : ℕ → List ℕ → Key (List ℕ) → Option Machine → Option Machine

@@ -8,7 +8,7 @@ use Rattle.sorted_blocks.specs.declared.place.Place.{Place}
 use Rattle.sorted_slab.specs.Listed.{Listed, at, IsPlace as IsListPlace, IsItem}
 use Rattle.pim_down.specs.declared.held.Held.{Held}
 use Rattle.pim_down.specs.declared.key.Key.{Key}
-use Rattle.pim_down.specs.Hearing.{rpts_on}
+use Rattle.pim_down.specs.Hearing.{rpt_count_on}
 use Rattle.pim_down.specs.Records.{count_on}
 use Rattle.pim_down.specs.Places.{StandsAt, WouldStandAt}
 use Rattle.pim_down.specs.Seen.{records_seen, key_seen}
@@ -19,7 +19,7 @@ pub record IsKept {A : Type 0} (counts rpts : List ℕ) (list : Listed (Held A))
   pub counted : (bytes_of : A → List ℕ) (port : ℕ) → port < 64 →
       slice_index_or counts port 0 ≡ count_on port (records_seen bytes_of list.items)
   pub rpts_counted : (bytes_of : A → List ℕ) (port : ℕ) → port < 64 →
-      slice_index_or rpts port 0 ≡ rpts_on port (records_seen bytes_of list.items)
+      slice_index_or rpts port 0 ≡ rpt_count_on port (records_seen bytes_of list.items)
   pub fits : length list.items ≤ list.capacity
 
 -- how a record stands to a bound: before it or behind it

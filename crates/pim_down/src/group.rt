@@ -69,6 +69,8 @@ impl<'a, F: Family> GroupMachines<'a, F> {
     }
 
     /// Tells the next one, in key order; `None` where none is left. It compares one group, and takes no memory.
+    // Inlined, so that a caller who reads a part of the record alone doesn't make the rest.
+    #[inline(always)]
     pub fn next_machine(&mut self) -> Option<Record<F::Addr>>
         ensures told { option_map (told_seen F.bytes_of) result ≡ next_machine self.old }
         ensures left { self.new ≡ left_behind self.old (next_machine self.old) }

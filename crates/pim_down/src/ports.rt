@@ -3,7 +3,7 @@
 ghost use Rattle.std.specs.Prelude.{◌≡◌, ◌≤◌, ◌<◌, [], None, max, option_map, OnOk, OnErr};
 ghost use Rattle.std.specs.List.{filter};
 ghost use Rattle.pim_down.specs.declared.step.Step.TheVariants.{Reached};
-ghost use Rattle.pim_down.specs.Hearing.{rpts_on};
+ghost use Rattle.pim_down.specs.Hearing.{rpt_count_on};
 ghost use Rattle.pim_down.specs.Records.{state_of, is_on, count_on};
 ghost use Rattle.pim_down.specs.Heard.{heard, needed_for, new_for, IsWithin, MayWantMemory, OthersStay};
 ghost use Rattle.pim_down.specs.Time.{Downstream, Runs, RunsLooking, IsNextDue};
@@ -26,7 +26,7 @@ use crate::run::{Stop, run};
 use crate::step::Step;
 use crate::store::Store;
 use crate::timers::next_end;
-use crate::walk::{Records, count_on, on_port, record_after, rpts_on};
+use crate::walk::{Records, count_on, on_port, record_after, rpt_count_on};
 use pim_addr::{Family, Routes};
 use pim_jp::JpView;
 use std::alloc::Global;
@@ -109,13 +109,13 @@ impl<F: Family> Ports<F> {
     }
 
     /// How many (S,G,rpt) records this port has; a port that isn't there has none.
-    pub fn rpts_on(&self, port: usize) -> usize
-        ensures { result ≡ rpts_on port self.now.records }
+    pub fn rpt_count_on(&self, port: usize) -> usize
+        ensures { result ≡ rpt_count_on port self.now.records }
     {
         if port >= self.ports {
             return 0;
         }
-        rpts_on::<F>(&self.records, port)
+        rpt_count_on::<F>(&self.records, port)
     }
 
     /// A law: what is true of the machines between calls. Each record's port is there, its group is a group, its

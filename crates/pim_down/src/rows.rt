@@ -7,11 +7,11 @@ ghost use Rattle.std.specs.List.Sorted.{IsPartitionedBy, IsPartitionPoint};
 ghost use Rattle.sorted_blocks.specs.declared.place.Place.{Place};
 ghost use Rattle.sorted_slab.specs.Listed.{at, IsPlace, IsItem, IsFound};
 ghost use Rattle.pim_down.specs.declared.held.Held.{Held};
-ghost use Rattle.pim_down.specs.Hearing.{is_rpt, rpts_on};
+ghost use Rattle.pim_down.specs.Hearing.{is_rpt, rpt_count_on};
 ghost use Rattle.pim_down.specs.Records.{count_on};
 ghost use Rattle.pim_down.specs.Seen.{what_seen, records_seen};
 
-use crate::blocks::HALF_BLOCK;
+use crate::blocks::HALF_OF_RECORDS;
 use crate::held::{Held, Timed};
 use crate::key::{Key, What};
 use sorted_blocks::{Place, Probe};
@@ -60,7 +60,7 @@ impl<'a, A, B: Bound<A>> Probe<Held<A>> for Side<'a, B> {
 /// The records of all ports. Contracts see their list, its places, and how many records fit without memory.
 #[derive(Drop)]
 pub(crate) struct Rows<A: Copy> {
-    list: SortedSlab<Held<A>, HALF_BLOCK>,
+    list: SortedSlab<Held<A>, HALF_OF_RECORDS>,
     /// How many records each port has.
     counts: [usize; 64],
     /// How many of them are (S,G,rpt) ones.
@@ -142,9 +142,9 @@ impl<A: Copy> Rows<A> {
     }
 
     /// How many (S,G,rpt) ones this port has.
-    pub(crate) fn rpts_on(&self, port: usize) -> usize
+    pub(crate) fn rpt_count_on(&self, port: usize) -> usize
         requires { port < 64 }
-        ensures { (bytes_of : A → List ℕ) → result ≡ rpts_on port (records_seen bytes_of self.now.items) }
+        ensures { (bytes_of : A → List ℕ) → result ≡ rpt_count_on port (records_seen bytes_of self.now.items) }
     {
         self.rpts[port]
     }
@@ -239,7 +239,7 @@ impl<A: Copy> Rows<A> {
     }
 
     /// So many records from this place on, in order, or those that there are.
-    pub(crate) fn walk(&self, place: Place, count: usize) -> Walk<'_, Held<A>, HALF_BLOCK>
+    pub(crate) fn walk(&self, place: Place, count: usize) -> Walk<'_, Held<A>, HALF_OF_RECORDS>
         requires { IsPlace self.now place }
         ensures { result ≡ take count (drop (at self.now place) self.now.items) }
     {
@@ -247,7 +247,7 @@ impl<A: Copy> Rows<A> {
     }
 
     /// All records, in order.
-    pub(crate) fn iter(&self) -> Walk<'_, Held<A>, HALF_BLOCK>
+    pub(crate) fn iter(&self) -> Walk<'_, Held<A>, HALF_OF_RECORDS>
         ensures { result ≡ self.now.items }
     {
         self.list.walk(self.list.first(), self.list.len())

@@ -7,12 +7,12 @@ ghost use Rattle.std.specs.List.Sorted.{IsPartitionedBy, IsPartitionPoint};
 ghost use Rattle.sorted_blocks.specs.declared.place.Place.{Place};
 ghost use Rattle.sorted_slab.specs.Listed.{at, IsPlace, IsItem, IsFound};
 ghost use Rattle.pim_down.specs.declared.held.Held.{Held};
-ghost use Rattle.pim_down.specs.Hearing.{rpts_on};
+ghost use Rattle.pim_down.specs.Hearing.{rpt_count_on};
 ghost use Rattle.pim_down.specs.Records.{count_on};
 ghost use Rattle.pim_down.specs.Schedule.{deadline_seen, timers_of};
 ghost use Rattle.pim_down.specs.Seen.{records_seen};
 
-use crate::blocks::HALF_BLOCK;
+use crate::blocks::{HALF_OF_RECORDS, HALF_OF_TIMERS};
 use crate::deadline::Deadline;
 use crate::held::{Held, Timed};
 use crate::key::KeyOrder;
@@ -28,7 +28,7 @@ use std::marker::Model;
 #[derive(Drop)]
 pub(crate) struct Store<A: Copy, O: KeyOrder<A>> {
     rows: Rows<A>,
-    schedule: Schedule<A, O, HALF_BLOCK>,
+    schedule: Schedule<A, O, HALF_OF_TIMERS>,
     /// The schedule has room for the timers of so many records.
     room: usize,
 }
@@ -77,11 +77,11 @@ impl<A: Copy, O: KeyOrder<A>> Store<A, O> {
     }
 
     /// How many (S,G,rpt) records this port has.
-    pub(crate) fn rpts_on(&self, port: usize) -> usize
+    pub(crate) fn rpt_count_on(&self, port: usize) -> usize
         requires { port < 64 }
-        ensures { (bytes_of : A → List ℕ) → result ≡ rpts_on port (records_seen bytes_of self.now.items) }
+        ensures { (bytes_of : A → List ℕ) → result ≡ rpt_count_on port (records_seen bytes_of self.now.items) }
     {
-        self.rows.rpts_on(port)
+        self.rows.rpt_count_on(port)
     }
 
     /// Takes memory for so many more records: at `Ok` they fit, whichever go between. The records stay, at an `Err`
@@ -189,7 +189,7 @@ impl<A: Copy, O: KeyOrder<A>> Store<A, O> {
     }
 
     /// So many records from this place on, in order, or those that there are.
-    pub(crate) fn walk(&self, place: Place, count: usize) -> Walk<'_, Held<A>, HALF_BLOCK>
+    pub(crate) fn walk(&self, place: Place, count: usize) -> Walk<'_, Held<A>, HALF_OF_RECORDS>
         requires { IsPlace self.now place }
         ensures { result ≡ take count (drop (at self.now place) self.now.items) }
     {
@@ -197,7 +197,7 @@ impl<A: Copy, O: KeyOrder<A>> Store<A, O> {
     }
 
     /// All records, in order.
-    pub(crate) fn iter(&self) -> Walk<'_, Held<A>, HALF_BLOCK>
+    pub(crate) fn iter(&self) -> Walk<'_, Held<A>, HALF_OF_RECORDS>
         ensures { result ≡ self.now.items }
     {
         self.rows.iter()

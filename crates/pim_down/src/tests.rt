@@ -6,7 +6,9 @@ mod random;
 mod slow;
 
 /// Half of a block: so small, so that splits and merges come often.
-pub(crate) const HALF_BLOCK: usize = 2;
+pub(crate) const HALF_OF_RECORDS: usize = 2;
+
+pub(crate) const HALF_OF_TIMERS: usize = 2;
 
 /// The RP of all groups.
 const RP: [u8; 4] = [10, 9, 9, 9];

@@ -3,12 +3,12 @@
 ghost use Rattle.std.specs.Prelude.{◌≡◌, ◌<◌, ℕ, List};
 ghost use Rattle.std.specs.List.{filter};
 ghost use Rattle.std.specs.Iterator.{YieldsFirstBy, item_count};
-ghost use Rattle.pim_down.specs.Hearing.{rpts_on};
+ghost use Rattle.pim_down.specs.Hearing.{rpt_count_on};
 ghost use Rattle.pim_down.specs.Records.{IsAscending, is_on, count_on};
 ghost use Rattle.pim_down.specs.Time.{machine_after, record_after};
 ghost use Rattle.pim_down.specs.Seen.{timed_seen, record_seen, told_seen, records_seen, shown};
 
-use crate::blocks::HALF_BLOCK;
+use crate::blocks::HALF_OF_RECORDS;
 use crate::held::{Held, Timed};
 use crate::key::{Key, OfFamily};
 use crate::machine::{Machine, Pending, Record};
@@ -71,7 +71,7 @@ impl<A> Bound<A> for OfPort {
 pub(crate) fn on_port<F: Family>(
     records: &Store<F::Addr, OfFamily<F>>,
     port: usize,
-) -> Walk<'_, Held<F::Addr>, HALF_BLOCK>
+) -> Walk<'_, Held<F::Addr>, HALF_OF_RECORDS>
     requires ascending { IsAscending (records_seen F.bytes_of records.now.items) }
     requires port { port < 64 }
     ensures { records_seen F.bytes_of result ≡ filter (is_on port) (records_seen F.bytes_of records.now.items) }
@@ -91,17 +91,17 @@ pub(crate) fn count_on<F: Family>(records: &Store<F::Addr, OfFamily<F>>, port: u
 }
 
 /// How many (S,G,rpt) records the port has.
-pub(crate) fn rpts_on<F: Family>(records: &Store<F::Addr, OfFamily<F>>, port: usize) -> usize
+pub(crate) fn rpt_count_on<F: Family>(records: &Store<F::Addr, OfFamily<F>>, port: usize) -> usize
     requires { port < 64 }
-    ensures { result ≡ rpts_on port (records_seen F.bytes_of records.now.items) }
+    ensures { result ≡ rpt_count_on port (records_seen F.bytes_of records.now.items) }
 {
-    records.rpts_on(port)
+    records.rpt_count_on(port)
 }
 
 /// The records in key order, with what is left of their timers. Contracts see those that are left.
 #[derive(Drop)]
 pub struct Records<'a, F: Family> {
-    left: Walk<'a, Held<F::Addr>, HALF_BLOCK>,
+    left: Walk<'a, Held<F::Addr>, HALF_OF_RECORDS>,
     moment: u64,
     family: PhantomData<F>,
 }
@@ -118,7 +118,7 @@ impl<'a, F: Family> Model for Records<'a, F> {
 
 impl<'a, F: Family> Records<'a, F> {
     /// These records, as they stand at this moment.
-    pub(crate) fn new(left: Walk<'a, Held<F::Addr>, HALF_BLOCK>, moment: u64) -> Self
+    pub(crate) fn new(left: Walk<'a, Held<F::Addr>, HALF_OF_RECORDS>, moment: u64) -> Self
         ensures { result ≡ shown F.bytes_of moment left.entry }
     {
         Records {

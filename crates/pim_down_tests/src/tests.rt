@@ -336,7 +336,7 @@ fn is_seen(ports: &Ports<V4>, row: Row) -> bool {
         Row::Holds(wanted) => tells(ports.records(), wanted),
         Row::HoldsOn(port, wanted) => {
             ports.count_on(port) == wanted.len()
-                && ports.rpts_on(port) == rpts_among(wanted)
+                && ports.rpt_count_on(port) == rpts_among(wanted)
                 && tells(ports.records_on(port), wanted)
         }
         Row::Count(port, count) => ports.count_on(port) == count,

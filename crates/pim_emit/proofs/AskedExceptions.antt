@@ -12,7 +12,7 @@ use Rattle.pim_down.specs.declared.key.Key.{Key}
 use Rattle.pim_down.specs.declared.key.What.TheVariants.{Rpt}
 use Rattle.pim_down.specs.declared.machine.Record.{Record}
 use Rattle.pim_down.specs.declared.machine.State.{State}
-use Rattle.pim_down.specs.Hearing.{rpts_on}
+use Rattle.pim_down.specs.Hearing.{rpt_count_on}
 use Rattle.pim_down.specs.Key.{address_cmp, source_of}
 use Rattle.pim_down.specs.Known.{known_in}
 use Rattle.pim_down.specs.Laws.{KeysAreToldApart}
@@ -163,14 +163,14 @@ module _ (family : AddressFamily) (table : RouteTable) (neighbour : List ℕ) (s
         fewer_above (λ (held : Record (List ℕ)). source_of held.key.what) bound source state.records passes.0 (is_held source passes.1)
 
     -- the port has no fewer (S,G,rpt) machines
-    pub few_by_rpts : length (exceptions_in group form) ≤ rpts_on port state.records
+    pub few_by_rpts : length (exceptions_in group form) ≤ rpt_count_on port state.records
     few_by_rpts = few_held apart state port group (exceptions_in group form) lists.exceptions_ascending all_held
 
   bare_of_all : (most : ℕ) (star : Option (List (List ℕ))) → is_some star ≡ false → length (exceptions_of star) ≤ most
   bare_of_all most None bare = omega arith
   bare_of_all most (Some exceptions) bare = absurd cc
 
-  pub few_on_all : KeysAreToldApart → IsSound family state → (most : ℕ) → ((port : ℕ) → port < state.ports → rpts_on port state.records ≤ most) → length (exceptions_in group form) ≤ most
+  pub few_on_all : KeysAreToldApart → IsSound family state → (most : ℕ) → ((port : ℕ) → port < state.ports → rpt_count_on port state.records ≤ most) → length (exceptions_in group form) ≤ most
   few_on_all apart sound most all =
       by_test (is_some (star_of group form))
       (λ star.

@@ -9,7 +9,7 @@ use Rattle.pim_down.specs.declared.key.Key.{Key}
 use Rattle.pim_down.specs.declared.key.What.TheVariants.{Rpt}
 use Rattle.pim_down.specs.declared.machine.Record.{Record}
 use Rattle.pim_down.specs.After.{is_above}
-use Rattle.pim_down.specs.Hearing.{is_rpt_on, rpts_on}
+use Rattle.pim_down.specs.Hearing.{is_rpt_on, rpt_count_on}
 use Rattle.pim_down.specs.Key.{address_cmp, source_of}
 use Rattle.pim_down.specs.Laws.{KeysAreToldApart}
 use Rattle.pim_down.specs.Records.{machine_at}
@@ -82,7 +82,7 @@ module _ (apart : KeysAreToldApart) (state : Downstream) (port : ℕ) (group : L
       let fewer = fewer_above source bound x (filter on_port state.records) over.0 (is_one x held.0) in
       omega (arith, rest, fewer)
 
-  pub few_held : (xs : List (List ℕ)) → AreAscending xs → AllPass (has_rpt state port group) xs → length xs ≤ rpts_on port state.records
+  pub few_held : (xs : List (List ℕ)) → AreAscending xs → AllPass (has_rpt state port group) xs → length xs ≤ rpt_count_on port state.records
   few_held xs up held =
       let over = at_most None xs up (above_nothing xs) held in
       omega (arith, over, at_most_all source None (filter on_port state.records))

@@ -273,9 +273,8 @@ impl<'a, F: Family> Asked<'a, F> {
         most_rpts::<F>(&self.ports)
     }
 
-    /// How many exceptions the group's star has, which it has. The next look-up begins behind the group, or where an
-    /// earlier one ended.
-    pub(crate) fn exception_count(&self, group: F::Addr, goes_on: bool) -> usize
+    /// How many exceptions the group's star has, which it has. The next look-up begins where one before these ended.
+    pub(crate) fn exception_count(&self, group: F::Addr) -> usize
         requires group { IsGroupAddress F.family (F.bytes_of group) }
         requires star { is_some (star_of (F.bytes_of group) self.now.form) ≡ true }
         ensures { result ≡ length (exceptions_in (F.bytes_of group) self.now.form) }
@@ -287,9 +286,6 @@ impl<'a, F: Family> Asked<'a, F> {
         let mut count = 0;
         while let Some(_exception) = self.next_exception(group, &stars, &mut rpts) {
             count += 1;
-        }
-        if goes_on {
-            self.keep_rpts(&stars, &rpts);
         }
         count
     }

@@ -108,7 +108,7 @@ fn exceptions_left<F: Family>(asked: &Asked<'_, F>, piece: &Piece<F::Addr>) -> u
     ensures { result ≡ length (exceptions_of (piece_form (piece_seen F.bytes_of piece.now) asked.now.form).star) }
 {
     if piece.starred {
-        asked.exception_count(piece.group, false)
+        asked.exception_count(piece.group)
     } else {
         0
     }

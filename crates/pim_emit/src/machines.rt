@@ -4,7 +4,7 @@ ghost use Rattle.std.specs.Prelude.{◌≡◌, ◌<◌, ◌≤◌, ◌&&◌, Lis
 ghost use Rattle.std.specs.declared.cmp.Ordering.TheVariants.{Less};
 ghost use Rattle.pim_addr.specs.Address.{IsSourceAddress};
 ghost use Rattle.pim_down.specs.After.{is_above};
-ghost use Rattle.pim_down.specs.Hearing.{rpts_on};
+ghost use Rattle.pim_down.specs.Hearing.{rpt_count_on};
 ghost use Rattle.pim_down.specs.Key.{address_cmp};
 ghost use Rattle.pim_form.specs.Wants.{some_below};
 ghost use Rattle.pim_emit.specs.Least.{IsLeast};
@@ -49,12 +49,12 @@ pub(crate) struct Held<A> {
 
 /// So many (S,G,rpt) machines has the port that has most.
 pub(crate) fn most_rpts<F: Family>(ports: &Nearby<'_, F>) -> usize
-    ensures { (port : ℕ) → port < ports.now.ports → rpts_on port ports.now.records ≤ result }
+    ensures { (port : ℕ) → port < ports.now.ports → rpt_count_on port ports.now.records ≤ result }
 {
     let count = ports.port_count();
     let mut most = 0;
     for port in 0..count {
-        let rpts = ports.rpts_on(port);
+        let rpts = ports.rpt_count_on(port);
         if most < rpts {
             most = rpts;
         }

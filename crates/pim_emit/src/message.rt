@@ -32,7 +32,7 @@ pub(crate) fn too_big<F: Family>(asked: &Asked<'_, F>, budget: usize) -> Option<
     }
     let mut bound = None;
     while let Some(group) = asked.next_group(bound) {
-        if asked.has_star(group) && room <= asked.exception_count(group, true) {
+        if asked.has_star(group) && room <= asked.exception_count(group) {
             return Some(group);
         }
         bound = Some(group);

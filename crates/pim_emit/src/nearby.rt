@@ -1,7 +1,7 @@
 //! The records, looked up from where look-ups ended before.
 
 ghost use Rattle.std.specs.Prelude.{◌≡◌, option_map};
-ghost use Rattle.pim_down.specs.Hearing.{rpts_on};
+ghost use Rattle.pim_down.specs.Hearing.{rpt_count_on};
 ghost use Rattle.pim_down.specs.Records.{state_of};
 ghost use Rattle.pim_down.specs.Seen.{key_at, what_seen};
 ghost use Rattle.pim_down.specs.After.{group_after};
@@ -55,10 +55,10 @@ impl<'a, F: Family> Nearby<'a, F> {
     }
 
     /// How many (S,G,rpt) machines the port has.
-    pub(crate) fn rpts_on(&self, port: usize) -> usize
-        ensures { result ≡ rpts_on port self.now.records }
+    pub(crate) fn rpt_count_on(&self, port: usize) -> usize
+        ensures { result ≡ rpt_count_on port self.now.records }
     {
-        self.ports.rpts_on(port)
+        self.ports.rpt_count_on(port)
     }
 
     /// The state of one machine; `None` is NoInfo.

@@ -48,7 +48,7 @@ pub(super) const EXAMPLES: [Example; 2] = [
 /// Whether no group and no machine comes next on the first port.
 fn is_at_its_end(ports: &Ports<V6>) -> bool {
     let mut left = ports.machines_after_near(0, [0xff; 16], What::Star, Near::UNKNOWN);
-    ports.rpts_on(0) == 0
+    ports.rpt_count_on(0) == 0
         && ports.group_after(0, None).is_none()
         && ports.record_after(0, [0xff; 16], What::Star).is_none()
         && left.next_machine().is_none()

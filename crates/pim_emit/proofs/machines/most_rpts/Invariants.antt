@@ -1,7 +1,7 @@
 use Rattle.std.proofs.Common.{ℕ, ◌<◌, ◌≤◌}
-use Rattle.pim_down.specs.Hearing.{rpts_on}
+use Rattle.pim_down.specs.Hearing.{rpt_count_on}
 use Rattle.pim_emit.proofs.machines.most_rpts.Given as goal
 
 -- no port before this one has more
 abbrev pub invariant-loop-port : goal.invariant-loop-port
-invariant-loop-port g l = (port : ℕ) → port < l.port → rpts_on port l.ports.records ≤ l.most
+invariant-loop-port g l = (port : ℕ) → port < l.port → rpt_count_on port l.ports.records ≤ l.most

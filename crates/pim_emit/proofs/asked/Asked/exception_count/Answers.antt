@@ -60,24 +60,8 @@ loop-exception-preserved g c =
       rpts = c.in-Some.ensures.rpts;
     }
 
-pub returns-then-goes_on : goal.returns-then-goes_on
-returns-then-goes_on g c =
-    let family = g.F.Family.family in
-    let bytes_of = g.F.Family.bytes_of in
-    let table = c.self.inside.routes.now in
-    let upstream = bytes_of c.self.inside.upstream in
-    let state = c.self.inside.ports in
-    let form = c.args.self.now.form in
-    omega (
-      arith,
-      c.loop-exception.invariant.count,
-      none_above family table upstream state form
-          (asked_as_seen c.form_of_what_is_asked.ensures family table upstream state form c.is_sound.ensures (ap (λ (s : Asking). s.form) c.self.view_is))
-          (bytes_of c.args.group) c.requires.group (Some c.loop-exception.rpts.bound) c.in_default.ensures.exception,
-    )
-
-pub returns-else-goes_on : goal.returns-else-goes_on
-returns-else-goes_on g c =
+pub returns : goal.returns
+returns g c =
     let family = g.F.Family.family in
     let bytes_of = g.F.Family.bytes_of in
     let table = c.self.inside.routes.now in

@@ -1,22 +1,22 @@
 use Rattle.std.proofs.Common.{◌≡◌, ap, sym, ◌∙◌, arith}
-use Rattle.pim_down.specs.Hearing.{rpts_on}
+use Rattle.pim_down.specs.Hearing.{rpt_count_on}
 use Rattle.pim_down.specs.Time.{Downstream}
 use Rattle.pim_down.specs.Seen.{records_seen, shown}
 use Rattle.pim_down.proofs.OnPort.{count_none, rpts_few, rpts_later}
-use Rattle.pim_down.proofs.ports.Ports.rpts_on.Goals as goal
+use Rattle.pim_down.proofs.ports.Ports.rpt_count_on.Goals as goal
 
 pub returns-then-port-self : goal.returns-then-port-self
 returns-then-port-self g c =
     let p = c.self.inside in
     let held = shown g.F.Family.bytes_of p.moment p.records.items in
-    let none : 0 ≡ rpts_on c.args.port held =
+    let none : 0 ≡ rpt_count_on c.args.port held =
     omega (arith, rpts_few c.args.port held, count_none g.F.Family.family p.ports c.args.port held c.if-port-self.true c.self.invariant.0.real) in
-    none ∙ ap (λ (s : Downstream). rpts_on c.args.port s.records) c.self.view_is
+    none ∙ ap (λ (s : Downstream). rpt_count_on c.args.port s.records) c.self.view_is
 
 pub returns : goal.returns
 returns g c =
     let p = c.self.inside in
     let held = records_seen g.F.Family.bytes_of p.records.items in
-    c.rpts_on.ensures
+    c.rpt_count_on.ensures
     ∙ sym (rpts_later c.args.port p.moment held)
-    ∙ ap (λ (s : Downstream). rpts_on c.args.port s.records) c.self.view_is
+    ∙ ap (λ (s : Downstream). rpt_count_on c.args.port s.records) c.self.view_is
