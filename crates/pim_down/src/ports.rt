@@ -148,7 +148,7 @@ impl<F: Family> Ports<F> {
     /// stands the place of the machine's record, or where that would stand.
     ///
     /// Where the hint is of this record, it costs one comparison, of the record before two, and of where this one would
-    /// stand three at most; of an earlier record, a search in a block of up to 128 records and a few comparisons; else a
+    /// stand three at most; of an earlier record, a search in a block of up to 512 records and a few comparisons; else a
     /// search by halves.
     pub fn state_of_near(
         &self,
@@ -200,7 +200,7 @@ impl<F: Family> Ports<F> {
     /// stands the place of the group's first record on the port, or where that would stand.
     ///
     /// Where the hint is of the last record of this group, or of the answer, it costs three comparisons at most; where
-    /// it is of an earlier record, a search in a block of up to 128 records and a few comparisons; else a search by
+    /// it is of an earlier record, a search in a block of up to 512 records and a few comparisons; else a search by
     /// halves. It takes no memory.
     pub fn group_after_near(
         &self,
@@ -236,7 +236,7 @@ impl<F: Family> Ports<F> {
     /// stands the place of the record, or where it would stand.
     ///
     /// Where the hint is of the record before, or of the answer, it costs three comparisons at most; where it is of an
-    /// earlier record, a search in a block of up to 128 records and a few comparisons; else a search by halves. It takes
+    /// earlier record, a search in a block of up to 512 records and a few comparisons; else a search by halves. It takes
     /// no memory.
     pub fn record_after_near(
         &self,

@@ -5,9 +5,10 @@ mod courses;
 mod random;
 mod slow;
 
-/// Half of a block: so small, so that splits and merges come often.
+/// So many records in half a block: few, so that splits and merges come often.
 pub(crate) const HALF_OF_RECORDS: usize = 2;
 
+/// So many timers in half a block, for the same reason.
 pub(crate) const HALF_OF_TIMERS: usize = 2;
 
 /// The RP of all groups.

@@ -23,7 +23,7 @@ use pim_form::Writer;
 /// has the star, and at most one look-up on each other that has it; a group, and a message that begins or ends within
 /// one, some look-ups on every port and one or two in the table. On each of the first 64 ports, and there are no more, a
 /// look-up begins near where an earlier one ended. Where it passes over records, as at the next group, it is a search by
-/// halves in a block of up to 128 records or among all. Exceptions are walked through three times: to look for stars that
+/// halves in a block of up to 512 records or among all. Exceptions are walked through three times: to look for stars that
 /// are too big, to see whether a star has room, and to write them; and once more where the star begins a new message.
 /// Each of these walks begins with a look-up of the star on every port. The first, through all groups, is made only where
 /// some port has as many (S,G,rpt) machines, of whatever groups, as are too many for one message.

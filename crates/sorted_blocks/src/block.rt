@@ -6,8 +6,8 @@ ghost use Rattle.std.specs.List.{insert, remove};
 use std::alloc::{AllocError, Global};
 use std::marker::Model;
 
-/// An item with at most this part of a block's items before it is taken out by moving these. They are moved one by one, and those
-/// behind it at once, so that it must be few.
+/// An item is at the front where at most one in so many of a block's items stand before it: it is taken out by moving these. They
+/// are moved one by one, and those behind an item all at once, so they must be few.
 const FRONT: usize = 8;
 
 /// Up to twice `HALF` items, with room for all of them. Taking out the first one moves no other, and nor does putting one where
