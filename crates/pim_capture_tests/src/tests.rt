@@ -1,3 +1,7 @@
+//! Captures, answer by answer.
+
+mod ipv6;
+
 use pim_addr::ScriptedFeed;
 use pim_capture::{Capture, CaptureFault, Event, Ip, Why};
 use std::alloc::{AllocError, Global};
