@@ -2,8 +2,10 @@
 
 mod change_texts;
 mod changes;
+mod emits;
 mod mirrors;
 mod replays;
+mod replays_of_six;
 mod sames;
 mod states;
 mod states_of_six;

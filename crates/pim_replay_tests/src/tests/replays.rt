@@ -2,7 +2,7 @@
 
 use super::states::ONE_RP;
 use super::world::{Device, Route, add_rows};
-use pim_addr::{Routes, ScriptedDrain, ScriptedFeed, V4};
+use pim_addr::{Family, Routes, ScriptedDrain, ScriptedFeed, V4};
 use pim_capture::CaptureFault;
 use pim_merge::{Merge, MergeFault};
 use pim_replay::{ReplayFault, replay_into};
@@ -32,20 +32,20 @@ pub(super) struct Input<'a> {
 
 /// A replay: its ports, its route table, and how long it goes on behind the last record.
 #[derive(Clone, Copy)]
-struct Scene {
-    ports: &'static [PortConfig<[u8; 4]>],
-    rows: &'static [Route<[u8; 4]>],
-    after_ms: u64,
+pub(super) struct Scene<'a, A> {
+    pub(super) ports: &'a [PortConfig<A>],
+    pub(super) rows: &'a [Route<A>],
+    pub(super) after_ms: u64,
 }
 
 /// What was written of a replay, with one capture a port, and how it ended; `None` where it can't begin.
-fn replayed(
+fn replayed<F: Family>(
     alloc: Global,
-    scene: &Scene,
+    scene: &Scene<'_, F::Addr>,
     captures: &[Input<'_>],
     device: Device,
 ) -> Option<(ScriptedDrain, Result<u8, ReplayFault>)> {
-    let mut routes = Routes::<V4>::new(alloc);
+    let mut routes = Routes::<F>::new(alloc);
     if !add_rows(&mut routes, scene.rows) {
         return None;
     }
@@ -70,9 +70,9 @@ fn replayed(
 }
 
 /// Whether a replay ends so, and has written this.
-fn ends(
+pub(super) fn ends<F: Family>(
     alloc: Global,
-    scene: &Scene,
+    scene: &Scene<'_, F::Addr>,
     captures: &[Input<'_>],
     text: &str,
     end: Result<u8, ReplayFault>,
@@ -81,7 +81,7 @@ fn ends(
         most: 7,
         fails_from: NEVER,
     };
-    match replayed(alloc, scene, captures, device) {
+    match replayed::<F>(alloc, scene, captures, device) {
         Some((written, answer)) => answer == end && written.written() == text.as_bytes(),
         None => false,
     }
@@ -124,7 +124,7 @@ const TWO_PORTS: [PortConfig<[u8; 4]>; 2] = [
     },
 ];
 
-const SCENE: Scene = Scene {
+const SCENE: Scene<'static, [u8; 4]> = Scene {
     ports: &FIRST_PORT,
     rows: &ONE_RP,
     after_ms: 0,
@@ -138,10 +138,14 @@ want star 239.1.1.1
 skipped 0 refreshes 0
 ";
 
-const NOTHING: &str = "state at 0\nskipped 0 refreshes 0\n";
+pub(super) const NOTHING: &str = "state at 0\nskipped 0 refreshes 0\n";
 
 /// A replay, its captures and its report.
-type Row = (Scene, &'static [Input<'static>], &'static str);
+type Row = (
+    Scene<'static, [u8; 4]>,
+    &'static [Input<'static>],
+    &'static str,
+);
 
 const ROWS: [Row; 6] = [
     (SCENE, &[ONE], REPORT),
@@ -190,7 +194,7 @@ skipped 0 refreshes 2
 
 #[test]
 fn replays_are_reported(rt: HostRuntime) {
-    let wrong = ROWS.iter().position(|(scene, captures, text)| !ends(
+    let wrong = ROWS.iter().position(|(scene, captures, text)| !ends::<V4>(
         rt.alloc(),
         scene,
         captures,
@@ -201,7 +205,7 @@ fn replays_are_reported(rt: HostRuntime) {
 }
 
 /// How a replay ends where the capture of the first port has this fault.
-fn fault(fault: CaptureFault) -> Result<u8, ReplayFault> {
+pub(super) fn fault(fault: CaptureFault) -> Result<u8, ReplayFault> {
     Err(ReplayFault::Capture(MergeFault { capture: 0, fault }))
 }
 
@@ -228,7 +232,7 @@ pub(super) fn ends_with(
     text: &str,
     end: Result<u8, ReplayFault>,
 ) -> bool {
-    ends(alloc, &SCENE, &[input], text, end)
+    ends::<V4>(alloc, &SCENE, &[input], text, end)
 }
 
 #[test]
@@ -268,12 +272,12 @@ fn a_fault_of_another_word_ends_it(rt: HostRuntime) {
         capture: 1,
         fault: CaptureFault::Truncated,
     }));
-    assert!(rt; ends(rt.alloc(), &scene, &[ONE, bad], "", end));
+    assert!(rt; ends::<V4>(rt.alloc(), &scene, &[ONE, bad], "", end));
 }
 
 /// Whether the device failed once, and this front of the report went out.
 fn leaves(alloc: Global, device: Device, front: &[u8]) -> bool {
-    match replayed(alloc, &SCENE, &[ONE], device) {
+    match replayed::<V4>(alloc, &SCENE, &[ONE], device) {
         Some((text, answer)) => {
             let failed = answer == Err(ReplayFault::Output) && text.failures() == 1;
             failed && text.written() == front
@@ -304,7 +308,7 @@ fn refused_memory_leaves_a_front(rt: HostRuntime) {
         most: 64,
         fails_from: NEVER,
     };
-    let Some((text, answer)) = replayed(rt.alloc(), &SCENE, &[ONE], device) else {
+    let Some((text, answer)) = replayed::<V4>(rt.alloc(), &SCENE, &[ONE], device) else {
         return;
     };
     match answer {
@@ -318,5 +322,5 @@ fn refused_memory_leaves_a_front(rt: HostRuntime) {
             assert!(rt; whole.starts_with(text.written()));
         }
     }
-    assert!(rt; ends(rt.alloc(), &SCENE, &[ONE], REPORT, Ok(0)));
+    assert!(rt; ends::<V4>(rt.alloc(), &SCENE, &[ONE], REPORT, Ok(0)));
 }
