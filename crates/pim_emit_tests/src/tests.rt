@@ -1,5 +1,6 @@
 //! What goes out of some states, byte by byte: the group 239.1.1.1 with the RP 10.9.9.9, asked of 10.0.0.2.
 
+mod again;
 mod long;
 mod many;
 mod rows;

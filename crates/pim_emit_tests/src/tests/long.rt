@@ -38,6 +38,19 @@ const LAST_STAR: [u8; 36] = [
     1, 0, 0, 1, 0, 7, 32, 10, 9, 9, 9,
 ];
 
+/// The front of the message of a star of IPv6 with 69 exceptions, behind its length; the message of one with none.
+const STAR6_BUT_69: [u8; 72] = [
+    5, 0xaa, 0x23, 0, 0xd5, 0x73, 2, 0, 32, 1, 13, 184, 0, 0, 0, 0, 0, 0, 0, 0, 0, 0, 0, 2, 0, 1,
+    0, 210, 2, 0, 0, 128, 255, 62, 0, 0, 0, 0, 0, 0, 0, 0, 0, 0, 0, 0, 0, 1, 0, 1, 0, 69, 2, 0, 7,
+    128, 32, 1, 13, 184, 0, 0, 0, 0, 0, 0, 0, 0, 0, 0, 9, 9,
+];
+
+const STAR6: [u8; 72] = [
+    0, 0x46, 0x23, 0, 0x3c, 0xf7, 2, 0, 32, 1, 13, 184, 0, 0, 0, 0, 0, 0, 0, 0, 0, 0, 0, 2, 0, 1,
+    0, 210, 2, 0, 0, 128, 255, 62, 0, 0, 0, 0, 0, 0, 0, 0, 0, 0, 0, 0, 0, 1, 0, 1, 0, 0, 2, 0, 7,
+    128, 32, 1, 13, 184, 0, 0, 0, 0, 0, 0, 0, 0, 0, 0, 9, 9,
+];
+
 /// Appends the entries of the sources 10.1.0.N from this one to that one, with these flags.
 fn push_entries(bytes: &mut Vec<u8>, flags: u8, first: u8, last: u8) -> Result<(), AllocError> {
     for number in first..=last {
@@ -193,17 +206,30 @@ fn hear_excepted6(alloc: Global, state: &mut State<V6>, count: u8) -> Result<boo
     }
 }
 
-/// Whether a message of so many bytes is written to a device that takes one byte a call, behind this length; of none
-/// the star is too big, and nothing is.
-fn is_told(alloc: Global, state: &State<V6>, length: [u8; 2]) -> Result<bool, AllocError> {
+/// Appends the exceptions 2001:db8::1 to 2001:db8::N.
+fn push_entries6(bytes: &mut Vec<u8>, count: u8) -> Result<(), AllocError> {
+    for number in 1..=count {
+        bytes.extend_from_slice(&[2, 0, 5, 128])?;
+        bytes.extend_from_slice(&address6(number))?;
+    }
+    Ok(())
+}
+
+/// Whether the star is told to be too big, and nothing is written.
+fn is_too_big6(alloc: Global, state: &State<V6>) -> Result<bool, AllocError> {
     let mut out = ScriptedDrain::new(alloc, 1, 10_000);
     let told = write_to(alloc, state, &mut out)?;
-    if length == [0, 0] {
-        return Ok(told == Err(WriteFault::TooBig(GROUP6)) && out.written().is_empty());
+    Ok(told == Err(WriteFault::TooBig(GROUP6)) && out.written().is_empty())
+}
+
+/// Whether these bytes are written, and behind them so many exceptions; where there are none, the star is too big.
+fn is_told(alloc: Global, state: &State<V6>, front: &[u8], count: u8) -> Result<bool, AllocError> {
+    if front.is_empty() {
+        return is_too_big6(alloc, state);
     }
-    let count = 2 + usize::from(u16::from_be_bytes(length));
-    let written = out.written();
-    Ok(told == Ok(1) && written.len() == count && written.starts_with(&length))
+    let mut bytes = Vec::from_slice(alloc, front)?;
+    push_entries6(&mut bytes, count)?;
+    is_written(alloc, state, 1, &bytes)
 }
 
 /// The same where so many exceptions are heard now.
@@ -211,24 +237,24 @@ fn is_told_behind(
     alloc: Global,
     state: &mut State<V6>,
     count: u8,
-    length: [u8; 2],
+    front: &[u8],
 ) -> Result<bool, AllocError> {
-    Ok(hear_excepted6(alloc, state, count)? && is_told(alloc, state, length)?)
+    Ok(hear_excepted6(alloc, state, count)? && is_told(alloc, state, front, count)?)
 }
 
 /// The same of a new state, for messages of at most so many bytes.
-fn fits6(alloc: Global, budget: usize, count: u8, length: [u8; 2]) -> Result<bool, AllocError> {
+fn fits6(alloc: Global, budget: usize, count: u8, front: &[u8]) -> Result<bool, AllocError> {
     match state6(alloc, budget) {
-        Some(mut state) => is_told_behind(alloc, &mut state, count, length),
+        Some(mut state) => is_told_behind(alloc, &mut state, count, front),
         None => Ok(false),
     }
 }
 
 #[test]
 fn as_many_exceptions_of_ipv6_as_fit(rt: HostRuntime) -> Result<(), Fail> {
-    assert!(rt; fits6(rt.alloc(), 1460, 69, [5, 0xaa])?);
-    assert!(rt; fits6(rt.alloc(), 1460, 70, [0, 0])?);
-    assert!(rt; fits6(rt.alloc(), 70, 0, [0, 0x46])?);
-    assert!(rt; fits6(rt.alloc(), 70, 1, [0, 0])?);
+    assert!(rt; fits6(rt.alloc(), 1460, 69, &STAR6_BUT_69)?);
+    assert!(rt; fits6(rt.alloc(), 1460, 70, &[])?);
+    assert!(rt; fits6(rt.alloc(), 70, 0, &STAR6)?);
+    assert!(rt; fits6(rt.alloc(), 70, 1, &[])?);
     Ok(())
 }

@@ -9,18 +9,18 @@ use pim_jp::Entry;
 use std::alloc::{AllocError, Global};
 use std::test::Fail;
 
-const A: [u8; 4] = [192, 0, 2, 1];
+pub(super) const A: [u8; 4] = [192, 0, 2, 1];
 
-const B: [u8; 4] = [192, 0, 2, 2];
+pub(super) const B: [u8; 4] = [192, 0, 2, 2];
 
 /// What a port hears of a group, in a message of one set.
 #[derive(Clone, Copy)]
-struct Heard {
-    port: usize,
-    joined: &'static [Entry<[u8; 4]>],
-    pruned: &'static [Entry<[u8; 4]>],
+pub(super) struct Heard {
+    pub(super) port: usize,
+    pub(super) joined: &'static [Entry<[u8; 4]>],
+    pub(super) pruned: &'static [Entry<[u8; 4]>],
     /// Whether prunes wait for other neighbours.
-    several: bool,
+    pub(super) several: bool,
 }
 
 /// What is heard, and how many messages of which bytes are written then.
@@ -32,7 +32,7 @@ struct Row {
 }
 
 /// A port joins the star, and prunes A.
-const STAR_EXCEPT_A: Heard = Heard {
+pub(super) const STAR_EXCEPT_A: Heard = Heard {
     port: 0,
     joined: &[Entry::Star(RP)],
     pruned: &[Entry::Rpt(A)],
@@ -40,14 +40,14 @@ const STAR_EXCEPT_A: Heard = Heard {
 };
 
 /// Another one prunes B, too.
-const STAR_EXCEPT_BOTH: Heard = Heard {
+pub(super) const STAR_EXCEPT_BOTH: Heard = Heard {
     port: 1,
     pruned: &[Entry::Rpt(A), Entry::Rpt(B)],
     ..STAR_EXCEPT_A
 };
 
 /// One without the star prunes B.
-const LONE_PRUNE: Heard = Heard {
+pub(super) const LONE_PRUNE: Heard = Heard {
     port: 2,
     joined: &[],
     pruned: &[Entry::Rpt(B)],
@@ -66,7 +66,7 @@ const SOURCE_A: [u8; 36] = [
     0, 0, 1, 0, 4, 32, 192, 0, 2, 1,
 ];
 
-const ROWS: [Row; 6] = [
+const ROWS: [Row; 7] = [
     // Sources that each port with the star has pruned are exceptions.
     Row {
         heard: &[STAR_EXCEPT_A, STAR_EXCEPT_BOTH, LONE_PRUNE],
@@ -78,6 +78,18 @@ const ROWS: [Row; 6] = [
         heard: &[STAR_EXCEPT_A, STAR_EXCEPT_A],
         messages: 1,
         bytes: &EXCEPT_A,
+    },
+    // A Join(*,G) alone ends a prune.
+    Row {
+        heard: &[
+            STAR_EXCEPT_A,
+            Heard {
+                pruned: &[],
+                ..STAR_EXCEPT_A
+            },
+        ],
+        messages: 1,
+        bytes: &STAR,
     },
     // Prunes alone ask for nothing.
     Row {
@@ -149,7 +161,7 @@ pub(super) fn is_written<F: Family>(
 }
 
 /// Whether a port takes what it hears of a group.
-fn is_taken(
+pub(super) fn is_taken(
     alloc: Global,
     state: &mut State<V4>,
     group: [u8; 4],
@@ -161,7 +173,7 @@ fn is_taken(
 }
 
 /// Whether ports take all that they hear of a group.
-fn are_taken(
+pub(super) fn are_taken(
     alloc: Global,
     state: &mut State<V4>,
     group: [u8; 4],

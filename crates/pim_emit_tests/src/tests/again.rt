@@ -1,0 +1,150 @@
+//! What is written where a message is heard again, and of two demands.
+
+use super::rows::{
+    A, B, EXCEPT_A, Heard, LONE_PRUNE, STAR_EXCEPT_A, STAR_EXCEPT_BOTH, are_taken, is_taken,
+    is_written,
+};
+use super::{GROUP, State, state4, write_to};
+use pim_addr::V4;
+use pim_device::ScriptedDrain;
+use pim_down::{Ports, Step};
+use pim_jp::Entry;
+use std::alloc::{AllocError, Global};
+use std::test::Fail;
+
+/// How many machines have so many milliseconds left.
+fn count_left(ports: &Ports<V4>, left: u64) -> usize {
+    ports
+        .records()
+        .filter(|held| held.machine.expires_in == Some(left))
+        .count()
+}
+
+/// Whether the star but A is written when it is heard, and when it is heard again 5 s later, from which both machines
+/// begin anew.
+fn is_heard_again(alloc: Global, state: &mut State<V4>) -> Result<bool, AllocError> {
+    Ok(
+        is_taken(alloc, state, GROUP, &STAR_EXCEPT_A)?
+            && is_written(alloc, state, 1, &EXCEPT_A)?
+            && state.ports.run_to(5_000) == Step::Reached
+            && count_left(&state.ports, 205_000) == 2
+            && is_taken(alloc, state, GROUP, &STAR_EXCEPT_A)?
+            && state.ports.now() == 5_000
+            && count_left(&state.ports, 210_000) == 2
+            && state.ports.records().count() == 2
+            && is_written(alloc, state, 1, &EXCEPT_A)?,
+    )
+}
+
+#[test]
+fn message_heard_again_writes_the_same(rt: HostRuntime) -> Result<(), Fail> {
+    let Some(mut state) = state4(rt.alloc(), 1, 1480) else {
+        assert!(rt; false);
+        return Ok(());
+    };
+    assert!(rt; is_heard_again(rt.alloc(), &mut state)?);
+    Ok(())
+}
+
+/// What is heard for each of two demands, and whether these are equal.
+type Pair = (&'static [Heard], &'static [Heard], bool);
+
+/// A port joins the star alone.
+const STAR_ALONE: Heard = Heard {
+    pruned: &[],
+    ..STAR_EXCEPT_A
+};
+
+/// A port joins the source A.
+const JOIN_A: Heard = Heard {
+    joined: &[Entry::Source(A)],
+    ..STAR_ALONE
+};
+
+/// A port joins the source B.
+const JOIN_B: Heard = Heard {
+    joined: &[Entry::Source(B)],
+    ..STAR_ALONE
+};
+
+/// Another port joins both, the greater one first.
+const JOIN_BOTH: Heard = Heard {
+    port: 2,
+    joined: &[Entry::Source(B), Entry::Source(A)],
+    ..STAR_ALONE
+};
+
+const ALL: &[Heard] = &[STAR_EXCEPT_A, STAR_EXCEPT_BOTH, LONE_PRUNE];
+
+const PAIRS: [Pair; 14] = [
+    (&[], &[], true),
+    // prunes alone ask for nothing
+    (&[], &[LONE_PRUNE], true),
+    (&[], &[STAR_ALONE], false),
+    // what one port doesn't prune is wanted
+    (ALL, &[STAR_EXCEPT_A], true),
+    (ALL, &[STAR_EXCEPT_BOTH], false),
+    (&[STAR_EXCEPT_A], &[STAR_ALONE], false),
+    (
+        &[
+            STAR_EXCEPT_A,
+            Heard {
+                port: 1,
+                ..STAR_ALONE
+            },
+        ],
+        &[STAR_ALONE],
+        true,
+    ),
+    // a prune that is pending isn't one
+    (
+        &[Heard {
+            several: true,
+            ..STAR_EXCEPT_A
+        }],
+        &[STAR_ALONE],
+        true,
+    ),
+    // sources on whichever ports, in whichever order
+    (&[JOIN_A, Heard { port: 1, ..JOIN_B }], &[JOIN_BOTH], true),
+    (&[JOIN_A], &[JOIN_BOTH], false),
+    (&[JOIN_A], &[JOIN_B], false),
+    (&[JOIN_A], &[STAR_ALONE], false),
+    (&[JOIN_A, LONE_PRUNE], &[JOIN_A], true),
+    (&[STAR_ALONE, JOIN_A], &[STAR_ALONE], false),
+];
+
+/// How many messages are written of what three ports heard, and their bytes; `None` where something is refused.
+fn written_of(alloc: Global, heard: &[Heard]) -> Result<Option<(u64, ScriptedDrain)>, AllocError> {
+    let Some(mut state) = state4(alloc, 3, 1480) else {
+        return Ok(None);
+    };
+    if !are_taken(alloc, &mut state, GROUP, heard)? {
+        return Ok(None);
+    }
+    let mut out = ScriptedDrain::new(alloc, 1, 10_000);
+    match write_to(alloc, &state, &mut out)? {
+        Ok(count) => Ok(Some((count, out))),
+        Err(_) => Ok(None),
+    }
+}
+
+/// Whether the bytes of a pair's demands are equal exactly where it says so, and then as many messages.
+fn are_compared(alloc: Global, (one, other, same): Pair) -> Result<bool, AllocError> {
+    let Some((count, bytes)) = written_of(alloc, one)? else {
+        return Ok(false);
+    };
+    let Some((other_count, other_bytes)) = written_of(alloc, other)? else {
+        return Ok(false);
+    };
+    let equal = bytes.written() == other_bytes.written();
+    Ok(equal == same && (!same || count == other_count))
+}
+
+#[test]
+fn equal_bytes_are_of_equal_demands(rt: HostRuntime) -> Result<(), Fail> {
+    for pair in PAIRS {
+        assert!(rt; are_compared(rt.alloc(), pair)?);
+    }
+    Ok(())
+}
