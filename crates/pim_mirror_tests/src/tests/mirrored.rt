@@ -112,6 +112,13 @@ struct Ends {
     left: [usize; 2],
 }
 
+/// There is no router, for another cause than want of memory.
+const NOT_MADE: Ends = Ends {
+    moment: 0,
+    records: 0,
+    left: [0, 0],
+};
+
 fn count_left(router: &Router<'_, V4>, left: u64) -> usize {
     router
         .ports()
@@ -207,7 +214,9 @@ fn one_is_heard(
     moments: [u64; 2],
 ) -> Option<(Ends, [bool; 3])> {
     let messages = asked_for(alloc, writer, message)?;
-    let mut router = mirrored(alloc, &messages, writer, fresh)?.ok()?;
+    let Ok(mut router) = mirrored(alloc, &messages, writer, fresh)? else {
+        return Some((NOT_MADE, [false; 3]));
+    };
     let ends = end_state(&router, [left, 0]);
     let at_once = messages.same_bytes(&router.canonical(alloc, writer).ok()?);
     if !reach(&mut router, moments[0]) {

@@ -1,0 +1,78 @@
+#!/bin/sh
+# Runs each built test of refused growths once for each allocation that it asks for, with that one refused, by
+# refuse_memory.sh, and prints what the runs answered. The list below names the tests and the calls that they make.
+#
+# A run is right where the test passes: it compares what a call that is refused memory answers and leaves, and what the
+# same call answers then with memory, with what it would have answered at first. It is right, too, where the test says that
+# it had no memory itself, "error: AllocError". Any other run, such as one that is aborted, ended by a signal, or
+# longer than 60 s, is wrong: then the last line says so, and the status is 1. So it is where a test isn't built, doesn't pass with
+# memory, or asks for none.
+#
+# `rt ci` at the top of the repository leaves the built tests (crates/NAME/out/NAME_tests); so does, of one crate alone, `rt test`
+# in its folder, which proves it first.
+#
+#   tools/each_growth_refused.sh             all tests
+#   tools/each_growth_refused.sh CRATE..     those of these crates
+set -eu
+here=$(cd "$(dirname "$0")" && pwd)
+said=$(mktemp)
+trap 'rm "$said"' EXIT
+wrong=0
+ran=0
+
+# whether the answers in $said are right
+is_right() {
+    [ "$(head -n 1 "$said")" = "none refused: status 0: test result: ok" ] || return 1
+    [ "$(wc -l < "$said")" -gt 2 ] || return 1
+    ! sed 1,2d "$said" | grep -qvE ' status (0: test result: ok|101: error: AllocError)$'
+}
+
+# runs the test $2 of the crate $1
+refuse() {
+    built=$here/../crates/$1/out/$1_tests
+    if [ ! -x "$built" ]; then
+        echo "  isn't built"
+        wrong=1
+        return
+    fi
+    "$here/refuse_memory.sh" "$built" "tests::$2" < /dev/null > "$said" 2>&1 || true
+    sed 's/^/  /' "$said"
+    is_right || { echo "  wrong"; wrong=1; }
+}
+
+while read -r crate name calls; do
+    case " ${*:-$crate} " in
+        *" $crate "*) ;;
+        *) continue ;;
+    esac
+    echo "$crate $name: $calls"
+    refuse "$crate" "$name"
+    ran=1
+done << 'LIST'
+pim_addr_tests routes::refusals_change_nothing Routes::add_via
+pim_hello_tests neighbours::refusals_change_nothing Neighbours::hear
+pim_down_tests limits::refusals_change_nothing Ports::hear
+pim_form_tests forms::refusals_leave_the_ports NormalForm::of
+pim_form_tests toward::refusals_of_toward_change_nothing NormalForm::toward
+pim_form_tests kept::refusals_leave_the_form normal_again
+pim_form_tests packing::refusals_change_nothing pack
+pim_change_tests units::refusals_leave_the_forms changed
+pim_change_tests refused::refusals_leave_what_is_told triggered
+pim_router_tests memory::refusals_change_nothing Router::new, take_packet of Hellos and of Join/Prunes
+pim_router_tests refused::messages_are_made_again Router::canonical
+pim_router_tests refused::wants_are_compared_again same_wants
+pim_mirror_tests mirrored::exception_is_pruned_at_the_final_moment mirror
+pim_capture_tests refused_growth Capture::next
+pim_replay_tests states::refusals_leave_a_front write_state
+pim_replay_tests replays::refused_memory_leaves_a_front replay_into
+pim_replay_tests sames::refused_memory_tells_nothing same_into
+pim_replay_tests mirrors::refused_memory_tells_whole_lines mirror_into
+pim_replay_tests emits::refused_memory_leaves_a_front_of_the_bytes emit_into
+pim_replay_tests changes::refused_memory_tells_whole_lines change_into
+LIST
+if [ "$ran" = 0 ]; then
+    echo "no test of $*"
+    exit 1
+fi
+[ "$wrong" = 0 ] || echo "some runs were wrong"
+exit "$wrong"
