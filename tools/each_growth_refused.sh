@@ -2,14 +2,14 @@
 # Runs each built test of refused growths once for each allocation that it asks for, with that one refused, by
 # refuse_memory.sh, and prints what the runs answered. The list below names the tests and the calls that they make.
 #
-# A run is right where the test passes: it compares what a call that is refused memory answers and leaves, and what the
-# same call answers then with memory, with what it would have answered at first. It is right, too, where the test says that
-# it had no memory itself, "error: AllocError". Any other run, such as one that is aborted, ended by a signal, or
-# longer than 60 s, is wrong: then the last line says so, and the status is 1. So it is where a test isn't built, doesn't pass with
+# A run is right where the test passes: it looks at what a call that is refused memory answers and leaves or wrote and, but
+# for calls that write a replay, at what the same call answers then with memory. It is right, too, where the test says that it
+# had no memory itself, "error: AllocError". Any other run, such as one that is aborted, ended by a signal, or longer than
+# 60 s, is wrong: then the last line says so, and the status is 1. So it is where a test isn't built, doesn't pass with
 # memory, or asks for none.
 #
-# `rt ci` at the top of the repository leaves the built tests (crates/NAME/out/NAME_tests); so does, of one crate alone, `rt test`
-# in its folder, which proves it first.
+# `rt ci` at the top of the repository leaves the built tests (crates/NAME/out/NAME_tests); so does, of one crate alone,
+# `rt test` in its folder, which proves it first.
 #
 #   tools/each_growth_refused.sh             all tests
 #   tools/each_growth_refused.sh CRATE..     those of these crates
