@@ -1,31 +1,36 @@
 -- End of Message, group by group.
-use Rattle.std.proofs.Common.{◌≡◌, ℕ, zero, suc, ◌+◌, ◌-◌, ◌<◌, ◌≤◌, Bool, true, false, cond, ◌&&◌, ◌||◌, not, List, [], ◌∷◌, ◌++◌, Option, Some, None, length, get_or, eqb, ltb, refl, sym, ap, subst, ◌∙◌, arith}
+use Rattle.std.proofs.Common.{◌≡◌, ℕ, zero, suc, ◌+◌, ◌-◌, ◌<◌, ◌≤◌, Bool, true, false, cond, ◌&&◌, ◌||◌, not, List, [], ◌∷◌, ◌++◌, Option, Some, None, length, get_or, set, drop, eqb, ltb, refl, sym, ap, subst, ◌∙◌, arith}
 use Rattle.std.specs.declared.cmp.Ordering.TheVariants.{Less, Equal, Greater}
-use Rattle.std.specs.List.{filter, remove, flat_map, AllByRecursion}
+use Rattle.std.specs.List.{filter, remove, flat_map, list_any, AllByRecursion}
 use Rattle.std.specs.Cmp.Lexicographic.{pointwise, same_text}
 use Rattle.std.proofs.lemmas.Bool.{false≢true, ltb-true, ltb-false}
+use Rattle.std.proofs.lemmas.List.{get_or-set_other}
+use Rattle.std.proofs.lemmas.Grind.{get_or-set_at}
 use Rattle.pim_jp.specs.declared.entry.Entry.{Entry}
 use Rattle.pim_jp.specs.declared.entry.Entry.TheVariants as entry
 use Rattle.pim_jp.specs.Message.{GroupSet}
 use Rattle.pim_down.specs.declared.held.Held.{Held}
-use Rattle.pim_down.specs.declared.key.What.TheVariants.{Star}
+use Rattle.pim_down.specs.declared.key.What.{What}
+use Rattle.pim_down.specs.declared.key.What.TheVariants.{Star, Source, Rpt}
 use Rattle.pim_down.specs.declared.key.Key.{Key}
 use Rattle.pim_down.specs.declared.machine.Machine.{Machine}
+use Rattle.pim_down.specs.declared.machine.State.{State}
+use Rattle.pim_down.specs.declared.machine.State.TheVariants.{Join, PrunePending, Prune, PruneTmp, PrunePendingTmp}
 use Rattle.pim_down.specs.declared.machine.Record.{Record}
 use Rattle.pim_down.specs.Key.{key_cmp}
-use Rattle.pim_down.specs.Tables.{Start, on_star_join}
+use Rattle.pim_down.specs.Tables.{Start, greater, on_join, on_prune, on_star_join, rpt_prune_in, on_rpt_prune}
 use Rattle.pim_down.specs.Records.{IsBelow, IsAscending, recorded, at_rank, changed, each_changed}
 use Rattle.pim_down.specs.Hearing.{Event, is_known, entry_events, list_events, set_events, key_of, on_own, is_star_join, is_rpt_on, is_rpt_of, on_rpts, act, act_all, at_end}
 use Rattle.pim_down.specs.Sound.{is_temporary, IsSettled}
 use Rattle.pim_down.specs.After.{is_before_rpts}
-use Rattle.pim_down.specs.Running.{is_over, is_over_in, is_group_of, AreOverIn}
+use Rattle.pim_down.specs.Running.{is_over, is_over_in, is_group_of, has_star_join, joined_sets, AreOverIn}
 use Rattle.pim_down.specs.Seen.{record_seen, records_seen}
 use Rattle.pim_down.proofs.Order.{equal_keys}
 use Rattle.pim_down.proofs.Each.{end_filter, seen_filter}
 use Rattle.pim_down.proofs.Real.{all_append, all_flat}
 use Rattle.pim_down.proofs.Rpts.{itself, AreBehind, AreOthers}
 use Rattle.pim_down.proofs.Looking.{NoneBefore, none_more}
-use Rattle.pim_down.proofs.Stays.{over_later}
+use Rattle.pim_down.proofs.Stays.{set_at, over_later}
 
 -- ---- lists
 
@@ -64,6 +69,29 @@ module _ {X : Type 0} where
   shorter [] i w = absurd (omega arith)
   shorter (x ∷ xs) zero w = refl
   shorter (x ∷ xs) (suc i) w = ap suc (shorter xs i (omega arith))
+
+any_behind : {X : Type 0} (p : X → Bool) (xs ys : List X) → list_any p ys ≡ true → list_any p (xs ++ ys) ≡ true
+any_behind p [] ys e = e
+any_behind p (x ∷ xs) ys e = either (p x) (list_any p (xs ++ ys)) (any_behind p xs ys e)
+  where
+    either : (a b : Bool) → b ≡ true → (a || b) ≡ true
+    either true b f = refl
+    either false b f = f
+
+-- a list is gone through, and it was told before whether one passed
+pub any_more : {X : Type 0} (p : X → Bool) (was this : Bool) (x : X) (all others : List X) → all ≡ x ∷ others → this ≡ p x → ((was || this) || list_any p others) ≡ (was || list_any p all)
+any_more p was this x all others split is = by was ∙ sym (ap (λ xs. was || list_any p xs) split ∙ ap (λ b. was || (b || list_any p others)) (sym is))
+  where
+    by : (w : Bool) → ((w || this) || list_any p others) ≡ (w || (this || list_any p others))
+    by true = refl
+    by false = refl
+
+pub any_told : {X : Type 0} (p : X → Bool) (was : Bool) (all : List X) → all ≡ [] → was ≡ (was || list_any p all)
+any_told p was all none = by was ∙ ap (λ xs. was || list_any p xs) (sym none)
+  where
+    by : (w : Bool) → w ≡ (w || false)
+    by true = refl
+    by false = refl
 
 -- ---- order
 
@@ -166,6 +194,59 @@ ends_nearer now new i j d w items at = by (is_temporary (get_or now i d).machine
 
 -- ---- all groups of a message
 
+pub none_joined : (joined : List Bool) → joined_sets [] joined ≡ []
+unfolding joined_sets
+none_joined joined = refl
+
+-- the sets that are told of, from one on
+here_suc : (this : GroupSet) (rest : List GroupSet) (joined : List Bool) (k : ℕ) → get_or joined k false ≡ true → joined_sets (this ∷ rest) (drop k joined) ≡ this ∷ joined_sets rest (drop (suc k) joined)
+unfolding joined_sets
+here_suc this rest [] zero e = absurd (false≢true e)
+here_suc this rest [] (suc k) e = absurd (false≢true e)
+here_suc this rest (j ∷ joined) zero e = ap (λ t. cond t (this ∷ joined_sets rest joined) (joined_sets rest joined)) e
+here_suc this rest (j ∷ joined) (suc k) e = here_suc this rest joined k e
+
+pub joined_here : (this : GroupSet) (rest : List GroupSet) (joined : List Bool) (k : ℕ) → get_or joined k false ≡ true → joined_sets (this ∷ rest) (drop k joined) ≡ this ∷ joined_sets rest (drop (k + 1) joined)
+joined_here this rest joined k e = here_suc this rest joined k e ∙ ap (λ n. this ∷ joined_sets rest (drop n joined)) (let next : suc k ≡ k + 1 = omega arith in next)
+
+none_told : (sets : List GroupSet) → joined_sets sets [] ≡ []
+unfolding joined_sets
+none_told [] = refl
+none_told (set ∷ sets) = refl
+
+not_here_suc : (this : GroupSet) (rest : List GroupSet) (joined : List Bool) (k : ℕ) → get_or joined k false ≡ false → joined_sets (this ∷ rest) (drop k joined) ≡ joined_sets rest (drop (suc k) joined)
+unfolding joined_sets
+not_here_suc this rest [] zero e = sym (none_told rest)
+not_here_suc this rest [] (suc k) e = sym (none_told rest)
+not_here_suc this rest (j ∷ joined) zero e = ap (λ t. cond t (this ∷ joined_sets rest joined) (joined_sets rest joined)) e
+not_here_suc this rest (j ∷ joined) (suc k) e = not_here_suc this rest joined k e
+
+pub joined_not_here : (this : GroupSet) (rest : List GroupSet) (joined : List Bool) (k : ℕ) → get_or joined k false ≡ false → joined_sets (this ∷ rest) (drop k joined) ≡ joined_sets rest (drop (k + 1) joined)
+joined_not_here this rest joined k e = not_here_suc this rest joined k e ∙ ap (λ n. joined_sets rest (drop n joined)) (let next : suc k ≡ k + 1 = omega arith in next)
+
+pub later_joined : (group : List ℕ) (sets : List GroupSet) (joined : List Bool) (k n : ℕ) (this : GroupSet) (rest : List GroupSet) → drop k sets ≡ this ∷ rest → n ≤ k → get_or joined k false ≡ true → this.group ≡ group → is_group_of (joined_sets (drop n sets) (drop n joined)) group ≡ true
+unfolding joined_sets is_group_of
+later_joined group [] joined zero n this rest e le told same = absurd (let m = ap length e in omega (arith, m))
+later_joined group [] joined (suc k) n this rest e le told same = absurd (let m = ap length e in omega (arith, m))
+later_joined group (first ∷ sets) [] zero n this rest e le told same = absurd (false≢true told)
+later_joined group (first ∷ sets) [] (suc k) n this rest e le told same = absurd (false≢true told)
+later_joined group (first ∷ sets) (j ∷ joined) zero zero this rest e le told same =
+    let here : first ≡ this = cc in
+    let of_group : group ≡ first.group = sym (ap (λ (s : GroupSet). s.group) here ∙ same) in
+    ap (λ t. is_group_of (cond t (first ∷ joined_sets sets joined) (joined_sets sets joined)) group) told
+    ∙ ap (λ b. b || is_group_of (joined_sets sets joined) group) (subst (λ (g : List ℕ). pointwise eqb group g ≡ true) of_group (itself group))
+later_joined group (first ∷ sets) (j ∷ joined) zero (suc n) this rest e le told same = absurd (omega (arith, le))
+later_joined group (first ∷ sets) (j ∷ joined) (suc k) zero this rest e le told same = by j (later_joined group sets joined k zero this rest e (omega arith) told same)
+  where
+    either : (a b : Bool) → b ≡ true → (a || b) ≡ true
+    either true b f = refl
+    either false b f = f
+
+    by : (t : Bool) → is_group_of (joined_sets sets joined) group ≡ true → is_group_of (cond t (first ∷ joined_sets sets joined) (joined_sets sets joined)) group ≡ true
+    by true f = either (pointwise eqb group first.group) (is_group_of (joined_sets sets joined) group) f
+    by false f = f
+later_joined group (first ∷ sets) (j ∷ joined) (suc k) (suc n) this rest e le told same = later_joined group sets joined k n this rest e (omega (arith, le)) told same
+
 module _ (port : ℕ) where
   rest_of : (on same tmp others : Bool) → ((on && same) && tmp) ≡ false → ((on && tmp) ≡ true → (same || others) ≡ true) → (on && tmp) ≡ true → others ≡ true
   rest_of true true true others e f g = absurd (false≢true (sym e))
@@ -226,6 +307,10 @@ module _ (port : ℕ) where
     same = to.same;
   }
 
+  -- a set that had no Join(*,G) is passed over
+  pub ends_skip : (old now : List (Record (List ℕ))) (sets rest : List GroupSet) → sets ≡ rest → EndsBy old now sets → EndsBy old now rest
+  ends_skip old now sets rest same to = subst (λ (rs : List GroupSet). EndsBy old now rs) same to
+
   pub ends_message : (old now : List (Record (List ℕ))) (sets : List GroupSet) → sets ≡ [] → EndsBy old now sets → now ≡ each_changed (at_end port) old
   ends_message old now sets none to =
       sym (none_over now (subst (λ (s : List GroupSet). AreOverIn port s now) none to.left)) ∙ sym (end_filter port now) ∙ to.same
@@ -233,6 +318,11 @@ module _ (port : ℕ) where
   -- ---- what a message leaves before its end
 
   module _ (sets : List GroupSet) where
+    -- a machine of this key that ends with the message is of a group of the sets
+    OverIn : Key (List ℕ) → Option Machine → Type 0
+    OverIn key None = Unit {0}
+    OverIn key (Some machine) = is_over port (record { key = key; machine = machine }) ≡ true → is_group_of sets key.group ≡ true
+
     never_over : (on tmp : Bool) → tmp ≡ false → (on && tmp) ≡ true → false ≡ true
     never_over true tmp e f = sym e ∙ f
     never_over false tmp e f = f
@@ -242,22 +332,22 @@ module _ (port : ℕ) where
     over_settled [] s = tt
     over_settled (held ∷ records) s = (λ e. absurd (false≢true (never_over (is_rpt_on port held.key) (is_temporary held.machine.state) s.0 e)), over_settled records s.1)
 
-    over_recorded : (key : Key (List ℕ)) (machine : Option Machine) (records : List (Record (List ℕ))) → is_group_of sets key.group ≡ true → AreOverIn port sets records → AreOverIn port sets (recorded key machine ++ records)
-    unfolding AreOverIn
+    over_recorded : (key : Key (List ℕ)) (machine : Option Machine) (records : List (Record (List ℕ))) → OverIn key machine → AreOverIn port sets records → AreOverIn port sets (recorded key machine ++ records)
+    unfolding AreOverIn OverIn
     over_recorded key None records is are = are
-    over_recorded key (Some machine) records is are = (λ e. is, are)
+    over_recorded key (Some machine) records is are = (is, are)
 
-    over_changed : (key : Key (List ℕ)) (change : Option Machine → Option Machine) → is_group_of sets key.group ≡ true → (records : List (Record (List ℕ))) → AreOverIn port sets records → AreOverIn port sets (changed key change records)
-    unfolding AreOverIn changed
-    over_changed key change is [] are = by (change None)
+    over_changed : (key : Key (List ℕ)) (change : Option Machine → Option Machine) → ((held : Option Machine) → OverIn key (change held)) → (records : List (Record (List ℕ))) → AreOverIn port sets records → AreOverIn port sets (changed key change records)
+    unfolding AreOverIn changed OverIn
+    over_changed key change is [] are = by (change None) (is None)
       where
-        by : (m : Option Machine) → AreOverIn port sets (recorded key m)
-        by None = tt
-        by (Some machine) = (λ e. is, tt)
+        by : (m : Option Machine) → OverIn key m → AreOverIn port sets (recorded key m)
+        by None i = tt
+        by (Some machine) i = (i, tt)
     over_changed key change is (held ∷ records) are =
         elim (key_cmp key held.key) as (λ r. key_cmp key held.key ≡ r → AreOverIn port sets (at_rank r (recorded key (change None) ++ held ∷ records) (recorded held.key (change (Some held.machine)) ++ records) (held ∷ changed key change records))) [
-          | Less ↦ λ e. over_recorded key (change None) (held ∷ records) is are
-          | Equal ↦ λ e. over_recorded held.key (change (Some held.machine)) records (subst (λ (k : Key (List ℕ)). is_group_of sets k.group ≡ true) (equal_keys key held.key e) is) are.1
+          | Less ↦ λ e. over_recorded key (change None) (held ∷ records) (is None) are
+          | Equal ↦ λ e. over_recorded held.key (change (Some held.machine)) records (subst (λ (k : Key (List ℕ)). OverIn k (change (Some held.machine))) (equal_keys key held.key e) (is (Some held.machine))) are.1
           | Greater ↦ λ e. (are.0, over_changed key change is records are.1)
         ] refl
 
@@ -268,67 +358,150 @@ module _ (port : ℕ) where
         second true b f = f
         second false b f = absurd (false≢true f)
 
+    of_group : (key : Key (List ℕ)) (held : Option Machine) → is_group_of sets key.group ≡ true → OverIn key held
+    unfolding OverIn
+    of_group key None is = tt
+    of_group key (Some machine) is = λ e. is
+
     over_each : (group : List ℕ) → is_group_of sets group ≡ true → (records : List (Record (List ℕ))) → AreOverIn port sets records → AreOverIn port sets (each_changed (on_rpts port group) records)
     unfolding AreOverIn each_changed
     over_each group is [] are = tt
     over_each group is (held ∷ records) are = by (over_each group is records are.1) (is_rpt_of port group held.key) refl
       where
         by : AreOverIn port sets (each_changed (on_rpts port group) records) → (t : Bool) → is_rpt_of port group held.key ≡ t → AreOverIn port sets (recorded held.key (cond t (on_star_join (Some held.machine)) (Some held.machine)) ++ each_changed (on_rpts port group) records)
-        by rest true e = over_recorded held.key (on_star_join (Some held.machine)) (each_changed (on_rpts port group) records) (subst (λ (g : List ℕ). is_group_of sets g ≡ true) (sym (group_is group held.key e)) is) rest
+        by rest true e = over_recorded held.key (on_star_join (Some held.machine)) (each_changed (on_rpts port group) records) (of_group held.key (on_star_join (Some held.machine)) (subst (λ (g : List ℕ). is_group_of sets g ≡ true) (sym (group_is group held.key e)) is)) rest
         by rest false e = (are.0, rest)
 
-    over_act : (start : Start) (event : Event) → is_group_of sets event.group ≡ true → (records : List (Record (List ℕ))) → AreOverIn port sets records → AreOverIn port sets (act port start event records)
-    over_act start event is records are =
-        let own = changed (key_of port event) (on_own event.joins event.what start) records in
-        let after = over_changed (key_of port event) (on_own event.joins event.what start) is records are in
-        elim (is_star_join event) as (λ s. AreOverIn port sets (cond s (each_changed (on_rpts port event.group) own) own)) [
-          | true ↦ over_each event.group is own after
-          | false ↦ after
-        ]
+    -- no event leaves its own machine in a state that ends with the message
+    settled_in : (key : Key (List ℕ)) (machine : Machine) → is_temporary machine.state ≡ false → OverIn key (Some machine)
+    unfolding OverIn
+    settled_in key machine e = λ f. absurd (false≢true (never_over (is_rpt_on port key) (is_temporary machine.state) e f))
 
+    beside : (key : Key (List ℕ)) (held : Option Machine) → is_rpt_on port key ≡ false → OverIn key held
+    unfolding OverIn
+    beside key None e = tt
+    beside key (Some machine) e = λ f. absurd (false≢true (ap (λ b. b && is_temporary machine.state) (sym e) ∙ f))
+
+    none_on : (b : Bool) → (b && false) ≡ false
+    none_on true = refl
+    none_on false = refl
+
+    pruned_in : (key : Key (List ℕ)) (start : Start) (held : Option Machine) → OverIn key (on_rpt_prune start held)
+    unfolding on_rpt_prune OverIn
+    pruned_in key start None = settled_in key (record { state = PrunePending; expires_in = start.expires_in; pending = Some start.pending }) refl
+    pruned_in key start (Some held) = by held.state refl
+      where
+        by : (state : State) → held.state ≡ state → OverIn key (rpt_prune_in state start held)
+        by Join e = settled_in key held (ap is_temporary e)
+        by PrunePending e = settled_in key held (ap is_temporary e)
+        by Prune e = settled_in key (record { state = Prune; expires_in = greater held.expires_in start.expires_in; pending = held.pending }) refl
+        by PruneTmp e = settled_in key (record { state = Prune; expires_in = greater held.expires_in start.expires_in; pending = held.pending }) refl
+        by PrunePendingTmp e = settled_in key (record { state = PrunePending; expires_in = greater held.expires_in start.expires_in; pending = held.pending }) refl
+
+    own_in : (joins : Bool) (group : List ℕ) (what : What (List ℕ)) (start : Start) (held : Option Machine) → OverIn (record { port = port; group = group; what = what }) (on_own joins what start held)
+    unfolding OverIn
+    own_in true group Star start held = beside (record { port = port; group = group; what = Star }) (on_join start held) (none_on (eqb port port))
+    own_in true group (Source source) start held = beside (record { port = port; group = group; what = Source source }) (on_join start held) (none_on (eqb port port))
+    own_in true group (Rpt source) start held = tt
+    own_in false group Star start held = beside (record { port = port; group = group; what = Star }) (on_prune start held) (none_on (eqb port port))
+    own_in false group (Source source) start held = beside (record { port = port; group = group; what = Source source }) (on_prune start held) (none_on (eqb port port))
+    own_in false group (Rpt source) start held = pruned_in (record { port = port; group = group; what = Rpt source }) start held
+
+    -- a Join(*,G) is of a group of the sets
     abbrev IsIn : Event → Type 0
-    IsIn event = is_group_of sets event.group ≡ true
+    IsIn event = is_star_join event ≡ true → is_group_of sets event.group ≡ true
+
+    over_act : (start : Start) (event : Event) → IsIn event → (records : List (Record (List ℕ))) → AreOverIn port sets records → AreOverIn port sets (act port start event records)
+    over_act start event is records are = by (is_star_join event) refl
+      where
+        own : List (Record (List ℕ))
+        own = changed (key_of port event) (on_own event.joins event.what start) records
+
+        after : AreOverIn port sets own
+        after = over_changed (key_of port event) (on_own event.joins event.what start) (own_in event.joins event.group event.what start) records are
+
+        by : (s : Bool) → is_star_join event ≡ s → AreOverIn port sets (cond s (each_changed (on_rpts port event.group) own) own)
+        by true e = over_each event.group (is e) own after
+        by false e = after
 
     over_act_all : (start : Start) (events : List Event) → AllByRecursion IsIn events → (records : List (Record (List ℕ))) → AreOverIn port sets records → AreOverIn port sets (act_all port start events records)
     unfolding act_all
     over_act_all start [] are_in records are = are
     over_act_all start (event ∷ events) are_in records are = over_act_all start events are_in.1 (act port start event records) (over_act start event are_in.0 records are)
 
-    in_entry : (known : List ℕ → Option (List ℕ)) (joins : Bool) (group : List ℕ) → is_group_of sets group ≡ true → (this : Entry (List ℕ)) → AllByRecursion IsIn (entry_events known joins group this)
-    in_entry known joins group is (entry.Star rp) = by (joins && not (is_known (known group) rp))
-      where
-        by : (b : Bool) → AllByRecursion IsIn (cond b [] (record { joins = joins; group = group; what = Star } ∷ []))
-        by true = tt
-        by false = (is, tt)
-    in_entry known joins group is (entry.Source source) = (is, tt)
-    in_entry known joins group is (entry.Rpt source) = (is, tt)
+    module _ (known : List ℕ → Option (List ℕ)) (group : List ℕ) where
+      joined_in : (entries : List (Entry (List ℕ))) → (list_any is_star_join (list_events known true group entries) ≡ true → is_group_of sets group ≡ true) → AllByRecursion IsIn (list_events known true group entries)
+      joined_in [] is = tt
+      joined_in (this ∷ entries) is =
+          all_append IsIn (entry_events known true group this) (list_events known true group entries) (first this is)
+          (joined_in entries (λ any. is (any_behind is_star_join (entry_events known true group this) (list_events known true group entries) any)))
+        where
+          first : (this : Entry (List ℕ)) → (list_any is_star_join (entry_events known true group this ++ list_events known true group entries) ≡ true → is_group_of sets group ≡ true) → AllByRecursion IsIn (entry_events known true group this)
+          first (entry.Star rp) is = by (not (is_known (known group) rp)) is
+            where
+              by : (b : Bool) → (list_any is_star_join (cond b [] (record { joins = true; group = group; what = Star } ∷ []) ++ list_events known true group entries) ≡ true → is_group_of sets group ≡ true) → AllByRecursion IsIn (cond b [] (record { joins = true; group = group; what = Star } ∷ []))
+              by true is = tt
+              by false is = (λ star. is refl, tt)
+          first (entry.Source source) is = (λ star. absurd (false≢true star), tt)
+          first (entry.Rpt source) is = (λ star. absurd (false≢true star), tt)
 
-    every : {X : Type 0} (xs : List X) → AllByRecursion (λ x. Unit {0}) xs
-    every [] = tt
-    every (x ∷ xs) = (tt, every xs)
+      not_joined_in : (entries : List (Entry (List ℕ))) → AllByRecursion IsIn (list_events known false group entries)
+      not_joined_in [] = tt
+      not_joined_in (this ∷ entries) = all_append IsIn (entry_events known false group this) (list_events known false group entries) (first this) (not_joined_in entries)
+        where
+          first : (this : Entry (List ℕ)) → AllByRecursion IsIn (entry_events known false group this)
+          first (entry.Star rp) = (λ star. absurd (false≢true star), tt)
+          first (entry.Source source) = (λ star. absurd (false≢true star), tt)
+          first (entry.Rpt source) = (λ star. absurd (false≢true star), tt)
 
-    in_set : (known : List ℕ → Option (List ℕ)) (set : GroupSet) → is_group_of sets set.group ≡ true → AllByRecursion IsIn (set_events known set)
+    in_set : (known : List ℕ → Option (List ℕ)) (set : GroupSet) → (has_star_join known set ≡ true → is_group_of sets set.group ≡ true) → AllByRecursion IsIn (set_events known set)
     in_set known set is =
         all_append IsIn (list_events known true set.group set.joined) (list_events known false set.group set.pruned)
-        (all_flat (λ e. Unit {0}) IsIn (entry_events known true set.group) (λ this u. in_entry known true set.group is this) set.joined (every set.joined))
-        (all_flat (λ e. Unit {0}) IsIn (entry_events known false set.group) (λ this u. in_entry known false set.group is this) set.pruned (every set.pruned))
+        (joined_in known set.group set.joined is) (not_joined_in known set.group set.pruned)
 
-  grown : (set : GroupSet) (sets part : List GroupSet) → AllByRecursion (λ (s : GroupSet). is_group_of sets s.group ≡ true) part → AllByRecursion (λ (s : GroupSet). is_group_of (set ∷ sets) s.group ≡ true) part
-  unfolding is_group_of
-  grown set sets [] all = tt
-  grown set sets (s ∷ part) all = (either (pointwise eqb s.group set.group) (is_group_of sets s.group) all.0, grown set sets part all.1)
-    where
-      either : (a b : Bool) → b ≡ true → (a || b) ≡ true
-      either true b e = refl
-      either false b e = e
+  module _ (known : List ℕ → Option (List ℕ)) where
+    -- a set that has a Join(*,G) is of a group of these
+    abbrev HasGroupIn : List GroupSet → GroupSet → Type 0
+    HasGroupIn sets set = has_star_join known set ≡ true → is_group_of sets set.group ≡ true
 
-  all_in : (sets : List GroupSet) → AllByRecursion (λ (s : GroupSet). is_group_of sets s.group ≡ true) sets
-  unfolding is_group_of
-  all_in [] = tt
-  all_in (set ∷ sets) = (ap (λ b. b || is_group_of sets set.group) (itself set.group), grown set sets sets (all_in sets))
+    grown : (set : GroupSet) (sets part : List GroupSet) → AllByRecursion (HasGroupIn sets) part → AllByRecursion (HasGroupIn (set ∷ sets)) part
+    unfolding is_group_of
+    grown set sets [] all = tt
+    grown set sets (s ∷ part) all = (λ star. either (pointwise eqb s.group set.group) (is_group_of sets s.group) (all.0 star), grown set sets part all.1)
+      where
+        either : (a b : Bool) → b ≡ true → (a || b) ≡ true
+        either true b e = refl
+        either false b e = e
 
-  pub over_heard : (known : List ℕ → Option (List ℕ)) (start : Start) (sets : List GroupSet) (records : List (Record (List ℕ))) → IsSettled records → AreOverIn port sets (act_all port start (flat_map (set_events known) sets) records)
-  over_heard known start sets records settled =
-      over_act_all sets start (flat_map (set_events known) sets)
-      (all_flat (λ (s : GroupSet). is_group_of sets s.group ≡ true) (IsIn sets) (set_events known) (λ set is. in_set sets known set is) sets (all_in sets))
-      records (over_settled sets records settled)
+    -- what is told of each set
+    abbrev pub AreTold : List GroupSet → List Bool → Type 0
+    AreTold sets joined = (i : ℕ) (d : GroupSet) → i < length sets → get_or joined i false ≡ has_star_join known (get_or sets i d)
+
+    pub told_more : (sets rest : List GroupSet) (this : GroupSet) (joined new : List Bool) (k n : ℕ) (starred : Bool) → drop k sets ≡ this ∷ rest → n ≡ k + 1 → k < length joined → new ≡ set joined k starred → starred ≡ has_star_join known this → ((i : ℕ) (d : GroupSet) → i < k → get_or joined i false ≡ has_star_join known (get_or sets i d)) → (i : ℕ) (d : GroupSet) → i < n → get_or new i false ≡ has_star_join known (get_or sets i d)
+    told_more sets rest this joined new k n starred split next within is star told i d lt = ap (λ (js : List Bool). get_or js i false) is ∙ by (ltb i k) refl
+      where
+        by : (t : Bool) → ltb i k ≡ t → get_or (set joined k starred) i false ≡ has_star_join known (get_or sets i d)
+        by true e =
+            let less = ltb-true i k e in
+            get_or-set_other joined k i starred false (λ same. omega (arith, same, less)) ∙ told i d less
+        by false e =
+            let same : i ≡ k = omega (arith, ltb-false i k e, lt, next) in
+            let here : get_or sets i d ≡ this = ap (λ m. get_or sets m d) same ∙ (set_at sets k this rest split).here d in
+            get_or-set_at joined k i starred false same within ∙ star ∙ ap (has_star_join known) (sym here)
+
+    all_in : (sets : List GroupSet) (joined : List Bool) → AreTold sets joined → AllByRecursion (HasGroupIn (joined_sets sets joined)) sets
+    unfolding joined_sets is_group_of
+    all_in [] joined told = tt
+    all_in (set ∷ sets) [] told =
+        (λ star. absurd (false≢true (told 0 set (omega arith) ∙ star)), subst (λ (js : List GroupSet). AllByRecursion (HasGroupIn js) sets) (none_told sets) (all_in sets [] (λ i d w. told (suc i) d (omega arith))))
+    all_in (set ∷ sets) (this ∷ joined) told = by this (told 0 set (omega arith)) (all_in sets joined (λ i d w. told (suc i) d (omega arith)))
+      where
+        by : (t : Bool) → t ≡ has_star_join known set → AllByRecursion (HasGroupIn (joined_sets sets joined)) sets → AllByRecursion (HasGroupIn (cond t (set ∷ joined_sets sets joined) (joined_sets sets joined))) (set ∷ sets)
+        by true e all = (λ star. ap (λ b. b || is_group_of (joined_sets sets joined) set.group) (itself set.group), grown set (joined_sets sets joined) sets all)
+        by false e all = (λ star. absurd (false≢true (e ∙ star)), all)
+
+    pub over_heard : (start : Start) (sets : List GroupSet) (joined : List Bool) (records : List (Record (List ℕ))) → IsSettled records → AreTold sets joined → AreOverIn port (joined_sets sets joined) (act_all port start (flat_map (set_events known) sets) records)
+    over_heard start sets joined records settled told =
+        over_act_all (joined_sets sets joined) start (flat_map (set_events known) sets)
+        (all_flat (HasGroupIn (joined_sets sets joined)) (IsIn (joined_sets sets joined)) (set_events known) (λ set is. in_set (joined_sets sets joined) known set is) sets (all_in sets joined told))
+        records (over_settled (joined_sets sets joined) records settled)

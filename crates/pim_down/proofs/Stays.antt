@@ -513,23 +513,6 @@ joined_none key records i would = would.after on_star_join ∙ take-append-drop 
 
 -- ---- a group that comes again
 
--- a set from this number on is of the group
-pub later_set : (group : List ℕ) (sets : List GroupSet) (k n : ℕ) (this : GroupSet) (rest : List GroupSet) → drop k sets ≡ this ∷ rest → n ≤ k → this.group ≡ group → is_group_of (drop n sets) group ≡ true
-unfolding is_group_of
-later_set group [] zero n this rest e le same = absurd (let m = ap length e in omega (arith, m))
-later_set group [] (suc k) n this rest e le same = absurd (let m = ap length e in omega (arith, m))
-later_set group (first ∷ sets) zero zero this rest e le same =
-    let here : first ≡ this = cc in
-    let of_group : group ≡ first.group = sym (ap (λ (s : GroupSet). s.group) here ∙ same) in
-    ap (λ b. b || is_group_of sets group) (subst (λ (g : List ℕ). pointwise eqb group g ≡ true) of_group (itself group))
-later_set group (first ∷ sets) zero (suc n) this rest e le same = absurd (omega (arith, le))
-later_set group (first ∷ sets) (suc k) zero this rest e le same = either (pointwise eqb group first.group) (is_group_of sets group) (later_set group sets k zero this rest e (omega arith) same)
-  where
-    either : (a b : Bool) → b ≡ true → (a || b) ≡ true
-    either true b f = refl
-    either false b f = f
-later_set group (first ∷ sets) (suc k) (suc n) this rest e le same = later_set group sets k n this rest e (omega (arith, le)) same
-
 -- the machines that end are of the groups of the others, too
 pub over_later : (port : ℕ) (this : GroupSet) (rest : List GroupSet) (records : List (Record (List ℕ))) → is_group_of rest this.group ≡ true → AreOverIn port (this ∷ rest) records → AreOverIn port rest records
 unfolding AreOverIn is_group_of

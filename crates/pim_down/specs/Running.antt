@@ -1,12 +1,13 @@
 -- The state that some records have at a moment.
-use Rattle.std.specs.Prelude.{◌≡◌, ℕ, ◌-◌, Bool, true, false, ◌&&◌, ◌||◌, nat_eq, List, [], ◌∷◌}
+use Rattle.std.specs.Prelude.{◌≡◌, ℕ, ◌-◌, Bool, true, false, ◌&&◌, ◌||◌, nat_eq, if◌then◌else◌, List, [], ◌∷◌, Option}
+use Rattle.std.specs.List.{list_any}
 use Rattle.std.specs.Cmp.Lexicographic.{pointwise}
 use Rattle.pim_jp.specs.Message.{GroupSet}
 use Rattle.pim_down.specs.declared.held.Held.{Held}
 use Rattle.pim_down.specs.declared.machine.Record.{Record}
 use Rattle.pim_down.specs.Tables.{Start}
 use Rattle.pim_down.specs.Time.{Downstream, expiry_after}
-use Rattle.pim_down.specs.Hearing.{is_rpt_on, is_rpt_of}
+use Rattle.pim_down.specs.Hearing.{is_star_join, list_events, is_rpt_on, is_rpt_of}
 use Rattle.pim_down.specs.Sound.{is_temporary}
 use Rattle.pim_down.specs.Seen.{shown}
 
@@ -33,6 +34,16 @@ is_over_in port group held = is_rpt_of port group held.key && is_temporary held.
 unfoldable pub is_group_of : List GroupSet → List ℕ → Bool
 is_group_of [] group = false
 is_group_of (set ∷ sets) group = pointwise nat_eq group set.group || is_group_of sets group
+
+-- a set has a Join(*,G) that counts
+abbrev pub has_star_join : (List ℕ → Option (List ℕ)) → GroupSet → Bool
+has_star_join known set = list_any is_star_join (list_events known true set.group set.joined)
+
+-- the sets of which this is told
+unfoldable pub joined_sets : List GroupSet → List Bool → List GroupSet
+joined_sets [] joined = []
+joined_sets (set ∷ sets) [] = []
+joined_sets (set ∷ sets) (this ∷ joined) = if this then set ∷ joined_sets sets joined else joined_sets sets joined
 
 -- each machine whose state ends with the message is of a group of these sets
 unfoldable pub AreOverIn : ℕ → List GroupSet → List (Record (List ℕ)) → Type 0

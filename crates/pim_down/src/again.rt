@@ -6,7 +6,7 @@ ghost use Rattle.pim_down.specs.declared.key.Key.{Key};
 ghost use Rattle.pim_down.specs.Tables.{on_star_join};
 ghost use Rattle.pim_down.specs.Records.{IsAscending, changed, each_changed};
 ghost use Rattle.pim_down.specs.Hearing.{on_rpts};
-ghost use Rattle.pim_down.specs.Running.{is_group_of};
+ghost use Rattle.pim_down.specs.Running.{is_group_of, joined_sets};
 ghost use Rattle.pim_down.specs.Seen.{records_seen};
 ghost use Rattle.pim_down.specs.Stars.{StayBut, AllStay, rpt_key, is_pruned_by, AreMarked, AreFewer};
 
@@ -79,14 +79,17 @@ pub(crate) fn may_repeat<F: Family>(sets: Sets<'_, F>) -> bool {
     false
 }
 
-/// Whether a set behind the one of this number has this group, too. It takes a step for each set of the message.
-pub(crate) fn comes_again<F: Family>(
+/// Whether a set behind the one of this number has a Join(*,G) of this group, too. It takes a step for each set of the
+/// message.
+pub(crate) fn is_joined_again<F: Family>(
     message: &JpView<'_, F>,
+    joined: &[bool; 256],
     number: u8,
     group: F::Addr,
     repeat: bool,
 ) -> bool
-    ensures { result ≡ true → is_group_of (drop (number + 1) message.now.sets) (F.bytes_of group) ≡ true }
+    ensures { result ≡ true → is_group_of
+        (joined_sets (drop (number + 1) message.now.sets) (drop (number + 1) joined.now)) (F.bytes_of group) ≡ true }
 {
     if !repeat {
         return false;
@@ -96,7 +99,7 @@ pub(crate) fn comes_again<F: Family>(
     for set in message.sets() {
         let this = next;
         next += 1;
-        if this > number && set.group() == group {
+        if this > number && joined[usize::from(this)] && set.group() == group {
             return true;
         }
     }

@@ -6,11 +6,11 @@ ghost use Rattle.sorted_slab.specs.Listed.{at, IsPlace, IsItem};
 ghost use Rattle.pim_down.specs.declared.held.Held.{Held};
 ghost use Rattle.pim_down.specs.Records.{IsAscending, each_changed};
 ghost use Rattle.pim_down.specs.Hearing.{at_end};
-ghost use Rattle.pim_down.specs.Running.{is_over_in, AreOverIn};
+ghost use Rattle.pim_down.specs.Running.{is_over_in, joined_sets, AreOverIn};
 ghost use Rattle.pim_down.specs.Seen.{records_seen};
 ghost use Rattle.pim_down.specs.Sound.{is_temporary};
 
-use crate::again::comes_again;
+use crate::again::is_joined_again;
 use crate::hear::{RptsOf, is_rpt_of};
 use crate::key::{KeyOrder, OfFamily};
 use crate::machine::State;
@@ -65,17 +65,19 @@ pub(crate) fn end_group<F: Family>(
     }
 }
 
-/// End of Message comes to the (S,G,rpt) machines of a port. Those in a state that ends with it are of the message's
-/// groups, and it goes through these alone: once for each group, at its last set. Where a group may come again, each
-/// set takes a step for each set of the message, too: 65,025 in all at most.
+/// End of Message comes to the (S,G,rpt) machines of a port. Those in a state that ends with it are of groups of which the
+/// message had a Join(*,G), and it goes through these alone: once for each group, at its last set that had one. Where a
+/// group may come again, such a set takes a step for each set of the message, too: 65,025 in all at most.
 pub(crate) fn end_message<F: Family>(
     records: &mut Store<F::Addr, OfFamily<F>>,
     port: usize,
     message: &JpView<'_, F>,
+    joined: &[bool; 256],
     repeat: bool,
 )
     requires ascending { IsAscending (records_seen F.bytes_of records.old.items) }
-    requires groups { AreOverIn port message.now.sets (records_seen F.bytes_of records.old.items) }
+    requires groups { AreOverIn port (joined_sets message.now.sets joined.now)
+        (records_seen F.bytes_of records.old.items) }
     ensures { records_seen F.bytes_of records.new.items
         ≡ each_changed (at_end port) (records_seen F.bytes_of records.old.items) }
 {
@@ -85,8 +87,10 @@ pub(crate) fn end_message<F: Family>(
         let group = set.group();
         let this = number;
         number += 1;
-        if !comes_again::<F>(message, this, group, repeat) {
-            end_group::<F>(records, port, group);
+        if joined[usize::from(this)] {
+            if !is_joined_again::<F>(message, joined, this, group, repeat) {
+                end_group::<F>(records, port, group);
+            }
         }
     }
 }

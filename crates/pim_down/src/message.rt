@@ -1,10 +1,12 @@
 //! A message's entries, counted and heard.
 
-ghost use Rattle.std.specs.Prelude.{◌≡◌, ◌≤◌, ◌<◌, ℕ, true, List, OnOk, OnErr};
-ghost use Rattle.std.specs.List.{flat_map};
+ghost use Rattle.std.specs.Prelude.{◌≡◌, ◌≤◌, ◌<◌, ℕ, true, false, List, length, slice_index_or, OnOk, OnErr};
+ghost use Rattle.std.specs.List.{flat_map, list_any};
+ghost use Rattle.pim_jp.specs.Message.{GroupSet};
 ghost use Rattle.pim_down.specs.Records.{IsAscending, count_on};
-ghost use Rattle.pim_down.specs.Hearing.{list_events, set_events, events_of, act_all, hearing};
+ghost use Rattle.pim_down.specs.Hearing.{list_events, set_events, events_of, act_all, hearing, is_star_join};
 ghost use Rattle.pim_down.specs.Hearing.{creates, is_new, count_new, needed};
+ghost use Rattle.pim_down.specs.Running.{has_star_join};
 ghost use Rattle.pim_down.specs.Heard.{IsWithin, MayWantMemory, OnFull};
 ghost use Rattle.pim_down.specs.Known.{known_in};
 ghost use Rattle.pim_down.specs.Space.{HasRoom};
@@ -111,6 +113,8 @@ fn hear_list<F: Family>(
         → AreMarked port message.now.sets stars.new (records_seen F.bytes_of records.new.items) }
     ensures starred { joins ≡ true → result ≡ true
         → AllStay port (F.bytes_of group) (records_seen F.bytes_of records.new.items) }
+    ensures joined { result ≡ list_any is_star_join
+        (list_events (known_in F.family routes.now) joins (F.bytes_of group) entries.entry) }
     ensures fewer { AreFewer stars.new stars.old }
 {
     let mut starred = false;
@@ -150,7 +154,7 @@ pub(crate) fn count_sets<F: Family>(
     count
 }
 
-/// Hears the sets of a message.
+/// Hears the sets of a message. The answer tells of each, by its number, whether it had a Join(*,G).
 ///
 /// It looks up each entry once, and a Prune(S,G,rpt) once more where a Join(*,G) of its group comes behind it. It goes
 /// once through the (S,G,rpt) machines of each group that has a Join(*,G). Where a group may come again, each Join(*,G)
@@ -162,15 +166,19 @@ pub(crate) fn hear_sets<F: Family>(
     routes: &Routes<F>,
     message: &JpView<'_, F>,
     repeat: bool,
-)
+) -> [bool; 256]
     requires ascending { IsAscending (records_seen F.bytes_of records.old.items) }
     requires room { HasRoom port (start_seen start) records.old.capacity
         (events_of (known_in F.family routes.now) message.now) (records_seen F.bytes_of records.old.items) }
     ensures records { records_seen F.bytes_of records.new.items ≡ act_all port (start_seen start)
         (events_of (known_in F.family routes.now) message.now) (records_seen F.bytes_of records.old.items) }
+    ensures joined { (i : ℕ) (d : GroupSet) → i < length message.now.sets →
+        slice_index_or result i false
+        ≡ has_star_join (known_in F.family routes.now) (slice_index_or message.now.sets i d) }
 {
     let _most = message.set_count();
     let mut near = Place::START;
+    let mut joined = [false; 256];
     let mut stars = Stars::new(repeat);
     for set in message.sets() {
         let group = set.group();
@@ -198,8 +206,10 @@ pub(crate) fn hear_sets<F: Family>(
             message,
             &mut stars,
         );
+        joined[usize::from(stars.gone)] = starred;
         stars.pass(starred);
     }
+    joined
 }
 
 /// Hears a message on a port, or refuses with nothing changed. All growths come before the first change.
@@ -233,7 +243,7 @@ pub(crate) fn hear_message<F: Family>(
         return Err(HearFault::Memory);
     }
     let repeat = may_repeat::<F>(message.sets());
-    hear_sets::<F>(records, port, start, routes, message, repeat);
-    end_message::<F>(records, port, message, repeat);
+    let joined = hear_sets::<F>(records, port, start, routes, message, repeat);
+    end_message::<F>(records, port, message, &joined, repeat);
     Ok(())
 }

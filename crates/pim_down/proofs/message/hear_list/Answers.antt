@@ -1,9 +1,10 @@
 use Rattle.std.proofs.Common.{◌∙◌, sym, ap, arith}
 use Rattle.pim_jp.specs.Seen.{entry_seen}
-use Rattle.pim_down.specs.Hearing.{list_events, act_all, act}
+use Rattle.pim_down.specs.Hearing.{list_events, act_all, act, is_star_join}
 use Rattle.pim_down.specs.Known.{known_in}
 use Rattle.pim_down.specs.Seen.{start_seen, records_seen, event_seen}
 use Rattle.pim_down.proofs.Act.{IsAscending-act}
+use Rattle.pim_down.proofs.Ending.{any_more}
 use Rattle.pim_down.proofs.Events.{events_one, room_at, left_at, nothing_left, room_grows}
 use Rattle.pim_down.proofs.Stays.{event_is, marked_more, starred_more, fewer_then}
 use Rattle.pim_down.proofs.message.hear_list.Goals as goal
@@ -41,6 +42,7 @@ loop-entry-preserved-in-Some-event_of g c =
       capacity = omega (arith, c.act.ensures.capacity, c.loop-entry.invariant.capacity);
       marked = λ joins. marked_more c.args.port (start_seen c.args.start) event seen held.ascending c.args.message.now.sets new c.loop-entry.stars c.act.new.stars c.act.ensures.records (is.0 ∙ joins) c.act.ensures.fewer (held.marked joins);
       starred = λ joins. starred_more c.args.port (start_seen c.args.start) event seen held.ascending group new c.loop-entry.starred c.is_star_join-starred.result c.act.ensures.records (is.0 ∙ joins) is.1 (c.is_star_join-starred.ensures bytes_of) (held.starred joins);
+      joined = any_more is_star_join c.loop-entry.starred c.is_star_join-starred.result event all others split (c.is_star_join-starred.ensures bytes_of) ∙ held.joined;
       fewer = fewer_then c.act.new.stars c.loop-entry.stars c.args.stars.now c.act.ensures.fewer held.fewer;
     }
 

@@ -1,6 +1,7 @@
-use Rattle.std.proofs.Common.{◌≡◌, ◌≤◌, true}
+use Rattle.std.proofs.Common.{◌≡◌, ◌≤◌, ◌||◌, true}
+use Rattle.std.specs.List.{list_any}
 use Rattle.pim_down.specs.Records.{IsAscending}
-use Rattle.pim_down.specs.Hearing.{list_events, act_all}
+use Rattle.pim_down.specs.Hearing.{list_events, act_all, is_star_join}
 use Rattle.pim_down.specs.Space.{HasRoom}
 use Rattle.pim_down.specs.Known.{known_in}
 use Rattle.pim_down.specs.Seen.{start_seen, records_seen}
@@ -16,5 +17,6 @@ invariant-loop-entry g l = record {
   capacity : l.fn.records.capacity ≤ l.records.capacity;
   marked : l.joins ≡ true → AreMarked l.port l.message.sets l.stars (records_seen g.F.Family.bytes_of l.records.items);
   starred : l.joins ≡ true → l.starred ≡ true → AllStay l.port (g.F.Family.bytes_of l.group) (records_seen g.F.Family.bytes_of l.records.items);
+  joined : (l.starred || list_any is_star_join (list_events (known_in g.F.Family.family l.routes) l.joins (g.F.Family.bytes_of l.group) l.entry-iterator)) ≡ list_any is_star_join (list_events (known_in g.F.Family.family l.routes) l.joins (g.F.Family.bytes_of l.group) l.fn.entries);
   fewer : AreFewer l.stars l.fn.stars;
 }

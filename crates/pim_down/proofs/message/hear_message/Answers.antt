@@ -6,7 +6,7 @@ use Rattle.pim_down.specs.declared.machine.Record.{Record}
 use Rattle.pim_down.specs.Records.{IsAscending}
 use Rattle.pim_down.specs.Hearing.{set_events}
 use Rattle.pim_down.specs.Known.{known_in}
-use Rattle.pim_down.specs.Running.{AreOverIn}
+use Rattle.pim_down.specs.Running.{joined_sets, AreOverIn}
 use Rattle.pim_down.specs.Seen.{start_seen, records_seen}
 use Rattle.pim_down.proofs.Act.{IsAscending-act_all}
 use Rattle.pim_down.proofs.Ending.{over_heard}
@@ -17,8 +17,8 @@ ok_then : {A E : Type 0} (r : Result A E) (P : Type 0) → is_err r ≡ false �
 ok_then (Ok x) P e p = p
 ok_then (Err x) P e p = absurd (true≢false e)
 
-pub hear_sets-requires-clause-room : goal.hear_sets-requires-clause-room
-hear_sets-requires-clause-room g c =
+pub hear_sets-joined-requires-clause-room : goal.hear_sets-joined-requires-clause-room
+hear_sets-joined-requires-clause-room g c =
     let bytes_of = g.F.Family.bytes_of in
     let events = flat_map (set_events (known_in g.F.Family.family c.args.routes.now)) c.args.message.now.sets in
     let held = records_seen bytes_of c.args.records.now.items in
@@ -34,7 +34,7 @@ end_message-requires-clause-ascending g c =
     let bytes_of = g.F.Family.bytes_of in
     let start = start_seen c.args.start in
     let events = flat_map (set_events (known_in g.F.Family.family c.args.routes.now)) c.args.message.now.sets in
-    let left = rw c.reserve.ensures.items at c.hear_sets.ensures.records in
+    let left = rw c.reserve.ensures.items at c.hear_sets-joined.ensures.records in
     subst IsAscending (sym left) (IsAscending-act_all c.args.port start events (records_seen bytes_of c.args.records.now.items) c.requires.ascending)
 
 pub end_message-requires-clause-groups : goal.end_message-requires-clause-groups
@@ -43,6 +43,7 @@ end_message-requires-clause-groups g c =
     let start = start_seen c.args.start in
     let known = known_in g.F.Family.family c.args.routes.now in
     let sets = c.args.message.now.sets in
-    let left = rw c.reserve.ensures.items at c.hear_sets.ensures.records in
-    let over = over_heard c.args.port known start sets (records_seen bytes_of c.args.records.now.items) c.requires.settled in
-    subst (λ (rs : List (Record (List ℕ))). AreOverIn c.args.port sets rs) (sym left) over
+    let left = rw c.reserve.ensures.items at c.hear_sets-joined.ensures.records in
+    let joined = c.hear_sets-joined.result in
+    let over = over_heard c.args.port known start sets joined (records_seen bytes_of c.args.records.now.items) c.requires.settled c.hear_sets-joined.ensures.joined in
+    subst (λ (rs : List (Record (List ℕ))). AreOverIn c.args.port (joined_sets sets joined) rs) (sym left) over

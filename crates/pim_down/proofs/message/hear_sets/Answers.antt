@@ -1,11 +1,13 @@
-use Rattle.std.proofs.Common.{◌≡◌, ◌+◌, ◌∙◌, true, false, refl, drop, sym, ap, arith}
+use Rattle.std.proofs.Common.{◌≡◌, ◌+◌, ◌∙◌, true, false, refl, length, set as set_of, drop, sym, ap, arith}
 use Rattle.std.proofs.lemmas.Bool.{false≢true}
+use Rattle.std.proofs.lemmas.List.{length-drop, length-replicate, length-set}
 use Rattle.pim_down.specs.Hearing.{list_events, act_all}
 use Rattle.pim_down.specs.Known.{known_in}
 use Rattle.pim_down.specs.Records.{IsAscending}
 use Rattle.pim_down.specs.Seen.{start_seen, records_seen}
 use Rattle.pim_down.specs.Stars.{AllStay}
 use Rattle.pim_down.proofs.Act.{IsAscending-act_all}
+use Rattle.pim_down.proofs.Ending.{told_more}
 use Rattle.pim_down.proofs.Events.{sets_events, set_room, set_left, no_set_left, room_grows}
 use Rattle.pim_down.proofs.Stays.{none_marked, set_at, rest_at, marked_set}
 use Rattle.pim_down.proofs.message.hear_sets.Goals as goal
@@ -19,6 +21,8 @@ loop-set-init g c =
       sets = items ∙ ap (λ n. drop n sets) (sym c.new-stars.ensures);
       marked = none_marked c.args.port sets c.new-stars.result (records_seen bytes_of c.args.records.now.items) c.new-stars.ensures;
       ascending = c.requires.ascending;
+      joined = λ i d lt. absurd (omega (arith, lt, c.new-stars.ensures));
+      long = simp length-replicate;
       room = rw items c.requires.room;
       left = rw items refl;
     }
@@ -79,6 +83,7 @@ loop-set-preserved g c =
     let passed = c.pass.new.self in
     let ascending = IsAscending-act_all c.args.port (start_seen c.args.start) joins seen c.loop-set.invariant.ascending in
     let split = sym c.loop-set.invariant.sets ∙ c.in-Some.ensures.steps in
+    let at = set_at sets c.loop-set.stars.gone set c.next.new.self split in
     let then = records_seen bytes_of c.hear_list-starred.new.records.items in
     let last = records_seen bytes_of c.hear_list-none.new.records.items in
     let last_is : last ≡ act_all c.args.port (start_seen c.args.start) prunes then = rw (c.group-group.ensures, c.pruned.ensures) at c.hear_list-none.ensures.records in
@@ -89,7 +94,9 @@ loop-set-preserved g c =
     record {
       sets = rest_at sets c.loop-set.stars.gone passed.gone set c.next.new.self next split;
       marked = marked_set c.args.port (start_seen c.args.start) known sets set then then_ascending c.next.new.self starred c.hear_list-none.new.stars passed c.hear_list-starred.result last (ap (λ n. drop n sets) c.hear_list-starred.ensures.fewer.0 ∙ split) last_is (c.hear_list-starred.ensures.marked refl) all fewer c.pass.ensures.gone c.pass.ensures.last;
+      joined = told_more c.args.port known sets c.next.new.self set c.loop-set.joined (set_of c.loop-set.joined c.from.result c.hear_list-starred.result) c.loop-set.stars.gone passed.gone c.hear_list-starred.result split next (omega (arith, at.within, c.set_count-most.ensures, c.set_count-most.type_inv, c.loop-set.invariant.long)) (ap (λ n. set_of c.loop-set.joined n c.hear_list-starred.result) (c.from.ensures ∙ fewer.0 ∙ c.hear_list-starred.ensures.fewer.0)) (rw (c.group-group.ensures, c.joined.ensures) at c.hear_list-starred.ensures.joined) c.loop-set.invariant.joined;
       ascending = rw pruned (IsAscending-act_all c.args.port (start_seen c.args.start) prunes middle ascending);
+      long = length-set c.loop-set.joined c.from.result c.hear_list-starred.result ∙ c.loop-set.invariant.long;
       room = rw pruned more;
       left = ap (act_all c.args.port (start_seen c.args.start) rest) pruned ∙ sym (set_left c.args.port (start_seen c.args.start) known set c.loop-set.set-iterator c.next.new.self seen c.in-Some.ensures.steps) ∙ c.loop-set.invariant.left;
     }
@@ -98,5 +105,6 @@ pub returns : goal.returns
 returns g c =
     let bytes_of = g.F.Family.bytes_of in
     record {
+      joined = λ i d lt. c.loop-set.invariant.joined i d (let gone = ap length (sym c.loop-set.invariant.sets ∙ c.in-None.ensures.steps.0) in let rest = length-drop c.loop-set.stars.gone c.args.message.now.sets in omega (arith, lt, gone, rest));
       records = sym (no_set_left c.args.port (start_seen c.args.start) (known_in g.F.Family.family c.args.routes.now) c.loop-set.set-iterator (records_seen bytes_of c.loop-set.records.items) c.in-None.ensures.steps.0) ∙ c.loop-set.invariant.left;
     }

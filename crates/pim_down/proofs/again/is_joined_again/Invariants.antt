@@ -1,5 +1,5 @@
 use Rattle.std.proofs.Common.{◌≡◌, drop}
-use Rattle.pim_down.proofs.again.comes_again.Given as goal
+use Rattle.pim_down.proofs.again.is_joined_again.Given as goal
 
 abbrev pub invariant-loop-set : goal.invariant-loop-set
 invariant-loop-set g l = record {
