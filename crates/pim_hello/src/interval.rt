@@ -30,14 +30,36 @@ impl Default for PortDelays {
 }
 
 impl PortDelays {
-    /// Each delay, or the neighbour's where that is greater.
-    pub(crate) fn or_greater(self, lan: LanDelay) -> PortDelays
-        ensures propagation { result.propagation ≡ max self.propagation lan.propagation }
-        ensures override_ms { result.override_ms ≡ max self.override_ms lan.override_ms }
+    /// No delay.
+    pub(crate) fn zero() -> PortDelays
+        ensures propagation { result.propagation ≡ 0 }
+        ensures override_ms { result.override_ms ≡ 0 }
     {
         PortDelays {
-            propagation: self.propagation.max(lan.propagation),
-            override_ms: self.override_ms.max(lan.override_ms),
+            propagation: 0,
+            override_ms: 0,
+        }
+    }
+
+    /// The delays that a neighbour told.
+    pub(crate) fn told_by(lan: LanDelay) -> PortDelays
+        ensures propagation { result.propagation ≡ lan.propagation }
+        ensures override_ms { result.override_ms ≡ lan.override_ms }
+    {
+        PortDelays {
+            propagation: lan.propagation,
+            override_ms: lan.override_ms,
+        }
+    }
+
+    /// Each delay, or the other one where that is greater.
+    pub(crate) fn or_greater(self, other: PortDelays) -> PortDelays
+        ensures propagation { result.propagation ≡ max self.propagation other.propagation }
+        ensures override_ms { result.override_ms ≡ max self.override_ms other.override_ms }
+    {
+        PortDelays {
+            propagation: self.propagation.max(other.propagation),
+            override_ms: self.override_ms.max(other.override_ms),
         }
     }
 

@@ -19,6 +19,7 @@ mod option;
 mod parameters;
 mod roster;
 mod row;
+mod told;
 mod walk;
 mod writing;
 

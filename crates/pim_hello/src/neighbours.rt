@@ -150,8 +150,16 @@ impl<F: Family> Neighbours<F> {
         while let Some(_removed) = self.roster.remove_ended(self.moment) {}
     }
 
+    /// Goes through the neighbours once where one was removed, or told other delays, since they were last gone
+    /// through, so that `override_interval` need not. It changes nothing that is told of them.
+    pub fn gather_delays(&mut self)
+        ensures { self.new ≡ self.old }
+    {
+        self.roster.gather_delays();
+    }
+
     /// The override interval of a port with these delays of its own, in milliseconds (RFC 7761, 4.3.3): at
-    /// most 98,302.
+    /// most 98,302. It goes through the neighbours only where `gather_delays` would.
     pub fn override_interval(&self, own: PortDelays) -> u32
         ensures interval { result ≡ override_interval own.propagation own.override_ms (hellos_of self.now) }
         ensures bound { result ≤ 98302 }

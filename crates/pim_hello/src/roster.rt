@@ -1,6 +1,6 @@
 //! What is kept of each neighbour, with an index of the moments at which their times end.
 
-ghost use Rattle.std.specs.Prelude.{◌≡◌, ◌<◌, ◌≤◌, ◌+◌, [], map, length, OnOk, OnErr, IfSome, not, false, ◌&&◌};
+ghost use Rattle.std.specs.Prelude.{◌≡◌, ◌<◌, ◌≤◌, ◌+◌, [], map, length, OnOk, OnErr, IfSome, IsSome, not, false, ◌&&◌};
 ghost use Rattle.std.specs.Prelude.{is_some, true, if◌then◌else◌};
 ghost use Rattle.std.specs.Option.{OnSome, IfNone};
 ghost use Rattle.std.specs.BTreeMap.{get, insert_entry, is_at, IsOrdered, values};
@@ -8,22 +8,27 @@ ghost use Rattle.std.specs.Map.{remove_entry};
 ghost use Rattle.std.proofs.Props.{props};
 ghost use Rattle.pim_hello.specs.Interval.{override_interval};
 ghost use Rattle.pim_hello.specs.Kept.{hello_of_kept};
+ghost use Rattle.pim_hello.specs.Told.{ComesTo};
 ghost use Rattle.pim_hello.specs.Index.{AddsEnd, RemovesEnd, IndexesEnds, NoneEnded, end_kept, ended_by};
 
-use crate::interval::{DEFAULT_OVERRIDE_INTERVAL, PortDelays};
+use crate::interval::PortDelays;
 use crate::parameters::Kept;
+use crate::told::{DelaysTold, known_with, known_without};
 use std::alloc::{AllocError, Global};
 use std::collections::btree_map::Iter;
 use std::collections::{BTreeMap, BTreeSet};
 
-/// The neighbours of one port by their addresses, and beside them the ends of their times in ascending
-/// order, each with its address.
+/// The neighbours of one port by their addresses. Beside them stand the ends of their times in ascending
+/// order, each with its address, and what their delays come to.
 #[derive(Drop)]
 pub(crate) struct Roster<A: Ord + Copy> {
     neighbours: BTreeMap<A, Kept>,
     ends: BTreeSet<(u64, A)>,
+    /// None where one was removed, or told others, since they were last gone through.
+    told: Option<DelaysTold>,
     ghost indexed: { IndexesEnds A.cmp ends.keys neighbours.entries },
     ghost ascending: { IsOrdered A.cmp neighbours } by { Prim.hlevel props },
+    ghost delays: { IfSome told (λ told. ComesTo told (map hello_of_kept (values neighbours))) } by { Prim.hlevel props },
 }
 
 /// Adds an end to the index, where there is one.
@@ -59,6 +64,7 @@ impl<A: Ord + Copy> Roster<A> {
         Roster {
             neighbours: BTreeMap::new(alloc),
             ends: BTreeSet::new(alloc),
+            told: Some(DelaysTold::of_none()),
         }
     }
 
@@ -103,11 +109,12 @@ impl<A: Ord + Copy> Roster<A> {
     {
         let old_end = self.end_of(address);
         add_end(&mut self.ends, kept.end, address)?;
-        if self.neighbours.insert(address, kept).is_err() {
+        let Ok(known) = self.neighbours.insert(address, kept) else {
             // Only a new address is refused, so its end wasn't there before.
             remove_end(&mut self.ends, kept.end, address);
             return Err(AllocError);
-        }
+        };
+        self.told = known_with(self.told, known, kept.parameters.lan);
         if old_end != kept.end {
             remove_end(&mut self.ends, old_end, address);
         }
@@ -123,7 +130,8 @@ impl<A: Ord + Copy> Roster<A> {
     {
         let end = self.end_of(address);
         remove_end(&mut self.ends, end, address);
-        self.neighbours.remove(&address);
+        let known = self.neighbours.remove(&address);
+        self.told = known_without(self.told, known);
     }
 
     /// Removes the neighbour whose time ends first, where it has ended by this moment.
@@ -144,19 +152,39 @@ impl<A: Ord + Copy> Roster<A> {
         Some(address)
     }
 
+    /// What their delays come to, told by going through them.
+    fn gathered(&self) -> DelaysTold
+        ensures { ComesTo result (map hello_of_kept (values self.now.neighbours)) }
+    {
+        let mut greatest = PortDelays::zero();
+        for kept in self.neighbours.values() {
+            let Some(lan) = kept.parameters.lan else {
+                return DelaysTold::NotByAll;
+            };
+            greatest = greatest.or_greater(PortDelays::told_by(lan));
+        }
+        DelaysTold::ByAll(greatest)
+    }
+
+    /// Goes through them where it isn't known what their delays come to.
+    pub(crate) fn gather_delays(&mut self)
+        ensures unchanged { self.new.neighbours.entries ≡ self.old.neighbours.entries }
+        ensures known { IsSome self.new.told }
+    {
+        if self.told.is_none() {
+            self.told = Some(self.gathered());
+        }
+    }
+
     /// The override interval of a port with these delays of its own, in milliseconds (RFC 7761, 4.3.3).
     pub(crate) fn override_interval(&self, own: PortDelays) -> u32
         ensures interval { result ≡ override_interval own.propagation own.override_ms
             (map hello_of_kept (values self.now.neighbours)) }
         ensures bound { result ≤ 98302 }
     {
-        let mut greatest = own;
-        for kept in self.neighbours.values() {
-            let Some(lan) = kept.parameters.lan else {
-                return DEFAULT_OVERRIDE_INTERVAL;
-            };
-            greatest = greatest.or_greater(lan);
+        if let Some(told) = self.told {
+            return told.interval(own);
         }
-        greatest.sum()
+        self.gathered().interval(own)
     }
 }

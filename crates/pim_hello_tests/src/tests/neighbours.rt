@@ -4,6 +4,7 @@ use pim_addr::V4;
 use pim_hello::{
     Heard, Hello, KnownNeighbour, LanDelay, NeighbourFault, Neighbours, Parameters, PortDelays,
 };
+use std::alloc::Global;
 use std::test::Fail;
 
 const SENDER: [u8; 4] = [10, 0, 0, 1];
@@ -102,6 +103,73 @@ fn makes_the_override_interval(rt: HostRuntime) -> Result<(), Fail> {
     assert_eq!(rt; others.override_interval(other_own), 800);
     others.hear(SENDER, &saying(with_delays(500, 2500)), 0)?;
     assert_eq!(rt; others.override_interval(other_own), 3200);
+    Ok(())
+}
+
+/// What the first of these Hellos should leave that leaves another override interval, of a port whose own delays are
+/// 100 ms each; `gathers` says whether the delays are gathered behind each.
+fn first_wrong(
+    alloc: Global,
+    rows: &[([u8; 4], Parameters, u32)],
+    gathers: bool,
+) -> Result<Option<u32>, NeighbourFault> {
+    let own = PortDelays {
+        propagation: 100,
+        override_ms: 100,
+    };
+    let mut neighbours: Neighbours<V4> = Neighbours::new(alloc);
+    for (sender, hello, want) in rows {
+        neighbours.hear(*sender, &saying(*hello), 0)?;
+        if gathers {
+            neighbours.gather_delays();
+        }
+        if neighbours.override_interval(own) != *want {
+            return Ok(Some(*want));
+        }
+    }
+    Ok(None)
+}
+
+#[test]
+fn goes_by_the_greatest_delays_that_are_left(rt: HostRuntime) -> Result<(), Fail> {
+    let rows = [
+        (SENDER, with_delays(700, 2000), 2700),
+        (OTHER, with_delays(600, 3000), 3700),
+        (OTHER, with_delays(600, 3000), 3700),
+        // One tells smaller ones, one leaves, one tells none and leaves.
+        (SENDER, with_delays(300, 400), 3600),
+        (OTHER, with_holdtime(0), 700),
+        (OTHER, with_holdtime(0), 700),
+        (OTHER, NOTHING, 3000),
+        (SENDER, with_delays(300, 500), 3000),
+        (OTHER, with_holdtime(0), 800),
+        (OTHER, with_delays(0, 600), 900),
+        (SENDER, NOTHING, 3000),
+        (SENDER, with_delays(50, 50), 700),
+        (SENDER, with_holdtime(0), 700),
+        (OTHER, with_holdtime(0), 200),
+    ];
+    assert_eq!(rt; first_wrong(rt.alloc(), &rows, false)?, None);
+    assert_eq!(rt; first_wrong(rt.alloc(), &rows, true)?, None);
+    Ok(())
+}
+
+#[test]
+fn forgets_the_delays_of_those_that_end(rt: HostRuntime) -> Result<(), Fail> {
+    let own = PortDelays::default();
+    let mut neighbours: Neighbours<V4> = Neighbours::new(rt.alloc());
+    let short = Parameters {
+        holdtime: Some(1),
+        ..with_delays(700, 3000)
+    };
+    neighbours.hear(SENDER, &saying(short), 0)?;
+    neighbours.hear(OTHER, &saying(with_delays(600, 2000)), 0)?;
+    neighbours.expire(999);
+    assert_eq!(rt; neighbours.override_interval(own), 3700);
+    neighbours.expire(1000);
+    assert_eq!(rt; neighbours.override_interval(own), 3100);
+    neighbours.gather_delays();
+    assert_eq!(rt; neighbours.override_interval(own), 3100);
     Ok(())
 }
 
