@@ -4,6 +4,7 @@ use Rattle.std.specs.List.{AllByRecursion}
 use Rattle.std.specs.Option.{option_eq}
 use Rattle.std.specs.Ordering.{nat_cmp, match_ordering}
 use Rattle.std.proofs.lemmas.Bool.{eqb-false, ne_eqb}
+use Rattle.std.proofs.lemmas.List.{set-get_or}
 use Rattle.std.specs.declared.cmp.Ordering.{Ordering}
 use Rattle.std.specs.declared.cmp.Ordering.TheVariants.{Less, Equal, Greater}
 use Rattle.std.specs.Cmp.Lexicographic.{slice_cmp}
@@ -31,6 +32,10 @@ filter_all : (es : List (List ℕ × Neighbour)) → AllByRecursion HasTime es �
     filter (λ (entry : List ℕ × Neighbour). not (is_over entry.1.left)) es ≡ es
 filter_all [] all = refl
 filter_all (e ∷ es) all = rw all.0 (ap (λ more. e ∷ more) (filter_all es all.1))
+
+-- a row that is put back as it was leaves all rows
+pub put_back : {A : Type 0} (xs : List A) (i : ℕ) (x y : A) → x ≡ get_or xs i x → y ≡ x → set xs i y ≡ xs
+put_back xs i x y is same = ap (set xs i) (same ∙ is) ∙ set-get_or xs i x
 
 -- ---- who is there at the present moment
 

@@ -230,6 +230,14 @@ impl<'a, F: Family> Router<'a, F> {
         }
     }
 
+    /// Goes through the neighbours of a port where `timing` would, so that it need not.
+    fn gather_delays(&mut self, port: usize)
+        requires { port < length self.old.ports }
+        ensures { self.new ≡ self.old }
+    {
+        self.neighbours[port].gather_delays();
+    }
+
     /// Lets a port hear a Hello that came from `src`.
     fn hear_hello(
         &mut self,
@@ -273,6 +281,7 @@ impl<'a, F: Family> Router<'a, F> {
             (message_taken F.family port self.old message.now)) self.old result self.new }
         ensures memory { OnErr result (IsTrue (nat_lt 0 (new_by F.family port message.now self.old))) }
     {
+        self.gather_delays(port);
         let timing = self.timing(port);
         let heard = self.machines.hear(port, message, self.routes, timing);
         message_verdict(heard)
