@@ -11,7 +11,7 @@ use Rattle.pim_emit.proofs.Above.{by_test}
 
 -- ---- up to
 
-up_to_trans : (a b c : List ℕ) → is_le (address_cmp a b) ≡ true → is_le (address_cmp b c) ≡ true → is_le (address_cmp a c) ≡ true
+pub up_to_trans : (a b c : List ℕ) → is_le (address_cmp a b) ≡ true → is_le (address_cmp b c) ≡ true → is_le (address_cmp a c) ≡ true
 up_to_trans a b c ab bc = from (address_cmp a b) (address_cmp b c) refl refl
   where
     from : (r s : Ordering) → address_cmp a b ≡ r → address_cmp b c ≡ s → is_le (address_cmp a c) ≡ true

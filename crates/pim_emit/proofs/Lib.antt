@@ -7,6 +7,7 @@ pub mod NextMachines
 pub mod PortsBelow
 pub mod SharedTree
 pub mod NextAhead
+pub mod LeastAhead
 pub mod Room
 pub mod NextGroups
 pub mod BelowSources

@@ -1,7 +1,8 @@
 -- What comes next on each port, where what comes next of all is passed.
-use Rattle.std.proofs.Common.{◌≡◌, ◌∙◌, ℕ, ◌+◌, ◌<◌, ◌≤◌, true, false, ◌&&◌, List, Option, None, Some, length, get_or, option_map, sym, subst, arith, ⊎_elim}
+use Rattle.std.proofs.Common.{◌≡◌, ◌∙◌, ℕ, ◌+◌, ◌<◌, ◌≤◌, true, false, ◌&&◌, List, Option, None, Some, length, get_or, option_map, eqb, sym, subst, arith, ⊎_elim}
 use Rattle.std.proofs.Math.ListN.{set}
-use Rattle.std.proofs.lemmas.Bool.{false≢true, and_parts, and_from, cases_lt}
+use Rattle.std.proofs.lemmas.Bool.{false≢true, and_parts, and_from, cases_lt, eq-eqb, eqb-true}
+use Rattle.std.proofs.lemmas.Grind.{get_or-set_at}
 use Rattle.std.proofs.lemmas.List.{get_or-set_same, get_or-set_other}
 use Rattle.std.specs.Ordering.{is_le}
 use Rattle.pim_addr.specs.declared.family.AddressFamily.{AddressFamily}
@@ -10,7 +11,7 @@ use Rattle.pim_down.specs.Key.{address_cmp}
 use Rattle.pim_down.specs.Sound.{IsSound}
 use Rattle.pim_down.specs.Time.{Downstream}
 use Rattle.pim_form.specs.Wants.{some_below}
-use Rattle.pim_emit.specs.Ahead.{is_this, IsNextOn, IsNextSource, SourceAhead, its_source, IsAheadOn, TellsNext}
+use Rattle.pim_emit.specs.Ahead.{is_this, IsNextOn, IsNextSource, SourceAhead, its_source, IsAheadOn, AreNext, TellsNext}
 use Rattle.pim_emit.specs.Machines.{is_source_joined}
 use Rattle.pim_emit.proofs.Addresses.{lt_less, above_less, le_above, same_is}
 use Rattle.pim_emit.proofs.Above.{by_test}
@@ -83,3 +84,18 @@ module _ (state : Downstream) (group : List ℕ) (port : ℕ) (below : port < st
   goes_on family sound ahead new (Some source) was this tells =
       let told = tells state port group (Some ahead.source) sound was.left in
       record { next = subst (λ (s : List ℕ). IsNextOn state group (Some s) port (Some source)) (same_is ahead.source passed this) told.0; left = told.1 }
+
+-- where it comes next on one port alone, what comes next on the others comes next behind it
+pub passes_alone : (state : Downstream) (group : List ℕ) (bound : Option (List ℕ)) (passed : List ℕ) → IsNextSource state group bound (Some passed) → (nexts : List (Option SourceAhead)) (port : ℕ) (new : Option SourceAhead) → port < length nexts → AreNext state group bound nexts
+    → ((place : ℕ) (other : Option SourceAhead) → place < state.ports → is_this passed (its_source (get_or nexts place other)) ≡ true → place ≡ port)
+    → IsAheadOn state group (Some passed) port new → AreNext state group (Some passed) (set nexts port new)
+passes_alone state group bound passed least nexts port new within are alone here place other below =
+    by_test (eqb place port)
+    (λ e.
+    let same : place ≡ port = eqb-true place port e in
+    subst (IsAheadOn state group (Some passed) place) (sym (get_or-set_at nexts port place new other same within)) (subst (λ n. IsAheadOn state group (Some passed) n new) (sym same) here))
+    (λ e.
+    let apart : place ≡ port → ⊥ = λ same. false≢true (sym e ∙ eq-eqb place port same) in
+    subst (IsAheadOn state group (Some passed) place) (sym (get_or-set_other nexts port place new other apart))
+    (stays_ahead state group place below bound passed least (get_or nexts place other) (are place other below)
+    (by_test (is_this passed (its_source (get_or nexts place other))) (λ this. absurd (apart (alone place other below this))) (λ f. f))))

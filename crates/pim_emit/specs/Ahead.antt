@@ -1,13 +1,16 @@
 -- Which source comes next on each port, and which machines stand behind it there.
-use Rattle.std.specs.Prelude.{◌≡◌, ℕ, ◌<◌, Bool, false, ◌&&◌, List, Option, None, Some, IfSome, slice_index_or}
+use Rattle.std.specs.Prelude.{◌≡◌, ℕ, ◌<◌, Bool, true, false, ◌&&◌, List, Option, None, Some, IfSome, option_map, slice_index_or}
+use Rattle.std.specs.Ordering.{is_le}
 use Rattle.pim_addr.specs.declared.family.AddressFamily.{AddressFamily}
 use Rattle.pim_down.specs.After.{is_above, MachinesLeft}
+use Rattle.pim_down.specs.Key.{address_cmp}
 use Rattle.pim_down.specs.declared.key.What.{What}
 use Rattle.pim_down.specs.declared.key.What.TheVariants.{Star, Source}
 use Rattle.pim_down.specs.Sound.{IsSound}
 use Rattle.pim_down.specs.Time.{Downstream}
 use Rattle.pim_form.specs.NormalForm.{same_address}
 use Rattle.pim_form.specs.Wants.{some_below}
+use Rattle.pim_emit.specs.declared.ahead.LeastAhead.{LeastAhead}
 use Rattle.pim_emit.specs.Least.{IsLeast}
 use Rattle.pim_emit.specs.Machines.{is_source_joined}
 
@@ -71,3 +74,32 @@ AreNextBelow state group bound count nexts = (port : ℕ) (other : Option Source
 -- on each port
 abbrev pub AreNext : Downstream → List ℕ → Option (List ℕ) → List (Option SourceAhead) → Type 0
 AreNext state group bound nexts = AreNextBelow state group bound state.ports nexts
+
+-- ---- the least of them
+
+-- a source, the first port on which it comes next, and whether it does on no other one
+pub record LeastSeen : Type 0 where
+  pub source : List ℕ
+  pub port : ℕ
+  pub is_alone : Bool
+
+abbrev pub least_seen : {A : Type 0} → (A → List ℕ) → LeastAhead A → LeastSeen
+least_seen bytes_of least = record { source = bytes_of least.source; port = least.port; is_alone = least.is_alone }
+
+abbrev pub source_told : Option LeastSeen → Option (List ℕ)
+source_told least = option_map (λ (this : LeastSeen). this.source) least
+
+-- of what comes next on the first so many ports
+pub record IsLeastBelow (count : ℕ) (nexts : List (Option SourceAhead)) (least : LeastSeen) : Type 0 where
+  pub within : least.port < count
+  pub up_to : (port : ℕ) (other : Option SourceAhead) → port < count →
+      IfSome (its_source (slice_index_or nexts port other)) (λ source.
+      is_le (address_cmp least.source source) ≡ true)
+  pub alone : least.is_alone ≡ true → (port : ℕ) (other : Option SourceAhead) → port < count →
+      is_this least.source (its_source (slice_index_or nexts port other)) ≡ true → port ≡ least.port
+
+-- none comes next, or that is the least
+abbrev pub AreLeastBelow : ℕ → List (Option SourceAhead) → Option LeastSeen → Type 0
+AreLeastBelow count nexts None =
+    (port : ℕ) (other : Option SourceAhead) → port < count → its_source (slice_index_or nexts port other) ≡ None
+AreLeastBelow count nexts (Some least) = IsLeastBelow count nexts least

@@ -1,14 +1,18 @@
 //! Of each port the source that comes next there, so that only where a source is passed the port's next machine is told.
 
-ghost use Rattle.std.specs.Prelude.{◌≡◌, ◌≤◌, ◌<◌, ℕ, List, Option, Some, IfSome, length, option_map};
+ghost use Rattle.std.specs.Prelude.{◌≡◌, ◌≤◌, ◌<◌, ◌+◌, ◌||◌, ℕ, Bool, false, List, Option, Some, IfSome, length, option_map, slice_index_or};
+ghost use Rattle.pim_down.specs.Key.{address_cmp};
 ghost use Rattle.pim_down.specs.Seen.{what_seen};
 ghost use Rattle.pim_form.specs.NormalForm.{same_address};
-ghost use Rattle.pim_emit.specs.Ahead.{passed, its_source, IsAheadOn, IsNextSource, AreNext, TellsNext};
+ghost use Rattle.pim_emit.specs.Ahead.{passed, SourceAhead, its_source, IsAheadOn, IsNextSource, AreNext, TellsNext};
+ghost use Rattle.pim_emit.specs.Ahead.{least_seen, source_told, AreLeastBelow};
+ghost use Rattle.pim_emit.specs.Least.{IsLeast};
 
 use crate::least::lesser;
 use crate::nearby::Nearby;
 use pim_addr::Family;
 use pim_down::{GroupMachines, Near, What, compare_addresses};
+use std::cmp::Ordering;
 use std::marker::Model;
 
 /// A source that comes next on a port, and the machines of its group that are left behind it there.
@@ -26,6 +30,16 @@ impl<'a, F: Family> Model for Ahead<'a, F> {
     ghost Value = { SourceAhead };
 
     ghost view = { λ ahead. record { source = F.bytes_of ahead.source; left = ahead.left } };
+}
+
+/// The least of the sources that come next on some ports.
+#[derive(Clone, Copy)]
+struct LeastAhead<A> {
+    source: A,
+    /// The first port on which it comes next.
+    port: usize,
+    /// Whether it comes next on no other one.
+    is_alone: bool,
 }
 
 /// The machine behind which the sources above the bound stand, or all.
@@ -131,16 +145,73 @@ fn least_source<F: Family>(
     least
 }
 
+impl<A> LeastAhead<A> {
+    /// The same, where it comes next on one more port.
+    fn beside_another(self) -> Self
+        ensures { (bytes_of : A → List ℕ) → least_seen bytes_of result
+            ≡ record { source = bytes_of self.source; port = self.port; is_alone = false } }
+    {
+        LeastAhead {
+            source: self.source,
+            port: self.port,
+            is_alone: false,
+        }
+    }
+}
+
+/// How a source stands to the least one.
+fn compare_with<F: Family>(source: F::Addr, least: &LeastAhead<F::Addr>) -> Ordering
+    ensures { result ≡ address_cmp (F.bytes_of source) (F.bytes_of least.now.source) }
+{
+    compare_addresses::<F>(source, least.source)
+}
+
+/// The least of the sources that come next on the ports before this one, and on this one.
+fn with_port<F: Family>(
+    least: Option<LeastAhead<F::Addr>>,
+    port: usize,
+    next: &Option<Ahead<'_, F>>,
+) -> Option<LeastAhead<F::Addr>>
+    ensures source { (test this : List ℕ → Bool) → IsLeast test (source_told (option_map (least_seen F.bytes_of) least)) →
+        IsLeast this (its_source next.now) →
+        IsLeast (λ address. this address || test address) (source_told (option_map (least_seen F.bytes_of) result)) }
+    ensures places { (nexts : List (Option SourceAhead)) →
+        ((other : Option SourceAhead) → slice_index_or nexts port other ≡ next.now) →
+        AreLeastBelow port nexts (option_map (least_seen F.bytes_of) least) →
+        AreLeastBelow (port + 1) nexts (option_map (least_seen F.bytes_of) result) }
+{
+    let Some(source) = source_of::<F>(next) else {
+        return least;
+    };
+    let here = LeastAhead {
+        source,
+        port,
+        is_alone: true,
+    };
+    let Some(before) = least else {
+        return Some(here);
+    };
+    match compare_with::<F>(source, &before) {
+        Ordering::Less => Some(here),
+        Ordering::Equal => Some(before.beside_another()),
+        Ordering::Greater => Some(before),
+    }
+}
+
 /// The least of the sources that come next on the ports.
-fn least_ahead<F: Family>(ports: &Nearby<'_, F>, nexts: &[Option<Ahead<'_, F>>]) -> Option<F::Addr>
+fn least_ahead<F: Family>(
+    ports: &Nearby<'_, F>,
+    nexts: &[Option<Ahead<'_, F>>],
+) -> Option<LeastAhead<F::Addr>>
     requires { ports.now.ports ≤ length nexts.now }
-    ensures { (group : List ℕ) (bound : Option (List ℕ)) → AreNext ports.now group bound nexts.now →
-        IsNextSource ports.now group bound (option_map F.bytes_of result) }
+    ensures source { (group : List ℕ) (bound : Option (List ℕ)) → AreNext ports.now group bound nexts.now →
+        IsNextSource ports.now group bound (source_told (option_map (least_seen F.bytes_of) result)) }
+    ensures places { AreLeastBelow ports.now.ports nexts.now (option_map (least_seen F.bytes_of) result) }
 {
     let count = ports.port_count();
     let mut least = None;
     for port in 0..count {
-        least = lesser::<F>(least, source_of::<F>(&nexts[port]));
+        least = with_port::<F>(least, port, &nexts[port]);
     }
     least
 }
@@ -183,7 +254,7 @@ fn pass_on<F: Family>(
 }
 
 /// Passes the source that comes next, so that of each port there is what comes next behind it.
-fn pass_ahead<F: Family>(ports: &Nearby<'_, F>, passed: F::Addr, nexts: &mut [Option<Ahead<'_, F>>])
+fn pass_all<F: Family>(ports: &Nearby<'_, F>, passed: F::Addr, nexts: &mut [Option<Ahead<'_, F>>])
     requires { ports.now.ports ≤ length nexts.old }
     ensures next { (group : List ℕ) (bound : Option (List ℕ)) → AreNext ports.now group bound nexts.old →
         IsNextSource ports.now group bound (Some (F.bytes_of passed)) →
@@ -194,6 +265,26 @@ fn pass_ahead<F: Family>(ports: &Nearby<'_, F>, passed: F::Addr, nexts: &mut [Op
     for port in 0..count {
         pass_on::<F>(ports, port, passed, &mut nexts[port]);
     }
+}
+
+/// Passes the least source. Where it comes next on one port alone, no other one is looked at.
+fn pass_ahead<F: Family>(
+    ports: &Nearby<'_, F>,
+    least: LeastAhead<F::Addr>,
+    nexts: &mut [Option<Ahead<'_, F>>],
+)
+    requires room { ports.now.ports ≤ length nexts.old }
+    requires places { AreLeastBelow ports.now.ports nexts.old (Some (least_seen F.bytes_of least)) }
+    ensures next { (group : List ℕ) (bound : Option (List ℕ)) → AreNext ports.now group bound nexts.old →
+        IsNextSource ports.now group bound (Some (F.bytes_of least.source)) →
+        AreNext ports.now group (Some (F.bytes_of least.source)) nexts.new }
+    ensures length { length nexts.new ≡ length nexts.old }
+{
+    if least.is_alone {
+        pass_on::<F>(ports, least.port, least.source, &mut nexts[least.port]);
+        return;
+    }
+    pass_all::<F>(ports, least.source, nexts);
 }
 
 /// Takes the least source above the bound, or of all, with (S,G) in Join or Prune-Pending on some port. Where there is
@@ -216,9 +307,9 @@ pub(crate) fn take_next<F: Family>(
     if nexts.len() < ports.port_count() {
         return least_source::<F>(ports, group, bound);
     }
-    let Some(source) = least_ahead::<F>(ports, nexts) else {
+    let Some(least) = least_ahead::<F>(ports, nexts) else {
         return None;
     };
-    pass_ahead::<F>(ports, source, nexts);
-    Some(source)
+    pass_ahead::<F>(ports, least, nexts);
+    Some(least.source)
 }

@@ -1,34 +1,18 @@
-use Rattle.std.proofs.Common.{◌∙◌, Some, sym, subst, arith}
-use Rattle.std.proofs.lemmas.List.{length-set}
-use Rattle.pim_emit.specs.Ahead.{IsAheadOn}
-use Rattle.pim_emit.proofs.NextAhead.{each_set, left_set}
+use Rattle.std.proofs.Common.{arith}
+use Rattle.pim_emit.proofs.NextAhead.{passes_alone}
 use Rattle.pim_emit.proofs.Room.{place_fits}
 use Rattle.pim_emit.proofs.ahead.pass_ahead.Goals as goal
 
-pub offset_bounds-nexts-port : goal.offset_bounds-nexts-port
-offset_bounds-nexts-port g c =
-    place_fits _ c.loop-port.port _ (omega (arith, c.requires, c.port_count-count.ensures, c.loop-port-test.true)) c.well_formed.1.1.0.1
+pub offset_bounds-nexts-least : goal.offset_bounds-nexts-least
+offset_bounds-nexts-least g c =
+    place_fits _ c.args.least.port _ (omega (arith, c.requires.room, c.requires.places.within)) c.well_formed.1.1.0.1
 
-pub loop-port-preserved : goal.loop-port-preserved
-loop-port-preserved g c =
+pub returns-then-least-clause-next : goal.returns-then-least-clause-next
+returns-then-least-clause-next g c = λ group bound are least.
     let state = c.args.ports.now in
-    let port = c.loop-port.port in
-    let nexts = c.loop-port.nexts in
-    let kept = c.loop-port.invariant in
-    let next = c.index-nexts-port.result in
-    let new = c.pass_on.new.next in
-    record {
-      long = length-set nexts port new ∙ kept.long;
-      left = left_set nexts port new c.args.nexts.now kept.left;
-      next = λ group bound are least.
-          each_set nexts port new (IsAheadOn state group (Some (g.F.Family.bytes_of c.args.passed)))
-          (omega (arith, c.requires, kept.long, c.port_count-count.ensures, c.loop-port-test.true)) (kept.next group bound are least)
-          (c.pass_on.ensures group bound
-          (subst (IsAheadOn state group bound port) (sym (kept.left port next (omega arith)))
-          (are port next (omega (arith, c.port_count-count.ensures, c.loop-port-test.true))))
-          least);
-    }
-
-pub returns-clause-next : goal.returns-clause-next
-returns-clause-next g c = λ group bound are least place other below.
-    c.loop-port.invariant.next group bound are least place other (omega (arith, below, c.port_count-count.ensures, c.loop-port-test.false))
+    let passed = g.F.Family.bytes_of c.args.least.source in
+    let port = c.args.least.port in
+    let within = c.requires.places.within in
+    passes_alone state group bound passed least c.args.nexts.now port c.pass_on.new.next (omega (arith, within, c.requires.room)) are
+    (c.requires.places.alone c.if-least.true)
+    (c.pass_on.ensures group bound (are port c.index-nexts-least.result within) least)

@@ -1,7 +1,7 @@
 use Rattle.std.proofs.Common.{◌≡◌, ℕ, List, Option, Some, length}
 use Rattle.pim_emit.specs.Ahead.{AreNext, AreNextBelow, IsNextSource}
 use Rattle.pim_emit.proofs.NextAhead.{AreSameFrom}
-use Rattle.pim_emit.proofs.ahead.pass_ahead.Given as goal
+use Rattle.pim_emit.proofs.ahead.pass_all.Given as goal
 
 -- it is passed on the ports before this one, and from this one on all is as it was
 abbrev pub invariant-loop-port : goal.invariant-loop-port

@@ -1,0 +1,99 @@
+-- The least of what comes next on some ports, port by port.
+use Rattle.std.proofs.Common.{◌≡◌, ◌∙◌, ℕ, ◌+◌, ◌<◌, ◌≤◌, true, false, List, Option, None, Some, get_or, refl, sym, ap, subst, arith, ⊎_elim}
+use Rattle.std.specs.Prelude.{IfSome}
+use Rattle.std.specs.declared.cmp.Ordering.TheVariants.{Less, Equal, Greater}
+use Rattle.std.specs.Ordering.{is_eq, is_le, ordering_reverse}
+use Rattle.std.specs.Cmp.Lexicographic.{texts_ties}
+use Rattle.std.proofs.lemmas.Bool.{false≢true, cases_lt}
+use Rattle.pim_down.specs.Key.{address_cmp}
+use Rattle.pim_emit.specs.Ahead.{is_this, SourceAhead, its_source, LeastSeen, IsLeastBelow, AreLeastBelow}
+use Rattle.pim_emit.proofs.Addresses.{equal_is, itself, same_is, back}
+use Rattle.pim_emit.proofs.LeastOfTwo.{up_to_trans}
+
+-- the address comes before this one or is it, where there is one
+abbrev IsUpTo : List ℕ → Option (List ℕ) → Type 0
+IsUpTo least next = IfSome next (λ source. is_le (address_cmp least source) ≡ true)
+
+lower : (lesser least : List ℕ) (next : Option (List ℕ)) → is_le (address_cmp lesser least) ≡ true → IsUpTo least next → IsUpTo lesser next
+lower lesser least None le up_to = tt
+lower lesser least (Some source) le up_to = up_to_trans lesser least source le up_to
+
+-- what isn't before the greater of two isn't the lesser one
+not_lesser : (lesser least : List ℕ) (next : Option (List ℕ)) → address_cmp lesser least ≡ Less → IsUpTo least next → is_this lesser next ≡ true → ⊥
+not_lesser lesser least None less up_to this = false≢true this
+not_lesser lesser least (Some source) less up_to this =
+    false≢true (sym (ap is_le (back lesser least ∙ ap ordering_reverse less)) ∙ subst (λ (s : List ℕ). is_le (address_cmp least s) ≡ true) (same_is source lesser this) up_to)
+
+-- one more port, on which this comes next
+module _ (nexts : List (Option SourceAhead)) (port : ℕ) (next : Option (List ℕ)) (here : (other : Option SourceAhead) → its_source (get_or nexts port other) ≡ next) where
+  each : (P : ℕ → Option (List ℕ) → Type 0) → ((place : ℕ) (other : Option SourceAhead) → place < port → P place (its_source (get_or nexts place other))) → P port next
+      → (place : ℕ) (other : Option SourceAhead) → place < port + 1 → P place (its_source (get_or nexts place other))
+  each P before this place other below =
+      ⊎_elim
+      (λ (early : place < port). before place other early)
+      (λ (late : port ≤ place).
+      let same : port ≡ place = omega (arith, late, below) in
+      subst (λ n. P n (its_source (get_or nexts n other))) same (subst (P port) (sym (here other)) this))
+      (cases_lt place port)
+
+  -- that is not before the least, and is not it
+  abbrev Stays : LeastSeen → Type 0
+  Stays least = IsUpTo least.source next × (is_this least.source next ≡ true → ⊥)
+
+  pub least_stays : (least : LeastSeen) → Stays least → IsLeastBelow port nexts least → IsLeastBelow (port + 1) nexts least
+  least_stays least stays before = record {
+    within = omega (arith, before.within);
+    up_to = each (λ place source. IsUpTo least.source source) before.up_to stays.0;
+    alone = λ alone. each (λ place source. is_this least.source source ≡ true → place ≡ least.port) (before.alone alone) (λ this. absurd (stays.1 this));
+  }
+
+  pub none_stays : next ≡ None → AreLeastBelow port nexts None → AreLeastBelow (port + 1) nexts None
+  none_stays none before = each (λ place source. source ≡ None) before none
+
+  -- it is the least, and none before is up to it
+  abbrev pub here_alone : List ℕ → LeastSeen
+  here_alone source = record { source = source; port = port; is_alone = true }
+
+  is_least : (source : List ℕ) → next ≡ Some source → ((place : ℕ) (other : Option SourceAhead) → place < port → IsUpTo source (its_source (get_or nexts place other)))
+      → ((place : ℕ) (other : Option SourceAhead) → place < port → is_this source (its_source (get_or nexts place other)) ≡ true → ⊥) → IsLeastBelow (port + 1) nexts (here_alone source)
+  is_least source is up_to apart = record {
+    within = omega arith;
+    up_to = each (λ place this. IsUpTo source this) up_to (subst (IsUpTo source) (sym is) (ap is_le (itself source)));
+    alone = λ alone. each (λ place this. is_this source this ≡ true → place ≡ port) (λ place other below this. absurd (apart place other below this)) (λ this. refl);
+  }
+
+  pub first_is_least : (source : List ℕ) → next ≡ Some source → AreLeastBelow port nexts None → IsLeastBelow (port + 1) nexts (here_alone source)
+  first_is_least source is none =
+      is_least source is
+      (λ place other below. subst (IsUpTo source) (sym (none place other below)) tt)
+      (λ place other below this. false≢true (ap (is_this source) (sym (none place other below)) ∙ this))
+
+  pub lesser_is_least : (source : List ℕ) (least : LeastSeen) → next ≡ Some source → address_cmp source least.source ≡ Less → IsLeastBelow port nexts least → IsLeastBelow (port + 1) nexts (here_alone source)
+  lesser_is_least source least is less before =
+      is_least source is
+      (λ place other below. lower source least.source (its_source (get_or nexts place other)) (ap is_le less) (before.up_to place other below))
+      (λ place other below. not_lesser source least.source (its_source (get_or nexts place other)) less (before.up_to place other below))
+
+  -- the least comes next here, too
+  pub same_stays : (source : List ℕ) (least : LeastSeen) → next ≡ Some source → address_cmp source least.source ≡ Equal → IsLeastBelow port nexts least → IsLeastBelow (port + 1) nexts (record { source = least.source; port = least.port; is_alone = false })
+  same_stays source least is equal before = record {
+    within = omega (arith, before.within);
+    up_to = each (λ place this. IsUpTo least.source this) before.up_to (subst (IsUpTo least.source) (sym is) (subst (λ (s : List ℕ). is_le (address_cmp least.source s) ≡ true) (sym (equal_is source least.source equal)) (ap is_le (itself least.source))));
+    alone = λ alone. absurd (false≢true alone);
+  }
+
+  pub none_here_stays : (least : Option LeastSeen) → next ≡ None → AreLeastBelow port nexts least → AreLeastBelow (port + 1) nexts least
+  none_here_stays None none before = none_stays none before
+  none_here_stays (Some least) none before = least_stays least (subst Stays_by (sym none) (tt, false≢true)) before
+    where
+      Stays_by : Option (List ℕ) → Type 0
+      Stays_by this = IsUpTo least.source this × (is_this least.source this ≡ true → ⊥)
+
+  pub greater_stays : (source : List ℕ) (least : LeastSeen) → next ≡ Some source → address_cmp source least.source ≡ Greater → IsLeastBelow port nexts least → IsLeastBelow (port + 1) nexts least
+  greater_stays source least is greater before = least_stays least (subst Stays_by (sym is) (ap is_le (back source least.source ∙ ap ordering_reverse greater), apart)) before
+    where
+      Stays_by : Option (List ℕ) → Type 0
+      Stays_by this = IsUpTo least.source this × (is_this least.source this ≡ true → ⊥)
+
+      apart : is_this least.source (Some source) ≡ true → ⊥
+      apart this = false≢true (sym (texts_ties source least.source ∙ ap is_eq greater) ∙ this)
