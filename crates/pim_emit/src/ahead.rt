@@ -160,6 +160,7 @@ impl<A> LeastAhead<A> {
 }
 
 /// How a source stands to the least one.
+#[inline(always)]
 fn compare_with<F: Family>(source: F::Addr, least: &LeastAhead<F::Addr>) -> Ordering
     ensures { result ≡ address_cmp (F.bytes_of source) (F.bytes_of least.now.source) }
 {
@@ -167,6 +168,7 @@ fn compare_with<F: Family>(source: F::Addr, least: &LeastAhead<F::Addr>) -> Orde
 }
 
 /// The least of the sources that come next on the ports before this one, and on this one.
+#[inline(always)]
 fn with_port<F: Family>(
     least: Option<LeastAhead<F::Addr>>,
     port: usize,
@@ -199,6 +201,7 @@ fn with_port<F: Family>(
 }
 
 /// The least of the sources that come next on the ports.
+#[inline(always)]
 fn least_ahead<F: Family>(
     ports: &Nearby<'_, F>,
     nexts: &[Option<Ahead<'_, F>>],
@@ -225,6 +228,7 @@ fn is_same<F: Family>(one: F::Addr, other: F::Addr) -> bool
 
 /// Goes on to what comes next on the port behind the source that is passed, which came next on some port and is the
 /// least of those that did.
+#[inline(always)]
 fn pass_on<F: Family>(
     ports: &Nearby<'_, F>,
     port: usize,
@@ -268,6 +272,7 @@ fn pass_all<F: Family>(ports: &Nearby<'_, F>, passed: F::Addr, nexts: &mut [Opti
 }
 
 /// Passes the least source. Where it comes next on one port alone, no other one is looked at.
+#[inline(always)]
 fn pass_ahead<F: Family>(
     ports: &Nearby<'_, F>,
     least: LeastAhead<F::Addr>,
@@ -290,6 +295,7 @@ fn pass_ahead<F: Family>(
 /// Takes the least source above the bound, or of all, with (S,G) in Join or Prune-Pending on some port. Where there is
 /// a place for each port, what comes next above the bound on each stands there, and then what comes next behind the
 /// source that was taken; else each port is looked up.
+#[inline(always)]
 pub(crate) fn take_next<F: Family>(
     ports: &Nearby<'_, F>,
     group: F::Addr,

@@ -158,6 +158,7 @@ impl<'a, F: Family> Asked<'a, F> {
 
     /// The least source of the group above the bound, or of all. Where there is a place for each port, what comes next
     /// on each above the bound stands there, and behind an answer what comes next then; else each port is looked up.
+    #[inline(always)]
     pub(crate) fn next_ahead(
         &self,
         group: F::Addr,
