@@ -10,6 +10,7 @@ nothing, first copy crates/NAME/out/rlib of these crates from the copy in which 
     tools/over_gate.py build                    for the crates above, after a check
     tools/over_gate.py tests                    builds the tests, after a check with --test, and runs them
     tools/over_gate.py plant [rt plant's flags]
+    tools/over_gate.py stamps                   after `libraries`: from then on `rt run` and `rt test` take these libraries up
 
 What it answers is no verdict: `rt ci` gives that. It knows the inside of rattle-kit-13b and 13f.
 """
@@ -85,11 +86,25 @@ def libraries(rt, crate):
     return 1 if lacking else 0
 
 
+def stamps():
+    # A stamp goes by how libraries are cut, which is another way in `rt ci`: so this is loaded anew, and `rt` isn't.
+    import rtlib
+
+    rtlib.guarded()
+    top = os.path.dirname(os.path.dirname(os.getcwd()))
+    for it in next(it for it in rtlib.crates_below(top) if it.folder == os.getcwd()).below():
+        with open(f"{it.folder}/out/rlib/stamp", "w") as file:
+            file.write(it.stamp())
+    return 0
+
+
 def main(verb="", *flags):
-    if verb not in ("libraries", "check", "build", "edits", "tests", "plant"):
+    if verb not in ("libraries", "check", "build", "edits", "tests", "plant", "stamps"):
         print(__doc__, end="", file=sys.stderr)
         return 2
     sys.path.insert(0, BIN)
+    if verb == "stamps":
+        return stamps()
     if verb == "plant":
         plant = load("rt-plant")
         plant.rt.Crate.is_built = lambda crate: os.path.isdir(crate.rlib)
