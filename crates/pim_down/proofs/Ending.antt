@@ -3,7 +3,7 @@ use Rattle.std.proofs.Common.{◌≡◌, ℕ, zero, suc, ◌+◌, ◌-◌, ◌<�
 use Rattle.std.specs.declared.cmp.Ordering.TheVariants.{Less, Equal, Greater}
 use Rattle.std.specs.List.{filter, remove, flat_map, list_any, AllByRecursion}
 use Rattle.std.specs.Cmp.Lexicographic.{pointwise, same_text}
-use Rattle.std.proofs.lemmas.Bool.{false≢true, ltb-true, ltb-false}
+use Rattle.std.proofs.lemmas.Bool.{false≢true, or_right, ltb-true, ltb-false}
 use Rattle.std.proofs.lemmas.List.{get_or-set_other}
 use Rattle.std.proofs.lemmas.Grind.{get_or-set_at}
 use Rattle.pim_jp.specs.declared.entry.Entry.{Entry}
@@ -72,24 +72,13 @@ module _ {X : Type 0} where
 
 any_behind : {X : Type 0} (p : X → Bool) (xs ys : List X) → list_any p ys ≡ true → list_any p (xs ++ ys) ≡ true
 any_behind p [] ys e = e
-any_behind p (x ∷ xs) ys e = either (p x) (list_any p (xs ++ ys)) (any_behind p xs ys e)
-  where
-    either : (a b : Bool) → b ≡ true → (a || b) ≡ true
-    either true b f = refl
-    either false b f = f
+any_behind p (x ∷ xs) ys e = or_right (p x) (list_any p (xs ++ ys)) (any_behind p xs ys e)
 
 -- a list is gone through, and it was told before whether one passed
 pub any_more : {X : Type 0} (p : X → Bool) (was this : Bool) (x : X) (all others : List X) → all ≡ x ∷ others → this ≡ p x → ((was || this) || list_any p others) ≡ (was || list_any p all)
 any_more p was this x all others split is = by was ∙ sym (ap (λ xs. was || list_any p xs) split ∙ ap (λ b. was || (b || list_any p others)) (sym is))
   where
     by : (w : Bool) → ((w || this) || list_any p others) ≡ (w || (this || list_any p others))
-    by true = refl
-    by false = refl
-
-pub any_told : {X : Type 0} (p : X → Bool) (was : Bool) (all : List X) → all ≡ [] → was ≡ (was || list_any p all)
-any_told p was all none = by was ∙ ap (λ xs. was || list_any p xs) (sym none)
-  where
-    by : (w : Bool) → w ≡ (w || false)
     by true = refl
     by false = refl
 
@@ -238,12 +227,8 @@ later_joined group (first ∷ sets) (j ∷ joined) zero zero this rest e le told
 later_joined group (first ∷ sets) (j ∷ joined) zero (suc n) this rest e le told same = absurd (omega (arith, le))
 later_joined group (first ∷ sets) (j ∷ joined) (suc k) zero this rest e le told same = by j (later_joined group sets joined k zero this rest e (omega arith) told same)
   where
-    either : (a b : Bool) → b ≡ true → (a || b) ≡ true
-    either true b f = refl
-    either false b f = f
-
     by : (t : Bool) → is_group_of (joined_sets sets joined) group ≡ true → is_group_of (cond t (first ∷ joined_sets sets joined) (joined_sets sets joined)) group ≡ true
-    by true f = either (pointwise eqb group first.group) (is_group_of (joined_sets sets joined) group) f
+    by true f = or_right (pointwise eqb group first.group) (is_group_of (joined_sets sets joined) group) f
     by false f = f
 later_joined group (first ∷ sets) (j ∷ joined) (suc k) (suc n) this rest e le told same = later_joined group sets joined k n this rest e (omega (arith, le)) told same
 
@@ -467,11 +452,7 @@ module _ (port : ℕ) where
     grown : (set : GroupSet) (sets part : List GroupSet) → AllByRecursion (HasGroupIn sets) part → AllByRecursion (HasGroupIn (set ∷ sets)) part
     unfolding is_group_of
     grown set sets [] all = tt
-    grown set sets (s ∷ part) all = (λ star. either (pointwise eqb s.group set.group) (is_group_of sets s.group) (all.0 star), grown set sets part all.1)
-      where
-        either : (a b : Bool) → b ≡ true → (a || b) ≡ true
-        either true b e = refl
-        either false b e = e
+    grown set sets (s ∷ part) all = (λ star. or_right (pointwise eqb s.group set.group) (is_group_of sets s.group) (all.0 star), grown set sets part all.1)
 
     -- what is told of each set
     abbrev pub AreTold : List GroupSet → List Bool → Type 0

@@ -8,6 +8,7 @@ use Rattle.sorted_blocks.specs.declared.place.Place.{Place}
 use Rattle.sorted_slab.specs.Listed.{Listed, at, IsPlace as IsListPlace, IsItem}
 use Rattle.pim_down.specs.declared.held.Held.{Held}
 use Rattle.pim_down.specs.declared.key.Key.{Key}
+use Rattle.pim_down.specs.declared.machine.State.{State}
 use Rattle.pim_down.specs.Hearing.{rpt_count_on}
 use Rattle.pim_down.specs.Records.{count_on}
 use Rattle.pim_down.specs.Places.{StandsAt, WouldStandAt}
@@ -21,6 +22,13 @@ pub record IsKept {A : Type 0} (counts rpts : List ℕ) (list : Listed (Held A))
   pub rpts_counted : (bytes_of : A → List ℕ) (port : ℕ) → port < 64 →
       slice_index_or rpts port 0 ≡ rpt_count_on port (records_seen bytes_of list.items)
   pub fits : length list.items ≤ list.capacity
+
+-- the record with its machine in another state
+abbrev pub in_state : {A : Type 0} → State → Held A → Held A
+in_state state held = record {
+  key = held.key;
+  machine = record { state = state; expires_at = held.machine.expires_at; pending = held.machine.pending };
+}
 
 -- how a record stands to a bound: before it or behind it
 abbrev pub side : Bool → Ordering

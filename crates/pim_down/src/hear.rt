@@ -18,7 +18,7 @@ use crate::edits::{find_place, machine_of, put_machine};
 use crate::event::{Event, Timing};
 use crate::held::{Start, Timed, Waiting};
 use crate::key::{Key, OfFamily, What, compare_groups};
-use crate::machine::{on_join, on_prune, on_rpt_prune, on_star_join};
+use crate::machine::{on_join, on_prune, on_rpt_prune, star_joined};
 use crate::rows::Bound;
 use crate::store::Store;
 use pim_addr::{Family, Routes};
@@ -154,7 +154,7 @@ pub(crate) fn join_rpts<F: Family>(
     while records.is_item(place) {
         let held = *records.get(place);
         if is_rpt_of::<F>(&held.key, port, group) {
-            records.set_machine(place, on_star_join(held.machine));
+            records.set_state(place, star_joined(held.machine.state));
             place = records.next(place);
         } else {
             return;

@@ -1,8 +1,9 @@
 //! One downstream machine: its state, its timers, and what each event of a message does to it.
 
-ghost use Rattle.std.specs.Prelude.{◌≡◌};
+ghost use Rattle.std.specs.Prelude.{◌≡◌, Some};
+ghost use Rattle.pim_down.specs.declared.machine.Machine.{Machine};
 ghost use Rattle.pim_down.specs.Seen.{start_seen, timed_seen, machine_seen};
-ghost use Rattle.pim_down.specs.Tables.{greater, on_join, on_prune, on_star_join, on_rpt_prune};
+ghost use Rattle.pim_down.specs.Tables.{greater, on_join, on_prune, on_star_join, on_rpt_prune, machine_in};
 
 use crate::held::{Start, Timed};
 use crate::key::Key;
@@ -104,17 +105,27 @@ pub(crate) fn on_prune(start: Start, held: Option<Timed>) -> Option<Timed>
     }
 }
 
-/// A Join(*,G) at an (S,G,rpt) machine of the group.
+/// The state of an (S,G,rpt) machine behind a Join(*,G) of its group. Its timers stay.
 #[tactic(auto, unfolding(crate::specs::Tables::on_star_join))]
-pub(crate) fn on_star_join(machine: Timed) -> Timed
-    ensures { Some (timed_seen result) ≡ on_star_join (Some (timed_seen machine)) }
+pub(crate) fn star_joined(state: State) -> State
+    ensures { (held : Machine) → held.state ≡ state →
+        machine_in result held.expires_in held.pending ≡ on_star_join (Some held) }
 {
-    let state = match machine.state {
+    match state {
         State::Prune => State::PruneTmp,
         State::PrunePending => State::PrunePendingTmp,
         state => state,
-    };
-    Timed { state, ..machine }
+    }
+}
+
+/// A Join(*,G) at an (S,G,rpt) machine of the group.
+pub(crate) fn on_star_join(machine: Timed) -> Timed
+    ensures { Some (timed_seen result) ≡ on_star_join (Some (timed_seen machine)) }
+{
+    Timed {
+        state: star_joined(machine.state),
+        ..machine
+    }
 }
 
 /// A Prune(S,G,rpt) at its machine.

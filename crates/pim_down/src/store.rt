@@ -11,11 +11,13 @@ ghost use Rattle.pim_down.specs.Hearing.{rpt_count_on};
 ghost use Rattle.pim_down.specs.Records.{count_on};
 ghost use Rattle.pim_down.specs.Schedule.{deadline_seen, timers_of};
 ghost use Rattle.pim_down.specs.Seen.{records_seen};
+ghost use Rattle.pim_down.specs.Store.{in_state};
 
 use crate::blocks::{HALF_OF_RECORDS, HALF_OF_TIMERS};
 use crate::deadline::Deadline;
 use crate::held::{Held, Timed};
 use crate::key::KeyOrder;
+use crate::machine::State;
 use crate::rows::{Bound, Rows};
 use crate::schedule::Schedule;
 use sorted_blocks::{Place, Probe};
@@ -144,6 +146,20 @@ impl<A: Copy, O: KeyOrder<A>> Store<A, O> {
         let old = *self.rows.get(place);
         self.schedule.change_all(old.key, &old.machine, &machine);
         self.rows.set_machine(place, machine);
+    }
+
+    /// Gives the machine of the record at this place another state. Its timers stay, so that the schedule isn't looked
+    /// at.
+    pub(crate) fn set_state(&mut self, place: Place, state: State)
+        requires { IsItem self.old place }
+        ensures items { (d : Held A) → self.new.items ≡ slice_set self.old.items (at self.old place)
+            (in_state state (slice_index_or self.old.items (at self.old place) d)) }
+        ensures places { (p : Place) → IsItem self.old p → IsItem self.new p }
+        ensures at { (p : Place) → at self.new p ≡ at self.old p }
+        ensures capacity { self.new.capacity ≡ self.old.capacity }
+    {
+        let machine = self.rows.get(place).machine;
+        self.rows.set_machine(place, Timed { state, ..machine });
     }
 
     /// The timer that fires first.

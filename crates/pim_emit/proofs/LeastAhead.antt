@@ -6,7 +6,7 @@ use Rattle.std.specs.Ordering.{is_eq, is_le, ordering_reverse}
 use Rattle.std.specs.Cmp.Lexicographic.{texts_ties}
 use Rattle.std.proofs.lemmas.Bool.{false≢true, cases_lt}
 use Rattle.pim_down.specs.Key.{address_cmp}
-use Rattle.pim_emit.specs.Ahead.{is_this, SourceAhead, its_source, LeastSeen, IsLeastBelow, AreLeastBelow}
+use Rattle.pim_emit.specs.Ahead.{is_this, SourceAhead, its_source, LeastSeen, IsLeastBelow}
 use Rattle.pim_emit.proofs.Addresses.{equal_is, itself, same_is, back}
 use Rattle.pim_emit.proofs.LeastOfTwo.{up_to_trans}
 
@@ -47,9 +47,6 @@ module _ (nexts : List (Option SourceAhead)) (port : ℕ) (next : Option (List �
     alone = λ alone. each (λ place source. is_this least.source source ≡ true → place ≡ least.port) (before.alone alone) (λ this. absurd (stays.1 this));
   }
 
-  pub none_stays : next ≡ None → AreLeastBelow port nexts None → AreLeastBelow (port + 1) nexts None
-  none_stays none before = each (λ place source. source ≡ None) before none
-
   -- it is the least, and none before is up to it
   abbrev pub here_alone : List ℕ → LeastSeen
   here_alone source = record { source = source; port = port; is_alone = true }
@@ -61,12 +58,6 @@ module _ (nexts : List (Option SourceAhead)) (port : ℕ) (next : Option (List �
     up_to = each (λ place this. IsUpTo source this) up_to (subst (IsUpTo source) (sym is) (ap is_le (itself source)));
     alone = λ alone. each (λ place this. is_this source this ≡ true → place ≡ port) (λ place other below this. absurd (apart place other below this)) (λ this. refl);
   }
-
-  pub first_is_least : (source : List ℕ) → next ≡ Some source → AreLeastBelow port nexts None → IsLeastBelow (port + 1) nexts (here_alone source)
-  first_is_least source is none =
-      is_least source is
-      (λ place other below. subst (IsUpTo source) (sym (none place other below)) tt)
-      (λ place other below this. false≢true (ap (is_this source) (sym (none place other below)) ∙ this))
 
   pub lesser_is_least : (source : List ℕ) (least : LeastSeen) → next ≡ Some source → address_cmp source least.source ≡ Less → IsLeastBelow port nexts least → IsLeastBelow (port + 1) nexts (here_alone source)
   lesser_is_least source least is less before =
@@ -82,18 +73,11 @@ module _ (nexts : List (Option SourceAhead)) (port : ℕ) (next : Option (List �
     alone = λ alone. absurd (false≢true alone);
   }
 
-  pub none_here_stays : (least : Option LeastSeen) → next ≡ None → AreLeastBelow port nexts least → AreLeastBelow (port + 1) nexts least
-  none_here_stays None none before = none_stays none before
-  none_here_stays (Some least) none before = least_stays least (subst Stays_by (sym none) (tt, false≢true)) before
-    where
-      Stays_by : Option (List ℕ) → Type 0
-      Stays_by this = IsUpTo least.source this × (is_this least.source this ≡ true → ⊥)
-
   pub greater_stays : (source : List ℕ) (least : LeastSeen) → next ≡ Some source → address_cmp source least.source ≡ Greater → IsLeastBelow port nexts least → IsLeastBelow (port + 1) nexts least
-  greater_stays source least is greater before = least_stays least (subst Stays_by (sym is) (ap is_le (back source least.source ∙ ap ordering_reverse greater), apart)) before
+  greater_stays source least is greater before = least_stays least (subst StaysBy (sym is) (ap is_le (back source least.source ∙ ap ordering_reverse greater), apart)) before
     where
-      Stays_by : Option (List ℕ) → Type 0
-      Stays_by this = IsUpTo least.source this × (is_this least.source this ≡ true → ⊥)
+      StaysBy : Option (List ℕ) → Type 0
+      StaysBy this = IsUpTo least.source this × (is_this least.source this ≡ true → ⊥)
 
       apart : is_this least.source (Some source) ≡ true → ⊥
       apart this = false≢true (sym (texts_ties source least.source ∙ ap is_eq greater) ∙ this)
