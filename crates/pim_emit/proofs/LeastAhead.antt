@@ -1,14 +1,20 @@
 -- The least of what comes next on some ports, port by port.
-use Rattle.std.proofs.Common.{◌≡◌, ◌∙◌, ℕ, ◌+◌, ◌<◌, ◌≤◌, true, false, List, Option, None, Some, get_or, refl, sym, ap, subst, arith, ⊎_elim}
+use Rattle.std.proofs.Common.{◌≡◌, ◌∙◌, ℕ, ◌+◌, ◌<◌, ◌≤◌, Bool, true, false, ◌&&◌, List, Option, None, Some, get_or, refl, sym, ap, subst, arith, ⊎_elim}
 use Rattle.std.specs.Prelude.{IfSome}
 use Rattle.std.specs.declared.cmp.Ordering.TheVariants.{Less, Equal, Greater}
 use Rattle.std.specs.Ordering.{is_eq, is_le, ordering_reverse}
 use Rattle.std.specs.Cmp.Lexicographic.{texts_ties}
 use Rattle.std.proofs.lemmas.Bool.{false≢true, cases_lt}
+use Rattle.pim_down.specs.After.{is_above}
 use Rattle.pim_down.specs.Key.{address_cmp}
-use Rattle.pim_emit.specs.Ahead.{is_this, SourceAhead, its_source, LeastSeen, IsLeastBelow}
+use Rattle.pim_down.specs.Time.{Downstream}
+use Rattle.pim_form.specs.Wants.{some_below}
+use Rattle.pim_emit.specs.Ahead.{is_this, IsNextOn, IsNextSource, SourceAhead, its_source, AreNext, LeastSeen, source_told, IsLeastBelow, AreLeastBelow}
+use Rattle.pim_emit.specs.Machines.{is_source_joined}
+use Rattle.pim_emit.proofs.Above.{by_test}
 use Rattle.pim_emit.proofs.Addresses.{equal_is, itself, same_is, back}
 use Rattle.pim_emit.proofs.LeastOfTwo.{up_to_trans}
+use Rattle.pim_emit.proofs.PortsBelow.{found_below, which_below}
 
 -- the address comes before this one or is it, where there is one
 abbrev IsUpTo : List ℕ → Option (List ℕ) → Type 0
@@ -43,6 +49,7 @@ module _ (nexts : List (Option SourceAhead)) (port : ℕ) (next : Option (List �
   pub least_stays : (least : LeastSeen) → Stays least → IsLeastBelow port nexts least → IsLeastBelow (port + 1) nexts least
   least_stays least stays before = record {
     within = omega (arith, before.within);
+    is_there = before.is_there;
     up_to = each (λ place source. IsUpTo least.source source) before.up_to stays.0;
     alone = λ alone. each (λ place source. is_this least.source source ≡ true → place ≡ least.port) (before.alone alone) (λ this. absurd (stays.1 this));
   }
@@ -55,6 +62,7 @@ module _ (nexts : List (Option SourceAhead)) (port : ℕ) (next : Option (List �
       → ((place : ℕ) (other : Option SourceAhead) → place < port → is_this source (its_source (get_or nexts place other)) ≡ true → ⊥) → IsLeastBelow (port + 1) nexts (here_alone source)
   is_least source is up_to apart = record {
     within = omega arith;
+    is_there = λ other. here other ∙ is;
     up_to = each (λ place this. IsUpTo source this) up_to (subst (IsUpTo source) (sym is) (ap is_le (itself source)));
     alone = λ alone. each (λ place this. is_this source this ≡ true → place ≡ port) (λ place other below this. absurd (apart place other below this)) (λ this. refl);
   }
@@ -69,6 +77,7 @@ module _ (nexts : List (Option SourceAhead)) (port : ℕ) (next : Option (List �
   pub same_stays : (source : List ℕ) (least : LeastSeen) → next ≡ Some source → address_cmp source least.source ≡ Equal → IsLeastBelow port nexts least → IsLeastBelow (port + 1) nexts (record { source = least.source; port = least.port; is_alone = false })
   same_stays source least is equal before = record {
     within = omega (arith, before.within);
+    is_there = before.is_there;
     up_to = each (λ place this. IsUpTo least.source this) before.up_to (subst (IsUpTo least.source) (sym is) (subst (λ (s : List ℕ). is_le (address_cmp least.source s) ≡ true) (sym (equal_is source least.source equal)) (ap is_le (itself least.source))));
     alone = λ alone. absurd (false≢true alone);
   }
@@ -81,3 +90,31 @@ module _ (nexts : List (Option SourceAhead)) (port : ℕ) (next : Option (List �
 
       apart : is_this least.source (Some source) ≡ true → ⊥
       apart this = false≢true (sym (texts_ties source least.source ∙ ap is_eq greater) ∙ this)
+
+-- ---- of all ports
+
+module _ (state : Downstream) (group : List ℕ) (bound : Option (List ℕ)) (nexts : List (Option SourceAhead)) (are : AreNext state group bound nexts) where
+  -- on this port it is above the bound, and joined
+  abbrev comes_on : List ℕ → ℕ → Bool
+  comes_on source port = is_above bound source && is_source_joined state group source port
+
+  -- the least is up to what comes on a port
+  is_up_to : (least source : List ℕ) (port : ℕ) (next : Option (List ℕ)) → IsNextOn state group bound port next → IsUpTo least next → comes_on source port ≡ true → is_le (address_cmp least source) ≡ true
+  is_up_to least source port None none up_to comes = absurd (false≢true (sym (none source) ∙ comes))
+  is_up_to least source port (Some next) is up_to comes = up_to_trans least next source up_to (is.1 source comes)
+
+  -- the least of what comes next on each port comes next of all
+  pub least_is_next : (least : Option LeastSeen) → AreLeastBelow state.ports nexts least → IsNextSource state group bound (source_told least)
+  least_is_next None none = λ source.
+      by_test (some_below state.ports (comes_on source))
+      (λ e.
+      let found = which_below (comes_on source) state.ports e in
+      absurd (false≢true (sym (subst (IsNextOn state group bound found.0) (none found.0 None found.1) (are found.0 None found.1).next source) ∙ found.2)))
+      (λ e. e)
+  least_is_next (Some least) is = (
+    found_below (comes_on least.source) state.ports least.port is.within
+        (subst (IsNextOn state group bound least.port) (is.is_there None) (are least.port None is.within).next).0,
+    λ source passes.
+        let found = which_below (comes_on source) state.ports passes in
+        is_up_to least.source source found.0 (its_source (get_or nexts found.0 None)) (are found.0 None found.1).next (is.up_to found.0 None found.1) found.2,
+  )

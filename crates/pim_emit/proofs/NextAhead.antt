@@ -72,18 +72,16 @@ module _ (state : Downstream) (group : List ℕ) (port : ℕ) (below : port < st
   pub stays_ahead : (next : Option SourceAhead) → IsAheadOn state group bound port next → is_this passed (its_source next) ≡ false → IsAheadOn state group (Some passed) port next
   stays_ahead next was apart = record { next = stays_next (its_source next) was.next apart; left = was.left }
 
-  abbrev pub with_left : MachinesLeft → List ℕ → SourceAhead
-  with_left new source = record { source = source; left = new }
+abbrev pub with_left : MachinesLeft → List ℕ → SourceAhead
+with_left new source = record { source = source; left = new }
 
-  -- where the one that is passed came next, what stands behind it does now
-  pub goes_on : (family : AddressFamily) → IsSound family state → (ahead : SourceAhead) (new : MachinesLeft) (next : Option (List ℕ)) → IsAheadOn state group bound port (Some ahead) → is_this passed (Some ahead.source) ≡ true
-      → TellsNext family ahead.left new next → IsAheadOn state group (Some passed) port (option_map (with_left new) next)
-  goes_on family sound ahead new None was this tells =
-      let told = tells state port group (Some ahead.source) sound was.left in
-      record { next = subst (λ (s : List ℕ). IsNextOn state group (Some s) port None) (same_is ahead.source passed this) told.0; left = tt }
-  goes_on family sound ahead new (Some source) was this tells =
-      let told = tells state port group (Some ahead.source) sound was.left in
-      record { next = subst (λ (s : List ℕ). IsNextOn state group (Some s) port (Some source)) (same_is ahead.source passed this) told.0; left = told.1 }
+-- behind what came next on the port comes next what its machines tell
+pub goes_on : (state : Downstream) (group : List ℕ) (port : ℕ) (bound : Option (List ℕ)) (family : AddressFamily) → IsSound family state → (ahead : SourceAhead) (new : MachinesLeft) (next : Option (List ℕ)) → IsAheadOn state group bound port (Some ahead)
+    → TellsNext family ahead.left new next → IsAheadOn state group (Some ahead.source) port (option_map (with_left new) next)
+goes_on state group port bound family sound ahead new None was tells = record { next = (tells state port group (Some ahead.source) sound was.left).0; left = tt }
+goes_on state group port bound family sound ahead new (Some source) was tells =
+    let told = tells state port group (Some ahead.source) sound was.left in
+    record { next = told.0; left = told.1 }
 
 -- where it comes next on one port alone, what comes next on the others comes next behind it
 pub passes_alone : (state : Downstream) (group : List ℕ) (bound : Option (List ℕ)) (passed : List ℕ) → IsNextSource state group bound (Some passed) → (nexts : List (Option SourceAhead)) (port : ℕ) (new : Option SourceAhead) → port < length nexts → AreNext state group bound nexts

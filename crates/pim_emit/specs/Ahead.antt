@@ -92,6 +92,7 @@ source_told least = option_map (λ (this : LeastSeen). this.source) least
 -- of what comes next on the first so many ports
 pub record IsLeastBelow (count : ℕ) (nexts : List (Option SourceAhead)) (least : LeastSeen) : Type 0 where
   pub within : least.port < count
+  pub is_there : (other : Option SourceAhead) → its_source (slice_index_or nexts least.port other) ≡ Some least.source
   pub up_to : (port : ℕ) (other : Option SourceAhead) → port < count →
       IfSome (its_source (slice_index_or nexts port other)) (λ source.
       is_le (address_cmp least.source source) ≡ true)

@@ -1,12 +1,12 @@
 //! Of each port the source that comes next there, so that only where a source is passed the port's next machine is told.
 
-ghost use Rattle.std.specs.Prelude.{◌≡◌, ◌≤◌, ◌<◌, ◌+◌, ◌||◌, ℕ, Bool, false, List, Option, Some, IfSome, length, option_map, slice_index_or};
+ghost use Rattle.std.specs.Prelude.{◌≡◌, ◌≤◌, ◌<◌, ◌+◌, ℕ, false, List, Option, Some, IfSome, length, option_map};
+ghost use Rattle.std.specs.Prelude.{slice_index_or};
 ghost use Rattle.pim_down.specs.Key.{address_cmp};
 ghost use Rattle.pim_down.specs.Seen.{what_seen};
 ghost use Rattle.pim_form.specs.NormalForm.{same_address};
 ghost use Rattle.pim_emit.specs.Ahead.{passed, SourceAhead, its_source, IsAheadOn, IsNextSource, AreNext, TellsNext};
-ghost use Rattle.pim_emit.specs.Ahead.{least_seen, source_told, AreLeastBelow};
-ghost use Rattle.pim_emit.specs.Least.{IsLeast};
+ghost use Rattle.pim_emit.specs.Ahead.{is_this, least_seen, source_told, AreLeastBelow};
 
 use crate::least::lesser;
 use crate::nearby::Nearby;
@@ -174,10 +174,7 @@ fn with_port<F: Family>(
     port: usize,
     next: &Option<Ahead<'_, F>>,
 ) -> Option<LeastAhead<F::Addr>>
-    ensures source { (test this : List ℕ → Bool) → IsLeast test (source_told (option_map (least_seen F.bytes_of) least)) →
-        IsLeast this (its_source next.now) →
-        IsLeast (λ address. this address || test address) (source_told (option_map (least_seen F.bytes_of) result)) }
-    ensures places { (nexts : List (Option SourceAhead)) →
+    ensures { (nexts : List (Option SourceAhead)) →
         ((other : Option SourceAhead) → slice_index_or nexts port other ≡ next.now) →
         AreLeastBelow port nexts (option_map (least_seen F.bytes_of) least) →
         AreLeastBelow (port + 1) nexts (option_map (least_seen F.bytes_of) result) }
@@ -226,6 +223,37 @@ fn is_same<F: Family>(one: F::Addr, other: F::Addr) -> bool
     compare_addresses::<F>(one, other).is_eq()
 }
 
+/// Whether the source comes next.
+fn comes_next<F: Family>(next: &Option<Ahead<'_, F>>, source: F::Addr) -> bool
+    ensures { result ≡ is_this (F.bytes_of source) (its_source next.now) }
+{
+    match next {
+        Some(ahead) => is_same::<F>(ahead.source, source),
+        None => false,
+    }
+}
+
+/// Goes on to what comes next on the port behind what comes next there now.
+#[inline(always)]
+fn pass_here<F: Family>(ports: &Nearby<'_, F>, port: usize, next: &mut Option<Ahead<'_, F>>)
+    ensures { (group passed : List ℕ) (bound : Option (List ℕ)) →
+        its_source next.old ≡ Some passed → IsAheadOn ports.now group bound port next.old →
+        IsAheadOn ports.now group (Some passed) port next.new }
+{
+    ports.is_sound();
+    let Some(ahead) = next else {
+        return;
+    };
+    ahead.near = ahead.left.near();
+    match next_source::<F>(&mut ahead.left) {
+        Some(source) => ahead.source = source,
+        None => {
+            ports.keep(port, ahead.near);
+            *next = None;
+        }
+    }
+}
+
 /// Goes on to what comes next on the port behind the source that is passed, which came next on some port and is the
 /// least of those that did.
 #[inline(always)]
@@ -240,21 +268,10 @@ fn pass_on<F: Family>(
         IsAheadOn ports.now group bound port next.old → IsNextSource ports.now group bound (Some (F.bytes_of passed)) →
         IsAheadOn ports.now group (Some (F.bytes_of passed)) port next.new }
 {
-    ports.is_sound();
-    let Some(ahead) = next else {
-        return;
-    };
-    if !is_same::<F>(ahead.source, passed) {
+    if !comes_next::<F>(next, passed) {
         return;
     }
-    ahead.near = ahead.left.near();
-    match next_source::<F>(&mut ahead.left) {
-        Some(source) => ahead.source = source,
-        None => {
-            ports.keep(port, ahead.near);
-            *next = None;
-        }
-    }
+    pass_here::<F>(ports, port, next);
 }
 
 /// Passes the source that comes next, so that of each port there is what comes next behind it.
@@ -286,7 +303,7 @@ fn pass_ahead<F: Family>(
     ensures length { length nexts.new ≡ length nexts.old }
 {
     if least.is_alone {
-        pass_on::<F>(ports, least.port, least.source, &mut nexts[least.port]);
+        pass_here::<F>(ports, least.port, &mut nexts[least.port]);
         return;
     }
     pass_all::<F>(ports, least.source, nexts);

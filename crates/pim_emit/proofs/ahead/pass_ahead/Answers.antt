@@ -13,6 +13,6 @@ returns-then-least-clause-next g c = λ group bound are least.
     let passed = g.F.Family.bytes_of c.args.least.source in
     let port = c.args.least.port in
     let within = c.requires.places.within in
-    passes_alone state group bound passed least c.args.nexts.now port c.pass_on.new.next (omega (arith, within, c.requires.room)) are
+    passes_alone state group bound passed least c.args.nexts.now port c.pass_here.new.next (omega (arith, within, c.requires.room)) are
     (c.requires.places.alone c.if-least.true)
-    (c.pass_on.ensures group bound (are port c.index-nexts-least.result within) least)
+    (c.pass_here.ensures group passed bound (c.requires.places.is_there c.index-nexts-least.result) (are port c.index-nexts-least.result within))
