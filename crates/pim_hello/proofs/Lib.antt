@@ -4,8 +4,7 @@ pub mod Spelled
 pub mod Again
 pub mod Index
 pub mod Kept
-pub mod Intervals
-pub mod SameDelays
+pub mod GreatestDelays
 pub mod OneNeighbour
 pub mod Order
 pub mod WholeTable

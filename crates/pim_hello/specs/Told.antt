@@ -1,15 +1,21 @@
 -- What is kept of the delays that the neighbours of a port told (RFC 7761, 4.3.3).
-use Rattle.std.specs.Prelude.{◌≡◌, ℕ, ◌+◌, List, max}
-use Rattle.pim_hello.specs.Hello.{Parameters}
-use Rattle.pim_hello.specs.Interval.{override_interval}
+use Rattle.std.specs.Prelude.{◌≡◌, true, false, List, map}
+use Rattle.std.proofs.Props as below
+use Rattle.pim_hello.specs.Hello.{Parameters, Delays}
+use Rattle.pim_hello.specs.Interval.{all_sent_delays, delays_sent, greatest}
 use Rattle.pim_hello.specs.declared.told.DelaysTold.{DelaysTold}
 use Rattle.pim_hello.specs.declared.told.DelaysTold.TheVariants.{NotByAll, ByAll}
 
--- the override interval of a port with these delays of its own, by what is kept of those of the neighbours
-abbrev pub interval_told : DelaysTold → ℕ → ℕ → ℕ
-interval_told NotByAll propagation override_ms = 3000
-interval_told (ByAll greatest) propagation override_ms = max propagation greatest.propagation + max override_ms greatest.override_ms
-
--- it gives the override interval beside the neighbours who sent these, whatever the port's own delays
+-- whether all who sent these told their delays, and then the greatest of each
 abbrev pub ComesTo : DelaysTold → List Parameters → Type 0
-ComesTo told hellos = (propagation override_ms : ℕ) → interval_told told propagation override_ms ≡ override_interval propagation override_ms hellos
+ComesTo NotByAll hellos = all_sent_delays hellos ≡ false
+ComesTo (ByAll delays) hellos = (all_sent_delays hellos ≡ true)
+    × (delays.propagation ≡ greatest (map (λ (d : Delays). d.propagation) (delays_sent hellos)))
+    × (delays.override_ms ≡ greatest (map (λ (d : Delays). d.override_ms) (delays_sent hellos)))
+
+-- it has one proof at most, as what holds of a field must
+pub ComesTo-prop : (told : DelaysTold) (hellos : List Parameters) → IsProp (ComesTo told hellos)
+ComesTo-prop NotByAll hellos = hlevel below.props
+ComesTo-prop (ByAll delays) hellos = hlevel below.props
+
+pub ruleset props = (below.props, ComesTo-prop)

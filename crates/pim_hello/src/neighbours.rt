@@ -150,8 +150,8 @@ impl<F: Family> Neighbours<F> {
         while let Some(_removed) = self.roster.remove_ended(self.moment) {}
     }
 
-    /// Goes through the neighbours once where one was removed, or told other delays, since they were last gone
-    /// through, so that `override_interval` need not. It changes nothing that is told of them.
+    /// Goes through the neighbours once where one was removed, told a lesser delay, or told some after none, since
+    /// they were last gone through, so that `override_interval` need not. It changes nothing that is told of them.
     pub fn gather_delays(&mut self)
         ensures { self.new ≡ self.old }
     {

@@ -5,10 +5,9 @@ ghost use Rattle.std.specs.Prelude.{is_some, true, if◌then◌else◌};
 ghost use Rattle.std.specs.Option.{OnSome, IfNone};
 ghost use Rattle.std.specs.BTreeMap.{get, insert_entry, is_at, IsOrdered, values};
 ghost use Rattle.std.specs.Map.{remove_entry};
-ghost use Rattle.std.proofs.Props.{props};
 ghost use Rattle.pim_hello.specs.Interval.{override_interval};
 ghost use Rattle.pim_hello.specs.Kept.{hello_of_kept};
-ghost use Rattle.pim_hello.specs.Told.{ComesTo};
+ghost use Rattle.pim_hello.specs.Told.{ComesTo, props};
 ghost use Rattle.pim_hello.specs.Index.{AddsEnd, RemovesEnd, IndexesEnds, NoneEnded, end_kept, ended_by};
 
 use crate::interval::PortDelays;
@@ -24,7 +23,7 @@ use std::collections::{BTreeMap, BTreeSet};
 pub(crate) struct Roster<A: Ord + Copy> {
     neighbours: BTreeMap<A, Kept>,
     ends: BTreeSet<(u64, A)>,
-    /// None where one was removed, or told others, since they were last gone through.
+    /// None where one was removed, told less, or told some after none, since they were last gone through.
     told: Option<DelaysTold>,
     ghost indexed: { IndexesEnds A.cmp ends.keys neighbours.entries },
     ghost ascending: { IsOrdered A.cmp neighbours } by { Prim.hlevel props },

@@ -1,9 +1,12 @@
 //! What the delays come to that the neighbours of a port told (RFC 7761, 4.3.3).
 
 ghost use Rattle.std.specs.Prelude.{◌≡◌, ◌≤◌, [], ◌∷◌, List, None, option_map, IfSome, IsSome};
+ghost use Rattle.std.specs.Prelude.{true, false, nat_le, ◌&&◌};
+ghost use Rattle.std.specs.Option.{IfNone};
 ghost use Rattle.pim_hello.specs.Delays.{delays_seen};
 ghost use Rattle.pim_hello.specs.Hello.{Parameters};
-ghost use Rattle.pim_hello.specs.Told.{ComesTo, interval_told};
+ghost use Rattle.pim_hello.specs.Interval.{override_interval};
+ghost use Rattle.pim_hello.specs.Told.{ComesTo};
 
 use crate::delay::LanDelay;
 use crate::interval::{DEFAULT_OVERRIDE_INTERVAL, PortDelays};
@@ -44,7 +47,8 @@ impl DelaysTold {
 
     /// The override interval of a port with these delays of its own, in milliseconds.
     pub(crate) fn interval(self, own: PortDelays) -> u32
-        ensures interval { result ≡ interval_told self own.propagation own.override_ms }
+        ensures interval { (hellos : List Parameters) → ComesTo self hellos →
+            result ≡ override_interval own.propagation own.override_ms hellos }
         ensures bound { result ≤ 98302 }
     {
         match self {
@@ -54,7 +58,25 @@ impl DelaysTold {
     }
 }
 
-/// What is known once a neighbour, of which this was kept, tells these delays.
+/// Whether a neighbour tells no less now than it told before, so that no greatest delay can be less. To tell none is
+/// no less than any: the default then holds, whatever others tell.
+fn tells_no_less(now: Option<LanDelay>, before: Option<LanDelay>) -> bool
+    ensures none { now ≡ None → result ≡ true }
+    ensures first { IfNone before (IsSome now → result ≡ false) }
+    ensures both { IfSome now (λ now. IfSome before (λ before.
+        result ≡ (nat_le before.propagation now.propagation && nat_le before.override_ms now.override_ms))) }
+{
+    let Some(now) = now else {
+        return true;
+    };
+    let Some(before) = before else {
+        return false;
+    };
+    now.propagation >= before.propagation && now.override_ms >= before.override_ms
+}
+
+/// What is known once a neighbour, of which this was kept, tells these delays: nothing where they are less, since the
+/// greatest ones may have been its own.
 pub(crate) fn known_with(
     told: Option<DelaysTold>,
     known: Option<Kept>,
@@ -63,17 +85,17 @@ pub(crate) fn known_with(
     ensures new { known ≡ None →
         (hello : Parameters) (hellos : List Parameters) → hello.lan ≡ option_map delays_seen lan →
         IfSome told (λ told. ComesTo told hellos) → IfSome result (λ told. ComesTo told (hello ∷ hellos)) }
-    ensures known { IfSome known (λ kept. IsSome result →
-        (result ≡ told) × (option_map delays_seen kept.parameters.lan ≡ option_map delays_seen lan)) }
+    ensures known { IfSome known (λ kept. (before hello : Parameters) (hellos : List Parameters) →
+        before.lan ≡ option_map delays_seen kept.parameters.lan → hello.lan ≡ option_map delays_seen lan →
+        IfSome told (λ told. ComesTo told (before ∷ hellos)) → IfSome result (λ told. ComesTo told (hello ∷ hellos))) }
 {
-    let Some(known) = known else {
-        let told = told?;
-        return Some(told.with(lan));
-    };
-    if known.parameters.lan != lan {
-        return None;
+    if let Some(kept) = known {
+        if !tells_no_less(lan, kept.parameters.lan) {
+            return None;
+        }
     }
-    told
+    let told = told?;
+    Some(told.with(lan))
 }
 
 /// What is known once a neighbour, of which this was kept, is removed.

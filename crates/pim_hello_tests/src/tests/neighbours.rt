@@ -155,6 +155,42 @@ fn goes_by_the_greatest_delays_that_are_left(rt: HostRuntime) -> Result<(), Fail
 }
 
 #[test]
+fn goes_by_delays_that_are_raised_and_lowered(rt: HostRuntime) -> Result<(), Fail> {
+    let rows = [
+        (SENDER, with_delays(700, 2000), 2700),
+        (OTHER, with_delays(600, 3000), 3700),
+        (OTHER, with_delays(800, 3000), 3800),
+        (SENDER, with_delays(900, 3500), 4400),
+        // Each delay counts by itself.
+        (SENDER, with_delays(1000, 2500), 4000),
+        (SENDER, with_delays(500, 2500), 3800),
+        (SENDER, with_delays(500, 3200), 4000),
+    ];
+    assert_eq!(rt; first_wrong(rt.alloc(), &rows, false)?, None);
+    assert_eq!(rt; first_wrong(rt.alloc(), &rows, true)?, None);
+    Ok(())
+}
+
+#[test]
+fn goes_by_delays_that_are_told_around_none(rt: HostRuntime) -> Result<(), Fail> {
+    let rows = [
+        (SENDER, with_delays(700, 2000), 2700),
+        (OTHER, with_delays(600, 3000), 3700),
+        (OTHER, NOTHING, 3000),
+        (OTHER, NOTHING, 3000),
+        (SENDER, with_delays(800, 4000), 3000),
+        (OTHER, with_delays(50, 200), 4800),
+        (SENDER, NOTHING, 3000),
+        (OTHER, NOTHING, 3000),
+        (SENDER, with_delays(300, 400), 3000),
+        (OTHER, with_delays(200, 500), 800),
+    ];
+    assert_eq!(rt; first_wrong(rt.alloc(), &rows, false)?, None);
+    assert_eq!(rt; first_wrong(rt.alloc(), &rows, true)?, None);
+    Ok(())
+}
+
+#[test]
 fn forgets_the_delays_of_those_that_end(rt: HostRuntime) -> Result<(), Fail> {
     let own = PortDelays::default();
     let mut neighbours: Neighbours<V4> = Neighbours::new(rt.alloc());

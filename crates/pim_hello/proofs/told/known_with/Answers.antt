@@ -1,6 +1,14 @@
-use Rattle.std.proofs.Common.{refl}
-use Rattle.pim_hello.proofs.SameDelays.{both_same}
+use Rattle.std.proofs.Common.{◌∷◌, subst}
+use Rattle.std.specs.Prelude.{IfSome}
+use Rattle.pim_hello.specs.Told.{ComesTo}
+use Rattle.pim_hello.proofs.GreatestDelays.{in_its_place}
 use Rattle.pim_hello.proofs.told.known_with.Goals as goal
+use Rattle.pim_hello.proofs.told.known_with.Goals.{in-Some+else-not-tells_no_less, in_default}
 
 pub returns-clause-known : goal.returns-clause-known
-returns-clause-known c = rw c.in-Some.is (λ some. (refl, both_same c.in-Some.known.parameters.lan c.args.lan (c.if-ne.ensures {u = tt})))
+returns-clause-known c = elim c.match-known.branch [
+  | in-Some+else-not-tells_no_less w ↦ rw w.in-Some.is (λ before hello hellos k l h. in_its_place c.with.result c.args.lan w.in-Some.kept.parameters.lan before hello hellos
+      (w.if-not-tells_no_less.ensures {u = tt}).first (w.if-not-tells_no_less.ensures {u = tt}).both k l
+      (c.with.ensures hello (before ∷ hellos) l (subst (λ told. IfSome told (λ told. ComesTo told (before ∷ hellos))) c.in_ok-told.was h)))
+  | in_default w ↦ rw w.in_default.is tt
+]

@@ -3,7 +3,7 @@ use Rattle.std.specs.Prelude.{map, max, option_map}
 use Rattle.std.specs.BTreeMap.{values}
 use Rattle.pim_hello.specs.Delays.{delays_seen}
 use Rattle.pim_hello.specs.Kept.{hello_of_kept}
-use Rattle.pim_hello.proofs.Intervals.{greatest_so_far}
+use Rattle.pim_hello.proofs.GreatestDelays.{greatest_so_far}
 use Rattle.pim_hello.proofs.roster.Roster.gathered.Goals as goal
 
 pub loop-kept-preserved : goal.loop-kept-preserved

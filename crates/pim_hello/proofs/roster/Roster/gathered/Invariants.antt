@@ -1,12 +1,11 @@
-use Rattle.std.proofs.Common.{◌≡◌, ℕ}
-use Rattle.std.specs.Prelude.{map, max}
+use Rattle.std.proofs.Common.{◌≡◌}
+use Rattle.std.specs.Prelude.{map}
 use Rattle.std.specs.BTreeMap.{values}
-use Rattle.pim_hello.specs.Interval.{override_interval}
 use Rattle.pim_hello.specs.Kept.{hello_of_kept}
+use Rattle.pim_hello.proofs.GreatestDelays.{with_numbers, greatest_sent}
 use Rattle.pim_hello.proofs.roster.Roster.gathered.Given as goal
 
--- the interval of the greatest so far and those that are left is that of all, whatever the port's own delays
+-- the greatest so far and those that are left come to what all come to
 abbrev pub invariant-loop-kept : goal.invariant-loop-kept
-invariant-loop-kept g l = (propagation override_ms : ℕ) →
-    override_interval (max propagation l.greatest.propagation) (max override_ms l.greatest.override_ms) (map hello_of_kept l.kept-iterator)
-    ≡ override_interval propagation override_ms (map hello_of_kept (values l.self.neighbours))
+invariant-loop-kept g l = with_numbers l.greatest.propagation l.greatest.override_ms (greatest_sent (map hello_of_kept l.kept-iterator))
+    ≡ greatest_sent (map hello_of_kept (values l.self.neighbours))

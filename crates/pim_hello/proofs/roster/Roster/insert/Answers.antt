@@ -1,4 +1,4 @@
-use Rattle.pim_hello.proofs.Intervals.{known_after}
+use Rattle.pim_hello.proofs.GreatestDelays.{known_after}
 use Rattle.pim_hello.proofs.roster.Roster.insert.Goals as goal
 
 pub invariant_of-self-then-ne-clause-delays : goal.invariant_of-self-then-ne-clause-delays
