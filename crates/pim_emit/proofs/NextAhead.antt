@@ -13,7 +13,7 @@ use Rattle.pim_down.specs.Time.{Downstream}
 use Rattle.pim_form.specs.Wants.{some_below}
 use Rattle.pim_emit.specs.Ahead.{is_this, IsNextOn, IsNextSource, SourceAhead, its_source, IsAheadOn, AreNext, TellsNext}
 use Rattle.pim_emit.specs.Machines.{is_source_joined}
-use Rattle.pim_emit.proofs.Addresses.{lt_less, above_less, le_above, same_is}
+use Rattle.pim_emit.proofs.Addresses.{lt_less, above_less, le_above}
 use Rattle.pim_emit.proofs.Above.{by_test}
 use Rattle.pim_emit.proofs.PortsBelow.{found_below, and_below}
 

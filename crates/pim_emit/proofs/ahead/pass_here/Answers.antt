@@ -1,5 +1,4 @@
 use Rattle.std.proofs.Common.{◌≡◌, ◌∙◌, List, ℕ, Option, Some, None, option_map, sym, ap, subst}
-use Rattle.pim_down.specs.After.{MachinesLeft}
 use Rattle.pim_emit.specs.Ahead.{IsAheadOn, SourceAhead, its_source}
 use Rattle.pim_emit.proofs.NextAhead.{with_left, goes_on}
 use Rattle.pim_emit.proofs.ahead.pass_here.Goals as goal

@@ -1,4 +1,4 @@
-use Rattle.std.proofs.Common.{◌≡◌, ◌∙◌, true, List, ℕ, Option, Some, None, sym, ap, absurd}
+use Rattle.std.proofs.Common.{◌≡◌, ◌∙◌, true, List, ℕ, Option, Some, None, sym, ap}
 use Rattle.std.proofs.lemmas.Bool.{false≢true}
 use Rattle.pim_emit.specs.Ahead.{is_this, its_source}
 use Rattle.pim_emit.proofs.Addresses.{same_is}
