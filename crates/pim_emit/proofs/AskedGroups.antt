@@ -1,8 +1,8 @@
 -- The groups that are asked for, among those with a record on some port.
-use Rattle.std.proofs.Common.{◌≡◌, ◌∙◌, ◌<◌, ℕ, Bool, true, false, ◌&&◌, ◌||◌, not, List, [], ◌∷◌, Option, None, Some, eqb, option_map, refl, sym, ap, subst}
+use Rattle.std.proofs.Common.{◌≡◌, ◌∙◌, ◌<◌, ℕ, Bool, true, false, ◌&&◌, ◌||◌, not, List, [], ◌∷◌, Option, None, Some, eqb, refl, sym, subst}
 use Rattle.std.specs.List.{AllByRecursion, list_any}
 use Rattle.std.specs.Option.{is_some}
-use Rattle.std.proofs.lemmas.Bool.{false≢true, eq-eqb, and_parts, and_from, or_left, or_right, or_from}
+use Rattle.std.proofs.lemmas.Bool.{false≢true, eq-eqb, and_parts, and_from, or_left, or_right}
 use Rattle.pim_addr.specs.Address.{IsGroupAddress, IsSourceAddress}
 use Rattle.pim_addr.specs.Routes.{RouteTable}
 use Rattle.pim_addr.specs.declared.family.AddressFamily.{AddressFamily}
@@ -56,14 +56,6 @@ any_wider test wider (item ∷ items) widens any =
 first_listed : (P : List ℕ → Type 0) (addresses : List (List ℕ)) → AllByRecursion P addresses → is_some (next_above None addresses) ≡ true → (address : List ℕ) × P address × (is_listed address addresses ≡ true)
 first_listed P [] all some = absurd (false≢true some)
 first_listed P (address ∷ addresses) all some = (address, all.0, or_left (same_address address address) (is_listed address addresses) (same_itself address))
-
-mapped_is_some : {A : Type 0} (f : A → List ℕ) (o : Option A) → is_some (option_map f o) ≡ is_some o
-mapped_is_some f None = refl
-mapped_is_some f (Some a) = refl
-
--- a test of the next source is one of the list
-pub source_told : {A : Type 0} (f : A → List ℕ) (o : Option A) (next : Option (List ℕ)) (answer test : Bool) → option_map f o ≡ next → answer ≡ is_some o → answer ≡ test → is_some next ≡ test
-source_told f o next answer test is answers tells = sym (ap (λ n. is_some n) is) ∙ mapped_is_some f o ∙ sym answers ∙ tells
 
 -- ---- the groups of a form
 
@@ -161,24 +153,14 @@ module _ (apart : KeysAreToldApart) (family : AddressFamily) (table : RouteTable
   pub no_group_left : (bound : Option (List ℕ)) → IsLeastGroup bound None → next_above bound (groups_of form) ≡ None
   no_group_left bound is = none_left is_held bound (groups_of form) all_held (least_held bound None is)
 
-  something_next : (bound : Option (List ℕ)) (group : List ℕ) → IsLeastGroup bound (Some group) → has_something group form ≡ true → next_above bound (groups_of form) ≡ Some group
-  something_next bound group is some =
-      listed_next is_held bound group (groups_of form) all_held asked.is.normal.ascending (least_held bound (Some group) is) (told group ∙ some)
+  pub something_next : (bound : Option (List ℕ)) (group : List ℕ) (answer : Bool) → IsLeastGroup bound (Some group) → answer ≡ has_something group form → answer ≡ true → next_above bound (groups_of form) ≡ Some group
+  something_next bound group answer is answers some =
+      listed_next is_held bound group (groups_of form) all_held asked.is.normal.ascending (least_held bound (Some group) is) (told group ∙ sym answers ∙ some)
 
-  pub starred_next : (bound : Option (List ℕ)) (group : List ℕ) (answer : Bool) → IsLeastGroup bound (Some group) → answer ≡ is_some (star_of group form) → answer ≡ true → next_above bound (groups_of form) ≡ Some group
-  starred_next bound group answer is answers some =
-      something_next bound group is (or_left (is_some (star_of group form)) (is_some (next_above None (sources_in group form))) (sym answers ∙ some))
-
-  pub sourced_next : (bound : Option (List ℕ)) (group : List ℕ) → IsLeastGroup bound (Some group) → is_some (next_above None (sources_in group form)) ≡ true
-      → next_above bound (groups_of form) ≡ Some group
-  sourced_next bound group is some =
-      something_next bound group is (or_right (is_some (star_of group form)) (is_some (next_above None (sources_in group form))) some)
-
-  pub nothing_passed : (bound : Option (List ℕ)) (group : List ℕ) (answer : Bool) → IsLeastGroup bound (Some group) → answer ≡ is_some (star_of group form) → answer ≡ false → is_some (next_above None (sources_in group form)) ≡ false
+  pub nothing_passed : (bound : Option (List ℕ)) (group : List ℕ) (answer : Bool) → IsLeastGroup bound (Some group) → answer ≡ has_something group form → answer ≡ false
       → next_above bound (groups_of form) ≡ next_above (Some group) (groups_of form)
-  nothing_passed bound group answer is answers unstarred unsourced =
-      unlisted_passed is_held bound group (groups_of form) all_held (least_held bound (Some group) is)
-      (told group ∙ or_from (is_some (star_of group form)) (is_some (next_above None (sources_in group form))) (sym answers ∙ unstarred) unsourced)
+  nothing_passed bound group answer is answers none =
+      unlisted_passed is_held bound group (groups_of form) all_held (least_held bound (Some group) is) (told group ∙ sym answers ∙ none)
 
   pub fewer_groups : (bound : Option (List ℕ)) (group : List ℕ) → IsLeastGroup bound (Some group)
       → count_above (λ (held : Record (List ℕ)). held.key.group) (Some group) state.records < count_above (λ (held : Record (List ℕ)). held.key.group) bound state.records

@@ -1,8 +1,9 @@
 -- The sources of a group that is asked for, among those that some port has joined.
-use Rattle.std.proofs.Common.{◌≡◌, ◌∙◌, ◌<◌, ◌≤◌, ℕ, Bool, true, false, ◌&&◌, List, [], ◌∷◌, Option, None, Some, length, sym, ap, subst, arith}
+use Rattle.std.proofs.Common.{◌≡◌, ◌∙◌, ◌<◌, ◌≤◌, ℕ, Bool, true, false, ◌&&◌, List, [], ◌∷◌, Option, None, Some, length, refl, sym, ap, subst, arith}
 use Rattle.std.specs.List.{AllByRecursion, list_any}
+use Rattle.std.specs.Option.{is_some}
 use Rattle.std.specs.List.Sorted.{IsStrictlySortedBy}
-use Rattle.std.proofs.lemmas.Bool.{and_parts}
+use Rattle.std.proofs.lemmas.Bool.{false≢true, and_parts}
 use Rattle.pim_addr.specs.Address.{IsGroupAddress, IsSourceAddress}
 use Rattle.pim_addr.specs.Routes.{RouteTable}
 use Rattle.pim_addr.specs.declared.family.AddressFamily.{AddressFamily}
@@ -31,7 +32,7 @@ use Rattle.pim_emit.proofs.FirstRecords.{held_at, any_at}
 use Rattle.pim_emit.proofs.LeastOfTwo.{least_of_same}
 use Rattle.pim_emit.proofs.ListedAbove.{over, AllPass, none_left, listed_next, unlisted_passed, all_listed}
 use Rattle.pim_emit.proofs.NextMachines.{key_of, told_state, joined_is_some}
-use Rattle.pim_emit.proofs.PortsBelow.{which_below, and_below}
+use Rattle.pim_emit.proofs.PortsBelow.{which_below, found_below, and_below}
 
 -- what holds of each group of a form, and of one that it doesn't have, holds of what it has of any
 group_in_holds : (P : GroupForm → Type 0) (group : List ℕ) (form : List GroupForm) → P (unwanted group) → AllByRecursion P form → P (group_in group form)
@@ -75,6 +76,11 @@ lists_of family group form all = group_in_holds (HasLists family) group form (no
 pub asked_as_seen : (law : AskedFormIsAsked) (family : AddressFamily) (table : RouteTable) (neighbour : List ℕ) (state : Downstream) (form : List GroupForm) → IsSound family state
     → asked_form family table neighbour state ≡ form → IsAskedForm family table neighbour state form
 asked_as_seen law family table neighbour state form sound seen = subst (λ (f : List GroupForm). IsAskedForm family table neighbour state f) seen (law family table neighbour state sound)
+
+-- a list on which an address stands has a first one
+listed_is_some : (address : List ℕ) (addresses : List (List ℕ)) → is_listed address addresses ≡ true → is_some (next_above None addresses) ≡ true
+listed_is_some address [] listed = absurd (false≢true listed)
+listed_is_some address (first ∷ addresses) listed = refl
 
 -- whether a source is reached, as a test of its upstream tells
 pub is_via : (family : AddressFamily) (table : RouteTable) (neighbour source : List ℕ) (upstream : Option (List ℕ)) (answer told : Bool) → upstream ≡ via_in family table source
@@ -139,3 +145,10 @@ module _ (apart : KeysAreToldApart) (family : AddressFamily) (table : RouteTable
   fewer_sources bound source is =
       let passes = and_parts (is_above bound source) (wanted source) (least_wanted bound (Some source) is).0 in
       fewer_above (λ (held : Record (List ℕ)). source_of held.key.what) bound source state.records passes.0 (is_held source passes.1)
+
+  -- where a source that some port has joined is reached, the group has one
+  pub reached_is_some : (port : ℕ) (next : Option (List ℕ)) (source : List ℕ) → next ≡ Some source → port < state.ports → IsLeast (λ source. is_above None source && is_source_joined state group source port) next
+      → is_neighbour neighbour (via_in family table source) ≡ true → is_some (next_above None (sources_in group form)) ≡ true
+  reached_is_some port next source named below is reached =
+      let joined = (subst (IsLeast (λ source. is_above None source && is_source_joined state group source port)) named is).0 in
+      listed_is_some source (sources_in group form) (listed_if_reached source (found_below (is_source_joined state group source) state.ports port below joined) ∙ reached)

@@ -1,12 +1,12 @@
 -- One step of a message that is being made: the next piece is told, or has no room.
 use Rattle.std.proofs.Common.{◌≡◌, ◌∙◌, ◌↔◌, ℕ, suc, zero, ◌+◌, ◌-◌, ◌*◌, ◌≤◌, ◌<◌, Bool, true, false, List, [], ◌∷◌, ◌++◌, Option, None, Some, length, map, take, drop, min, is_some, leb, refl, sym, ap, subst, arith, append_assoc, length-append}
-use Rattle.std.specs.Prelude.{if◌then◌else◌, option_map}
+use Rattle.std.specs.Prelude.{if◌then◌else◌}
 use Rattle.std.specs.Int.{from_bool}
 use Rattle.std.specs.List.{AllByRecursion, filter, find, flat_map}
 use Rattle.std.specs.declared.cmp.Ordering.TheVariants.{Less}
 use Rattle.std.proofs.lemmas.Bool.{false≢true, leb-true, leb-false}
 use Rattle.std.proofs.lemmas.Grind.{flat_map-append}
-use Rattle.std.proofs.lemmas.List.{append-nil, map-append, length-map, length-drop, take-append-drop, drop-append-le, length-take-le}
+use Rattle.std.proofs.lemmas.List.{append-nil, map-append, length-map, length-drop, drop_all, take-append-drop, drop-append-le, length-take-le}
 use Rattle.std.proofs.Math.Nat.{le-min, min-le_left, min-le_right}
 use Rattle.std.proofs.Math.Seq.{take-append-add}
 use Rattle.pim_addr.specs.declared.family.AddressFamily.{AddressFamily}
@@ -77,20 +77,26 @@ has_first test (x ∷ xs) found =
     let later = has_first test xs (ap is_some (found_later test x xs (find test (x ∷ xs)) e refl) ∙ found) in
     record { head = later.head; tail = later.tail; is = dropped_here test x xs e ∙ later.is })
 
-module _ {A : Type 0} (bytes_of : A → List ℕ) (next : Option A) (bound : Option (List ℕ)) (sources : List (List ℕ)) (is : option_map bytes_of next ≡ next_above bound sources) where
-  pub some_left : is_some next ≡ true → HasFirst (above bound sources)
-  some_left found = has_first (is_above bound) sources (sym (ap is_some is) ∙ mapped next ∙ found)
-    where
-      mapped : (r : Option A) → is_some (option_map bytes_of r) ≡ is_some r
-      mapped None = refl
-      mapped (Some a) = refl
+pub some_left : (bound : Option (List ℕ)) (sources : List (List ℕ)) → is_some (next_above bound sources) ≡ true → HasFirst (above bound sources)
+some_left bound sources found = has_first (is_above bound) sources found
 
-  pub none_left : is_some next ≡ false → above bound sources ≡ []
-  none_left found = by next is found
-    where
-      by : (r : Option A) → option_map bytes_of r ≡ next_above bound sources → is_some r ≡ false → above bound sources ≡ []
-      by None e none = above_none bound sources (sym e)
-      by (Some a) e none = absurd (false≢true (sym none))
+pub none_left : (bound : Option (List ℕ)) (sources : List (List ℕ)) → is_some (next_above bound sources) ≡ false → above bound sources ≡ []
+none_left bound sources found = by (next_above bound sources) refl found
+  where
+    by : (r : Option (List ℕ)) → next_above bound sources ≡ r → is_some r ≡ false → above bound sources ≡ []
+    by None e none = above_none bound sources e
+    by (Some a) e none = absurd (false≢true (sym none))
+
+-- where fewer were told than might be, none is left
+pub all_told : (piece : Piece (List ℕ)) (form : List GroupForm) (most : ℕ) (told : ToldSources (List ℕ)) → AreTold piece form most told → (told.count ≡ most → ⊥) → is_some (next_above told.last (sources_in piece.group form)) ≡ false
+all_told piece form most told are fewer =
+    let sources = (piece_form piece form).sources in
+    let all : length sources ≤ told.count = omega (arith, are.count, fewer) in
+    ap is_some (none_first (is_above told.last) (sources_in piece.group form) (are.left ∙ drop_all told.count sources all))
+  where
+    none_first : {A : Type 0} (test : A → Bool) (xs : List A) → filter test xs ≡ [] → find test xs ≡ None
+    none_first test [] none = refl
+    none_first test (x ∷ xs) none = by_test (test x) (λ e. let kept : x ∷ filter test xs ≡ [] = sym (kept_here test x xs e) ∙ none in absurd cc) (λ e. sym (found_later test x xs (find test (x ∷ xs)) e refl) ∙ none_first test xs (sym (dropped_here test x xs e) ∙ none))
 
 left_units : (family : AddressFamily) (group : List ℕ) (last : Option (List ℕ)) (form : List GroupForm)
     → units_of (left_at (Within group last) form) ≡ map (source_unit group) (above last (sources_in group form)) ++ units_of (groups_above (Some group) form)

@@ -1,12 +1,12 @@
-//! Of each port the source that comes next there, so that only where a source is passed the port's next machine is told.
+//! Of each port the source that comes next there, so that the port's next machine is told only where one is passed.
 
-ghost use Rattle.std.specs.Prelude.{◌≡◌, ◌≤◌, ◌<◌, ◌+◌, ℕ, false, List, Option, Some, IfSome, length, option_map};
+ghost use Rattle.std.specs.Prelude.{◌≡◌, ◌≤◌, ◌<◌, ◌+◌, ℕ, false, List, Option, None, Some, IfSome, length, option_map};
 ghost use Rattle.std.specs.Prelude.{slice_index_or};
 ghost use Rattle.pim_down.specs.Key.{address_cmp};
 ghost use Rattle.pim_down.specs.Seen.{what_seen};
 ghost use Rattle.pim_form.specs.NormalForm.{same_address};
-ghost use Rattle.pim_emit.specs.Ahead.{passed, SourceAhead, its_source, IsAheadOn, IsNextSource, AreNext, TellsNext};
-ghost use Rattle.pim_emit.specs.Ahead.{is_this, least_seen, source_told, AreLeastBelow};
+ghost use Rattle.pim_emit.specs.Ahead.{passed, SourceAhead, its_source, IsAheadOn, IsNextOn, IsNextSource, AreNext};
+ghost use Rattle.pim_emit.specs.Ahead.{is_this, least_seen, source_told, AreLeastBelow, TellsNext};
 
 use crate::least::lesser;
 use crate::nearby::Nearby;
@@ -126,6 +126,18 @@ fn source_of<F: Family>(next: &Option<Ahead<'_, F>>) -> Option<F::Addr>
         Some(ahead) => Some(ahead.source),
         None => None,
     }
+}
+
+/// The least source of the group on the port with (S,G) in Join or Prune-Pending.
+pub(crate) fn first_source<F: Family>(
+    ports: &Nearby<'_, F>,
+    port: usize,
+    group: F::Addr,
+) -> Option<F::Addr>
+    ensures { IsNextOn ports.now (F.bytes_of group) None port (option_map F.bytes_of result) }
+{
+    let next = ahead_on::<F>(ports, port, group, None);
+    source_of::<F>(&next)
 }
 
 /// The least source above the bound, or of all, with (S,G) in Join or Prune-Pending on some port: each is looked up.

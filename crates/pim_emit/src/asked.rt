@@ -1,6 +1,7 @@
 //! What an upstream neighbour is asked for, read straight from the records.
 
-ghost use Rattle.std.specs.Prelude.{◌≡◌, ◌≤◌, ℕ, List, true, Some, IfSome, length, option_map, is_some};
+ghost use Rattle.std.specs.Prelude.{◌≡◌, ◌≤◌, ◌<◌, ◌||◌, ℕ, List, true, None, Some, IfSome, length};
+ghost use Rattle.std.specs.Prelude.{option_map, is_some};
 ghost use Rattle.pim_addr.specs.Address.{IsGroupAddress};
 ghost use Rattle.pim_form.specs.Asked.{asked_form};
 ghost use Rattle.pim_form.specs.NormalForm.{groups_of, IsNormal};
@@ -12,7 +13,7 @@ ghost use Rattle.pim_emit.specs.Stars.{AreStars};
 ghost use Rattle.pim_emit.specs.Ahead.{AreNext};
 ghost use Rattle.pim_emit.specs.Rpts.{AreRpts};
 
-use crate::ahead::{Ahead, keep_ahead, look_ahead, take_next};
+use crate::ahead::{Ahead, first_source, keep_ahead, look_ahead, take_next};
 use crate::machines::{first_starred, least_group, most_rpts};
 use crate::nearby::Nearby;
 use crate::rpts::{Rpts, next_rpt, rpts_of};
@@ -118,6 +119,48 @@ impl<'a, F: Family> Asked<'a, F> {
     {
         let mut nowhere: [Option<Ahead<'a, F>>; 0] = [];
         self.next_ahead(group, bound, &mut nowhere)
+    }
+
+    /// Whether the least source of the group on the port is reached by the neighbour.
+    fn begins_with_one(&self, port: usize, group: F::Addr) -> bool
+        requires group { IsGroupAddress F.family (F.bytes_of group) }
+        requires port { port < self.now.machines.ports }
+        ensures { result ≡ true → is_some (next_above None (sources_in (F.bytes_of group) self.now.form)) ≡ true }
+    {
+        self.ports.is_sound();
+        pim_down::keys_are_told_apart();
+        pim_form::form_of_what_is_asked();
+        match first_source::<F>(&self.ports, port, group) {
+            Some(source) => is_neighbour::<F>(self.routes.via(source), self.upstream),
+            None => false,
+        }
+    }
+
+    /// Whether the least source of the group on some port is reached by the neighbour. Where none is, a later one may
+    /// be.
+    fn begins_with_source(&self, group: F::Addr) -> bool
+        requires { IsGroupAddress F.family (F.bytes_of group) }
+        ensures { result ≡ true → is_some (next_above None (sources_in (F.bytes_of group) self.now.form)) ≡ true }
+    {
+        let count = self.port_count();
+        for port in 0..count {
+            if self.begins_with_one(port, group) {
+                return true;
+            }
+        }
+        false
+    }
+
+    /// Whether the group has a star or a source. Of most groups that have a source the first look-up tells.
+    fn has_any(&self, group: F::Addr) -> bool
+        requires { IsGroupAddress F.family (F.bytes_of group) }
+        ensures { result ≡ (is_some (star_of (F.bytes_of group) self.now.form)
+            || is_some (next_above None (sources_in (F.bytes_of group) self.now.form))) }
+    {
+        if self.begins_with_source(group) {
+            return true;
+        }
+        self.has_star(group) || self.next_source(group, None).is_some()
     }
 
     /// How many ports there are.
@@ -255,7 +298,7 @@ impl<'a, F: Family> Asked<'a, F> {
         pim_form::form_of_what_is_asked();
         let mut bound = bound;
         while let Some(group) = least_group::<F>(&self.ports, bound) {
-            if self.has_star(group) || self.next_source(group, None).is_some() {
+            if self.has_any(group) {
                 return Some(group);
             }
             bound = Some(group);

@@ -1,18 +1,19 @@
 //! A message that is being made: the sets that are written, and how far the units are told.
 
-ghost use Rattle.std.specs.Prelude.{◌≡◌, ◌+◌, ◌*◌, ◌≤◌, ◌<◌, ◌↔◌, ℕ, length, true, false, List, is_some};
+ghost use Rattle.std.specs.Prelude.{◌≡◌, ◌+◌, ◌*◌, ◌≤◌, ◌<◌, ◌↔◌, ℕ, length, true, false, List, is_some, option_map};
 ghost use Rattle.std.specs.Int.{from_bool};
 ghost use Rattle.pim_form.specs.Units.{empty_set_size, entry_size};
 ghost use Rattle.pim_form.specs.Rows.{exceptions_of};
 ghost use Rattle.pim_emit.specs.declared.position.Position.{Position};
 ghost use Rattle.pim_emit.specs.Drafts.{draft_seen, body_start, IsDraft, IsBegun, steps_left};
-ghost use Rattle.pim_emit.specs.Left.{IsPiece, position_seen, piece_seen, piece_form, star_of};
+ghost use Rattle.pim_emit.specs.Left.{IsPiece, position_seen, piece_seen, piece_form, star_of, sources_in, next_above};
+ghost use Rattle.pim_emit.specs.Sets.{AreTold, told_seen};
 ghost use Rattle.pim_addr.specs.Address.{IsGroupAddress};
 
 use crate::asked::Asked;
 use crate::piece::{Piece, next_piece};
 use crate::position::Position;
-use crate::set::write_set;
+use crate::set::{ToldSources, write_set};
 use pim_addr::{Family, group_length, source_length};
 use pim_jp::{head_length, set_length};
 
@@ -58,6 +59,21 @@ pub(crate) fn room<F: Family>(draft: &Draft<F::Addr>, budget: usize) -> usize
     budget.saturating_sub(draft.end + set) / source_length::<F>()
 }
 
+/// Whether a group has sources behind those of a piece that were told, at most so many.
+fn has_more<F: Family>(
+    asked: &Asked<'_, F>,
+    piece: &Piece<F::Addr>,
+    most: usize,
+    told: &ToldSources<F::Addr>,
+) -> bool
+    requires group { IsGroupAddress F.family (F.bytes_of piece.now.group) }
+    requires told { AreTold (piece_seen F.bytes_of piece.now) asked.now.form most (told_seen F.bytes_of told.now) }
+    ensures { result ≡ is_some (next_above (option_map F.bytes_of told.now.last)
+        (sources_in (F.bytes_of piece.now.group) asked.now.form)) }
+{
+    told.count == most && asked.next_source(piece.group, told.last).is_some()
+}
+
 /// Tells a piece, as far as there is room: for so many entries, which are more than none and not fewer than its star
 /// has, with so many exceptions.
 fn tell_piece<F: Family>(
@@ -90,10 +106,11 @@ fn tell_piece<F: Family>(
     asked.star_has_rp(piece.group);
     let stars = usize::from(piece.starred);
     let (_, set) = bytes.split_at_mut(draft.end);
-    let told = write_set::<F>(asked, piece, exceptions, room - (stars + exceptions), set);
+    let most = room - (stars + exceptions);
+    let told = write_set::<F>(asked, piece, exceptions, most, set);
     draft.groups += 1;
     draft.end += set_length::<F>((stars + told.count) as u16, exceptions as u16);
-    if asked.next_source(piece.group, told.last).is_some() {
+    if has_more::<F>(asked, piece, most, &told) {
         draft.position = Position::Within(piece.group, told.last);
         draft.is_full = true;
     } else {

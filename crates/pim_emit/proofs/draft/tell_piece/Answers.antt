@@ -33,8 +33,8 @@ overflow_add-draft-2 g c =
     (told_seen bytes_of c.write_set-told.result) c.write_set-told.ensures.told in
     omega (arith, ends, c.set_length.ensures, c.requires.budget)
 
-pub returns-then-is_some-clause-draft : goal.returns-then-is_some-clause-draft
-returns-then-is_some-clause-draft g c begun made =
+pub returns-then-has_more-clause-draft : goal.returns-then-has_more-clause-draft
+returns-then-has_more-clause-draft g c begun made =
     let bytes_of = g.F.Family.bytes_of in
     to_within g.F.Family.family (length c.args.bytes.now) c.args.asked.now begun
     (draft_seen bytes_of c.args.draft.now) c.args.bytes.now made c.groups_are_counted.ensures
@@ -46,11 +46,11 @@ returns-then-is_some-clause-draft g c begun made =
     c.write_set-told.new.bytes c.split_at_mut-set.ensures.front (omega (arith, made.within)) c.set_length.result
     c.set_length.ensures
     c.write_set-told.ensures.written
-    (some_left bytes_of c.next_source.result (option_map bytes_of c.write_set-told.result.last)
-    (sources_in (bytes_of c.args.piece.now.group) c.args.asked.now.form) c.next_source.ensures (sym c.is_some.ensures ∙ c.if-is_some.true))
+    (some_left (option_map bytes_of c.write_set-told.result.last)
+    (sources_in (bytes_of c.args.piece.now.group) c.args.asked.now.form) (sym c.has_more.ensures ∙ c.if-has_more.true))
 
-pub returns-else-is_some-clause-draft : goal.returns-else-is_some-clause-draft
-returns-else-is_some-clause-draft g c begun made =
+pub returns-else-has_more-clause-draft : goal.returns-else-has_more-clause-draft
+returns-else-has_more-clause-draft g c begun made =
     let bytes_of = g.F.Family.bytes_of in
     to_behind g.F.Family.family (length c.args.bytes.now) c.args.asked.now begun
     (draft_seen bytes_of c.args.draft.now) c.args.bytes.now made c.groups_are_counted.ensures
@@ -62,5 +62,5 @@ returns-else-is_some-clause-draft g c begun made =
     c.write_set-told.new.bytes c.split_at_mut-set.ensures.front (omega (arith, made.within)) c.set_length.result
     c.set_length.ensures
     c.write_set-told.ensures.written
-    (none_left bytes_of c.next_source.result (option_map bytes_of c.write_set-told.result.last)
-    (sources_in (bytes_of c.args.piece.now.group) c.args.asked.now.form) c.next_source.ensures (sym c.is_some.ensures ∙ c.if-is_some.false))
+    (none_left (option_map bytes_of c.write_set-told.result.last)
+    (sources_in (bytes_of c.args.piece.now.group) c.args.asked.now.form) (sym c.has_more.ensures ∙ c.if-has_more.false))
