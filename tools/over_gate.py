@@ -74,6 +74,11 @@ def libraries(rt, crate):
     if not hasattr(rt, "Kept"):
         print("this kit keeps no libraries: copy crates/NAME/out/rlib from the copy in which rt ci ran")
         return 1
+    there = [it.name for it in crate.below() if os.path.isdir(it.rlib)]
+    if there:
+        # They may be links to what is kept; linked a second time, `rt` takes them for damaged, and drops what it keeps.
+        print(f"some stand in out/ already; remove crates/NAME/out first of: {' '.join(there)}", file=sys.stderr)
+        return 1
     kept, lacking = rt.Kept(crate.below()), []
     for it in crate.below():
         if kept.give(it, False, kept.key(it)):
