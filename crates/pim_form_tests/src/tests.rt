@@ -97,21 +97,34 @@ fn body(alloc: Global, message: &Heard<'_>) -> Result<Vec<u8>, AllocError> {
     Ok(bytes)
 }
 
+/// Hears a message that was read, under a table: whether it was taken.
+fn hear_view(
+    ports: &mut Ports<V4>,
+    (port, timing): (usize, Timing),
+    view: &JpView<'_, V4>,
+    routes: &Routes<V4>,
+) -> bool {
+    port < ports.port_count()
+        && timing.override_ms <= 98_302
+        && ports.hear(port, view, routes, timing).is_ok()
+}
+
+/// Hears a message with this body under a table of one RP: whether it was taken.
+fn hear_body(alloc: Global, ports: &mut Ports<V4>, on: (usize, Timing), body: &[u8]) -> bool {
+    let mut routes = Routes::new(alloc);
+    match (
+        JpView::<V4>::read(body),
+        routes.add_rp([224, 0, 0, 0], 4, RP),
+    ) {
+        (Ok(view), Ok(())) => hear_view(ports, on, &view, &routes),
+        _ => false,
+    }
+}
+
 /// Hears a message: whether it was taken.
 fn hear(alloc: Global, ports: &mut Ports<V4>, message: &Heard<'_>) -> Result<bool, AllocError> {
     let bytes = body(alloc, message)?;
-    let Ok(view) = JpView::<V4>::read(&bytes) else {
-        return Ok(false);
-    };
-    let timing = message.timing;
-    if message.port >= ports.port_count() || timing.override_ms > 98_302 {
-        return Ok(false);
-    }
-    let mut routes = Routes::new(alloc);
-    if routes.add_rp([224, 0, 0, 0], 4, RP).is_err() {
-        return Ok(false);
-    }
-    Ok(ports.hear(message.port, &view, &routes, timing).is_ok())
+    Ok(hear_body(alloc, ports, (message.port, message.timing), &bytes))
 }
 
 /// A message of one set of the group: the port that hears it, with how many neighbours, the joined and the pruned entries.

@@ -171,6 +171,20 @@ fn receive(
     Ok(Some(verdict))
 }
 
+/// Seals a message, and lets the first port receive it; `None` where it has too few bytes or too many.
+fn receive_sealed(
+    router: &mut Router<'_, V4>,
+    from: [u8; 4],
+    message_type: MessageType,
+    bytes: &mut [u8],
+) -> Result<Option<Verdict>, AllocError> {
+    if bytes.len() < 4 || bytes.len() >= 65_536 {
+        return Ok(None);
+    }
+    seal::<V4>(from, all_routers::<V4>(), message_type, bytes);
+    receive(router, 0, from, bytes)
+}
+
 /// Lets the first port receive a message with this body.
 fn receive_body(
     alloc: Global,
@@ -181,11 +195,7 @@ fn receive_body(
 ) -> Result<Option<Verdict>, AllocError> {
     let mut bytes = vec![in alloc; 0, 0, 0, 0]?;
     bytes.extend_from_slice(body)?;
-    if bytes.len() < 4 || bytes.len() >= 65_536 {
-        return Ok(None);
-    }
-    seal::<V4>(from, all_routers::<V4>(), message_type, &mut bytes);
-    receive(router, 0, from, &bytes)
+    receive_sealed(router, from, message_type, &mut bytes)
 }
 
 /// Whether one of the group's machines on the first port has this time left.

@@ -2,11 +2,11 @@
 
 use super::packing::EXCEPT_MESSAGE;
 use super::toward::{ROWS, Row, SIX, TWO, heard, table};
-use super::{RP, RPT_FIRST, RPT_SECOND, STAR, alone, hear};
+use super::{ALONE, Message, RP, RPT_FIRST, RPT_SECOND, STAR, alone, hear, ports_after};
 use pim_addr::{Routes, V4};
 use pim_down::{Ports, Step};
 use pim_form::{Messages, NormalForm, Writer, is_toward, normal_again, pack};
-use std::alloc::{AllocError, Global};
+use std::alloc::Global;
 use std::test::Fail;
 
 /// To 10.0.0.2: the source 192.0.2.2 of the first group, and the star of the other.
@@ -38,29 +38,46 @@ fn told_by(
     if !is_toward(form, routes, writer.upstream()) {
         return None;
     }
-    let messages = pack(alloc, form, writer, routes).ok()?;
-    Some(is_one(&messages, bytes))
+    match pack(alloc, form, writer, routes) {
+        Ok(messages) => Some(is_one(&messages, bytes)),
+        Err(_) => None,
+    }
+}
+
+/// Whether what these ports ask of this writer's neighbour under this table is one message of these bytes.
+fn tells_under(
+    alloc: Global,
+    ports: &Ports<V4>,
+    routes: &Routes<V4>,
+    writer: &Writer<V4>,
+    bytes: &[u8],
+) -> Option<bool> {
+    let form = NormalForm::toward(alloc, ports, routes, writer.upstream()).ok()?;
+    told_by(alloc, &form, routes, writer, bytes)
+}
+
+/// The same under the six rows.
+fn tells_by(alloc: Global, ports: &Ports<V4>, writer: &Writer<V4>, bytes: &[u8]) -> Option<bool> {
+    let routes = table(alloc, &ROWS)?;
+    tells_under(alloc, ports, &routes, writer, bytes)
 }
 
 /// Whether what these ports ask of this neighbour from this address is one message of these bytes.
 fn ports_tell(
     alloc: Global,
     ports: &Ports<V4>,
-    routes: &Routes<V4>,
     (neighbour, own): ([u8; 4], [u8; 4]),
     bytes: &[u8],
 ) -> Option<bool> {
     let writer = Writer::<V4>::new(neighbour, own, 210, 1480).ok()?;
-    let form = NormalForm::toward(alloc, ports, routes, neighbour).ok()?;
-    told_by(alloc, &form, routes, &writer, bytes)
+    tells_by(alloc, ports, &writer, bytes)
 }
 
 /// Whether what is asked of this neighbour from this address is one message of these bytes; `None` where something is
 /// refused.
 fn tells(alloc: Global, neighbour: [u8; 4], own: [u8; 4], bytes: &[u8]) -> Option<bool> {
     let ports = heard(alloc)?;
-    let routes = table(alloc, &ROWS)?;
-    ports_tell(alloc, &ports, &routes, (neighbour, own), bytes)
+    ports_tell(alloc, &ports, (neighbour, own), bytes)
 }
 
 #[test]
@@ -119,23 +136,38 @@ fn form_tells_all(
 }
 
 /// What comes to three ports: the star without 192.0.2.1, without both sources, and a prune of 192.0.2.2 without a star.
-fn hear_all(alloc: Global, ports: &mut Ports<V4>) -> Result<bool, AllocError> {
-    let first = hear(alloc, ports, &alone(0, &[STAR], &[RPT_FIRST]))?;
-    let second = hear(alloc, ports, &alone(1, &[STAR], &[RPT_FIRST, RPT_SECOND]))?;
-    let third = hear(alloc, ports, &alone(2, &[], &[RPT_SECOND]))?;
-    Ok(first && second && third)
+const ALL: [Message<'static>; 3] = [
+    (0, ALONE, &[STAR], &[RPT_FIRST]),
+    (1, ALONE, &[STAR], &[RPT_FIRST, RPT_SECOND]),
+    (2, ALONE, &[], &[RPT_SECOND]),
+];
+
+/// Hears the first of these messages again at 5 s: whether it was taken, and nothing is echoed before.
+fn hear_again(alloc: Global, ports: &mut Ports<V4>) -> bool {
+    ports.run_to(5000) == Step::Reached
+        && hear(alloc, ports, &alone(0, &[STAR], &[RPT_FIRST])) == Ok(true)
+}
+
+/// Whether the ports tell the star without 192.0.2.1 before and after the message that is heard again.
+fn tell_before_and_after(alloc: Global, ports: &mut Ports<V4>) -> Option<[[bool; 2]; 2]> {
+    let before = tells_all(alloc, ports, &EXCEPT_MESSAGE)?;
+    if hear_again(alloc, ports) {
+        Some([before, tells_all(alloc, ports, &EXCEPT_MESSAGE)?])
+    } else {
+        None
+    }
+}
+
+/// The same of new ports that hear all these messages; `None` where one isn't taken, or something is refused.
+fn all_tell(alloc: Global) -> Option<[[bool; 2]; 2]> {
+    match ports_after(alloc, &ALL, 0) {
+        Ok(Some(mut ports)) => tell_before_and_after(alloc, &mut ports),
+        _ => None,
+    }
 }
 
 #[test]
 fn message_heard_again_changes_no_byte(rt: HostRuntime) -> Result<(), Fail> {
-    let mut ports: Ports<V4> = Ports::new(rt.alloc(), 3, 100);
-    assert!(rt; hear_all(rt.alloc(), &mut ports)?);
-    assert_eq!(rt; ports.run_to(0), Step::Reached);
-    let told = tells_all(rt.alloc(), &ports, &EXCEPT_MESSAGE);
-    assert_eq!(rt; told, Some([true, true]));
-    assert_eq!(rt; ports.run_to(5000), Step::Reached);
-    assert!(rt; hear(rt.alloc(), &mut ports, &alone(0, &[STAR], &[RPT_FIRST]))?);
-    let again = tells_all(rt.alloc(), &ports, &EXCEPT_MESSAGE);
-    assert_eq!(rt; again, Some([true, true]));
+    assert_eq!(rt; all_tell(rt.alloc()), Some([[true, true], [true, true]]));
     Ok(())
 }

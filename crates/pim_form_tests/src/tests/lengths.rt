@@ -62,7 +62,8 @@ fn lengths_of_ipv6(alloc: Global, budget: usize, pruned: &[Entry<[u8; 16]>]) -> 
     heard_lengths(alloc, &mut router, GROUP6, &[Entry::Star(RP6)], pruned)
 }
 
-fn push_sources(list: &mut Vec<Entry<[u8; 4]>>) -> Result<(), AllocError> {
+/// Adds the sources 10.1.0.1 to 10.1.0.200.
+pub(super) fn push_sources(list: &mut Vec<Entry<[u8; 4]>>) -> Result<(), AllocError> {
     for number in 1..201 {
         list.push(Entry::Source(source(number)))?;
     }

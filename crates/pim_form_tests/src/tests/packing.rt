@@ -1,8 +1,8 @@
 //! Forms that are packed: the bytes and the lengths of their messages, and stars that are too big.
 
 use super::ALONE;
-use super::lengths::length_at;
-use pim_addr::{Family, Routes, V4, V6};
+use super::lengths::{length_at, push_sources};
+use pim_addr::{Family, RouteFault, Routes, V4, V6};
 use pim_down::{Ports, Step};
 use pim_form::{FormFault, Messages, NormalForm, Writer, is_toward, normal_again, pack};
 use pim_jp::{Entry, JpView, head_length, put_head, put_set, set_length};
@@ -41,17 +41,24 @@ pub(super) const EXCEPT_MESSAGE: [u8; 42] = [
     0, 7, 32, 10, 9, 9, 9, 1, 0, 5, 32, 192, 0, 2, 1,
 ];
 
+/// Leads all groups of IPv4 to one RP, and all addresses to 10.0.0.2.
+fn lead4(routes: &mut Routes<V4>) -> Result<(), RouteFault> {
+    routes.add_rp([224, 0, 0, 0], 4, RP)?;
+    routes.add_via([0; 4], 0, [10, 0, 0, 2])
+}
+
 /// A router of IPv4: all groups have one RP, and all addresses are reached by 10.0.0.2.
 pub(super) fn router4(alloc: Global, budget: usize) -> Option<Router<V4>> {
-    let writer = Writer::new([10, 0, 0, 2], [10, 0, 0, 1], 210, budget).ok()?;
     let mut routes = Routes::new(alloc);
-    routes.add_rp([224, 0, 0, 0], 4, RP).ok()?;
-    routes.add_via([0; 4], 0, [10, 0, 0, 2]).ok()?;
-    Some(Router {
-        ports: Ports::new(alloc, 1, 1000),
-        routes,
-        writer,
-    })
+    let led = lead4(&mut routes);
+    match (led, Writer::new([10, 0, 0, 2], [10, 0, 0, 1], 210, budget)) {
+        (Ok(()), Ok(writer)) => Some(Router {
+            ports: Ports::new(alloc, 1, 1000),
+            routes,
+            writer,
+        }),
+        _ => None,
+    }
 }
 
 /// A source of IPv4.
@@ -64,19 +71,40 @@ pub(super) fn source6(number: u8) -> [u8; 16] {
     [32, 1, 13, 184, 0, 0, 0, 0, 0, 0, 0, 0, 0, 0, 0, number]
 }
 
+/// Leads all groups of IPv6 to one RP, and all addresses to one neighbour.
+fn lead6(routes: &mut Routes<V6>) -> Result<(), RouteFault> {
+    let groups = [255, 0, 0, 0, 0, 0, 0, 0, 0, 0, 0, 0, 0, 0, 0, 0];
+    routes.add_rp(groups, 8, RP6)?;
+    routes.add_via([0; 16], 0, source6(2))
+}
+
 /// A router of IPv6: all groups have one RP, and all addresses are reached by one neighbour.
 pub(super) fn router6(alloc: Global, budget: usize) -> Option<Router<V6>> {
-    let writer = Writer::new(source6(2), source6(1), 210, budget).ok()?;
     let mut routes = Routes::new(alloc);
-    routes
-        .add_rp([255, 0, 0, 0, 0, 0, 0, 0, 0, 0, 0, 0, 0, 0, 0, 0], 8, RP6)
-        .ok()?;
-    routes.add_via([0; 16], 0, source6(2)).ok()?;
-    Some(Router {
-        ports: Ports::new(alloc, 1, 1000),
-        routes,
-        writer,
-    })
+    let led = lead6(&mut routes);
+    match (led, Writer::new(source6(2), source6(1), 210, budget)) {
+        (Ok(()), Ok(writer)) => Some(Router {
+            ports: Ports::new(alloc, 1, 1000),
+            routes,
+            writer,
+        }),
+        _ => None,
+    }
+}
+
+/// Hears a message that was read, and lets its prunes act: whether it was taken.
+fn hear_view<F: Family>(router: &mut Router<F>, view: &JpView<'_, F>) -> bool {
+    router.ports.port_count() != 0
+        && router.ports.hear(0, view, &router.routes, ALONE).is_ok()
+        && router.ports.run_to(0) == Step::Reached
+}
+
+/// Hears a message with this body.
+fn hear_body<F: Family>(router: &mut Router<F>, body: &[u8]) -> bool {
+    match JpView::<F>::read(body) {
+        Ok(view) => hear_view(router, &view),
+        Err(_) => false,
+    }
 }
 
 /// Hears a message of one set, and lets its prunes act: whether it was taken.
@@ -95,16 +123,20 @@ pub(super) fn hear<F: Family>(
     let (head, set) = body.split_at_mut(head_length::<F>());
     put_head::<F>(router.writer.upstream(), 1, 210, head);
     put_set::<F>(group, joined, pruned, set);
-    let Ok(view) = JpView::<F>::read(&body) else {
-        return Ok(false);
-    };
-    if router.ports.port_count() == 0 {
-        return Ok(false);
+    Ok(hear_body(router, &body))
+}
+
+/// The messages of this form; `None` where the router's neighbour isn't asked for all of it.
+fn form_told<F: Family>(
+    alloc: Global,
+    router: &Router<F>,
+    form: &NormalForm<F>,
+) -> Option<Result<Messages, FormFault<F>>> {
+    if is_toward(form, &router.routes, router.writer.upstream()) {
+        Some(pack(alloc, form, &router.writer, &router.routes))
+    } else {
+        None
     }
-    if router.ports.hear(0, &view, &router.routes, ALONE).is_err() {
-        return Ok(false);
-    }
-    Ok(router.ports.run_to(0) == Step::Reached)
 }
 
 /// The messages of what the router wants; `None` where it doesn't want it all of its neighbour, or its form isn't made.
@@ -113,10 +145,7 @@ pub(super) fn told<F: Family>(
     router: &Router<F>,
 ) -> Option<Result<Messages, FormFault<F>>> {
     let form = NormalForm::of(alloc, &router.ports).ok()?;
-    if !is_toward(&form, &router.routes, router.writer.upstream()) {
-        return None;
-    }
-    Some(pack(alloc, &form, &router.writer, &router.routes))
+    form_told(alloc, router, &form)
 }
 
 /// Whether messages are none, and are the same as themselves.
@@ -129,24 +158,52 @@ fn are_one(messages: &Messages, bytes: &[u8]) -> bool {
     messages.count() == 1 && messages.get(0) == Some(bytes) && messages.get(1).is_none()
 }
 
+/// The messages of what the router wants; `None` where it isn't told.
+fn messages_of(alloc: Global, router: &Router<V4>) -> Option<Messages> {
+    match told(alloc, router) {
+        Some(Ok(messages)) => Some(messages),
+        _ => None,
+    }
+}
+
+/// Whether the router tells the same as these messages, and the star's.
+fn tells_a_star(alloc: Global, router: &Router<V4>, nothing: &Messages) -> Option<[bool; 2]> {
+    let messages = messages_of(alloc, router)?;
+    Some([
+        nothing.same_bytes(&messages),
+        are_one(&messages, &STAR_MESSAGE),
+    ])
+}
+
+/// The same of the router when it has heard the star.
+fn hears_and_tells_a_star(
+    alloc: Global,
+    router: &mut Router<V4>,
+    nothing: &Messages,
+) -> Option<[bool; 2]> {
+    if hear(alloc, router, GROUP, &[Entry::Star(RP)], &[]) == Ok(true) {
+        tells_a_star(alloc, router, nothing)
+    } else {
+        None
+    }
+}
+
 /// Whether the router, which wants nothing yet, tells no messages, and then the star's: not the same ones.
 fn tells_nothing_and_a_star(alloc: Global, router: &mut Router<V4>) -> Option<[bool; 3]> {
-    let nothing = told(alloc, router)?.ok()?;
-    if hear(alloc, router, GROUP, &[Entry::Star(RP)], &[]) != Ok(true) {
-        return None;
-    }
-    let messages = told(alloc, router)?.ok()?;
-    let same = nothing.same_bytes(&messages);
-    Some([are_none(&nothing), same, are_one(&messages, &STAR_MESSAGE)])
+    let nothing = messages_of(alloc, router)?;
+    let [same, star] = hears_and_tells_a_star(alloc, router, &nothing)?;
+    Some([are_none(&nothing), same, star])
+}
+
+/// The same of a new router.
+fn new_tells_nothing_and_a_star(alloc: Global) -> Option<[bool; 3]> {
+    let mut router = router4(alloc, 1480)?;
+    tells_nothing_and_a_star(alloc, &mut router)
 }
 
 #[test]
 fn packs_a_star(rt: HostRuntime) -> Result<(), Fail> {
-    let Some(mut router) = router4(rt.alloc(), 1480) else {
-        assert!(rt; false);
-        return Ok(());
-    };
-    let are = tells_nothing_and_a_star(rt.alloc(), &mut router);
+    let are = new_tells_nothing_and_a_star(rt.alloc());
     assert_eq!(rt; are, Some([true, false, true]));
     Ok(())
 }
@@ -159,58 +216,81 @@ fn is_told_so(
     form: &NormalForm<V4>,
     bytes: &[u8],
 ) -> Option<bool> {
-    if !is_toward(form, &router.routes, router.writer.upstream()) {
-        return None;
+    match form_told(alloc, router, form) {
+        Some(Ok(messages)) => Some(are_one(&messages, bytes)),
+        _ => None,
     }
-    let messages = pack(alloc, form, &router.writer, &router.routes).ok()?;
-    Some(are_one(&messages, bytes))
+}
+
+/// The same of the normal form of this form.
+fn is_told_so_again(
+    alloc: Global,
+    router: &Router<V4>,
+    form: &NormalForm<V4>,
+    bytes: &[u8],
+) -> Option<bool> {
+    let again = normal_again(alloc, form).ok()?;
+    is_told_so(alloc, router, &again, bytes)
 }
 
 /// The same of what the router wants, and of the normal form of its normal form.
 fn both_told_so(alloc: Global, router: &Router<V4>, bytes: &[u8]) -> Option<[bool; 2]> {
     let form = NormalForm::of(alloc, &router.ports).ok()?;
-    let again = normal_again(alloc, &form).ok()?;
-    let second = is_told_so(alloc, router, &again, bytes)?;
+    let second = is_told_so_again(alloc, router, &form, bytes)?;
     let first = is_told_so(alloc, router, &form, bytes)?;
     Some([first, second])
 }
 
+/// The same of a router when it has heard the star without 192.0.2.1; `None` where that isn't taken.
+fn hears_and_tells_an_exception(alloc: Global, router: &mut Router<V4>) -> Option<[bool; 2]> {
+    let (star, without) = ([Entry::Star(RP)], [Entry::Rpt(FIRST)]);
+    if hear(alloc, router, GROUP, &star, &without) == Ok(true) {
+        both_told_so(alloc, router, &EXCEPT_MESSAGE)
+    } else {
+        None
+    }
+}
+
+/// The same of a new router.
+fn new_tells_an_exception(alloc: Global) -> Option<[bool; 2]> {
+    let mut router = router4(alloc, 1480)?;
+    hears_and_tells_an_exception(alloc, &mut router)
+}
+
 #[test]
 fn packs_a_star_with_an_exception(rt: HostRuntime) -> Result<(), Fail> {
-    let Some(mut router) = router4(rt.alloc(), 1480) else {
-        assert!(rt; false);
-        return Ok(());
-    };
-    let (star, without) = ([Entry::Star(RP)], [Entry::Rpt(FIRST)]);
-    assert!(rt; hear(rt.alloc(), &mut router, GROUP, &star, &without)?);
-    let told = both_told_so(rt.alloc(), &router, &EXCEPT_MESSAGE);
-    assert_eq!(rt; told, Some([true, true]));
+    assert_eq!(rt; new_tells_an_exception(rt.alloc()), Some([true, true]));
     Ok(())
+}
+
+/// Whether a fault is told in these words.
+fn is_in_words<F: Family>(
+    alloc: Global,
+    fault: FormFault<F>,
+    words: &str,
+) -> Result<bool, AllocError> {
+    let text = format!(in alloc; "{fault}")?;
+    Ok(text.as_str() == words)
 }
 
 #[test]
 fn tells_faults_in_words(rt: HostRuntime) -> Result<(), Fail> {
-    let fault: FormFault<V4> = FormFault::TooBig(GROUP);
-    let text = format!(in rt.alloc(); "{fault}")?;
-    assert_eq!(rt; text.as_str(), "too big 239.1.1.1");
-    let fault: FormFault<V6> = FormFault::Memory;
-    let text = format!(in rt.alloc(); "{fault}")?;
-    assert_eq!(rt; text.as_str(), "memory");
-    let fault: FormFault<V4> = FormFault::Tables;
-    let text = format!(in rt.alloc(); "{fault}")?;
-    assert_eq!(rt; text.as_str(), "tables");
+    let too_big: FormFault<V4> = FormFault::TooBig(GROUP);
+    assert!(rt; is_in_words(rt.alloc(), too_big, "too big 239.1.1.1")?);
+    let memory: FormFault<V6> = FormFault::Memory;
+    assert!(rt; is_in_words(rt.alloc(), memory, "memory")?);
+    let tables: FormFault<V4> = FormFault::Tables;
+    assert!(rt; is_in_words(rt.alloc(), tables, "tables")?);
     Ok(())
 }
 
 /// Whether this router takes 200 sources.
 fn hear_200(alloc: Global, router: &mut Router<V4>) -> bool {
     let mut joined = Vec::new(alloc);
-    for number in 1..201 {
-        if joined.push(Entry::Source(source(number))).is_err() {
-            return false;
-        }
+    match push_sources(&mut joined) {
+        Ok(()) => hear(alloc, router, GROUP, &joined, &[]) == Ok(true),
+        Err(_) => false,
     }
-    hear(alloc, router, GROUP, &joined, &[]) == Ok(true)
 }
 
 /// How many messages a form has, and how long the first two are; why there are none.
@@ -219,16 +299,13 @@ fn packed(
     router: &Router<V4>,
     form: &NormalForm<V4>,
 ) -> Result<(usize, [usize; 2]), Refusal> {
-    if !is_toward(form, &router.routes, router.writer.upstream()) {
-        return Err(Refusal::Elsewhere);
-    }
-    match pack(alloc, form, &router.writer, &router.routes) {
-        Ok(messages) => Ok((
+    match form_told(alloc, router, form) {
+        Some(Ok(messages)) => Ok((
             messages.count(),
             [length_at(&messages, 0), length_at(&messages, 1)],
         )),
-        Err(FormFault::Memory) => Err(Refusal::Memory),
-        Err(_) => Err(Refusal::Elsewhere),
+        Some(Err(FormFault::Memory)) => Err(Refusal::Memory),
+        _ => Err(Refusal::Elsewhere),
     }
 }
 
@@ -242,25 +319,32 @@ enum Refusal {
 
 const OF_200: (usize, [usize; 2]) = (2, [1474, 178]);
 
+/// Whether the form of 200 sources is packed: at once or, where a growth is refused, with its group as it was and then
+/// again.
+fn is_packed(alloc: Global, router: &Router<V4>, form: &NormalForm<V4>) -> bool {
+    let first = packed(alloc, router, form);
+    if first == Err(Refusal::Memory) {
+        return form.groups().count_left() == 1 && packed(alloc, router, form) == Ok(OF_200);
+    }
+    first == Ok(OF_200)
+}
+
+/// The same of what the router wants; nothing can be told where its form is refused.
+fn wants_are_packed(alloc: Global, router: &Router<V4>) -> bool {
+    match NormalForm::of(alloc, &router.ports) {
+        Ok(form) => is_packed(alloc, router, &form),
+        Err(_) => true,
+    }
+}
+
 // With each allocation refused in turn (`rt try --test --fail-alloc 1..`): the form is as it was, and the same call,
 // with memory, gives its messages.
 #[test]
 fn refusals_change_nothing(rt: HostRuntime) -> Result<(), Fail> {
-    let Some(mut router) = router4(rt.alloc(), 1480) else {
-        return Ok(());
-    };
-    if !hear_200(rt.alloc(), &mut router) {
-        return Ok(());
-    }
-    let Ok(form) = NormalForm::of(rt.alloc(), &router.ports) else {
-        return Ok(());
-    };
-    let first = packed(rt.alloc(), &router, &form);
-    if first == Err(Refusal::Memory) {
-        assert_eq!(rt; form.groups().count_left(), 1);
-        assert_eq!(rt; packed(rt.alloc(), &router, &form), Ok(OF_200));
-    } else {
-        assert_eq!(rt; first, Ok(OF_200));
+    if let Some(mut router) = router4(rt.alloc(), 1480) {
+        if hear_200(rt.alloc(), &mut router) {
+            assert!(rt; wants_are_packed(rt.alloc(), &router));
+        }
     }
     Ok(())
 }

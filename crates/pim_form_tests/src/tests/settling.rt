@@ -206,25 +206,45 @@ const CASES: [Case; 20] = [
     },
 ];
 
+/// Hears what is told, and lets time pass until a moment.
+fn hear_until(
+    alloc: Global,
+    ports: &mut Ports<V4>,
+    (told, timing): (Told, Timing),
+    until: u64,
+) -> Result<(), AllocError> {
+    hear_told(alloc, ports, told, timing)?;
+    if until <= 4000 {
+        ports.run_to(until);
+    }
+    Ok(())
+}
+
 /// The form of a router that was told this and ran until its prunes counted.
 fn form_of(alloc: Global, told: Told) -> Result<NormalForm<V4>, AllocError> {
     let mut ports: Ports<V4> = Ports::new(alloc, 1, 100);
-    hear_told(alloc, &mut ports, told, ALONE)?;
-    ports.run_to(0);
+    hear_until(alloc, &mut ports, (told, ALONE), 0)?;
     NormalForm::of(alloc, &ports)
 }
 
-fn is_so(alloc: Global, case: &Case) -> Result<bool, AllocError> {
+/// Hears what a case tells, and lets time pass until its moment.
+fn hear_case(alloc: Global, ports: &mut Ports<V4>, case: &Case) -> Result<(), AllocError> {
     let timing = if case.several { SEVERAL } else { ALONE };
-    let mut ports: Ports<V4> = Ports::new(alloc, 2, 100);
     let [first, second] = case.told;
-    hear_told(alloc, &mut ports, first, timing)?;
-    hear_told(alloc, &mut ports, second, timing)?;
-    if case.until <= 3000 {
-        ports.run_to(case.until);
-    }
-    let form = form_of(alloc, case.asked)?;
-    Ok(settled(&ports, 0, &form) == case.settled)
+    hear_told(alloc, ports, first, timing)?;
+    hear_until(alloc, ports, (second, timing), case.until)
+}
+
+/// Whether the first port is settled at the form of a router that was told this.
+fn is_settled(alloc: Global, ports: &Ports<V4>, asked: Told) -> Result<bool, AllocError> {
+    let form = form_of(alloc, asked)?;
+    Ok(settled(ports, 0, &form))
+}
+
+fn is_so(alloc: Global, case: &Case) -> Result<bool, AllocError> {
+    let mut ports: Ports<V4> = Ports::new(alloc, 2, 100);
+    hear_case(alloc, &mut ports, case)?;
+    Ok(is_settled(alloc, &ports, case.asked)? == case.settled)
 }
 
 /// The first case that isn't so.
@@ -243,22 +263,36 @@ fn settles_machine_by_machine(rt: HostRuntime) -> Result<(), Fail> {
     Ok(())
 }
 
-/// A port that was told the star and, at 10, that it is gone, at 2,000 perhaps once more: what it tells up to the moment
-/// 4,000, when that is, and whether it is settled at nothing just before and then.
-fn left(alloc: Global, again: bool) -> Result<(Step<[u8; 4]>, u64, bool, bool), AllocError> {
-    let mut ports: Ports<V4> = Ports::new(alloc, 1, 100);
-    let nothing = form_of(alloc, Told::Nothing)?;
-    hear_told(alloc, &mut ports, Told::Star, SEVERAL)?;
-    ports.run_to(10);
-    hear_told(alloc, &mut ports, Told::Gone, SEVERAL)?;
-    ports.run_to(2000);
-    if again {
-        hear_told(alloc, &mut ports, Told::Gone, SEVERAL)?;
-    }
-    ports.run_to(3009);
-    let before = settled(&ports, 0, &nothing);
+/// What a port tells up to the moment 4,000, when that is, and whether it is settled at this form before and then.
+type Left = (Step<[u8; 4]>, u64, bool, bool);
+
+fn left_at(ports: &mut Ports<V4>, form: &NormalForm<V4>) -> Left {
+    let before = settled(ports, 0, form);
     let step = ports.run_to(4000);
-    Ok((step, ports.now(), before, settled(&ports, 0, &nothing)))
+    (step, ports.now(), before, settled(ports, 0, form))
+}
+
+/// The same, at the form of nothing.
+fn left_at_nothing(alloc: Global, ports: &mut Ports<V4>) -> Result<Left, AllocError> {
+    let nothing = form_of(alloc, Told::Nothing)?;
+    Ok(left_at(ports, &nothing))
+}
+
+/// A port is told the star and, at 10, that it is gone, at 2,000 perhaps once more, and time passes until just before
+/// the echo.
+fn hear_gone(alloc: Global, ports: &mut Ports<V4>, again: bool) -> Result<(), AllocError> {
+    let last = if again { Told::Gone } else { Told::Nothing };
+    for (told, until) in [(Told::Star, 10), (Told::Gone, 2000), (last, 3009)] {
+        hear_until(alloc, ports, (told, SEVERAL), until)?;
+    }
+    Ok(())
+}
+
+/// What is left of a port that was told so.
+fn left(alloc: Global, again: bool) -> Result<Left, AllocError> {
+    let mut ports: Ports<V4> = Ports::new(alloc, 1, 100);
+    hear_gone(alloc, &mut ports, again)?;
+    left_at_nothing(alloc, &mut ports)
 }
 
 // The echo comes when the other neighbours could have overridden the prune, and the port is settled then.

@@ -1,6 +1,6 @@
 //! What is asked of which upstream neighbour.
 
-use super::{ALONE, FIRST, GROUP, RP, SECOND};
+use super::{ALONE, FIRST, GROUP, RP, SECOND, hear_view};
 use pim_addr::{Routes, V4, V6};
 use pim_down::Ports;
 use pim_form::{NormalForm, Tree, is_toward, upstream_of};
@@ -65,18 +65,29 @@ const MESSAGE: [u8; 74] = [
     1, 0, 7, 32, 10, 9, 9, 9, 1, 0, 4, 32, 192, 0, 2, 1,
 ];
 
-/// A port that has heard the message under the six rows, and whose prunes count; `None` where it is refused.
+/// Lets a port hear the message under this table: whether it was taken.
+fn hear_message(ports: &mut Ports<V4>, routes: &Routes<V4>) -> bool {
+    match JpView::<V4>::read(&MESSAGE) {
+        Ok(view) => hear_view(ports, (0, ALONE), &view, routes),
+        Err(_) => false,
+    }
+}
+
+/// A port that has heard the message under this table, and whose prunes count; `None` where it is refused.
+fn heard_under(alloc: Global, routes: &Routes<V4>) -> Option<Ports<V4>> {
+    let mut ports: Ports<V4> = Ports::new(alloc, 1, 100);
+    if hear_message(&mut ports, routes) {
+        ports.run_to(0);
+        Some(ports)
+    } else {
+        None
+    }
+}
+
+/// The same under the six rows.
 pub(super) fn heard(alloc: Global) -> Option<Ports<V4>> {
     let routes = table(alloc, &ROWS)?;
-    let mut ports: Ports<V4> = Ports::new(alloc, 1, 100);
-    let Ok(view) = JpView::<V4>::read(&MESSAGE) else {
-        return None;
-    };
-    if ports.hear(0, &view, &routes, ALONE).is_err() {
-        return None;
-    }
-    ports.run_to(0);
-    Some(ports)
+    heard_under(alloc, &routes)
 }
 
 /// A group as a form shows it: whether it has a star, its exceptions and its sources.
@@ -107,13 +118,23 @@ struct Case<'a> {
     asked: &'a [Shown<'a>],
 }
 
-/// Whether it is asked for this and no more, where there is memory for the answer.
+/// Whether it is asked for this and no more under this table, where there is memory for the answer.
+fn is_so_under(
+    alloc: Global,
+    ports: &Ports<V4>,
+    routes: &Routes<V4>,
+    case: &Case<'_>,
+) -> Result<bool, AllocError> {
+    let form = NormalForm::toward(alloc, ports, routes, case.neighbour)?;
+    Ok(shows(&form, case.asked) && is_toward(&form, routes, case.neighbour))
+}
+
+/// The same under a table of the case's rows.
 fn is_so(alloc: Global, ports: &Ports<V4>, case: &Case<'_>) -> Result<bool, AllocError> {
-    let Some(routes) = table(alloc, case.rows) else {
-        return Err(AllocError);
-    };
-    let form = NormalForm::toward(alloc, ports, &routes, case.neighbour)?;
-    Ok(shows(&form, case.asked) && is_toward(&form, &routes, case.neighbour))
+    match table(alloc, case.rows) {
+        Some(routes) => is_so_under(alloc, ports, &routes, case),
+        None => Err(AllocError),
+    }
 }
 
 /// The RPs are known, but no way to them.
@@ -227,16 +248,25 @@ fn wrong_lead(routes: &Routes<V4>) -> Option<usize> {
     None
 }
 
+/// The first of these that isn't so under the six rows; the outer `None` where one of the rows is refused.
+fn wrong_lead_of_rows(alloc: Global) -> Option<Option<usize>> {
+    let routes = table(alloc, &ROWS)?;
+    Some(wrong_lead(&routes))
+}
+
+/// Which neighbour is asked on the shared tree and on the source's own.
+fn asked_of(routes: &Routes<V4>) -> [Option<[u8; 4]>; 2] {
+    [
+        upstream_of(routes, FIRST, GROUP, Tree::Shared),
+        upstream_of(routes, FIRST, GROUP, Tree::Source),
+    ]
+}
+
 #[test]
 fn leads_by_the_tree(rt: HostRuntime) {
-    let made = table(rt.alloc(), &ROWS);
-    assert_eq!(rt; made.is_some(), true);
-    if let Some(routes) = made {
-        assert_eq!(rt; wrong_lead(&routes), None);
-    }
+    assert_eq!(rt; wrong_lead_of_rows(rt.alloc()), Some(None));
     let none: Routes<V4> = Routes::new(rt.alloc());
-    assert_eq!(rt; upstream_of(&none, FIRST, GROUP, Tree::Shared), None);
-    assert_eq!(rt; upstream_of(&none, FIRST, GROUP, Tree::Source), None);
+    assert_eq!(rt; asked_of(&none), [None, None]);
 }
 
 /// The first case that isn't so.
@@ -249,68 +279,114 @@ fn wrong(alloc: Global, ports: &Ports<V4>) -> Result<Option<usize>, AllocError> 
     Ok(None)
 }
 
+/// The first case that isn't so of a port that has heard the message.
+fn wrong_heard(alloc: Global) -> Result<Option<usize>, AllocError> {
+    match heard(alloc) {
+        Some(ports) => wrong(alloc, &ports),
+        None => Err(AllocError),
+    }
+}
+
 #[test]
 fn asks_by_the_routes(rt: HostRuntime) -> Result<(), Fail> {
-    let held = heard(rt.alloc());
-    assert_eq!(rt; held.is_some(), true);
-    if let Some(ports) = held {
-        assert_eq!(rt; wrong(rt.alloc(), &ports)?, None);
-    }
+    assert_eq!(rt; wrong_heard(rt.alloc()), Ok(None));
     Ok(())
 }
 
 /// Whether a form of all that is wanted isn't asked of one neighbour.
-fn is_of_two(alloc: Global, ports: &Ports<V4>) -> Result<bool, AllocError> {
-    let Some(routes) = table(alloc, &ROWS) else {
-        return Err(AllocError);
-    };
+fn is_of_two(alloc: Global, ports: &Ports<V4>, routes: &Routes<V4>) -> Result<bool, AllocError> {
     let form = NormalForm::of(alloc, ports)?;
-    Ok(!is_toward(&form, &routes, TWO) && !is_toward(&form, &routes, SIX))
+    Ok(!is_toward(&form, routes, TWO) && !is_toward(&form, routes, SIX))
+}
+
+/// The same of a port that has heard the message under this table.
+fn heard_is_of_two(alloc: Global, routes: &Routes<V4>) -> Result<bool, AllocError> {
+    match heard(alloc) {
+        Some(ports) => is_of_two(alloc, &ports, routes),
+        None => Err(AllocError),
+    }
+}
+
+/// The same under the six rows.
+fn rows_are_of_two(alloc: Global) -> Result<bool, AllocError> {
+    match table(alloc, &ROWS) {
+        Some(routes) => heard_is_of_two(alloc, &routes),
+        None => Err(AllocError),
+    }
 }
 
 #[test]
 fn tells_what_others_are_asked(rt: HostRuntime) -> Result<(), Fail> {
-    let held = heard(rt.alloc());
-    assert_eq!(rt; held.is_some(), true);
-    if let Some(ports) = held {
-        assert_eq!(rt; is_of_two(rt.alloc(), &ports)?, true);
-    }
+    assert_eq!(rt; rows_are_of_two(rt.alloc()), Ok(true));
     Ok(())
+}
+
+/// Whether no case is wrong: at once or, where a growth is refused, when all are tried again.
+fn none_is_wrong(alloc: Global, ports: &Ports<V4>) -> bool {
+    match wrong(alloc, ports) {
+        Ok(answer) => answer.is_none(),
+        Err(_) => wrong(alloc, ports) == Ok(None),
+    }
+}
+
+/// A port that has heard the message, at once or at the second time.
+fn heard_at_last(alloc: Global) -> Option<Ports<V4>> {
+    match heard(alloc) {
+        Some(ports) => Some(ports),
+        None => heard(alloc),
+    }
 }
 
 // With each allocation refused in turn (`rt try --test --fail-alloc 1..`): the answer is want of memory, and the same
 // call, with memory, answers what it would have answered.
 #[test]
 fn refusals_of_toward_change_nothing(rt: HostRuntime) {
-    let alloc = rt.alloc();
-    let held = match heard(alloc) {
-        Some(ports) => Some(ports),
-        None => heard(alloc),
-    };
-    assert_eq!(rt; held.is_some(), true);
-    if let Some(ports) = held {
-        let answer = wrong(alloc, &ports);
-        if answer.is_err() {
-            assert_eq!(rt; wrong(alloc, &ports), Ok(None));
-        } else {
-            assert_eq!(rt; answer, Ok(None));
-        }
+    match heard_at_last(rt.alloc()) {
+        Some(ports) => assert!(rt; none_is_wrong(rt.alloc(), &ports)),
+        None => assert!(rt; false),
     }
+}
+
+const ALL_OF_IPV6: [u8; 16] = [0; 16];
+
+const NEIGHBOUR_OF_IPV6: [u8; 16] = [32; 16];
+
+/// How many groups this neighbour is asked for, and whether it is asked for all of them.
+fn asked_of_ipv6(
+    alloc: Global,
+    ports: &Ports<V6>,
+    routes: &Routes<V6>,
+) -> Result<(usize, bool), AllocError> {
+    let form = NormalForm::toward(alloc, ports, routes, NEIGHBOUR_OF_IPV6)?;
+    Ok((
+        form.groups().count_left(),
+        is_toward(&form, routes, NEIGHBOUR_OF_IPV6),
+    ))
+}
+
+/// The same of ports that hold nothing.
+fn asked_where_nothing_is_held(
+    alloc: Global,
+    routes: &Routes<V6>,
+) -> Result<(usize, bool), AllocError> {
+    let none: Ports<V6> = Ports::new(alloc, 64, 1);
+    asked_of_ipv6(alloc, &none, routes)
+}
+
+/// Which neighbour is asked on a source's own tree and on the shared one.
+fn leads_of_ipv6(routes: &Routes<V6>) -> [Option<[u8; 16]>; 2] {
+    [
+        upstream_of(routes, [33; 16], [255; 16], Tree::Source),
+        upstream_of(routes, [33; 16], [255; 16], Tree::Shared),
+    ]
 }
 
 #[test]
 fn asks_nothing_of_ipv6_where_nothing_is_held(rt: HostRuntime) -> Result<(), Fail> {
-    let none: Ports<V6> = Ports::new(rt.alloc(), 64, 1);
     let mut routes: Routes<V6> = Routes::new(rt.alloc());
-    assert!(rt; routes.add_via([0; 16], 0, [32; 16]).is_ok());
-    let form = NormalForm::toward(rt.alloc(), &none, &routes, [32; 16])?;
-    assert_eq!(rt; form.groups().count_left(), 0);
-    assert_eq!(rt; is_toward(&form, &routes, [32; 16]), true);
-    let told = upstream_of(&routes, [33; 16], [255; 16], Tree::Source);
-    assert_eq!(rt; told, Some([32; 16]));
-    assert_eq!(rt;
-        upstream_of(&routes, [33; 16], [255; 16], Tree::Shared),
-        None
-    );
+    let added = routes.add_via(ALL_OF_IPV6, 0, NEIGHBOUR_OF_IPV6).is_ok();
+    let asked = asked_where_nothing_is_held(rt.alloc(), &routes);
+    assert_eq!(rt; (added, asked), (true, Ok((0, true))));
+    assert_eq!(rt; leads_of_ipv6(&routes), [Some(NEIGHBOUR_OF_IPV6), None]);
     Ok(())
 }

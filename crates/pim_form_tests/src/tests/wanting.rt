@@ -90,15 +90,30 @@ fn wants_by_the_macros(rt: HostRuntime) -> Result<(), Fail> {
     Ok(())
 }
 
+/// Whether the second source is wanted on the shared tree of the group, and on that of another one.
+fn wanted_of_two_groups(ports: &Ports<V4>) -> [bool; 2] {
+    [
+        wants(ports, SECOND, GROUP, Tree::Shared),
+        wants(ports, SECOND, [239, 1, 1, 2], Tree::Shared),
+    ]
+}
+
+/// The same when the star and the first source are heard, and whether that was taken.
+fn heard_and_wanted(alloc: Global, ports: &mut Ports<V4>) -> (Result<bool, AllocError>, [bool; 2]) {
+    let heard = hear(alloc, ports, &alone(0, &[STAR, JOIN_FIRST], &[]));
+    (heard, wanted_of_two_groups(ports))
+}
+
 #[test]
 fn wants_nothing_of_other_groups(rt: HostRuntime) -> Result<(), Fail> {
     let mut ports: Ports<V4> = Ports::new(rt.alloc(), 1, 100);
-    assert_eq!(rt;
-        hear(rt.alloc(), &mut ports, &alone(0, &[STAR, JOIN_FIRST], &[]))?,
-        true
-    );
-    assert_eq!(rt; wants(&ports, SECOND, GROUP, Tree::Shared), true);
-    assert_eq!(rt; wants(&ports, SECOND, [239, 1, 1, 2], Tree::Shared), false);
+    let told = heard_and_wanted(rt.alloc(), &mut ports);
+    assert_eq!(rt; told, (Ok(true), [true, false]));
+    Ok(())
+}
+
+#[test]
+fn wants_nothing_where_nothing_is_held(rt: HostRuntime) -> Result<(), Fail> {
     let none: Ports<V6> = Ports::new(rt.alloc(), 64, 1);
     assert_eq!(rt; wants(&none, [32; 16], [255; 16], Tree::Source), false);
     Ok(())

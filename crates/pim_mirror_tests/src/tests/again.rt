@@ -1,6 +1,6 @@
 //! What a router is asked for, and what one asks for again that heard it by canonical messages alone.
 
-use pim_addr::{Family, Routes, V4};
+use pim_addr::{Family, RouteFault, Routes, V4};
 use pim_form::{Messages, Writer};
 use pim_frame::{MessageType, all_routers, seal};
 use pim_router::{Config, PortConfig, Router, Step, Verdict};
@@ -40,12 +40,35 @@ pub(super) const ASKED: [u8; 90] = [
     10, 9, 9, 9,
 ];
 
+/// Leads all groups to one RP, and all addresses to the upstream neighbour.
+fn lead_all(routes: &mut Routes<V4>) -> Result<(), RouteFault> {
+    routes.add_rp([224, 0, 0, 0], 4, [10, 9, 9, 9])?;
+    routes.add_via([0, 0, 0, 0], 0, UPSTREAM)
+}
+
 /// One RP for all groups, and one neighbour for all addresses; `None` where memory is wanting.
 pub(super) fn table(alloc: Global) -> Option<Routes<V4>> {
     let mut routes: Routes<V4> = Routes::new(alloc);
-    routes.add_rp([224, 0, 0, 0], 4, [10, 9, 9, 9]).ok()?;
-    routes.add_via([0, 0, 0, 0], 0, UPSTREAM).ok()?;
-    Some(routes)
+    match lead_all(&mut routes) {
+        Ok(()) => Some(routes),
+        Err(_) => None,
+    }
+}
+
+/// That table, and the writer.
+#[derive(Drop)]
+pub(super) struct Asker {
+    pub(super) routes: Routes<V4>,
+    pub(super) writer: Writer<V4>,
+}
+
+/// The table and the writer with this holdtime, for messages of up to so many bytes; `None` where memory is wanting.
+pub(super) fn asking(alloc: Global, holdtime: u16, budget: usize) -> Option<Asker> {
+    let writer = Writer::<V4>::new(UPSTREAM, WRITER, holdtime, budget).ok()?;
+    match table(alloc) {
+        Some(routes) => Some(Asker { routes, writer }),
+        None => None,
+    }
 }
 
 /// Lets a port take a message from this neighbour; `None` where there is no such port or memory is wanting.
@@ -88,6 +111,16 @@ pub(super) fn greet<F: Family>(
     take(router, port, neighbour, MessageType::Hello, &mut hello).is_some()
 }
 
+/// Lets a router know these neighbours, each on its port, for ever: whether it took all their Hellos.
+fn greet_all<F: Family>(router: &mut Router<'_, F>, neighbours: &[(usize, F::Addr)]) -> bool {
+    for &(port, neighbour) in neighbours {
+        if !greet(router, port, neighbour) {
+            return false;
+        }
+    }
+    true
+}
+
 /// A router with these ports that knows these neighbours, each on its port, for ever.
 pub(super) fn started<'a, F: Family>(
     alloc: Global,
@@ -101,12 +134,11 @@ pub(super) fn started<'a, F: Family>(
         limit: 1000,
     };
     let mut router = Router::new(alloc, &config).ok()?;
-    for &(port, neighbour) in neighbours {
-        if !greet(&mut router, port, neighbour) {
-            return None;
-        }
+    if greet_all(&mut router, neighbours) {
+        Some(router)
+    } else {
+        None
     }
-    Some(router)
 }
 
 /// Runs to a moment through its refreshes: whether no echo is told.
@@ -124,6 +156,12 @@ pub(super) fn reach<F: Family>(router: &mut Router<'_, F>, moment: u64) -> bool 
     false
 }
 
+/// Lets a router be asked for this at 0: whether it is applied, and nothing is echoed.
+fn ask(router: &mut Router<'_, V4>, message: &mut [u8]) -> bool {
+    let verdict = take(router, 0, BELOW, MessageType::JoinPrune, message);
+    verdict == Some(Verdict::Applied) && reach(router, 0)
+}
+
 /// The messages of a router under this table that was asked for this at 0.
 fn asked_under(
     alloc: Global,
@@ -132,8 +170,7 @@ fn asked_under(
     message: &mut [u8],
 ) -> Option<Messages> {
     let mut router = started(alloc, &DOWN, routes, &[(0, BELOW)])?;
-    let verdict = take(&mut router, 0, BELOW, MessageType::JoinPrune, message);
-    if verdict == Some(Verdict::Applied) && reach(&mut router, 0) {
+    if ask(&mut router, message) {
         router.canonical(alloc, writer).ok()
     } else {
         None
@@ -167,43 +204,55 @@ fn hear_all(router: &mut Router<'_, V4>, messages: &Messages, deliveries: &[(usi
 }
 
 /// Whether a router asks by these messages; `None` where memory is wanting.
-fn asks_by(
+pub(super) fn asks_by(
     alloc: Global,
     router: &Router<'_, V4>,
     writer: &Writer<V4>,
     messages: &Messages,
 ) -> Option<bool> {
-    let again = router.canonical(alloc, writer).ok()?;
-    Some(messages.same_bytes(&again))
+    match router.canonical(alloc, writer) {
+        Ok(again) => Some(messages.same_bytes(&again)),
+        Err(_) => None,
+    }
 }
 
 /// Whether the upstream neighbour asks by these messages at this moment, after these deliveries of them.
 fn asks_after(
     alloc: Global,
-    (routes, writer): (&Routes<V4>, &Writer<V4>),
+    asking: &Asker,
     messages: &Messages,
     deliveries: &[(usize, u64)],
     moment: u64,
 ) -> Option<bool> {
-    let mut router = started(alloc, &UP, routes, &[(0, WRITER), (0, OTHER)])?;
+    let mut router = started(alloc, &UP, &asking.routes, &[(0, WRITER), (0, OTHER)])?;
     if hear_all(&mut router, messages, deliveries) && reach(&mut router, moment) {
-        asks_by(alloc, &router, writer, messages)
+        asks_by(alloc, &router, &asking.writer, messages)
     } else {
         None
     }
 }
 
-/// Whether the upstream neighbour asks for the same again at this moment, after these deliveries of the two messages.
-fn asks_again(alloc: Global, deliveries: &[(usize, u64)], moment: u64) -> Option<bool> {
-    let writer = Writer::<V4>::new(UPSTREAM, WRITER, 210, 70).ok()?;
-    let routes = table(alloc)?;
+/// Whether the upstream neighbour asks for the same again at this moment, after these deliveries of the two messages by
+/// this writer.
+fn asks_again_by(
+    alloc: Global,
+    asking: &Asker,
+    deliveries: &[(usize, u64)],
+    moment: u64,
+) -> Option<bool> {
     let mut message = ASKED;
-    let messages = asked_for(alloc, &writer, &mut message)?;
+    let messages = asked_for(alloc, &asking.writer, &mut message)?;
     if messages.count() == 2 {
-        asks_after(alloc, (&routes, &writer), &messages, deliveries, moment)
+        asks_after(alloc, asking, &messages, deliveries, moment)
     } else {
         None
     }
+}
+
+/// The same by a writer of messages of up to 70 bytes.
+fn asks_again(alloc: Global, deliveries: &[(usize, u64)], moment: u64) -> Option<bool> {
+    let asking = asking(alloc, 210, 70)?;
+    asks_again_by(alloc, &asking, deliveries, moment)
 }
 
 /// The second message comes first, and once more.
@@ -211,15 +260,17 @@ const DELIVERIES: [(usize, u64); 3] = [(1, 0), (0, 1_000), (1, 2_000)];
 
 #[test]
 fn same_is_asked_from_the_final_moment_on(rt: HostRuntime) -> Result<(), Fail> {
-    assert_eq!(rt; asks_again(rt.alloc(), &DELIVERIES, 3_999), Some(false));
-    assert_eq!(rt; asks_again(rt.alloc(), &DELIVERIES, 4_000), Some(true));
+    for (moment, asks) in [(3_999, false), (4_000, true)] {
+        assert_eq!(rt; asks_again(rt.alloc(), &DELIVERIES, moment), Some(asks));
+    }
     Ok(())
 }
 
 #[test]
 fn same_is_asked_up_to_the_first_expiry(rt: HostRuntime) -> Result<(), Fail> {
-    assert_eq!(rt; asks_again(rt.alloc(), &DELIVERIES, 210_999), Some(true));
-    assert_eq!(rt; asks_again(rt.alloc(), &DELIVERIES, 211_000), Some(false));
+    for (moment, asks) in [(210_999, true), (211_000, false)] {
+        assert_eq!(rt; asks_again(rt.alloc(), &DELIVERIES, moment), Some(asks));
+    }
     Ok(())
 }
 

@@ -1,6 +1,6 @@
 //! A router that hears deliveries of messages, each at its moment.
 
-use super::again::{ASKED, OTHER, UP, UPSTREAM, WRITER, asked_for, greet, table};
+use super::again::{ASKED, Asker, OTHER, UP, WRITER, asked_for, asking, asks_by, greet};
 use pim_addr::{Routes, V4};
 use pim_form::{Messages, Writer};
 use pim_mirror::{Delivery, MirrorFault, are_short, hear_deliveries};
@@ -49,35 +49,59 @@ fn upstream(alloc: Global, routes: &Routes<V4>, limit: usize) -> Option<Router<'
     }
 }
 
-/// Lets the router hear the deliveries and run to this moment.
+/// Lets the router hear the deliveries and run to this moment: what it tells.
 fn hear(
+    router: &mut Router<'_, V4>,
+    messages: &Messages,
+    moment: u64,
+) -> Option<Result<(), MirrorFault>> {
+    if router.port_count() != 1 || moment > 1_000_000 || !are_short(messages) {
+        return None;
+    }
+    Some(hear_deliveries(router, messages, WRITER, &DELIVERIES, moment))
+}
+
+/// The same, and how the router then stands.
+fn heard_at(
     alloc: Global,
     router: &mut Router<'_, V4>,
     writer: &Writer<V4>,
     messages: &Messages,
     moment: u64,
 ) -> Option<Heard> {
-    if router.port_count() != 1 || moment > 1_000_000 || !are_short(messages) {
-        return None;
-    }
-    let told = hear_deliveries(router, messages, WRITER, &DELIVERIES, moment);
-    let again = router.canonical(alloc, writer).ok()?;
+    let told = hear(router, messages, moment)?;
+    let asks = asks_by(alloc, router, writer, messages)?;
     Some(Heard {
         told,
         moment: router.now(),
         records: router.ports().records().count(),
-        asks: messages.same_bytes(&again),
+        asks,
     })
 }
 
-/// What the upstream neighbour heard of the two messages of three groups by this moment.
-fn hears_by(alloc: Global, limit: usize, moment: u64) -> Option<Heard> {
-    let writer = Writer::<V4>::new(UPSTREAM, WRITER, 210, 70).ok()?;
+/// What the upstream neighbour with room for so many records heard of these messages by this moment.
+fn upstream_hears(
+    alloc: Global,
+    asking: &Asker,
+    messages: &Messages,
+    limit: usize,
+    moment: u64,
+) -> Option<Heard> {
+    let mut router = upstream(alloc, &asking.routes, limit)?;
+    heard_at(alloc, &mut router, &asking.writer, messages, moment)
+}
+
+/// What it heard of the two messages of three groups.
+fn two_are_heard(alloc: Global, asking: &Asker, limit: usize, moment: u64) -> Option<Heard> {
     let mut message = ASKED;
-    let messages = asked_for(alloc, &writer, &mut message)?;
-    let routes = table(alloc)?;
-    let mut router = upstream(alloc, &routes, limit)?;
-    hear(alloc, &mut router, &writer, &messages, moment)
+    let messages = asked_for(alloc, &asking.writer, &mut message)?;
+    upstream_hears(alloc, asking, &messages, limit, moment)
+}
+
+/// The same, where messages have up to 70 bytes.
+fn hears_by(alloc: Global, limit: usize, moment: u64) -> Option<Heard> {
+    let asking = asking(alloc, 210, 70)?;
+    two_are_heard(alloc, &asking, limit, moment)
 }
 
 /// The first such moment at which something else is heard, where there is room for all records.

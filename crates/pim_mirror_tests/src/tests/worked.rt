@@ -78,9 +78,8 @@ struct Course<'a> {
     at_once: usize,
 }
 
-/// A table of these rows; `None` where one is refused.
-fn table<F: Family>(alloc: Global, rows: &[Route<F::Addr>]) -> Option<Routes<F>> {
-    let mut routes: Routes<F> = Routes::new(alloc);
+/// Adds these rows; whether each was taken.
+fn add_all<F: Family>(routes: &mut Routes<F>, rows: &[Route<F::Addr>]) -> bool {
     for &(is_rp, prefix, length, to) in rows {
         let added = if is_rp {
             routes.add_rp(prefix, length, to)
@@ -88,10 +87,20 @@ fn table<F: Family>(alloc: Global, rows: &[Route<F::Addr>]) -> Option<Routes<F>>
             routes.add_via(prefix, length, to)
         };
         if added.is_err() {
-            return None;
+            return false;
         }
     }
-    Some(routes)
+    true
+}
+
+/// A table of these rows; `None` where one is refused.
+fn table<F: Family>(alloc: Global, rows: &[Route<F::Addr>]) -> Option<Routes<F>> {
+    let mut routes: Routes<F> = Routes::new(alloc);
+    if add_all(&mut routes, rows) {
+        Some(routes)
+    } else {
+        None
+    }
 }
 
 /// Adds a run's bytes: whether there was memory.
@@ -176,10 +185,11 @@ fn asked<F: Family>(
     writer: &Writer<F>,
 ) -> Option<Messages> {
     let mut router = started(alloc, scene.ports, routes, scene.neighbours)?;
-    if !go(alloc, &mut router, scene.neighbours, events) {
-        return None;
+    if go(alloc, &mut router, scene.neighbours, events) {
+        router.canonical(alloc, writer).ok()
+    } else {
+        None
     }
-    router.canonical(alloc, writer).ok()
 }
 
 /// Whether a message has these bytes.
@@ -305,90 +315,56 @@ fn wrong<F: Family>(
     None
 }
 
+/// The first of these states that isn't mirrored by a router alone with the writer, and by one beside another neighbour.
+fn wrong_of_both(
+    alloc: Global,
+    scene: &Scene<'_, [u8; 4]>,
+    course: &Course<'_>,
+    states: &[State<'_>],
+) -> [Option<usize>; 2] {
+    [
+        wrong::<V4>(alloc, scene, &[], course, states),
+        wrong::<V4>(alloc, scene, &OTHERS, course, states),
+    ]
+}
+
 #[test]
 fn mirrors_of_one_message_write_it_again(rt: HostRuntime) -> Result<(), Fail> {
-    let alone = wrong::<V4>(
-        rt.alloc(),
-        &ONE_UPSTREAM,
-        &[],
-        &ONE_MESSAGE,
-        &OF_ONE_MESSAGE,
-    );
-    assert_eq!(rt; alone, None);
-    let among = wrong::<V4>(
-        rt.alloc(),
-        &ONE_UPSTREAM,
-        &OTHERS,
-        &ONE_MESSAGE,
-        &OF_ONE_MESSAGE,
-    );
-    assert_eq!(rt; among, None);
+    let wrong = wrong_of_both(rt.alloc(), &ONE_UPSTREAM, &ONE_MESSAGE, &OF_ONE_MESSAGE);
+    assert_eq!(rt; wrong, [None, None]);
     Ok(())
 }
 
 #[test]
 fn mirrors_of_two_messages_write_them_again(rt: HostRuntime) -> Result<(), Fail> {
-    let alone = wrong::<V4>(
-        rt.alloc(),
-        &ONE_UPSTREAM,
-        &[],
-        &TWO_MESSAGES,
-        &OF_TWO_MESSAGES,
-    );
-    assert_eq!(rt; alone, None);
-    let among = wrong::<V4>(
-        rt.alloc(),
-        &ONE_UPSTREAM,
-        &OTHERS,
-        &TWO_MESSAGES,
-        &OF_TWO_MESSAGES,
-    );
-    assert_eq!(rt; among, None);
+    let wrong = wrong_of_both(rt.alloc(), &ONE_UPSTREAM, &TWO_MESSAGES, &OF_TWO_MESSAGES);
+    assert_eq!(rt; wrong, [None, None]);
     Ok(())
 }
 
 #[test]
 fn second_message_is_left_when_the_first_one_is_missed(rt: HostRuntime) -> Result<(), Fail> {
-    let course = ONE_AFTER_THE_OTHER;
-    let alone = wrong::<V4>(rt.alloc(), &ONE_UPSTREAM, &[], &course, &OF_TWO_MESSAGES);
-    assert_eq!(rt; alone, None);
-    let among = wrong::<V4>(
+    let wrong = wrong_of_both(
         rt.alloc(),
         &ONE_UPSTREAM,
-        &OTHERS,
-        &course,
+        &ONE_AFTER_THE_OTHER,
         &OF_TWO_MESSAGES,
     );
-    assert_eq!(rt; among, None);
+    assert_eq!(rt; wrong, [None, None]);
     Ok(())
 }
 
 #[test]
 fn mirrors_of_nothing_write_nothing(rt: HostRuntime) -> Result<(), Fail> {
-    let alone = wrong::<V4>(rt.alloc(), &ONE_UPSTREAM, &[], &NO_MESSAGE, &OF_NOTHING);
-    assert_eq!(rt; alone, None);
-    let among = wrong::<V4>(rt.alloc(), &ONE_UPSTREAM, &OTHERS, &NO_MESSAGE, &OF_NOTHING);
-    assert_eq!(rt; among, None);
+    let wrong = wrong_of_both(rt.alloc(), &ONE_UPSTREAM, &NO_MESSAGE, &OF_NOTHING);
+    assert_eq!(rt; wrong, [None, None]);
     Ok(())
 }
 
 #[test]
 fn mirrors_of_either_neighbour_write_what_it_is_asked(rt: HostRuntime) -> Result<(), Fail> {
-    assert_eq!(rt;
-        wrong::<V4>(rt.alloc(), &TOWARD_TWO, &[], &ONE_MESSAGE, &OF_TWO),
-        None
-    );
-    assert_eq!(rt;
-        wrong::<V4>(rt.alloc(), &TOWARD_TWO, &OTHERS, &ONE_MESSAGE, &OF_TWO),
-        None
-    );
-    assert_eq!(rt;
-        wrong::<V4>(rt.alloc(), &TOWARD_SIX, &[], &ONE_MESSAGE, &OF_SIX),
-        None
-    );
-    assert_eq!(rt;
-        wrong::<V4>(rt.alloc(), &TOWARD_SIX, &OTHERS, &ONE_MESSAGE, &OF_SIX),
-        None
-    );
+    let of_two = wrong_of_both(rt.alloc(), &TOWARD_TWO, &ONE_MESSAGE, &OF_TWO);
+    let of_six = wrong_of_both(rt.alloc(), &TOWARD_SIX, &ONE_MESSAGE, &OF_SIX);
+    assert_eq!(rt; (of_two, of_six), ([None, None], [None, None]));
     Ok(())
 }

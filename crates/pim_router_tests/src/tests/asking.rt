@@ -2,7 +2,7 @@
 
 use super::world::{
     EXCEPT_FIRST, Event, LONE_PRUNE, ONE, ONE_EACH, THREE, TWO, WITHOUT_BOTH, WITHOUT_FIRST, after,
-    are, table,
+    asks_by, table,
 };
 use super::{JOIN_FIRST, JOIN_STAR, RPT_FIRST};
 use pim_addr::{Routes, V4};
@@ -88,17 +88,22 @@ const ROWS: [Row<'static>; 11] = [
 ];
 
 /// Whether this router asks 10.0.0.2 by this message; `None` where something went wrong.
-fn asks_by(alloc: Global, router: &Router<'_, V4>, message: &[u8]) -> Option<bool> {
+fn asks_two_by(alloc: Global, router: &Router<'_, V4>, message: &[u8]) -> Option<bool> {
     let writer = Writer::new(TWO, ONE, 210, 1480).ok()?;
-    let messages = router.canonical(alloc, &writer).ok()?;
-    Some(are(&messages, message))
+    asks_by(alloc, router, &writer, message)
 }
 
-/// Whether a router to which this happened asks 10.0.0.2 by this message; `None` where something went wrong.
+/// Whether a router under this table to which this happened asks 10.0.0.2 by this message; `None` where something went
+/// wrong.
+fn asks_under(alloc: Global, routes: &Routes<V4>, row: &Row<'_>) -> Option<bool> {
+    let router = after(alloc, &THREE, routes, row.0)?;
+    asks_two_by(alloc, &router, row.1)
+}
+
+/// The same, where there is one RP for all groups and one neighbour for all addresses.
 fn asks(alloc: Global, row: &Row<'_>) -> Option<bool> {
     let routes = table(alloc, &ONE_EACH)?;
-    let router = after(alloc, &THREE, &routes, row.0)?;
-    asks_by(alloc, &router, row.1)
+    asks_under(alloc, &routes, row)
 }
 
 #[test]
@@ -135,7 +140,7 @@ const HEARD_AGAIN: [Event<'static>; 4] = [
 /// Whether the router's two records last until 210 s, and the neighbour is asked as at first; `None` where something
 /// went wrong.
 fn lasts_until(alloc: Global, router: &Router<'_, V4>) -> Option<[bool; 3]> {
-    let asks = asks_by(alloc, router, &EXCEPT_FIRST)?;
+    let asks = asks_two_by(alloc, router, &EXCEPT_FIRST)?;
     Some([has_two(router), all_end_in(router, 210_000), asks])
 }
 

@@ -60,24 +60,53 @@ fn asked(alloc: Global, routes: &Routes<V4>, events: &[Event<'_>]) -> Option<Nor
     NormalForm::toward(alloc, router.ports(), routes, TWO).ok()
 }
 
-/// Whether this router tells the change by this message; `None` where something went wrong.
+/// Whether this router tells this writer's neighbour the change by this message; `None` where something went wrong.
 fn tells_by(
+    alloc: Global,
+    router: &Router<'_, V4>,
+    told: &NormalForm<V4>,
+    writer: &Writer<V4>,
+    message: &[u8],
+) -> Option<bool> {
+    match router.triggered(alloc, told, writer) {
+        Ok(messages) => Some(are(&messages, message)),
+        Err(_) => None,
+    }
+}
+
+/// The same of 10.0.0.2.
+fn tells_two_by(
     alloc: Global,
     router: &Router<'_, V4>,
     told: &NormalForm<V4>,
     message: &[u8],
 ) -> Option<bool> {
     let writer = Writer::new(TWO, ONE, 210, 1480).ok()?;
-    let messages = router.triggered(alloc, told, &writer).ok()?;
-    Some(are(&messages, message))
+    tells_by(alloc, router, told, &writer, message)
 }
 
-/// Whether a router tells the change of a row; `None` where something went wrong.
+/// Whether a router under this table tells the change from this form to what now happens by a row's message; `None` where
+/// something went wrong.
+fn tells_from(
+    alloc: Global,
+    routes: &Routes<V4>,
+    told: &NormalForm<V4>,
+    row: &Row<'_>,
+) -> Option<bool> {
+    let router = after(alloc, &THREE, routes, row.1)?;
+    tells_two_by(alloc, &router, told, row.2)
+}
+
+/// Whether a router under this table tells the change of a row.
+fn tells_under(alloc: Global, routes: &Routes<V4>, row: &Row<'_>) -> Option<bool> {
+    let told = asked(alloc, routes, row.0)?;
+    tells_from(alloc, routes, &told, row)
+}
+
+/// The same, where there is one RP for all groups and one neighbour for all addresses.
 fn tells(alloc: Global, row: &Row<'_>) -> Option<bool> {
     let routes = table(alloc, &ONE_EACH)?;
-    let told = asked(alloc, &routes, row.0)?;
-    let router = after(alloc, &THREE, &routes, row.1)?;
-    tells_by(alloc, &router, &told, row.2)
+    tells_under(alloc, &routes, row)
 }
 
 #[test]

@@ -66,7 +66,8 @@ fn compares_what_is_wanted(rt: HostRuntime) -> Result<(), Fail> {
             rows: &ONE_EACH,
             events: other,
         };
-        assert_eq!(rt; told(rt.alloc(), one, other, TWO, 1480), Some(Ok(same)));
+        let told = told(rt.alloc(), one, other, TWO, 1480);
+        assert_eq!(rt; told, Some(Compared::Same(same)));
     }
     Ok(())
 }
@@ -99,48 +100,85 @@ struct Side<'a> {
     events: &'a [Event<'a>],
 }
 
-/// What is told of two routers; `None` where something went wrong.
+/// What is told of two routers: whether they want the same, or why they aren't compared.
+#[derive(Clone, Copy, Debug, PartialEq, Eq)]
+enum Compared {
+    Same(bool),
+    TooBig([u8; 4]),
+    Memory,
+    Tables,
+}
+
+/// What is told of two routers by this writer.
+fn told_by(
+    alloc: Global,
+    one: &Router<'_, V4>,
+    other: &Router<'_, V4>,
+    writer: &Writer<V4>,
+) -> Compared {
+    match same_wants(alloc, one, other, writer) {
+        Ok(same) => Compared::Same(same),
+        Err(FormFault::TooBig(group)) => Compared::TooBig(group),
+        Err(FormFault::Memory) => Compared::Memory,
+        Err(FormFault::Tables) => Compared::Tables,
+    }
+}
+
+/// What is told of what this neighbour is asked for by messages of up to so many bytes; `None` where something went
+/// wrong.
 fn told_of(
     alloc: Global,
     one: &Router<'_, V4>,
     other: &Router<'_, V4>,
-    upstream: [u8; 4],
-    budget: usize,
-) -> Option<Result<bool, FormFault<V4>>> {
+    (upstream, budget): ([u8; 4], usize),
+) -> Option<Compared> {
     let writer = Writer::new(upstream, ONE, 210, budget).ok()?;
-    Some(same_wants(alloc, one, other, &writer))
+    Some(told_by(alloc, one, other, &writer))
 }
 
-/// What is told of two routers under these tables.
+/// The same of a router and another one under this table.
+fn told_beside(
+    alloc: Global,
+    one: &Router<'_, V4>,
+    (routes, events): (&Routes<V4>, &[Event<'_>]),
+    asked: ([u8; 4], usize),
+) -> Option<Compared> {
+    let other = after(alloc, &THREE, routes, events)?;
+    told_of(alloc, one, &other, asked)
+}
+
+/// The same of two routers under these tables.
 fn told_under(
     alloc: Global,
     (routes, events): (&Routes<V4>, &[Event<'_>]),
-    (others, other_events): (&Routes<V4>, &[Event<'_>]),
-    upstream: [u8; 4],
-    budget: usize,
-) -> Option<Result<bool, FormFault<V4>>> {
+    other: (&Routes<V4>, &[Event<'_>]),
+    asked: ([u8; 4], usize),
+) -> Option<Compared> {
     let one = after(alloc, &THREE, routes, events)?;
-    let other = after(alloc, &THREE, others, other_events)?;
-    told_of(alloc, &one, &other, upstream, budget)
+    told_beside(alloc, &one, other, asked)
 }
 
-/// What is told of two routers with tables of their own, by this writer; `None` where something went wrong.
+/// The same of a router under this table and another one with a table of its own.
+fn told_with(
+    alloc: Global,
+    one: (&Routes<V4>, &[Event<'_>]),
+    other: Side<'_>,
+    asked: ([u8; 4], usize),
+) -> Option<Compared> {
+    let routes = table(alloc, other.rows)?;
+    told_under(alloc, one, (&routes, other.events), asked)
+}
+
+/// What is told of two routers with tables of their own; `None` where something went wrong.
 fn told(
     alloc: Global,
     one: Side<'_>,
     other: Side<'_>,
     upstream: [u8; 4],
     budget: usize,
-) -> Option<Result<bool, FormFault<V4>>> {
+) -> Option<Compared> {
     let routes = table(alloc, one.rows)?;
-    let others = table(alloc, other.rows)?;
-    told_under(
-        alloc,
-        (&routes, one.events),
-        (&others, other.events),
-        upstream,
-        budget,
-    )
+    told_with(alloc, (&routes, one.events), other, (upstream, budget))
 }
 
 /// Both sources on their own trees, or one.
@@ -158,9 +196,10 @@ fn compares_what_one_neighbour_is_asked_for(rt: HostRuntime) -> Result<(), Fail>
         rows: &APART_AGAIN,
         events: ONLY_SECOND,
     };
-    assert_eq!(rt; told(rt.alloc(), one, other, TWO, 1480), Some(Ok(true)));
-    assert_eq!(rt; told(rt.alloc(), one, other, SIX, 1480), Some(Ok(false)));
-    assert_eq!(rt; told(rt.alloc(), one, one, SIX, 1480), Some(Ok(true)));
+    for (other, upstream, same) in [(other, TWO, true), (other, SIX, false), (one, SIX, true)] {
+        let told = told(rt.alloc(), one, other, upstream, 1480);
+        assert_eq!(rt; told, Some(Compared::Same(same)));
+    }
     Ok(())
 }
 
@@ -180,31 +219,52 @@ const TWO_TOO_BIG: &[Event<'static>] = &[
     Event::Passes(0),
 ];
 
+const GREATER: Side<'static> = Side {
+    rows: &ONE_EACH,
+    events: TWO_TOO_BIG,
+};
+
+const LESSER: Side<'static> = Side {
+    rows: &ONE_EACH,
+    events: TOO_BIG,
+};
+
+const FITTING: Side<'static> = Side {
+    rows: &ONE_EACH,
+    events: FITS,
+};
+
+const GREATER_APART: Side<'static> = Side {
+    rows: &APART,
+    events: TWO_TOO_BIG,
+};
+
+const FITTING_APART: Side<'static> = Side {
+    rows: &APART,
+    events: FITS,
+};
+
+const FITTING_OTHERWISE: Side<'static> = Side {
+    rows: &OTHERWISE,
+    events: FITS,
+};
+
+/// Two routers, and what is told of what 10.0.0.2 is asked for by messages of up to 70 bytes.
+const FAULTS: [(Side<'static>, Side<'static>, Compared); 7] = [
+    (GREATER, LESSER, Compared::TooBig(THIRD_GROUP)),
+    (LESSER, GREATER, Compared::TooBig(GROUP)),
+    (GREATER, FITTING, Compared::TooBig(THIRD_GROUP)),
+    (FITTING, GREATER, Compared::TooBig(THIRD_GROUP)),
+    (FITTING, FITTING, Compared::Same(true)),
+    (GREATER, GREATER_APART, Compared::Tables),
+    (FITTING_APART, FITTING_OTHERWISE, Compared::Tables),
+];
+
 #[test]
 fn tells_faults_in_order(rt: HostRuntime) -> Result<(), Fail> {
-    let side = |rows, events| Side { rows, events };
-    let greater = side(&ONE_EACH, TWO_TOO_BIG);
-    let lesser = side(&ONE_EACH, TOO_BIG);
-    let fitting = side(&ONE_EACH, FITS);
-    let elsewhere = side(&APART, TWO_TOO_BIG);
-    let third = Some(Err(FormFault::TooBig(THIRD_GROUP)));
-    let first = Some(Err(FormFault::TooBig(GROUP)));
-    let tables = Some(Err(FormFault::Tables));
-    assert_eq!(rt; told(rt.alloc(), greater, lesser, TWO, 70), third);
-    assert_eq!(rt; told(rt.alloc(), lesser, greater, TWO, 70), first);
-    assert_eq!(rt; told(rt.alloc(), greater, fitting, TWO, 70), third);
-    assert_eq!(rt; told(rt.alloc(), fitting, greater, TWO, 70), third);
-    assert_eq!(rt; told(rt.alloc(), fitting, fitting, TWO, 70), Some(Ok(true)));
-    assert_eq!(rt; told(rt.alloc(), greater, elsewhere, TWO, 70), tables);
-    assert_eq!(rt;
-        told(
-            rt.alloc(),
-            side(&APART, FITS),
-            side(&OTHERWISE, FITS),
-            TWO,
-            70
-        ),
-        tables
-    );
+    for (one, other, wanted) in FAULTS {
+        let told = told(rt.alloc(), one, other, TWO, 70);
+        assert_eq!(rt; told, Some(wanted));
+    }
     Ok(())
 }

@@ -95,14 +95,20 @@ pub(super) fn messages_of_200_sources(alloc: Global) -> Option<Messages> {
     messages_under(alloc, &routes)
 }
 
-/// What 200 sources of one group are asked for by; `None` where something went wrong.
+/// What 200 sources of one group are asked for by under this table; `None` where something went wrong.
+fn of_200_sources_under(alloc: Global, routes: &Routes<V4>) -> Told<V4> {
+    let mut router = started(alloc, &THREE, routes)?;
+    if hear_200_sources(alloc, &mut router) == Some(true) {
+        of_router(alloc, &router, 1480)
+    } else {
+        None
+    }
+}
+
+/// The same, where there is one RP for all groups and one neighbour for all addresses.
 fn of_200_sources(alloc: Global) -> Told<V4> {
     let routes = table(alloc, &ONE_EACH)?;
-    let mut router = started(alloc, &THREE, &routes)?;
-    if hear_200_sources(alloc, &mut router) != Some(true) {
-        return None;
-    }
-    of_router(alloc, &router, 1480)
+    of_200_sources_under(alloc, &routes)
 }
 
 /// Lets a router hear the star of a group: whether it took it.
@@ -125,14 +131,20 @@ fn hear_256_stars(alloc: Global, router: &mut Router<'_, V4>) -> bool {
     true
 }
 
-/// What 256 stars are asked for by; `None` where something went wrong.
+/// What 256 stars are asked for by under this table; `None` where something went wrong.
+fn of_256_stars_under(alloc: Global, routes: &Routes<V4>) -> Told<V4> {
+    let mut router = started(alloc, &THREE, routes)?;
+    if hear_256_stars(alloc, &mut router) {
+        of_router(alloc, &router, 6000)
+    } else {
+        None
+    }
+}
+
+/// The same, where there is one RP for all groups and one neighbour for all addresses.
 fn of_256_stars(alloc: Global) -> Told<V4> {
     let routes = table(alloc, &ONE_EACH)?;
-    let mut router = started(alloc, &THREE, &routes)?;
-    if !hear_256_stars(alloc, &mut router) {
-        return None;
-    }
-    of_router(alloc, &router, 6000)
+    of_256_stars_under(alloc, &routes)
 }
 
 #[test]
@@ -273,11 +285,17 @@ fn of_router6(alloc: Global, router: &Router<'_, V6>, budget: usize) -> Told<V6>
     Some(lengths(alloc, router, &writer))
 }
 
+/// The messages of a router of IPv6 under this table that heard a star without so many sources; `None` where something
+/// went wrong.
+fn of_star6_under(alloc: Global, routes: &Routes<V6>, budget: usize, count: u8) -> Told<V6> {
+    let router = started6(alloc, routes, &PORT6, count)?;
+    of_router6(alloc, &router, budget)
+}
+
 /// The messages of a star of IPv6 without so many sources; `None` where something went wrong.
 fn of_star6(alloc: Global, budget: usize, count: u8) -> Told<V6> {
     let routes = table6(alloc)?;
-    let router = started6(alloc, &routes, &PORT6, count)?;
-    of_router6(alloc, &router, budget)
+    of_star6_under(alloc, &routes, budget, count)
 }
 
 #[test]

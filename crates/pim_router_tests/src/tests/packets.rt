@@ -170,6 +170,41 @@ fn fault(alloc: Global, ports: &[PortConfig<[u8; 4]>], limit: usize) -> Option<C
     Router::new(alloc, &config).err()
 }
 
+/// As many ports as a router may have.
+fn most(port: PortConfig<[u8; 4]>) -> [PortConfig<[u8; 4]>; 64] {
+    [port; 64]
+}
+
+/// One port more.
+fn too_many(port: PortConfig<[u8; 4]>) -> [PortConfig<[u8; 4]>; 65] {
+    [port; 65]
+}
+
+/// Ports, a limit, and the fault of their configuration.
+type Configuration<'a> = (&'a [PortConfig<[u8; 4]>], usize, Option<ConfigFault>);
+
+/// The first of these that has another fault.
+fn wrong(alloc: Global, rows: &[Configuration<'_>]) -> Option<usize> {
+    for (index, &(ports, limit, wanted)) in rows.iter().enumerate() {
+        if fault(alloc, ports, limit) != wanted {
+            return Some(index);
+        }
+    }
+    None
+}
+
+#[test]
+fn numbers_of_ports(rt: HostRuntime) -> Result<(), Fail> {
+    let (most, too_many) = (most(PORTS[0]), too_many(PORTS[0]));
+    let rows: [Configuration<'_>; 3] = [
+        (&[], 0, Some(ConfigFault::Ports)),
+        (&too_many, 1, Some(ConfigFault::Ports)),
+        (&most, 1, None),
+    ];
+    assert_eq!(rt; wrong(rt.alloc(), &rows), None);
+    Ok(())
+}
+
 #[test]
 fn configurations(rt: HostRuntime) -> Result<(), Fail> {
     let [first, second] = PORTS;
@@ -181,20 +216,16 @@ fn configurations(rt: HostRuntime) -> Result<(), Fail> {
         propagation: 32_768,
         ..first
     };
-    let alloc = rt.alloc();
-    assert_eq!(rt; fault(alloc, &PORTS, 100_000), None);
-    assert_eq!(rt; fault(alloc, &[], 0), Some(ConfigFault::Ports));
-    assert_eq!(rt; fault(alloc, &[first; 65], 1), Some(ConfigFault::Ports));
-    assert_eq!(rt; fault(alloc, &[first; 64], 1), None);
-    let of_group = ConfigFault::Address { port: 2 };
-    assert_eq!(rt;
-        fault(alloc, &[slow, second, group, group], 0),
-        Some(of_group)
-    );
-    let of_delay = ConfigFault::Delay { port: 1 };
-    assert_eq!(rt; fault(alloc, &[first, slow], 0), Some(of_delay));
-    assert_eq!(rt; fault(alloc, &PORTS, 0), Some(ConfigFault::Limit));
-    assert_eq!(rt; fault(alloc, &PORTS, 100_001), Some(ConfigFault::Limit));
+    let of_group = Some(ConfigFault::Address { port: 2 });
+    let of_delay = Some(ConfigFault::Delay { port: 1 });
+    let rows: [Configuration<'_>; 5] = [
+        (&PORTS, 100_000, None),
+        (&[slow, second, group, group], 0, of_group),
+        (&[first, slow], 0, of_delay),
+        (&PORTS, 0, Some(ConfigFault::Limit)),
+        (&PORTS, 100_001, Some(ConfigFault::Limit)),
+    ];
+    assert_eq!(rt; wrong(rt.alloc(), &rows), None);
     Ok(())
 }
 

@@ -25,19 +25,35 @@ fn told_twice(router: &mut Router<'_, V4>, messages: &Messages) -> [Option<Verdi
     [first, second, first_again, second_again]
 }
 
-/// The same of a new router, whose one port has a neighbour; `None` where a growth is refused.
-fn told_of(alloc: Global, messages: &Messages) -> Option<[Option<Verdict>; 4]> {
-    let routes = Routes::new(alloc);
-    let ports = [PORT];
+/// The same when the sender's Hello has come; `None` where a growth is refused.
+fn greeted_and_told(
+    router: &mut Router<'_, V4>,
+    messages: &Messages,
+) -> Option<[Option<Verdict>; 4]> {
+    let mut hello = [0, 0, 0, 0, 0, 1, 0, 2, 255, 255];
+    take(router, 0, ONE, MessageType::Hello, &mut hello)?;
+    Some(told_twice(router, messages))
+}
+
+/// The same of a new router with one port under this table.
+fn told_under(
+    alloc: Global,
+    routes: &Routes<V4>,
+    messages: &Messages,
+) -> Option<[Option<Verdict>; 4]> {
     let config = Config {
-        ports: &ports,
-        routes: &routes,
+        ports: &[PORT],
+        routes,
         limit: 100,
     };
     let mut router = Router::new(alloc, &config).ok()?;
-    let mut hello = [0, 0, 0, 0, 0, 1, 0, 2, 255, 255];
-    take(&mut router, 0, ONE, MessageType::Hello, &mut hello)?;
-    Some(told_twice(&mut router, messages))
+    greeted_and_told(&mut router, messages)
+}
+
+/// The same, where the table is empty.
+fn told_of(alloc: Global, messages: &Messages) -> Option<[Option<Verdict>; 4]> {
+    let routes = Routes::new(alloc);
+    told_under(alloc, &routes, messages)
 }
 
 /// What is told of the 181, of the 19, and of either again.

@@ -222,22 +222,52 @@ fn spoilt<F: Family>(
     Ok([cut, changed_alone, mended])
 }
 
-/// The same on a new router of one port, to which the sender of a Join/Prune is unknown, and how many records it keeps.
+/// The same, and how many records the first port keeps.
+fn spoilt_and_kept<F: Family>(
+    router: &mut Router<'_, F>,
+    from: F::Addr,
+    bytes: &mut [u8],
+) -> Option<([Told; 3], usize)> {
+    let told = spoilt(router, from, bytes).ok()?;
+    Some((told, router.ports().count_on(0)))
+}
+
+/// A new router of these ports under this table; `None` where there is none.
+fn made<'a, F: Family>(
+    alloc: Global,
+    ports: &'a [PortConfig<F::Addr>],
+    routes: &'a Routes<F>,
+) -> Option<Router<'a, F>> {
+    let config = Config {
+        ports,
+        routes,
+        limit: 100_000,
+    };
+    Router::new(alloc, &config).ok()
+}
+
+/// What is told on a new router under this table, and how many records it keeps.
+fn spoilt_under<F: Family>(
+    alloc: Global,
+    ports: &[PortConfig<F::Addr>],
+    routes: &Routes<F>,
+    from: F::Addr,
+    bytes: &mut [u8],
+) -> Option<([Told; 3], usize)> {
+    let mut router = made(alloc, ports, routes)?;
+    spoilt_and_kept(&mut router, from, bytes)
+}
+
+/// The same on a new router of one port, to which the sender of a Join/Prune is unknown; `None` where a growth is
+/// refused.
 fn spoilt_on<F: Family>(
     alloc: Global,
     ports: &[PortConfig<F::Addr>],
     from: F::Addr,
     bytes: &mut [u8],
-) -> Result<([Told; 3], usize), Fail> {
+) -> Option<([Told; 3], usize)> {
     let routes = Routes::<F>::new(alloc);
-    let config = Config {
-        ports,
-        routes: &routes,
-        limit: 100_000,
-    };
-    let mut router = Router::new(alloc, &config)?;
-    let told = spoilt(&mut router, from, bytes)?;
-    Ok((told, router.ports().count_on(0)))
+    spoilt_under(alloc, ports, &routes, from, bytes)
 }
 
 /// A Hello of the sender comes, with a holdtime for ever.
@@ -248,22 +278,37 @@ fn greet<F: Family>(router: &mut Router<'_, F>, from: F::Addr) -> Result<(), All
     tell(router, from, &mut told, &hello)
 }
 
-/// What is told on a new router of one port, of which the sender is a neighbour.
+/// What is told of a message when a Hello of the sender has come.
+fn greeted_and_spoilt<F: Family>(
+    router: &mut Router<'_, F>,
+    from: F::Addr,
+    bytes: &mut [u8],
+) -> Result<[Told; 3], AllocError> {
+    greet(router, from)?;
+    spoilt(router, from, bytes)
+}
+
+/// The same on a new router under this table.
+fn spoilt_by_neighbour_under<F: Family>(
+    alloc: Global,
+    ports: &[PortConfig<F::Addr>],
+    routes: &Routes<F>,
+    from: F::Addr,
+    bytes: &mut [u8],
+) -> Option<[Told; 3]> {
+    let mut router = made(alloc, ports, routes)?;
+    greeted_and_spoilt(&mut router, from, bytes).ok()
+}
+
+/// What is told on a new router of one port, of which the sender is a neighbour; `None` where a growth is refused.
 fn spoilt_by_neighbour<F: Family>(
     alloc: Global,
     ports: &[PortConfig<F::Addr>],
     from: F::Addr,
     bytes: &mut [u8],
-) -> Result<[Told; 3], Fail> {
+) -> Option<[Told; 3]> {
     let routes = Routes::<F>::new(alloc);
-    let config = Config {
-        ports,
-        routes: &routes,
-        limit: 100_000,
-    };
-    let mut router = Router::new(alloc, &config)?;
-    greet(&mut router, from)?;
-    Ok(spoilt(&mut router, from, bytes)?)
+    spoilt_by_neighbour_under(alloc, ports, &routes, from, bytes)
 }
 
 /// A port of 10.0.0.2.
@@ -288,63 +333,63 @@ const SENDER_V6: [u8; 16] = [0xfe, 0x80, 0, 0, 0, 0, 0, 0, 0, 0, 0, 0, 0, 0, 0, 
 #[test]
 fn spoilt_hellos(rt: HostRuntime) -> Result<(), Fail> {
     let mut hello = HELLO;
-    let told = spoilt_on::<V4>(rt.alloc(), &[PORT], SENDER, &mut hello)?;
-    assert_eq!(rt; told, (OF_HELLO, 0));
+    let told = spoilt_on::<V4>(rt.alloc(), &[PORT], SENDER, &mut hello);
+    assert_eq!(rt; told, Some((OF_HELLO, 0)));
     Ok(())
 }
 
 #[test]
 fn spoilt_hellos_of_ipv6(rt: HostRuntime) -> Result<(), Fail> {
     let mut hello = HELLO;
-    let told = spoilt_on::<V6>(rt.alloc(), &[PORT_V6], SENDER_V6, &mut hello)?;
-    assert_eq!(rt; told, (OF_HELLO_V6, 0));
+    let told = spoilt_on::<V6>(rt.alloc(), &[PORT_V6], SENDER_V6, &mut hello);
+    assert_eq!(rt; told, Some((OF_HELLO_V6, 0)));
     Ok(())
 }
 
 #[test]
 fn spoilt_join_prunes(rt: HostRuntime) -> Result<(), Fail> {
     let mut lists = LISTS;
-    let told = spoilt_on::<V4>(rt.alloc(), &[PORT], SENDER, &mut lists)?;
-    assert_eq!(rt; told, (OF_LISTS, 0));
+    let told = spoilt_on::<V4>(rt.alloc(), &[PORT], SENDER, &mut lists);
+    assert_eq!(rt; told, Some((OF_LISTS, 0)));
     Ok(())
 }
 
 #[test]
 fn spoilt_join_prunes_of_ipv6(rt: HostRuntime) -> Result<(), Fail> {
     let mut lists = LISTS_V6;
-    let told = spoilt_on::<V6>(rt.alloc(), &[PORT_V6], SENDER_V6, &mut lists)?;
-    assert_eq!(rt; told, (OF_LISTS_V6, 0));
+    let told = spoilt_on::<V6>(rt.alloc(), &[PORT_V6], SENDER_V6, &mut lists);
+    assert_eq!(rt; told, Some((OF_LISTS_V6, 0)));
     Ok(())
 }
 
 #[test]
 fn spoilt_messages_of_another_type(rt: HostRuntime) -> Result<(), Fail> {
     let mut other = OTHER;
-    let told = spoilt_on::<V4>(rt.alloc(), &[PORT], SENDER, &mut other)?;
-    assert_eq!(rt; told, (OF_ANOTHER_TYPE, 0));
+    let told = spoilt_on::<V4>(rt.alloc(), &[PORT], SENDER, &mut other);
+    assert_eq!(rt; told, Some((OF_ANOTHER_TYPE, 0)));
     Ok(())
 }
 
 #[test]
 fn spoilt_messages_of_another_type_over_ipv6(rt: HostRuntime) -> Result<(), Fail> {
     let mut other = OTHER;
-    let told = spoilt_on::<V6>(rt.alloc(), &[PORT_V6], SENDER_V6, &mut other)?;
-    assert_eq!(rt; told, (OF_ANOTHER_TYPE_V6, 0));
+    let told = spoilt_on::<V6>(rt.alloc(), &[PORT_V6], SENDER_V6, &mut other);
+    assert_eq!(rt; told, Some((OF_ANOTHER_TYPE_V6, 0)));
     Ok(())
 }
 
 #[test]
 fn spoilt_join_prunes_of_a_neighbour(rt: HostRuntime) -> Result<(), Fail> {
     let mut lists = LISTS;
-    let told = spoilt_by_neighbour::<V4>(rt.alloc(), &[PORT], SENDER, &mut lists)?;
-    assert_eq!(rt; told, OF_NEIGHBOUR);
+    let told = spoilt_by_neighbour::<V4>(rt.alloc(), &[PORT], SENDER, &mut lists);
+    assert_eq!(rt; told, Some(OF_NEIGHBOUR));
     Ok(())
 }
 
 #[test]
 fn spoilt_join_prunes_of_a_neighbour_over_ipv6(rt: HostRuntime) -> Result<(), Fail> {
     let mut lists = LISTS_V6;
-    let told = spoilt_by_neighbour::<V6>(rt.alloc(), &[PORT_V6], SENDER_V6, &mut lists)?;
-    assert_eq!(rt; told, OF_NEIGHBOUR_V6);
+    let told = spoilt_by_neighbour::<V6>(rt.alloc(), &[PORT_V6], SENDER_V6, &mut lists);
+    assert_eq!(rt; told, Some(OF_NEIGHBOUR_V6));
     Ok(())
 }

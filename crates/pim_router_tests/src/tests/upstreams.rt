@@ -1,6 +1,6 @@
 //! The messages of one router to each of two upstream neighbours, by their bytes.
 
-use super::world::{ONE, Route, SIX, Set, THREE, TWO, are, hear, neighbour, started, table};
+use super::world::{ONE, Route, SIX, Set, THREE, TWO, asks_by, hear, neighbour, started, table};
 use super::{FIRST, GROUP, JOIN_FIRST, JOIN_SECOND, JOIN_STAR, RP, RPT_FIRST, SECOND};
 use pim_addr::{Routes, V4};
 use pim_form::Writer;
@@ -62,8 +62,7 @@ const ASKED: [Asked<'static>; 3] = [
 /// Whether a neighbour is asked as it should be; `None` where something is refused.
 fn asks(alloc: Global, router: &Router<'_, V4>, asked: &Asked<'_>) -> Option<bool> {
     let writer = Writer::new(asked.0, asked.1, 210, 1480).ok()?;
-    let messages = router.canonical(alloc, &writer).ok()?;
-    Some(are(&messages, asked.2))
+    asks_by(alloc, router, &writer, asked.2)
 }
 
 /// The index of the first neighbour that isn't asked as it should be.
@@ -96,11 +95,17 @@ fn with_both<'a>(alloc: Global, routes: &'a Routes<V4>) -> Option<Router<'a, V4>
     }
 }
 
-/// The index of the first neighbour that isn't asked for its own, if any; the outer `None` where something went wrong.
+/// The index of the first neighbour that isn't asked for its own under this table, if any; the outer `None` where
+/// something went wrong.
+fn asks_each_under(alloc: Global, routes: &Routes<V4>) -> Option<Option<usize>> {
+    let router = with_both(alloc, routes)?;
+    Some(first_wrong(alloc, &router))
+}
+
+/// The same under the six rows.
 fn asks_each(alloc: Global) -> Option<Option<usize>> {
     let routes = table(alloc, &ROWS)?;
-    let router = with_both(alloc, &routes)?;
-    Some(first_wrong(alloc, &router))
+    asks_each_under(alloc, &routes)
 }
 
 #[test]

@@ -2,11 +2,11 @@
 
 use super::{GROUP, JOIN_STAR, RP, RPT_FIRST, SECOND, small};
 use pim_addr::{Family, Routes, V4};
-use pim_form::Messages;
+use pim_form::{Messages, Writer};
 use pim_frame::{MessageType, all_routers, seal};
 use pim_jp::{Entry, head_length, put_head, put_set, set_length};
 use pim_router::{Config, PortConfig, Router, Step, Verdict};
-use std::alloc::Global;
+use std::alloc::{AllocError, Global};
 
 /// The upstream neighbour that is asked.
 pub(super) const TWO: [u8; 4] = [10, 0, 0, 2];
@@ -138,18 +138,38 @@ pub(super) fn hear<F: Family>(
     Some(verdict == Verdict::Applied)
 }
 
-/// Prunes of so many sources from 10.1.0.0 on.
+/// Adds prunes of so many sources from 10.1.0.0 on.
+fn add_prunes(pruned: &mut Vec<Entry<[u8; 4]>>, count: u8) -> Result<(), AllocError> {
+    for number in 0..count {
+        pruned.push(Entry::Rpt([10, 1, 0, number]))?;
+    }
+    Ok(())
+}
+
+/// Prunes of so many sources from 10.1.0.0 on; `None` where a growth is refused.
 fn prunes(alloc: Global, count: u8) -> Option<Vec<Entry<[u8; 4]>>> {
     let mut pruned = Vec::new(alloc);
-    for number in 0..count {
-        pruned.push(Entry::Rpt([10, 1, 0, number])).ok()?;
+    match add_prunes(&mut pruned, count) {
+        Ok(()) => Some(pruned),
+        Err(_) => None,
     }
-    Some(pruned)
 }
 
 /// The neighbour on a port.
 pub(super) fn neighbour(port: usize) -> [u8; 4] {
     [10, 0, small(port), 9]
+}
+
+/// Lets the first so many ports of a router hear a Hello of a neighbour each that is kept for ever: whether all were taken.
+fn greet_all(router: &mut Router<'_, V4>, count: usize) -> bool {
+    for port in 0..count {
+        let mut hello = [0, 0, 0, 0, 0, 1, 0, 2, 255, 255];
+        let from = neighbour(port);
+        if take(router, port, from, MessageType::Hello, &mut hello).is_none() {
+            return false;
+        }
+    }
+    true
 }
 
 /// A router with these ports, each with a neighbour that is kept for ever; `None` where a growth is refused.
@@ -164,17 +184,11 @@ pub(super) fn started<'a>(
         limit: 1000,
     };
     let mut router = Router::new(alloc, &config).ok()?;
-    for port in 0..ports.len() {
-        let mut hello = [0, 0, 0, 0, 0, 1, 0, 2, 255, 255];
-        take(
-            &mut router,
-            port,
-            neighbour(port),
-            MessageType::Hello,
-            &mut hello,
-        )?;
+    if greet_all(&mut router, ports.len()) {
+        Some(router)
+    } else {
+        None
     }
-    Some(router)
 }
 
 /// Lets the first port hear a group's star without so many sources: whether it went well.
@@ -241,6 +255,20 @@ pub(super) fn are(messages: &Messages, bytes: &[u8]) -> bool {
     match messages.get(0) {
         Some(message) => messages.count() == 1 && message == bytes,
         None => bytes.is_empty() && messages.count() == 0,
+    }
+}
+
+/// Whether a router asks this writer's neighbour by this message, or by none where it has no bytes; `None` where a growth
+/// is refused.
+pub(super) fn asks_by(
+    alloc: Global,
+    router: &Router<'_, V4>,
+    writer: &Writer<V4>,
+    message: &[u8],
+) -> Option<bool> {
+    match router.canonical(alloc, writer) {
+        Ok(messages) => Some(are(&messages, message)),
+        Err(_) => None,
     }
 }
 
