@@ -1,5 +1,5 @@
 -- The sources of a group that is asked for, among those that some port has joined.
-use Rattle.std.proofs.Common.{◌≡◌, ◌∙◌, ◌<◌, ◌≤◌, ℕ, Bool, true, false, ◌&&◌, List, [], ◌∷◌, Option, None, Some, length, refl, sym, ap, subst, arith}
+use Rattle.std.proofs.Common.{◌≡◌, ◌∙◌, ◌<◌, ◌≤◌, ℕ, Bool, true, false, ◌&&◌, ◌||◌, List, [], ◌∷◌, Option, None, Some, length, refl, sym, ap, subst, arith}
 use Rattle.std.specs.List.{AllByRecursion, list_any}
 use Rattle.std.specs.Option.{is_some}
 use Rattle.std.specs.List.Sorted.{IsStrictlySortedBy}
@@ -25,7 +25,7 @@ use Rattle.pim_form.specs.Wants.{state_on, some_below}
 use Rattle.pim_emit.specs.Least.{IsLeast}
 use Rattle.pim_emit.specs.Left.{next_above, sources_in}
 use Rattle.pim_emit.specs.Machines.{is_source_joined}
-use Rattle.pim_emit.proofs.Addresses.{same_itself}
+use Rattle.pim_emit.proofs.Addresses.{same_is, same_itself}
 use Rattle.pim_emit.proofs.Above.{by_test}
 use Rattle.pim_emit.proofs.CountAbove.{count_above, fewer_above}
 use Rattle.pim_emit.proofs.FirstRecords.{held_at, any_at}
@@ -77,10 +77,15 @@ pub asked_as_seen : (law : AskedFormIsAsked) (family : AddressFamily) (table : R
     → asked_form family table neighbour state ≡ form → IsAskedForm family table neighbour state form
 asked_as_seen law family table neighbour state form sound seen = subst (λ (f : List GroupForm). IsAskedForm family table neighbour state f) seen (law family table neighbour state sound)
 
--- a list on which an address stands has a first one
-listed_is_some : (address : List ℕ) (addresses : List (List ℕ)) → is_listed address addresses ≡ true → is_some (next_above None addresses) ≡ true
-listed_is_some address [] listed = absurd (false≢true listed)
-listed_is_some address (first ∷ addresses) listed = refl
+-- a list on which an address above the bound stands has a first one above it
+listed_is_some : (bound : Option (List ℕ)) (address : List ℕ) (addresses : List (List ℕ)) → is_above bound address ≡ true → is_listed address addresses ≡ true → is_some (next_above bound addresses) ≡ true
+listed_is_some bound address [] over listed = absurd (false≢true listed)
+listed_is_some bound address (first ∷ addresses) over listed =
+    by_test (is_above bound first)
+    (λ e. rw e refl)
+    (λ e. rw e (by_test (same_address address first)
+    (λ same. absurd (false≢true (sym e ∙ subst (λ (a : List ℕ). is_above bound a ≡ true) (same_is address first same) over)))
+    (λ other. listed_is_some bound address addresses over (subst (λ b. b || list_any (same_address address) addresses ≡ true) other listed))))
 
 -- whether a source is reached, as a test of its upstream tells
 pub is_via : (family : AddressFamily) (table : RouteTable) (neighbour source : List ℕ) (upstream : Option (List ℕ)) (answer told : Bool) → upstream ≡ via_in family table source
@@ -146,9 +151,10 @@ module _ (apart : KeysAreToldApart) (family : AddressFamily) (table : RouteTable
       let passes = and_parts (is_above bound source) (wanted source) (least_wanted bound (Some source) is).0 in
       fewer_above (λ (held : Record (List ℕ)). source_of held.key.what) bound source state.records passes.0 (is_held source passes.1)
 
-  -- where a source that some port has joined is reached, the group has one
-  pub reached_is_some : (port : ℕ) (next : Option (List ℕ)) (source : List ℕ) → next ≡ Some source → port < state.ports → IsLeast (λ source. is_above None source && is_source_joined state group source port) next
-      → is_neighbour neighbour (via_in family table source) ≡ true → is_some (next_above None (sources_in group form)) ≡ true
-  reached_is_some port next source named below is reached =
-      let joined = (subst (IsLeast (λ source. is_above None source && is_source_joined state group source port)) named is).0 in
-      listed_is_some source (sources_in group form) (listed_if_reached source (found_below (is_source_joined state group source) state.ports port below joined) ∙ reached)
+  -- where a source above the bound that some port has joined is reached, the group has one
+  pub reached_is_some : (bound : Option (List ℕ)) (port : ℕ) (source : List ℕ) → port < state.ports → IsLeast (λ source. is_above bound source && is_source_joined state group source port) (Some source)
+      → is_neighbour neighbour (via_in family table source) ≡ true → is_some (next_above bound (sources_in group form)) ≡ true
+  reached_is_some bound port source below is reached =
+      let passes = and_parts (is_above bound source) (is_source_joined state group source port) is.0 in
+      listed_is_some bound source (sources_in group form) passes.0
+      (listed_if_reached source (found_below (is_source_joined state group source) state.ports port below passes.1) ∙ reached)

@@ -1,6 +1,6 @@
 -- What of a group comes next behind a place in a form.
 use Rattle.std.proofs.Common.{◌≡◌, ◌∙◌, ℕ, Bool, true, false, List, [], ◌∷◌, ◌++◌, Option, None, Some, map, refl, sym, ap, subst}
-use Rattle.std.specs.Prelude.{if◌then◌else◌, option_map}
+use Rattle.std.specs.Prelude.{if◌then◌else◌}
 use Rattle.std.specs.Option.{is_some}
 use Rattle.pim_addr.specs.declared.family.AddressFamily.{AddressFamily}
 use Rattle.pim_addr.specs.Address.{IsGroupAddress}
@@ -95,10 +95,6 @@ rest_piece family group from form normal is_group some = by (next_above from (so
 pub at_position : {position place : Position (List ℕ)} {bound here : Option (List ℕ)} (form : List GroupForm) → position ≡ place → bound ≡ here → IsBetween place here form → IsBetween position bound form
 at_position {position} {place} {bound} {here} form places bounds between = subst (λ p. IsBetween p bound form) (sym places) (subst (λ b. IsBetween place b form) (sym bounds) between)
 
-pub mapped_some : {A : Type 0} (f : A → List ℕ) (r : Option A) → is_some r ≡ is_some (option_map f r)
-mapped_some f None = refl
-mapped_some f (Some a) = refl
-
-pub mapped_none : {A : Type 0} (f : A → List ℕ) (r : Option A) (x : Option (List ℕ)) → option_map f r ≡ x → is_some r ≡ false → x ≡ None
-mapped_none f None x e none = sym e
-mapped_none f (Some a) x e none = absurd cc
+pub none_there : {A : Type 0} (o : Option A) → is_some o ≡ false → o ≡ None
+none_there None none = refl
+none_there (Some a) none = absurd cc

@@ -1,6 +1,6 @@
 //! Of each port the source that comes next there, so that the port's next machine is told only where one is passed.
 
-ghost use Rattle.std.specs.Prelude.{◌≡◌, ◌≤◌, ◌<◌, ◌+◌, ℕ, false, List, Option, None, Some, IfSome, length, option_map};
+ghost use Rattle.std.specs.Prelude.{◌≡◌, ◌≤◌, ◌<◌, ◌+◌, ℕ, false, List, Option, Some, IfSome, length, option_map};
 ghost use Rattle.std.specs.Prelude.{slice_index_or};
 ghost use Rattle.pim_down.specs.Key.{address_cmp};
 ghost use Rattle.pim_down.specs.Seen.{what_seen};
@@ -128,15 +128,17 @@ fn source_of<F: Family>(next: &Option<Ahead<'_, F>>) -> Option<F::Addr>
     }
 }
 
-/// The least source of the group on the port with (S,G) in Join or Prune-Pending.
-pub(crate) fn first_source<F: Family>(
+/// The least source above the bound, or of all, with (S,G) in Join or Prune-Pending on the port.
+pub(crate) fn source_on<F: Family>(
     ports: &Nearby<'_, F>,
     port: usize,
     group: F::Addr,
+    bound: Option<F::Addr>,
 ) -> Option<F::Addr>
-    ensures { IsNextOn ports.now (F.bytes_of group) None port (option_map F.bytes_of result) }
+    ensures { IsNextOn ports.now (F.bytes_of group) (option_map F.bytes_of bound) port
+        (option_map F.bytes_of result) }
 {
-    let next = ahead_on::<F>(ports, port, group, None);
+    let next = ahead_on::<F>(ports, port, group, bound);
     source_of::<F>(&next)
 }
 

@@ -13,7 +13,7 @@ ghost use Rattle.pim_emit.specs.Stars.{AreStars};
 ghost use Rattle.pim_emit.specs.Ahead.{AreNext};
 ghost use Rattle.pim_emit.specs.Rpts.{AreRpts};
 
-use crate::ahead::{Ahead, first_source, keep_ahead, look_ahead, take_next};
+use crate::ahead::{Ahead, keep_ahead, look_ahead, source_on, take_next};
 use crate::machines::{first_starred, least_group, most_rpts};
 use crate::nearby::Nearby;
 use crate::rpts::{Rpts, next_rpt, rpts_of};
@@ -121,43 +121,53 @@ impl<'a, F: Family> Asked<'a, F> {
         self.next_ahead(group, bound, &mut nowhere)
     }
 
-    /// Whether the least source of the group on the port is reached by the neighbour.
-    fn begins_with_one(&self, port: usize, group: F::Addr) -> bool
+    /// Whether the least source of the group above the bound, or of all, on the port is reached by the neighbour.
+    fn goes_on_at(&self, port: usize, group: F::Addr, bound: Option<F::Addr>) -> bool
         requires group { IsGroupAddress F.family (F.bytes_of group) }
         requires port { port < self.now.machines.ports }
-        ensures { result ≡ true → is_some (next_above None (sources_in (F.bytes_of group) self.now.form)) ≡ true }
+        ensures { result ≡ true → is_some (next_above (option_map F.bytes_of bound)
+            (sources_in (F.bytes_of group) self.now.form)) ≡ true }
     {
         self.ports.is_sound();
         pim_down::keys_are_told_apart();
         pim_form::form_of_what_is_asked();
-        match first_source::<F>(&self.ports, port, group) {
+        match source_on::<F>(&self.ports, port, group, bound) {
             Some(source) => is_neighbour::<F>(self.routes.via(source), self.upstream),
             None => false,
         }
     }
 
-    /// Whether the least source of the group on some port is reached by the neighbour. Where none is, a later one may
-    /// be.
-    fn begins_with_source(&self, group: F::Addr) -> bool
+    /// Whether it is on some port. Where it is on none, the group may still have a source above the bound: a later one.
+    fn goes_on(&self, group: F::Addr, bound: Option<F::Addr>) -> bool
         requires { IsGroupAddress F.family (F.bytes_of group) }
-        ensures { result ≡ true → is_some (next_above None (sources_in (F.bytes_of group) self.now.form)) ≡ true }
+        ensures { result ≡ true → is_some (next_above (option_map F.bytes_of bound)
+            (sources_in (F.bytes_of group) self.now.form)) ≡ true }
     {
         let count = self.port_count();
         for port in 0..count {
-            if self.begins_with_one(port, group) {
+            if self.goes_on_at(port, group, bound) {
                 return true;
             }
         }
         false
     }
 
-    /// Whether the group has a star or a source. Of most groups that have a source the first look-up tells.
+    /// Whether the group has a source above the bound, or any. Of most groups the first port tells.
+    pub(crate) fn has_source(&self, group: F::Addr, bound: Option<F::Addr>) -> bool
+        requires { IsGroupAddress F.family (F.bytes_of group) }
+        ensures { result ≡ is_some (next_above (option_map F.bytes_of bound)
+            (sources_in (F.bytes_of group) self.now.form)) }
+    {
+        self.goes_on(group, bound) || self.next_source(group, bound).is_some()
+    }
+
+    /// Whether the group has a star or a source. The star is looked up only where no first source tells.
     fn has_any(&self, group: F::Addr) -> bool
         requires { IsGroupAddress F.family (F.bytes_of group) }
         ensures { result ≡ (is_some (star_of (F.bytes_of group) self.now.form)
             || is_some (next_above None (sources_in (F.bytes_of group) self.now.form))) }
     {
-        if self.begins_with_source(group) {
+        if self.goes_on(group, None) {
             return true;
         }
         self.has_star(group) || self.next_source(group, None).is_some()

@@ -71,7 +71,7 @@ fn has_more<F: Family>(
     ensures { result ≡ is_some (next_above (option_map F.bytes_of told.now.last)
         (sources_in (F.bytes_of piece.now.group) asked.now.form)) }
 {
-    told.count == most && asked.next_source(piece.group, told.last).is_some()
+    told.count == most && asked.has_source(piece.group, told.last)
 }
 
 /// Tells a piece, as far as there is room: for so many entries, which are more than none and not fewer than its star

@@ -32,7 +32,7 @@ pub(crate) fn next_piece<F: Family>(
         Position::Start => None,
         Position::Behind(group) => Some(group),
         Position::Within(group, from) => {
-            if asked.next_source(group, from).is_some() {
+            if asked.has_source(group, from) {
                 return Some(Piece {
                     group,
                     starred: false,

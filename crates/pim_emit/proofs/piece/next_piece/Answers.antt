@@ -5,12 +5,12 @@ use Rattle.pim_form.specs.NormalForm.{IsNormalGroup}
 use Rattle.pim_emit.specs.declared.position.Position.TheVariants.{Within}
 use Rattle.pim_emit.specs.Left.{IsPosition, IsPiece, IsNextPiece, position_seen, piece_seen, next_above, sources_in}
 use Rattle.pim_emit.proofs.Above.{next_group, next_group_holds}
-use Rattle.pim_emit.proofs.Pieces.{IsBetween, between_start, between_behind, between_within, at_position, group_piece, no_piece, rest_piece, mapped_some, mapped_none}
-use Rattle.pim_emit.proofs.piece.next_piece.Goals.{in-Start, in-Behind, in-Within+else-is_some}
+use Rattle.pim_emit.proofs.Pieces.{IsBetween, between_start, between_behind, between_within, at_position, group_piece, no_piece, rest_piece, none_there}
+use Rattle.pim_emit.proofs.piece.next_piece.Goals.{in-Start, in-Behind, in-Within+else-has_source}
 use Rattle.pim_emit.proofs.piece.next_piece.Goals as goal
 
-pub returns-then-is_some : goal.returns-then-is_some
-returns-then-is_some g c =
+pub returns-then-has_source : goal.returns-then-has_source
+returns-then-has_source g c =
     let family = g.F.Family.family in
     let bytes_of = g.F.Family.bytes_of in
     let form = c.args.asked.now.form in
@@ -18,7 +18,7 @@ returns-then-is_some g c =
     let from = option_map bytes_of c.in-Within.from in
     let seen : position_seen bytes_of c.args.position ≡ Within group from = ap (position_seen bytes_of) c.in-Within.is in
     let some : is_some (next_above from (sources_in group form)) ≡ true =
-    ap is_some (sym c.next_source.ensures) ∙ sym (mapped_some bytes_of c.next_source.result) ∙ sym c.is_some.ensures ∙ c.if-is_some.true in
+    sym c.has_source.ensures ∙ c.if-has_source.true in
     subst (λ p. IsPiece family p form (piece_seen bytes_of (record { group = c.in-Within.group; starred = false; from = c.in-Within.from }))) (sym seen)
     (rest_piece family group from form c.is_normal.ensures.normal (subst (IsPosition family) seen c.requires) some)
 
@@ -32,9 +32,9 @@ returns-in_err-group g c =
     let between : IsBetween position bound form = elim c.match-position.branch [
       | in-Start w ↦ at_position form (ap (position_seen bytes_of) w.in-Start.is) (ap (option_map bytes_of) w.bound-is) (between_start form)
       | in-Behind w ↦ at_position form (ap (position_seen bytes_of) w.in-Behind.is) (ap (option_map bytes_of) w.bound-is) (between_behind (bytes_of w.in-Behind.group) form)
-      | in-Within+else-is_some w ↦ at_position form (ap (position_seen bytes_of) w.in-Within.is) (ap (option_map bytes_of) w.bound-is)
+      | in-Within+else-has_source w ↦ at_position form (ap (position_seen bytes_of) w.in-Within.is) (ap (option_map bytes_of) w.bound-is)
           (between_within (bytes_of w.in-Within.group) (option_map bytes_of w.in-Within.from) form
-          (mapped_none bytes_of w.next_source.result _ w.next_source.ensures (sym w.is_some.ensures ∙ w.if-is_some.false)))
+          (none_there (next_above (option_map bytes_of w.in-Within.from) (sources_in (bytes_of w.in-Within.group) form)) (sym w.has_source.ensures ∙ w.if-has_source.false)))
     ] in
     subst (λ r. IsNextPiece family position form (option_map (piece_seen bytes_of) r)) (sym c.from_residual.ensures)
     (no_piece family position bound form between (sym c.next_group.ensures ∙ ap (option_map bytes_of) (c.in_err-group.was)))
@@ -59,9 +59,9 @@ returns g c =
     let between : IsBetween position bound form = elim c.match-position.branch [
       | in-Start w ↦ at_position form (ap (position_seen bytes_of) w.in-Start.is) (ap (option_map bytes_of) w.bound-is) (between_start form)
       | in-Behind w ↦ at_position form (ap (position_seen bytes_of) w.in-Behind.is) (ap (option_map bytes_of) w.bound-is) (between_behind (bytes_of w.in-Behind.group) form)
-      | in-Within+else-is_some w ↦ at_position form (ap (position_seen bytes_of) w.in-Within.is) (ap (option_map bytes_of) w.bound-is)
+      | in-Within+else-has_source w ↦ at_position form (ap (position_seen bytes_of) w.in-Within.is) (ap (option_map bytes_of) w.bound-is)
           (between_within (bytes_of w.in-Within.group) (option_map bytes_of w.in-Within.from) form
-          (mapped_none bytes_of w.next_source.result _ w.next_source.ensures (sym w.is_some.ensures ∙ w.if-is_some.false)))
+          (none_there (next_above (option_map bytes_of w.in-Within.from) (sources_in (bytes_of w.in-Within.group) form)) (sym w.has_source.ensures ∙ w.if-has_source.false)))
     ] in
     let found = sym c.next_group.ensures ∙ ap (option_map bytes_of) (c.in_ok-group.was) in
     group_piece family position bound form (bytes_of c.in_ok-group.group) c.has_star.result c.is_normal.ensures.normal between found c.has_star.ensures

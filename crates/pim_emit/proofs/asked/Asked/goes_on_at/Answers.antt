@@ -1,8 +1,8 @@
-use Rattle.std.proofs.Common.{◌<◌, ap, option_map, Some, true, refl, sym, subst}
+use Rattle.std.proofs.Common.{◌<◌, ap, option_map, true, sym, subst}
 use Rattle.pim_down.specs.Time.{Downstream}
 use Rattle.pim_emit.specs.Asking.{Asking}
 use Rattle.pim_emit.proofs.AskedSources.{asked_as_seen, reached_is_some, is_via}
-use Rattle.pim_emit.proofs.asked.Asked.begins_with_one.Goals as goal
+use Rattle.pim_emit.proofs.asked.Asked.goes_on_at.Goals as goal
 
 pub returns-in-Some : goal.returns-in-Some
 returns-in-Some g c = λ answered.
@@ -16,5 +16,5 @@ returns-in-Some g c = λ answered.
     let below : c.args.port < state.ports = subst (λ (d : Downstream). c.args.port < d.ports) (sym (ap (λ (s : Asking). s.machines) c.self.view_is)) c.requires.port in
     reached_is_some c.keys_are_told_apart.ensures family table upstream state c.is_sound.ensures form
     (asked_as_seen c.form_of_what_is_asked.ensures family table upstream state form c.is_sound.ensures (ap (λ (s : Asking). s.form) c.self.view_is))
-    (bytes_of c.args.group) c.requires.group c.args.port (Some source) source refl below c.in-Some.ensures
+    (bytes_of c.args.group) c.requires.group (option_map bytes_of c.args.bound) c.args.port source below c.in-Some.ensures
     (is_via family table upstream source (option_map bytes_of c.via.result) c.is_neighbour.result true c.via.ensures c.is_neighbour.ensures answered)
