@@ -5,11 +5,11 @@ mod messages;
 mod refused;
 mod units;
 
-use pim_addr::{Routes, V4};
-use pim_down::{Ports, Timing};
+use pim_addr::{Family, Routes, V4};
+use pim_down::{Ports, Step, Timing};
 use pim_form::NormalForm;
-use pim_jp::{Entry, JpView};
-use std::alloc::{AllocError, Global};
+use pim_jp::JpView;
+use std::alloc::Global;
 
 const RP: [u8; 4] = [10, 9, 9, 9];
 
@@ -31,84 +31,85 @@ enum Wanted {
     Second,
 }
 
-fn entry_bytes(entry: Entry<[u8; 4]>) -> [u8; 8] {
-    let (flags, address) = match entry {
-        Entry::Star(rp) => (7, rp),
-        Entry::Source(source) => (4, source),
-        Entry::Rpt(source) => (5, source),
+/// The body of a message to 10.0.0.2 with the holdtime 210 that joins the star.
+const STAR: [u8; 30] = [
+    1, 0, 10, 0, 0, 2, 0, 1, 0, 210, 1, 0, 0, 32, 239, 1, 1, 1, 0, 1, 0, 0, 1, 0, 7, 32, 10, 9, 9,
+    9,
+];
+
+/// One that prunes the first source, too.
+const STAR_EXCEPT_FIRST: [u8; 38] = [
+    1, 0, 10, 0, 0, 2, 0, 1, 0, 210, 1, 0, 0, 32, 239, 1, 1, 1, 0, 1, 0, 1, 1, 0, 7, 32, 10, 9, 9,
+    9, 1, 0, 5, 32, 192, 0, 2, 1,
+];
+
+/// One that prunes the second source, too, and joins the first one.
+const STAR_EXCEPT_SECOND_AND_FIRST: [u8; 46] = [
+    1, 0, 10, 0, 0, 2, 0, 1, 0, 210, 1, 0, 0, 32, 239, 1, 1, 1, 0, 2, 0, 1, 1, 0, 7, 32, 10, 9, 9,
+    9, 1, 0, 4, 32, 192, 0, 2, 1, 1, 0, 5, 32, 192, 0, 2, 2,
+];
+
+/// One that joins the first source, and one that joins the second.
+const JOIN_FIRST: [u8; 30] = [
+    1, 0, 10, 0, 0, 2, 0, 1, 0, 210, 1, 0, 0, 32, 239, 1, 1, 1, 0, 1, 0, 0, 1, 0, 4, 32, 192, 0, 2,
+    1,
+];
+
+const JOIN_SECOND: [u8; 30] = [
+    1, 0, 10, 0, 0, 2, 0, 1, 0, 210, 1, 0, 0, 32, 239, 1, 1, 1, 0, 1, 0, 0, 1, 0, 4, 32, 192, 0, 2,
+    2,
+];
+
+/// The body of a message that asks for this; none where nothing is wanted.
+fn asking(wanted: Wanted) -> &'static [u8] {
+    match wanted {
+        Wanted::Nothing => &[],
+        Wanted::Star => &STAR,
+        Wanted::StarExceptFirst => &STAR_EXCEPT_FIRST,
+        Wanted::StarExceptSecondAndFirst => &STAR_EXCEPT_SECOND_AND_FIRST,
+        Wanted::First => &JOIN_FIRST,
+        Wanted::Second => &JOIN_SECOND,
+    }
+}
+
+/// A table that has one RP for the groups of this prefix; `None` where memory is wanting.
+fn one_rp<F: Family>(alloc: Global, groups: F::Addr, length: u8, rp: F::Addr) -> Option<Routes<F>> {
+    let mut routes: Routes<F> = Routes::new(alloc);
+    let added = routes.add_rp(groups, length, rp).is_ok();
+    added.then_some(routes)
+}
+
+/// All groups of IPv4 have one RP.
+fn table(alloc: Global) -> Option<Routes<V4>> {
+    one_rp::<V4>(alloc, [224, 0, 0, 0], 4, RP)
+}
+
+/// Hears a message on a port with one neighbour, and lets its prunes count: whether it was taken.
+fn hear<F: Family>(ports: &mut Ports<F>, routes: &Routes<F>, bytes: &[u8]) -> bool {
+    let Ok(view) = JpView::<F>::read(bytes) else {
+        return false;
     };
-    let [a, b, c, d] = address;
-    [1, 0, flags, 32, a, b, c, d]
-}
-
-/// The body of a message to 10.0.0.2 with the holdtime 210: one joined entry or two, and one pruned or none.
-fn body(
-    alloc: Global,
-    joined: Entry<[u8; 4]>,
-    also: Option<Entry<[u8; 4]>>,
-    pruned: Option<Entry<[u8; 4]>>,
-) -> Result<Vec<u8>, AllocError> {
-    let mut bytes = vec![in alloc; 1, 0, 10, 0, 0, 2, 0, 1, 0, 210]?;
-    bytes.extend_from_slice(&[1, 0, 0, 32, 239, 1, 1, 1])?;
-    bytes.extend_from_slice(&[0, if also.is_some() { 2 } else { 1 }])?;
-    bytes.extend_from_slice(&[0, if pruned.is_some() { 1 } else { 0 }])?;
-    bytes.extend_from_slice(&entry_bytes(joined))?;
-    if let Some(entry) = also {
-        bytes.extend_from_slice(&entry_bytes(entry))?;
-    }
-    if let Some(entry) = pruned {
-        bytes.extend_from_slice(&entry_bytes(entry))?;
-    }
-    Ok(bytes)
-}
-
-/// The body of a message that asks for this.
-fn asking(alloc: Global, wanted: Wanted) -> Result<Option<Vec<u8>>, AllocError> {
-    let star = Entry::Star(RP);
-    let first = Entry::Source(FIRST);
-    Ok(Some(match wanted {
-        Wanted::Nothing => return Ok(None),
-        Wanted::Star => body(alloc, star, None, None)?,
-        Wanted::StarExceptFirst => body(alloc, star, None, Some(Entry::Rpt(FIRST)))?,
-        Wanted::StarExceptSecondAndFirst => {
-            body(alloc, star, Some(first), Some(Entry::Rpt(SECOND)))?
-        }
-        Wanted::First => body(alloc, first, None, None)?,
-        Wanted::Second => body(alloc, Entry::Source(SECOND), None, None)?,
-    }))
-}
-
-/// Hears a message on a port with one neighbour, and lets its prunes count.
-fn hear(
-    alloc: Global,
-    ports: &mut Ports<V4>,
-    routes: &Routes<V4>,
-    bytes: &[u8],
-) -> Result<(), AllocError> {
     let alone = Timing {
         override_ms: 0,
         several: false,
     };
-    if let Ok(view) = JpView::<V4>::read(bytes) {
-        if ports.port_count() > 0 {
-            if ports.hear(0, &view, routes, alone).is_err() {
-                return Err(AllocError);
-            }
-        }
+    ports.port_count() > 0
+        && ports.hear(0, &view, routes, alone).is_ok()
+        && ports.run_to(0) == Step::Reached
+}
+
+/// The form of a port under this table that heard this message, or nothing; `None` where memory is wanting.
+fn form_under<F: Family>(alloc: Global, routes: &Routes<F>, bytes: &[u8]) -> Option<NormalForm<F>> {
+    let mut ports: Ports<F> = Ports::new(alloc, 1, 100);
+    if bytes.is_empty() || hear(&mut ports, routes, bytes) {
+        NormalForm::of(alloc, &ports).ok()
+    } else {
+        None
     }
-    ports.run_to(0);
-    Ok(())
 }
 
 /// The form of a port that was asked for this.
-fn form(alloc: Global, wanted: Wanted) -> Result<NormalForm<V4>, AllocError> {
-    let mut routes = Routes::new(alloc);
-    if routes.add_rp([224, 0, 0, 0], 4, RP).is_err() {
-        return Err(AllocError);
-    }
-    let mut ports: Ports<V4> = Ports::new(alloc, 1, 100);
-    if let Some(bytes) = asking(alloc, wanted)? {
-        hear(alloc, &mut ports, &routes, &bytes)?;
-    }
-    NormalForm::of(alloc, &ports)
+fn form(alloc: Global, wanted: Wanted) -> Option<NormalForm<V4>> {
+    let routes = table(alloc)?;
+    form_under(alloc, &routes, asking(wanted))
 }

@@ -8,6 +8,7 @@ mod emitting;
 mod examples;
 mod mirroring;
 mod replaying;
+mod running;
 mod telling;
 mod words;
 mod writing;

@@ -54,15 +54,21 @@ const AMONG_OTHERS: Timing = Timing {
     several: true,
 };
 
-/// So many ports of IPv4: all groups have one RP, and all addresses are reached by 10.0.0.2.
+/// All groups have one RP, and all addresses are reached by 10.0.0.2.
+fn routes4(alloc: Global) -> Option<Routes<V4>> {
+    let mut routes = Routes::new(alloc);
+    let added = routes.add_rp([224, 0, 0, 0], 4, RP).is_ok()
+        && routes.add_via([0; 4], 0, [10, 0, 0, 2]).is_ok();
+    added.then_some(routes)
+}
+
+/// So many ports of IPv4 under that table.
 fn state4(alloc: Global, count: usize, budget: usize) -> Option<State<V4>> {
     if count == 0 || count > 64 {
         return None;
     }
     let writer = Writer::new([10, 0, 0, 2], [10, 0, 0, 1], 210, budget).ok()?;
-    let mut routes = Routes::new(alloc);
-    routes.add_rp([224, 0, 0, 0], 4, RP).ok()?;
-    routes.add_via([0; 4], 0, [10, 0, 0, 2]).ok()?;
+    let routes = routes4(alloc)?;
     Some(State {
         ports: Ports::new(alloc, count, 1000),
         routes,
@@ -75,14 +81,19 @@ fn address6(number: u8) -> [u8; 16] {
     [32, 1, 13, 184, 0, 0, 0, 0, 0, 0, 0, 0, 0, 0, 0, number]
 }
 
-/// One port of IPv6: all groups have one RP, and all addresses are reached by one neighbour.
+/// All groups of IPv6 have one RP, and all addresses are reached by one neighbour.
+fn routes6(alloc: Global) -> Option<Routes<V6>> {
+    let mut routes = Routes::new(alloc);
+    let groups = [255, 0, 0, 0, 0, 0, 0, 0, 0, 0, 0, 0, 0, 0, 0, 0];
+    let added = routes.add_rp(groups, 8, RP6).is_ok()
+        && routes.add_via([0; 16], 0, address6(2)).is_ok();
+    added.then_some(routes)
+}
+
+/// One port of IPv6 under that table.
 fn state6(alloc: Global, budget: usize) -> Option<State<V6>> {
     let writer = Writer::new(address6(2), address6(1), 210, budget).ok()?;
-    let mut routes = Routes::new(alloc);
-    routes
-        .add_rp([255, 0, 0, 0, 0, 0, 0, 0, 0, 0, 0, 0, 0, 0, 0, 0], 8, RP6)
-        .ok()?;
-    routes.add_via([0; 16], 0, address6(2)).ok()?;
+    let routes = routes6(alloc)?;
     Some(State {
         ports: Ports::new(alloc, 1, 1000),
         routes,
@@ -129,53 +140,65 @@ fn hear<F: Family>(
     group: F::Addr,
     joined: &[Entry<F::Addr>],
     pruned: &[Entry<F::Addr>],
-) -> Result<bool, AllocError> {
-    let body = body::<F>(alloc, state.writer.upstream(), group, joined, pruned)?;
-    Ok(hear_body(state, port, &body, false))
+) -> bool {
+    match body::<F>(alloc, state.writer.upstream(), group, joined, pruned) {
+        Ok(body) => hear_body(state, port, &body, false),
+        Err(_) => false,
+    }
 }
 
-/// What is answered where the canonical messages are written to this device.
+/// What is answered where the canonical messages are written to this device; `None` where there is no buffer.
 fn write_to<F: Family>(
     alloc: Global,
     state: &State<F>,
     out: &mut ScriptedDrain,
-) -> Result<Result<u64, WriteFault<F>>, AllocError> {
-    let mut buffer = vec![in alloc; 0u8; state.writer.budget()]?;
-    Ok(write_canonical::<F, _>(&state.ports, &state.writer, &state.routes, &mut buffer, out))
+) -> Option<Result<u64, WriteFault<F>>> {
+    let mut buffer = vec![in alloc; 0u8; state.writer.budget()].ok()?;
+    Some(write_canonical::<F, _>(&state.ports, &state.writer, &state.routes, &mut buffer, out))
 }
 
-/// Appends each message behind two bytes of its length.
-fn frame(framed: &mut Vec<u8>, messages: &Messages) -> Result<(), AllocError> {
+/// How many messages are written to this device; `None` where a fault is told.
+fn written<F: Family>(alloc: Global, state: &State<F>, out: &mut ScriptedDrain) -> Option<u64> {
+    write_to(alloc, state, out)?.ok()
+}
+
+/// What stands behind a message and two bytes of its length, where the bytes begin with these.
+fn behind<'b>(bytes: &'b [u8], message: &[u8]) -> Option<&'b [u8]> {
+    let length = message.len();
+    let (head, framed) = bytes.split_at(2.min(bytes.len()));
+    let (front, rest) = framed.split_at(length.min(framed.len()));
+    let is_head = head == [(length / 256 % 256) as u8, (length % 256) as u8].as_slice();
+    (is_head && front == message).then_some(rest)
+}
+
+/// Whether these are the messages, each behind two bytes of its length.
+fn are_framed(messages: &Messages, bytes: &[u8]) -> bool {
+    let mut rest = bytes;
     for index in 0..messages.count() {
-        if let Some(message) = messages.get(index) {
-            let length = message.len();
-            framed.push((length / 256 % 256) as u8)?;
-            framed.push((length % 256) as u8)?;
-            framed.extend_from_slice(message)?;
+        match messages
+            .get(index)
+            .and_then(|message| behind(rest, message))
+        {
+            Some(others) => rest = others,
+            None => return false,
         }
     }
-    Ok(())
+    rest.is_empty()
 }
 
-/// The packed messages of the normal form of what is asked, each behind its length; `None` where something is refused.
-fn packed<F: Family>(alloc: Global, state: &State<F>) -> Option<Vec<u8>> {
+/// The packed messages of the normal form of what is asked; `None` where something is refused.
+fn packed<F: Family>(alloc: Global, state: &State<F>) -> Option<Messages> {
     let upstream = state.writer.upstream();
     let form = NormalForm::toward(alloc, &state.ports, &state.routes, upstream).ok()?;
     if !is_toward(&form, &state.routes, upstream) {
         return None;
     }
-    let messages = pack(alloc, &form, &state.writer, &state.routes).ok()?;
-    let mut framed = Vec::new(alloc);
-    frame(&mut framed, &messages).ok()?;
-    Some(framed)
+    pack(alloc, &form, &state.writer, &state.routes).ok()
 }
 
 /// The same messages, kept straight from the records.
-fn kept<F: Family>(alloc: Global, state: &State<F>) -> Option<Vec<u8>> {
-    let messages = canonical_messages::<F>(alloc, &state.ports, &state.writer, &state.routes).ok()?;
-    let mut framed = Vec::new(alloc);
-    frame(&mut framed, &messages).ok()?;
-    Some(framed)
+fn kept<F: Family>(alloc: Global, state: &State<F>) -> Option<Messages> {
+    canonical_messages::<F>(alloc, &state.ports, &state.writer, &state.routes).ok()
 }
 
 /// Why they aren't kept, if they aren't.
@@ -183,10 +206,10 @@ fn fault_of_kept<F: Family>(alloc: Global, state: &State<F>) -> Option<FormFault
     canonical_messages::<F>(alloc, &state.ports, &state.writer, &state.routes).err()
 }
 
-/// Whether these bytes are there.
-fn are_bytes(found: Option<Vec<u8>>, bytes: &[u8]) -> bool {
+/// Whether there are messages, and these are they.
+fn are_bytes(found: Option<Messages>, bytes: &[u8]) -> bool {
     match found {
-        Some(framed) => framed.as_slice() == bytes,
+        Some(messages) => are_framed(&messages, bytes),
         None => false,
     }
 }
@@ -210,134 +233,113 @@ fn push_sources(joined: &mut Vec<Entry<[u8; 4]>>) -> Result<(), AllocError> {
 }
 
 /// Hears 200 sources of the group on the first port.
-fn hear_200(alloc: Global, state: &mut State<V4>) -> Result<bool, AllocError> {
+fn hear_200(alloc: Global, state: &mut State<V4>) -> bool {
     let mut joined = Vec::new(alloc);
     match push_sources(&mut joined) {
         Ok(()) => hear(alloc, state, 0, GROUP, &joined, &[]),
-        Err(error) => Err(error),
+        Err(_) => false,
     }
 }
 
 /// Whether so many messages, of so many bytes in all, are written, and kept, and packed.
-fn is_long<F: Family>(
-    alloc: Global,
-    state: &State<F>,
-    messages: u64,
-    length: usize,
-) -> Result<bool, AllocError> {
+fn is_long<F: Family>(alloc: Global, state: &State<F>, messages: u64, length: usize) -> bool {
     let mut out = ScriptedDrain::new(alloc, 7, 100_000);
-    let told = write_to(alloc, state, &mut out)?;
-    let counted = told.is_ok_and(|count| count == messages);
-    Ok(counted && out.written().len() == length && is_packed(alloc, state, out.written()))
+    written(alloc, state, &mut out) == Some(messages)
+        && out.written().len() == length
+        && is_packed(alloc, state, out.written())
 }
 
 /// Whether nothing is written of no records, and then the star of the group.
-fn tells_a_star(alloc: Global, state: &mut State<V4>) -> Result<bool, AllocError> {
-    Ok(
-        is_written(alloc, state, 0, &[])?
-            && hear(alloc, state, 0, GROUP, &[Entry::Star(RP)], &[])?
-            && is_written(alloc, state, 1, &STAR)?,
-    )
+fn tells_a_star(alloc: Global, state: &mut State<V4>) -> bool {
+    is_written(alloc, state, 0, &[])
+        && hear(alloc, state, 0, GROUP, &[Entry::Star(RP)], &[])
+        && is_written(alloc, state, 1, &STAR)
 }
 
 /// The same of a new state.
-fn star_is_told(alloc: Global) -> Result<bool, AllocError> {
+fn star_is_told(alloc: Global) -> bool {
     match state4(alloc, 1, 1480) {
         Some(mut state) => tells_a_star(alloc, &mut state),
-        None => Ok(false),
+        None => false,
     }
 }
 
 #[test]
-fn writes_a_star(rt: HostRuntime) -> Result<(), Fail> {
-    assert!(rt; star_is_told(rt.alloc())?);
-    Ok(())
+fn writes_a_star(rt: HostRuntime) {
+    assert!(rt; star_is_told(rt.alloc()));
 }
 
 /// Whether the star of the group of IPv6 is told without two sources.
-fn tells_a_star_of_ipv6(alloc: Global, state: &mut State<V6>) -> Result<bool, AllocError> {
+fn tells_a_star_of_ipv6(alloc: Global, state: &mut State<V6>) -> bool {
     let pruned = [Entry::Rpt(address6(3)), Entry::Rpt(address6(4))];
-    Ok(
-        hear(alloc, state, 0, GROUP6, &[Entry::Star(RP6)], &pruned)?
-            && is_long(alloc, state, 1, 112)?,
-    )
+    hear(alloc, state, 0, GROUP6, &[Entry::Star(RP6)], &pruned) && is_long(alloc, state, 1, 112)
 }
 
 /// The same of a new state.
-fn star_of_ipv6_is_told(alloc: Global) -> Result<bool, AllocError> {
+fn star_of_ipv6_is_told(alloc: Global) -> bool {
     match state6(alloc, 1480) {
         Some(mut state) => tells_a_star_of_ipv6(alloc, &mut state),
-        None => Ok(false),
+        None => false,
     }
 }
 
 #[test]
-fn writes_a_star_of_ipv6(rt: HostRuntime) -> Result<(), Fail> {
-    assert!(rt; star_of_ipv6_is_told(rt.alloc())?);
-    Ok(())
+fn writes_a_star_of_ipv6(rt: HostRuntime) {
+    assert!(rt; star_of_ipv6_is_told(rt.alloc()));
 }
 
 /// Whether the group is told to be too big, and nothing is written.
-fn is_too_big(alloc: Global, state: &State<V4>) -> Result<bool, AllocError> {
+fn is_too_big(alloc: Global, state: &State<V4>) -> bool {
     let mut out = ScriptedDrain::new(alloc, 64, 10_000);
-    let told = write_to(alloc, state, &mut out)?;
-    Ok(
-        told == Err(WriteFault::TooBig(GROUP))
-            && out.written().is_empty()
-            && fault_of_kept(alloc, state) == Some(FormFault::TooBig(GROUP)),
-    )
+    write_to(alloc, state, &mut out) == Some(Err(WriteFault::TooBig(GROUP)))
+        && out.written().is_empty()
+        && fault_of_kept(alloc, state) == Some(FormFault::TooBig(GROUP))
 }
 
 /// The same where a star of the group before and 181 exceptions are heard now.
-fn tells_too_big(alloc: Global, state: &mut State<V4>) -> Result<bool, AllocError> {
+fn tells_too_big(alloc: Global, state: &mut State<V4>) -> bool {
     let before = [239, 1, 1, 0];
-    Ok(
-        hear(alloc, state, 0, before, &[Entry::Star(RP)], &[])?
-            && hear_excepted(alloc, state, 181)?
-            && is_too_big(alloc, state)?,
-    )
+    hear(alloc, state, 0, before, &[Entry::Star(RP)], &[])
+        && hear_excepted(alloc, state, 181)
+        && is_too_big(alloc, state)
 }
 
 /// The same of a new state.
-fn too_big_is_told(alloc: Global) -> Result<bool, AllocError> {
+fn too_big_is_told(alloc: Global) -> bool {
     match state4(alloc, 1, 1480) {
         Some(mut state) => tells_too_big(alloc, &mut state),
-        None => Ok(false),
+        None => false,
     }
 }
 
 #[test]
-fn writes_nothing_of_a_star_that_is_too_big(rt: HostRuntime) -> Result<(), Fail> {
-    assert!(rt; too_big_is_told(rt.alloc())?);
-    Ok(())
+fn writes_nothing_of_a_star_that_is_too_big(rt: HostRuntime) {
+    assert!(rt; too_big_is_told(rt.alloc()));
 }
 
 /// Whether 127 of 200 sources are told where the others, and the next group's RP, are reached by another neighbour.
-fn passes_over(alloc: Global, state: &mut State<V4>) -> Result<bool, AllocError> {
+fn passes_over(alloc: Global, state: &mut State<V4>) -> bool {
     let via = state.routes.add_via([10, 1, 0, 128], 25, [10, 0, 0, 6]);
     let rp = state.routes.add_rp([239, 1, 1, 2], 32, [10, 1, 0, 200]);
     let star = [Entry::Star([10, 1, 0, 200])];
-    Ok(
-        via.is_ok()
-            && rp.is_ok()
-            && hear_200(alloc, state)?
-            && hear(alloc, state, 1, NEXT_GROUP, &star, &[])?
-            && is_long(alloc, state, 1, 2 + 26 + 127 * 8)?,
-    )
+    via.is_ok()
+        && rp.is_ok()
+        && hear_200(alloc, state)
+        && hear(alloc, state, 1, NEXT_GROUP, &star, &[])
+        && is_long(alloc, state, 1, 2 + 26 + 127 * 8)
 }
 
 /// The same of a new state.
-fn others_are_passed_over(alloc: Global) -> Result<bool, AllocError> {
+fn others_are_passed_over(alloc: Global) -> bool {
     match state4(alloc, 2, 1480) {
         Some(mut state) => passes_over(alloc, &mut state),
-        None => Ok(false),
+        None => false,
     }
 }
 
 #[test]
-fn passes_over_what_others_are_asked_for(rt: HostRuntime) -> Result<(), Fail> {
-    assert!(rt; others_are_passed_over(rt.alloc())?);
-    Ok(())
+fn passes_over_what_others_are_asked_for(rt: HostRuntime) {
+    assert!(rt; others_are_passed_over(rt.alloc()));
 }
 
 #[test]

@@ -4,4 +4,6 @@ mod again;
 mod deliveries;
 mod fitting;
 mod mirrored;
+mod moving;
+mod tables;
 mod worked;

@@ -6,6 +6,7 @@ mod emits;
 mod mirrors;
 mod replays;
 mod replays_of_six;
+mod runs;
 mod sames;
 mod states;
 mod states_of_six;

@@ -277,7 +277,7 @@ fn full_at_the_limit(rt: HostRuntime) {
     assert_eq!(rt; routes.rp_of([239, 1, 1, 1]), Some([10, 0, 0, 3]));
 }
 
-// With each allocation refused in turn (`rt try --test --fail-alloc 1..`): the table is as it was, and the same row,
+// With each allocation refused in turn (`tools/each_growth_refused.sh`): the table is as it was, and the same row,
 // with memory, is added.
 #[test]
 fn refusals_change_nothing(rt: HostRuntime) {

@@ -1,17 +1,12 @@
 //! Changes of IPv6.
 
+use super::{form_under, one_rp};
 use pim_addr::{Routes, V6};
 use pim_change::triggered;
-use pim_down::{Ports, Timing};
 use pim_form::{Messages, NormalForm, Writer};
-use pim_jp::JpView;
-use std::alloc::{AllocError, Global};
-use std::test::Fail;
+use std::alloc::Global;
 
-/// The group.
-const GROUP: [u8; 16] = [255, 62, 0, 0, 0, 0, 0, 0, 0, 0, 0, 0, 0, 0, 0, 1];
-
-/// Its RP.
+/// The RP.
 const RP: [u8; 16] = [32, 1, 13, 184, 0, 0, 0, 0, 0, 0, 0, 0, 0, 0, 9, 9];
 
 /// 2001:db8:: and this number.
@@ -41,105 +36,80 @@ const SOURCE: [u8; 90] = [
     0, 0, 9, 9,
 ];
 
+/// The body of a message to 2001:db8::2 that joins the star of the group ff3e::1.
+const JOIN_STAR: [u8; 66] = [
+    2, 0, 32, 1, 13, 184, 0, 0, 0, 0, 0, 0, 0, 0, 0, 0, 0, 2, 0, 1, 0, 210, 2, 0, 0, 128, 255, 62,
+    0, 0, 0, 0, 0, 0, 0, 0, 0, 0, 0, 0, 0, 1, 0, 1, 0, 0, 2, 0, 7, 128, 32, 1, 13, 184, 0, 0, 0, 0,
+    0, 0, 0, 0, 0, 0, 9, 9,
+];
+
+/// One that joins the source 2001:db8::7.
+const JOIN_SOURCE: [u8; 66] = [
+    2, 0, 32, 1, 13, 184, 0, 0, 0, 0, 0, 0, 0, 0, 0, 0, 0, 2, 0, 1, 0, 210, 2, 0, 0, 128, 255, 62,
+    0, 0, 0, 0, 0, 0, 0, 0, 0, 0, 0, 0, 0, 1, 0, 1, 0, 0, 2, 0, 4, 128, 32, 1, 13, 184, 0, 0, 0, 0,
+    0, 0, 0, 0, 0, 0, 0, 7,
+];
+
 /// All groups have one RP.
-fn table(alloc: Global) -> Result<Routes<V6>, AllocError> {
-    let mut routes = Routes::new(alloc);
+fn table(alloc: Global) -> Option<Routes<V6>> {
     let all = [255, 0, 0, 0, 0, 0, 0, 0, 0, 0, 0, 0, 0, 0, 0, 0];
-    if routes.add_rp(all, 8, RP).is_err() {
-        return Err(AllocError);
-    }
-    Ok(routes)
+    one_rp::<V6>(alloc, all, 8, RP)
 }
 
-/// The body of a message to 2001:db8::2 that joins one entry of the group: its flags and its address.
-fn body(alloc: Global, flags: u8, entry: &[u8; 16]) -> Result<Vec<u8>, AllocError> {
-    let mut bytes = vec![in alloc; 2, 0]?;
-    bytes.extend_from_slice(&address(2))?;
-    bytes.extend_from_slice(&[0, 1, 0, 210, 2, 0, 0, 128])?;
-    bytes.extend_from_slice(&GROUP)?;
-    bytes.extend_from_slice(&[0, 1, 0, 0, 2, 0, flags, 128])?;
-    bytes.extend_from_slice(entry)?;
-    Ok(bytes)
-}
-
-/// Hears a message.
-fn hear(ports: &mut Ports<V6>, routes: &Routes<V6>, bytes: &[u8]) -> Result<(), AllocError> {
-    let alone = Timing {
-        override_ms: 0,
-        several: false,
-    };
-    if let Ok(view) = JpView::<V6>::read(bytes) {
-        if ports.port_count() > 0 && ports.hear(0, &view, routes, alone).is_err() {
-            return Err(AllocError);
-        }
-    }
-    Ok(())
-}
-
-/// What is asked of the group.
-#[derive(Clone, Copy)]
-enum Asked {
-    Nothing,
-    Star,
-    Source,
-}
-
-/// The form of a port that was asked for this.
-fn form(alloc: Global, asked: Asked) -> Result<NormalForm<V6>, AllocError> {
-    let routes = table(alloc)?;
-    let mut ports: Ports<V6> = Ports::new(alloc, 1, 100);
-    let bytes = match asked {
-        Asked::Nothing => return NormalForm::of(alloc, &ports),
-        Asked::Star => body(alloc, 7, &RP)?,
-        Asked::Source => body(alloc, 4, &address(7))?,
-    };
-    hear(&mut ports, &routes, &bytes)?;
-    NormalForm::of(alloc, &ports)
-}
-
-/// What is told to 2001:db8::2 of a change.
-fn told(
+/// What is told to 2001:db8::2 of a change under this table to what this message asks for.
+fn told_from(
     alloc: Global,
+    routes: &Routes<V6>,
     old: &NormalForm<V6>,
-    new: &NormalForm<V6>,
+    to: &[u8],
     budget: usize,
-) -> Result<Messages, AllocError> {
+) -> Option<Messages> {
+    let writer = Writer::new(address(2), address(1), 210, budget).ok()?;
+    let new = form_under(alloc, routes, to)?;
+    triggered(alloc, old, &new, &writer, routes).ok()
+}
+
+/// The same of a change from what another message asks for; a message of no bytes asks for nothing.
+fn told_under(
+    alloc: Global,
+    routes: &Routes<V6>,
+    (from, to): (&[u8], &[u8]),
+    budget: usize,
+) -> Option<Messages> {
+    let old = form_under(alloc, routes, from)?;
+    told_from(alloc, routes, &old, to, budget)
+}
+
+/// The messages of a change; `None` where memory is wanting.
+fn change(alloc: Global, from: &[u8], to: &[u8], budget: usize) -> Option<Messages> {
     let routes = table(alloc)?;
-    let Ok(writer) = Writer::new(address(2), address(1), 210, budget) else {
-        return Err(AllocError);
-    };
-    match triggered(alloc, old, new, &writer, &routes) {
-        Ok(messages) => Ok(messages),
-        Err(_) => Err(AllocError),
+    told_under(alloc, &routes, (from, to), budget)
+}
+
+/// Whether a change is told by so many messages, of which the first one has these bytes.
+fn is_told(
+    alloc: Global,
+    (from, to): (&[u8], &[u8]),
+    budget: usize,
+    count: usize,
+    first: &[u8],
+) -> bool {
+    match change(alloc, from, to, budget) {
+        Some(messages) => messages.count() == count && messages.get(0) == Some(first),
+        None => false,
     }
-}
-
-/// The messages of a change.
-fn change(alloc: Global, from: Asked, to: Asked, budget: usize) -> Result<Messages, AllocError> {
-    let old = form(alloc, from)?;
-    let new = form(alloc, to)?;
-    told(alloc, &old, &new, budget)
-}
-
-/// Whether these are one message of these bytes.
-fn is_one(messages: &Messages, bytes: &[u8]) -> bool {
-    messages.count() == 1 && messages.get(0) == Some(bytes)
 }
 
 #[test]
-fn changes_are_told_over_ipv6(rt: HostRuntime) -> Result<(), Fail> {
+fn changes_are_told_over_ipv6(rt: HostRuntime) {
     let alloc = rt.alloc();
-    assert!(rt; is_one(&change(alloc, Asked::Nothing, Asked::Star, 70)?, &JOINED));
-    assert!(rt; is_one(&change(alloc, Asked::Star, Asked::Nothing, 70)?, &PRUNED));
-    assert!(rt; is_one(&change(alloc, Asked::Star, Asked::Source, 90)?, &SOURCE));
-    Ok(())
+    assert!(rt; is_told(alloc, (&[], &JOIN_STAR), 70, 1, &JOINED));
+    assert!(rt; is_told(alloc, (&JOIN_STAR, &[]), 70, 1, &PRUNED));
+    assert!(rt; is_told(alloc, (&JOIN_STAR, &JOIN_SOURCE), 90, 1, &SOURCE));
 }
 
 // a message of two entries has 90 bytes
 #[test]
-fn changes_are_cut_over_ipv6(rt: HostRuntime) -> Result<(), Fail> {
-    let messages = change(rt.alloc(), Asked::Star, Asked::Source, 89)?;
-    assert_eq!(rt; messages.count(), 2);
-    assert!(rt; messages.get(0) == Some(&PRUNED));
-    Ok(())
+fn changes_are_cut_over_ipv6(rt: HostRuntime) {
+    assert!(rt; is_told(rt.alloc(), (&JOIN_STAR, &JOIN_SOURCE), 89, 2, &PRUNED));
 }

@@ -1,21 +1,11 @@
 //! The messages of changes: their bytes, how they are cut, and stars that are too big.
 
-use super::{RP, Wanted, form, hear};
+use super::{Wanted, form, hear, table};
 use pim_addr::{Routes, V4};
 use pim_change::triggered;
 use pim_down::Ports;
 use pim_form::{FormFault, Messages, NormalForm, Writer};
 use std::alloc::{AllocError, Global};
-use std::test::Fail;
-
-/// All groups have one RP.
-fn table(alloc: Global) -> Result<Routes<V4>, AllocError> {
-    let mut routes = Routes::new(alloc);
-    if routes.add_rp([224, 0, 0, 0], 4, RP).is_err() {
-        return Err(AllocError);
-    }
-    Ok(routes)
-}
 
 /// What is told to 10.0.0.2 of a change, in messages of this budget.
 pub(super) fn told(
@@ -24,23 +14,25 @@ pub(super) fn told(
     new: &NormalForm<V4>,
     budget: usize,
 ) -> Result<Messages, FormFault<V4>> {
-    let Ok(routes) = table(alloc) else {
-        return Err(FormFault::Memory);
-    };
     let Ok(writer) = Writer::new([10, 0, 0, 2], [10, 0, 0, 1], 210, budget) else {
         return Err(FormFault::Tables);
     };
-    triggered(alloc, old, new, &writer, &routes)
+    match table(alloc) {
+        Some(routes) => triggered(alloc, old, new, &writer, &routes),
+        None => Err(FormFault::Memory),
+    }
 }
 
-/// The messages of a change between two of the worked states.
-fn change(alloc: Global, from: Wanted, to: Wanted) -> Result<Messages, AllocError> {
-    let old = form(alloc, from)?;
+/// The messages of a change to one of the worked states.
+fn change_from(alloc: Global, old: &NormalForm<V4>, to: Wanted) -> Option<Messages> {
     let new = form(alloc, to)?;
-    match told(alloc, &old, &new, 1400) {
-        Ok(messages) => Ok(messages),
-        Err(_) => Err(AllocError),
-    }
+    told(alloc, old, &new, 1400).ok()
+}
+
+/// Those of a change between two of them.
+fn change(alloc: Global, from: Wanted, to: Wanted) -> Option<Messages> {
+    let old = form(alloc, from)?;
+    change_from(alloc, &old, to)
 }
 
 /// A change of one message, of this length.
@@ -124,37 +116,33 @@ const ROWS: [Row; 7] = [
     },
 ];
 
-/// Whether these are the one message of a row.
-fn is_told(messages: &Messages, row: &Row) -> bool {
+/// Whether the change of a row is told by its one message.
+fn is_told(alloc: Global, row: &Row) -> bool {
     let (message, _) = row.message.split_at(row.length.min(58));
-    messages.count() == 1 && messages.get(0) == Some(message)
-}
-
-/// The first row that isn't so.
-fn wrong(alloc: Global) -> Result<Option<usize>, AllocError> {
-    for (index, row) in ROWS.iter().enumerate() {
-        if !is_told(&change(alloc, row.from, row.to)?, row) {
-            return Ok(Some(index));
-        }
+    match change(alloc, row.from, row.to) {
+        Some(messages) => messages.count() == 1 && messages.get(0) == Some(message),
+        None => false,
     }
-    Ok(None)
 }
 
 #[test]
-fn changes_are_told(rt: HostRuntime) -> Result<(), Fail> {
-    assert_eq!(rt; wrong(rt.alloc())?, None);
-    Ok(())
+fn changes_are_told(rt: HostRuntime) {
+    let wrong = ROWS.iter().position(|row| !is_told(rt.alloc(), row));
+    assert_eq!(rt; wrong, None);
+}
+
+/// Whether nothing is told where this stays wanted.
+fn stays(alloc: Global, wanted: Wanted) -> bool {
+    match change(alloc, wanted, wanted) {
+        Some(messages) => messages.count() == 0,
+        None => false,
+    }
 }
 
 #[test]
-fn nothing_is_told_of_no_change(rt: HostRuntime) -> Result<(), Fail> {
-    let same = Wanted::StarExceptSecondAndFirst;
-    assert_eq!(rt; change(rt.alloc(), same, same)?.count(), 0);
-    assert_eq!(rt;
-        change(rt.alloc(), Wanted::Nothing, Wanted::Nothing)?.count(),
-        0
-    );
-    Ok(())
+fn nothing_is_told_of_no_change(rt: HostRuntime) {
+    assert!(rt; stays(rt.alloc(), Wanted::StarExceptSecondAndFirst));
+    assert!(rt; stays(rt.alloc(), Wanted::Nothing));
 }
 
 /// What is asked of the group 239.2.0.`group`: its star except so many sources, 192.0.2.0 and those behind it, or no
@@ -168,11 +156,11 @@ struct Asked {
     end: u8,
 }
 
-/// The body of a message that asks for this.
-fn asking(alloc: Global, asked: &Asked) -> Result<Vec<u8>, AllocError> {
+/// Adds the body of a message that asks for this.
+fn ask(bytes: &mut Vec<u8>, asked: &Asked) -> Result<(), AllocError> {
     let sources = asked.end.saturating_sub(asked.first);
     let joined = sources.saturating_add(u8::from(asked.star));
-    let mut bytes = vec![in alloc; 1, 0, 10, 0, 0, 2, 0, 1, 0, 210]?;
+    bytes.extend_from_slice(&[1, 0, 10, 0, 0, 2, 0, 1, 0, 210])?;
     bytes.extend_from_slice(&[1, 0, 0, 32, 239, 2, 0, asked.group])?;
     bytes.extend_from_slice(&[0, joined, 0, asked.exceptions])?;
     if asked.star {
@@ -184,18 +172,32 @@ fn asking(alloc: Global, asked: &Asked) -> Result<Vec<u8>, AllocError> {
     for number in 0..asked.exceptions {
         bytes.extend_from_slice(&[1, 0, 5, 32, 192, 0, 2, number])?;
     }
-    Ok(bytes)
+    Ok(())
 }
 
-/// The form of a port that was asked for these.
-fn form_of(alloc: Global, asked: &[Asked]) -> Result<NormalForm<V4>, AllocError> {
-    let routes = table(alloc)?;
+/// Hears a message that asks for this: whether it was taken.
+fn hear_asked(alloc: Global, ports: &mut Ports<V4>, routes: &Routes<V4>, asked: &Asked) -> bool {
+    let mut bytes = Vec::new(alloc);
+    ask(&mut bytes, asked).is_ok() && hear(ports, routes, &bytes)
+}
+
+/// The form of a port under this table that was asked for these.
+fn form_of_under(alloc: Global, routes: &Routes<V4>, asked: &[Asked]) -> Option<NormalForm<V4>> {
     let mut ports: Ports<V4> = Ports::new(alloc, 1, 1000);
-    for one in asked {
-        let bytes = asking(alloc, one)?;
-        hear(alloc, &mut ports, &routes, &bytes)?;
+    if asked
+        .iter()
+        .all(|one| hear_asked(alloc, &mut ports, routes, one))
+    {
+        NormalForm::of(alloc, &ports).ok()
+    } else {
+        None
     }
-    NormalForm::of(alloc, &ports)
+}
+
+/// The form of a port that was asked for these; `None` where memory is wanting.
+fn form_of(alloc: Global, asked: &[Asked]) -> Option<NormalForm<V4>> {
+    let routes = table(alloc)?;
+    form_of_under(alloc, &routes, asked)
 }
 
 fn length_at(messages: &Messages, index: usize) -> usize {
@@ -210,7 +212,8 @@ fn length_at(messages: &Messages, index: usize) -> usize {
 pub(super) enum Outcome {
     Lengths([usize; 3]),
     TooBig(u8),
-    Refused,
+    Memory,
+    Tables,
 }
 
 /// What comes of a change.
@@ -222,7 +225,8 @@ pub(super) fn outcome_of(told: &Result<Messages, FormFault<V4>>) -> Outcome {
             length_at(messages, 2),
         ]),
         Err(FormFault::TooBig([_, _, _, group])) => Outcome::TooBig(*group),
-        Err(_) => Outcome::Refused,
+        Err(FormFault::Memory) => Outcome::Memory,
+        Err(FormFault::Tables) => Outcome::Tables,
     }
 }
 
@@ -330,52 +334,46 @@ const CUTS: [Cut; 9] = [
     },
 ];
 
-/// Whether a change comes out so.
-fn is_cut(alloc: Global, cut: &Cut) -> Result<bool, AllocError> {
-    let old = form_of(alloc, &cut.old)?;
-    let new = form_of(alloc, &cut.new)?;
-    Ok(outcome_of(&told(alloc, &old, &new, 70)) == cut.outcome)
+/// What comes of a change to this, in messages of this budget; `None` where memory is wanting.
+fn outcome_from(
+    alloc: Global,
+    old: &NormalForm<V4>,
+    new: &[Asked],
+    budget: usize,
+) -> Option<Outcome> {
+    let new = form_of(alloc, new)?;
+    Some(outcome_of(&told(alloc, old, &new, budget)))
 }
 
-/// The first change that comes out otherwise.
-fn wrong_cut(alloc: Global) -> Result<Option<usize>, AllocError> {
-    for (index, cut) in CUTS.iter().enumerate() {
-        if !is_cut(alloc, cut)? {
-            return Ok(Some(index));
-        }
-    }
-    Ok(None)
+/// What comes of a change from one to the other.
+fn comes_of(alloc: Global, old: &[Asked], new: &[Asked], budget: usize) -> Option<Outcome> {
+    let old = form_of(alloc, old)?;
+    outcome_from(alloc, &old, new, budget)
 }
 
 #[test]
-fn changes_are_cut(rt: HostRuntime) -> Result<(), Fail> {
-    assert_eq!(rt; wrong_cut(rt.alloc())?, None);
-    Ok(())
+fn changes_are_cut(rt: HostRuntime) {
+    let wrong = CUTS.iter().position(|cut| comes_of(rt.alloc(), &cut.old, &cut.new, 70)
+        != Some(cut.outcome));
+    assert_eq!(rt; wrong, None);
 }
 
-/// The form of a port that was asked for one source of each of 256 groups.
-fn crowd(alloc: Global) -> Result<NormalForm<V4>, AllocError> {
-    let routes = table(alloc)?;
-    let mut ports: Ports<V4> = Ports::new(alloc, 1, 1000);
-    for group in 0..=255 {
-        let one = Asked {
+/// One source of each of 256 groups.
+fn crowd() -> [Asked; 256] {
+    let mut all = [NOTHING; 256];
+    for group in 0..=255u8 {
+        all[usize::from(group)] = Asked {
             group,
             end: 1,
             ..NOTHING
         };
-        let bytes = asking(alloc, &one)?;
-        hear(alloc, &mut ports, &routes, &bytes)?;
     }
-    NormalForm::of(alloc, &ports)
+    all
 }
 
 #[test]
-fn messages_have_255_groups_at_most(rt: HostRuntime) -> Result<(), Fail> {
-    let none = form(rt.alloc(), Wanted::Nothing)?;
-    let all = crowd(rt.alloc())?;
-    let came = outcome_of(&told(rt.alloc(), &none, &all, 65_000));
-    assert!(rt; came == Outcome::Lengths([5114, 34, 0]));
-    let went = outcome_of(&told(rt.alloc(), &all, &none, 65_000));
-    assert!(rt; went == Outcome::Lengths([5114, 34, 0]));
-    Ok(())
+fn messages_have_255_groups_at_most(rt: HostRuntime) {
+    let (all, lengths) = (crowd(), Some(Outcome::Lengths([5114, 34, 0])));
+    assert!(rt; comes_of(rt.alloc(), &[], &all, 65_000) == lengths);
+    assert!(rt; comes_of(rt.alloc(), &all, &[], 65_000) == lengths);
 }

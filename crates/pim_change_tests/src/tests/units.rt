@@ -4,8 +4,7 @@ use super::{FIRST, GROUP, SECOND, Wanted, form};
 use pim_addr::V4;
 use pim_change::{Kind, Telling, Unit, changed, too_big};
 use pim_form::NormalForm;
-use std::alloc::{AllocError, Global};
-use std::test::Fail;
+use std::alloc::Global;
 
 /// A unit, as far as it is compared: which it is, its source or the number of its exceptions.
 #[derive(Clone, Copy, Debug, PartialEq, Eq)]
@@ -32,14 +31,10 @@ fn unit_at(units: &[Unit<'_, [u8; 4]>], index: usize) -> Told {
     }
 }
 
-/// The first four units of a change, and `Nothing` behind the last.
-fn units_of(
-    alloc: Global,
-    old: &NormalForm<V4>,
-    new: &NormalForm<V4>,
-) -> Result<[Told; 4], AllocError> {
-    let units = changed(alloc, old, new)?;
-    Ok([
+/// The first four units of a change, and `Nothing` behind the last; `None` where memory is wanting.
+fn units_of(alloc: Global, old: &NormalForm<V4>, new: &NormalForm<V4>) -> Option<[Told; 4]> {
+    let units = changed(alloc, old, new).ok()?;
+    Some([
         unit_at(&units, 0),
         unit_at(&units, 1),
         unit_at(&units, 2),
@@ -47,11 +42,16 @@ fn units_of(
     ])
 }
 
-/// Those of a change between two of the worked states.
-fn change(alloc: Global, from: Wanted, to: Wanted) -> Result<[Told; 4], AllocError> {
-    let old = form(alloc, from)?;
+/// Those of a change to one of the worked states.
+fn change_from(alloc: Global, old: &NormalForm<V4>, to: Wanted) -> Option<[Told; 4]> {
     let new = form(alloc, to)?;
-    units_of(alloc, &old, &new)
+    units_of(alloc, old, &new)
+}
+
+/// Those of a change between two of them.
+fn change(alloc: Global, from: Wanted, to: Wanted) -> Option<[Told; 4]> {
+    let old = form(alloc, from)?;
+    change_from(alloc, &old, to)
 }
 
 struct Case {
@@ -134,76 +134,77 @@ const CASES: [Case; 8] = [
     },
 ];
 
-/// The first case that isn't so.
-fn wrong(alloc: Global) -> Result<Option<usize>, AllocError> {
-    for (index, case) in CASES.iter().enumerate() {
-        if change(alloc, case.from, case.to)? != case.told {
-            return Ok(Some(index));
-        }
-    }
-    Ok(None)
-}
-
 #[test]
-fn changes_unit_by_unit(rt: HostRuntime) -> Result<(), Fail> {
-    assert_eq!(rt; wrong(rt.alloc())?, None);
-    Ok(())
+fn changes_unit_by_unit(rt: HostRuntime) {
+    let wrong = CASES.iter().position(|case| change(rt.alloc(), case.from, case.to)
+        != Some(case.told));
+    assert_eq!(rt; wrong, None);
 }
 
-/// The group of a star that is told anew and too big for this budget.
-fn big(
+/// Whether the group of a star that is told anew and too big for this budget is this one.
+fn is_big_from(
     alloc: Global,
-    from: Wanted,
+    old: &NormalForm<V4>,
     to: Wanted,
     budget: usize,
-) -> Result<Option<[u8; 4]>, AllocError> {
-    let old = form(alloc, from)?;
-    let new = form(alloc, to)?;
-    Ok(too_big(&old, &new, budget))
+    group: Option<[u8; 4]>,
+) -> bool {
+    match form(alloc, to) {
+        Some(new) => too_big(old, &new, budget) == group,
+        None => false,
+    }
+}
+
+/// The states between which a change leads, a budget, and the group of a star that is told anew and too big for it.
+type Big = (Wanted, Wanted, usize, Option<[u8; 4]>);
+
+fn is_big(alloc: Global, (from, to, budget, group): Big) -> bool {
+    match form(alloc, from) {
+        Some(old) => is_big_from(alloc, &old, to, budget, group),
+        None => false,
+    }
 }
 
 // A message of a star with one exception has 42 bytes.
+const STARS: [Big; 6] = [
+    (Wanted::Nothing, Wanted::StarExceptFirst, 42, None),
+    (Wanted::Nothing, Wanted::StarExceptFirst, 41, Some(GROUP)),
+    (Wanted::First, Wanted::StarExceptFirst, 41, Some(GROUP)),
+    (Wanted::Star, Wanted::StarExceptFirst, 41, None),
+    (Wanted::StarExceptFirst, Wanted::Nothing, 41, None),
+    (Wanted::StarExceptFirst, Wanted::First, 41, None),
+];
+
 #[test]
-fn new_stars_alone_are_too_big(rt: HostRuntime) -> Result<(), Fail> {
-    let alloc = rt.alloc();
-    let nothing = Wanted::Nothing;
-    let starred = Wanted::StarExceptFirst;
-    assert_eq!(rt; big(alloc, nothing, starred, 42)?, None);
-    assert_eq!(rt; big(alloc, nothing, starred, 41)?, Some(GROUP));
-    assert_eq!(rt; big(alloc, Wanted::First, starred, 41)?, Some(GROUP));
-    assert_eq!(rt; big(alloc, Wanted::Star, starred, 41)?, None);
-    assert_eq!(rt; big(alloc, starred, nothing, 41)?, None);
-    assert_eq!(rt; big(alloc, starred, Wanted::First, 41)?, None);
-    Ok(())
+fn new_stars_alone_are_too_big(rt: HostRuntime) {
+    let wrong = STARS.iter().position(|row| !is_big(rt.alloc(), *row));
+    assert_eq!(rt; wrong, None);
 }
 
-/// What is told with memory.
-fn units_again(
-    alloc: Global,
-    old: &NormalForm<V4>,
-    new: &NormalForm<V4>,
-) -> Result<[Told; 4], AllocError> {
-    match units_of(alloc, old, new) {
-        Ok(units) => Ok(units),
-        Err(_) => units_of(alloc, old, new),
+/// Whether the change between two forms that ask for the first state and the second is told with memory.
+fn is_told_again(alloc: Global, old: &NormalForm<V4>, new: &NormalForm<V4>) -> bool {
+    let wanted = Some([
+        Told::Of(Kind::JoinRpt, FIRST),
+        Told::Of(Kind::PruneRpt, SECOND),
+        Told::Of(Kind::JoinSource, FIRST),
+        Told::Nothing,
+    ]);
+    let told = units_of(alloc, old, new);
+    told == wanted || told.is_none() && units_of(alloc, old, new) == wanted
+}
+
+/// The same; no form is no fault.
+fn refusals_leave(alloc: Global, old: &NormalForm<V4>) -> bool {
+    match form(alloc, Wanted::StarExceptSecondAndFirst) {
+        Some(new) => is_told_again(alloc, old, &new),
+        None => true,
     }
 }
 
-// With each allocation refused in turn (`rt try --test --fail-alloc N`): the same call, with memory, gives the change.
+// With each allocation refused in turn (`tools/each_growth_refused.sh`): the same call, with memory, gives the change.
 #[test]
 fn refusals_leave_the_forms(rt: HostRuntime) {
-    let Ok(old) = form(rt.alloc(), Wanted::StarExceptFirst) else {
-        return;
-    };
-    let Ok(new) = form(rt.alloc(), Wanted::StarExceptSecondAndFirst) else {
-        return;
-    };
-    let Ok(units) = units_again(rt.alloc(), &old, &new) else {
-        assert!(rt; false);
-        return;
-    };
-    assert_eq!(rt; units[0], Told::Of(Kind::JoinRpt, FIRST));
-    assert_eq!(rt; units[1], Told::Of(Kind::PruneRpt, SECOND));
-    assert_eq!(rt; units[2], Told::Of(Kind::JoinSource, FIRST));
-    assert_eq!(rt; units[3], Told::Nothing);
+    if let Some(old) = form(rt.alloc(), Wanted::StarExceptFirst) {
+        assert!(rt; refusals_leave(rt.alloc(), &old));
+    }
 }

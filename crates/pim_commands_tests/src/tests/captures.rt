@@ -1,7 +1,7 @@
-//! Captures of one router's port that tests of the commands read.
+//! Captures of one router's port, and files of routes, that tests of the commands read.
 
 /// A Hello from 10.0.0.9 at 100 s, and 5 ms later its Join of the star of 239.1.1.1, to 10.0.0.2.
-const JOINED: &[u8] = &[
+pub const JOINED: &[u8] = &[
     0xd4, 0xc3, 0xb2, 0xa1, 0x02, 0x00, 0x04, 0x00, 0x00, 0x00, 0x00, 0x00, 0x00, 0x00, 0x00, 0x00,
     0x00, 0x00, 0x04, 0x00, 0x65, 0x00, 0x00, 0x00, 0x64, 0x00, 0x00, 0x00, 0x00, 0x00, 0x00, 0x00,
     0x1e, 0x00, 0x00, 0x00, 0x1e, 0x00, 0x00, 0x00, 0x45, 0x00, 0x00, 0x1e, 0x00, 0x00, 0x00, 0x00,
@@ -57,5 +57,14 @@ pub fn file_named<'c>(name: &str, shipped: &'c [u8]) -> &'c [u8] {
         "header" => front(JOINED, 24),
         "cut" => front(JOINED, 23),
         _ => shipped,
+    }
+}
+
+/// The bytes of the file of routes of this name.
+pub fn lines_named(name: &str) -> &'static [u8] {
+    match name {
+        "near" => b"via 10.9.9.9/32 10.0.0.2\n",
+        "far" => b"via 10.9.9.9/32 10.0.0.7\n",
+        _ => b"# the RP\nvia 10.9.9.9 10.0.0.2\n",
     }
 }

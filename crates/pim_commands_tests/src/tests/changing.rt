@@ -1,16 +1,8 @@
 //! What `change` answers to words, over captures that give few bytes a call.
 
-ghost use Rattle.pim_words.specs.Plan.{IsBounded, IsLimited, IsWritable};
-
 use super::checking::bytes_of;
-use super::comparing::{Row, pair};
 use super::examples::EXAMPLES;
-use super::replaying::NEVER;
-use pim_addr::{Family, Routes, ScriptedDrain, ScriptedFeed, V4, V6};
-use pim_commands::{Fault, change_opened, first_rows, tell_into};
-use pim_routes_file::read_routes;
-use pim_words::{Captures, Plan, Task, Writing, plan};
-use std::alloc::{AllocError, Global};
+use super::running::{Row, first_wrong};
 use std::test::Fail;
 
 /// The words before the ports.
@@ -269,111 +261,19 @@ agrees
     },
 ];
 
-/// The bytes of the file of routes of this name.
-fn lines_named(name: &str) -> &'static [u8] {
-    match name {
-        "near" => b"via 10.9.9.9/32 10.0.0.2\n",
-        "far" => b"via 10.9.9.9/32 10.0.0.7\n",
-        _ => b"# the RP\nvia 10.9.9.9 10.0.0.2\n",
-    }
-}
-
-/// The route table that the words give.
-fn table_of<F: Family>(
-    alloc: Global,
-    captures: &Captures<'_, F::Addr>,
-    upstream: F::Addr,
-) -> Result<Routes<F>, Fault<'static>> {
-    let Some(name) = captures.routes else {
-        return first_rows::<F>(alloc, captures.rp, Some(upstream));
-    };
-    let mut routes = first_rows::<F>(alloc, captures.rp, None)?;
-    let mut reader = ScriptedFeed::new(lines_named(name), 3, NEVER);
-    match read_routes::<F, _>(alloc, &mut reader, &mut routes) {
-        Ok(()) => Ok(routes),
-        Err(fault) => Err(Fault::from(fault)),
-    }
-}
-
-/// Tells the change between what a plan names.
-fn changed<F: Family>(
-    alloc: Global,
-    captures: &Captures<'_, F::Addr>,
-    writing: &Writing<F::Addr>,
-    shipped: &[u8],
-    output: &mut ScriptedDrain,
-) -> Result<u8, Fault<'static>>
-    requires after { IsBounded captures.now }
-    requires limit { IsLimited captures.now }
-    requires writing { IsWritable writing.now }
-{
-    let routes = table_of::<F>(alloc, captures, writing.upstream)?;
-    let Ok(mut pair) = pair(alloc, &captures.ports, shipped) else {
-        return Err(Fault::Memory);
-    };
-    change_opened::<F, _, _>(alloc, captures, writing, &routes, &mut pair, output)
-}
-
-/// Does what the words ask for.
-fn answer<'a>(
-    alloc: Global,
-    words: &'a [&'a str],
-    shipped: &[u8],
-    output: &mut ScriptedDrain,
-) -> Result<u8, Fault<'a>> {
-    let plan = plan(alloc, words)?;
-    match &plan {
-        Plan::V4(Task::Change(captures, writing)) => {
-            changed::<V4>(alloc, captures, writing, shipped, output)
-        }
-        Plan::V6(Task::Change(captures, writing)) => {
-            changed::<V6>(alloc, captures, writing, shipped, output)
-        }
-        _ => Err(Fault::InputRead),
-    }
-}
-
-/// Whether these words end as the row says.
-fn ends(alloc: Global, words: &[&str], shipped: &[u8], row: &Row) -> bool {
-    let mut output = ScriptedDrain::new(alloc, 5, NEVER);
-    let mut errors = ScriptedDrain::new(alloc, 5, NEVER);
-    let told = match answer(alloc, words, shipped, &mut output) {
-        Ok(status) => status,
-        Err(fault) => tell_into(&fault, &mut output, &mut errors),
-    };
-    told == row.status
-        && output.written() == row.text.as_bytes()
-        && errors.written() == row.line.as_bytes()
-}
-
-/// Whether the words of a row, behind the first ones, end so.
-fn row_ends(alloc: Global, first: &[&str], shipped: &[u8], row: &Row) -> Result<bool, AllocError> {
-    let mut words = Vec::from_slice(alloc, first)?;
-    words.extend_from_slice(row.words)?;
-    Ok(ends(alloc, &words, shipped, row))
+#[test]
+fn tells_a_change(rt: HostRuntime) {
+    assert_eq!(rt; first_wrong(rt.alloc(), &FIRST, b"", &ROWS), None);
 }
 
 #[test]
-fn tells_a_change(rt: HostRuntime) -> Result<(), Fail> {
-    for row in &ROWS {
-        assert!(rt; row_ends(rt.alloc(), &FIRST, b"", row)?);
-    }
-    Ok(())
-}
-
-#[test]
-fn tells_a_change_by_a_file_of_routes(rt: HostRuntime) -> Result<(), Fail> {
-    for row in &ROUTED {
-        assert!(rt; row_ends(rt.alloc(), &FIRST, b"", row)?);
-    }
-    Ok(())
+fn tells_a_change_by_a_file_of_routes(rt: HostRuntime) {
+    assert_eq!(rt; first_wrong(rt.alloc(), &FIRST, b"", &ROUTED), None);
 }
 
 #[test]
 fn tells_a_change_over_ipv6(rt: HostRuntime) -> Result<(), Fail> {
     let shipped = bytes_of(rt.alloc(), EXAMPLES[2].capture)?;
-    for row in &ROWS6 {
-        assert!(rt; row_ends(rt.alloc(), &FIRST6, &shipped, row)?);
-    }
+    assert_eq!(rt; first_wrong(rt.alloc(), &FIRST6, &shipped, &ROWS6), None);
     Ok(())
 }

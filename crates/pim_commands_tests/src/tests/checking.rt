@@ -4,7 +4,6 @@ use pim_addr::{Family, ScriptedDrain, ScriptedFeed, V4, V6};
 use pim_commands::{Fault, check_into, fault_line};
 use pim_frame::{Body, FrameFault, MessageType, all_routers, open, seal};
 use std::alloc::{AllocError, Global};
-use std::process::Abort;
 use std::test::Fail;
 
 /// A Join(*,G), which the README reads too.
@@ -148,173 +147,185 @@ pub fn bytes_of(alloc: Global, digits: &str) -> Result<Vec<u8>, AllocError> {
     Ok(bytes)
 }
 
-/// The line of a fault.
-pub fn line_of(rt: &impl Abort, alloc: Global, answer: Result<u8, Fault<'_>>) -> ScriptedDrain {
-    let mut line = ScriptedDrain::new(alloc, 1, usize::MAX);
-    if let Err(fault) = answer {
-        let written = fault_line(&fault, &mut line);
-        assert!(rt; written.is_ok());
-    }
-    line
+/// Whether the line of this answer's fault is this one; no line, where it has none.
+fn has_line(alloc: Global, answer: Result<u8, Fault<'_>>, line: &str) -> bool {
+    let Err(fault) = answer else {
+        return line.is_empty();
+    };
+    let mut written = ScriptedDrain::new(alloc, 1, usize::MAX);
+    fault_line(&fault, &mut written).is_ok() && written.written() == line.as_bytes()
 }
 
-/// A message is printed so, or has this fault.
+/// Whether a message from and to these addresses is printed so, or has a fault with this line.
 fn says<F: Family>(
-    rt: &impl Abort,
     alloc: Global,
     message: &[u8],
-    dst: F::Addr,
+    (src, dst): (F::Addr, F::Addr),
     text: &str,
-    fault: &str,
-) {
+    line: &str,
+) -> bool {
     let mut input = ScriptedFeed::new(message, 1, usize::MAX);
     let mut output = ScriptedDrain::new(alloc, 7, usize::MAX);
-    let answer = check_into::<F, _, _>(alloc, &mut input, &mut output, dst, dst);
-    assert_eq!(rt; output.written(), text.as_bytes());
-    assert_eq!(rt; line_of(rt, alloc, answer).written(), fault.as_bytes());
+    let answer = check_into::<F, _, _>(alloc, &mut input, &mut output, src, dst);
+    output.written() == text.as_bytes() && has_line(alloc, answer, line)
 }
 
-#[test]
-fn messages_are_printed(rt: HostRuntime) -> Result<(), Fail> {
-    let alloc = rt.alloc();
-    for (digits, text, fault) in ROWS {
-        let message = bytes_of(alloc, digits)?;
-        says::<V4>(&rt, alloc, &message, all_routers::<V4>(), text, fault);
+/// The same over IPv4, to all PIM routers.
+fn says_v4(alloc: Global, message: &[u8], text: &str, line: &str) -> bool {
+    let everyone = all_routers::<V4>();
+    says::<V4>(alloc, message, (everyone, everyone), text, line)
+}
+
+/// The same of the message that these digits spell.
+fn row_says(alloc: Global, (digits, text, line): (&str, &str, &str)) -> bool {
+    match bytes_of(alloc, digits) {
+        Ok(message) => says_v4(alloc, &message, text, line),
+        Err(_) => false,
     }
-    let message = bytes_of(alloc, JOIN_STAR)?;
-    says::<V4>(
-        &rt,
-        alloc,
-        &message,
-        [224, 0, 0, 1],
-        "",
-        "pimtree: frame not-all-routers\n",
-    );
-    Ok(())
 }
 
 #[test]
-fn ipv6_is_printed(rt: HostRuntime) -> Result<(), Fail> {
-    let alloc = rt.alloc();
-    let message = bytes_of(alloc, JOIN_STAR_V6)?;
-    let src = [0xfe, 0x80, 0, 0, 0, 0, 0, 0, 0, 0, 0, 0, 0, 0, 0, 1];
-    let mut input = ScriptedFeed::new(&message, 1, usize::MAX);
-    let mut output = ScriptedDrain::new(alloc, 7, usize::MAX);
-    let answer = check_into::<V6, _, _>(alloc, &mut input, &mut output, src, all_routers::<V6>());
-    assert!(rt; matches!(answer, Ok(0)));
-    assert_eq!(rt; output.written(), JOIN_STAR_V6_TEXT.as_bytes());
-    Ok(())
+fn messages_are_printed(rt: HostRuntime) {
+    let wrong = ROWS.iter().position(|row| !row_says(rt.alloc(), *row));
+    assert_eq!(rt; wrong, None);
 }
 
 #[test]
-fn hello_over_ipv6_is_printed(rt: HostRuntime) -> Result<(), Fail> {
-    let alloc = rt.alloc();
-    let message = bytes_of(alloc, "2000dd6a 000100020069 0014000401020304")?;
-    let src = [0xfe, 0x80, 0, 0, 0, 0, 0, 0, 0, 0, 0, 0, 0, 0, 0, 1];
-    let mut input = ScriptedFeed::new(&message, 1, usize::MAX);
-    let mut output = ScriptedDrain::new(alloc, 7, usize::MAX);
-    let answer = check_into::<V6, _, _>(alloc, &mut input, &mut output, src, all_routers::<V6>());
-    assert!(rt; matches!(answer, Ok(0)));
-    assert_eq!(rt;
-        output.written(),
-        b"hello\nholdtime 105\ngeneration 16909060\n".as_slice()
-    );
+fn messages_to_others_are_refused(rt: HostRuntime) -> Result<(), Fail> {
+    let message = bytes_of(rt.alloc(), JOIN_STAR)?;
+    let other = [224, 0, 0, 1];
+    let line = "pimtree: frame not-all-routers\n";
+    assert!(rt; says::<V4>(rt.alloc(), &message, (other, other), "", line));
     Ok(())
+}
+
+/// IPv6 messages from fe80::1 to ALL-PIM-ROUTERS, each with what is printed of it.
+const ROWS6: [(&str, &str); 2] = [
+    (JOIN_STAR_V6, JOIN_STAR_V6_TEXT),
+    (
+        "2000dd6a 000100020069 0014000401020304",
+        "hello\nholdtime 105\ngeneration 16909060\n",
+    ),
+];
+
+/// Whether a message over IPv6 is printed so.
+fn row6_says(alloc: Global, digits: &str, text: &str) -> bool {
+    let src = [0xfe, 0x80, 0, 0, 0, 0, 0, 0, 0, 0, 0, 0, 0, 0, 0, 1];
+    match bytes_of(alloc, digits) {
+        Ok(message) => says::<V6>(alloc, &message, (src, all_routers::<V6>()), text, ""),
+        Err(_) => false,
+    }
+}
+
+#[test]
+fn ipv6_is_printed(rt: HostRuntime) {
+    let wrong = ROWS6
+        .iter()
+        .position(|(digits, text)| !row6_says(rt.alloc(), digits, text));
+    assert_eq!(rt; wrong, None);
 }
 
 #[test]
 fn long_inputs_are_refused(rt: HostRuntime) -> Result<(), Fail> {
-    let alloc = rt.alloc();
-    let mut message = vec![in alloc; 0u8; 65_536]?;
-    says::<V4>(
-        &rt,
-        alloc,
-        &message,
-        all_routers::<V4>(),
-        "",
-        "pimtree: frame version 0\n",
-    );
+    let mut message = vec![in rt.alloc(); 0u8; 65_536]?;
+    let is_taken = says_v4(rt.alloc(), &message, "", "pimtree: frame version 0\n");
     message.push(0)?;
-    says::<V4>(
-        &rt,
-        alloc,
-        &message,
-        all_routers::<V4>(),
-        "",
-        "pimtree: input too-long\n",
-    );
+    assert!(rt; is_taken && says_v4(rt.alloc(), &message, "", "pimtree: input too-long\n"));
     Ok(())
 }
 
-/// The first message cut to each length, its checksum mended where it has one.
+/// The line of the first message cut to this length.
+fn line_of_cut(length: usize) -> &'static str {
+    match length {
+        0..=3 => "pimtree: frame short\n",
+        4..=9 => "pimtree: join/prune short at 0\n",
+        10..=13 => "pimtree: join/prune short at 6\n",
+        14..=21 => "pimtree: join/prune short at 10\n",
+        22..=25 => "pimtree: join/prune short at 18\n",
+        _ => "pimtree: join/prune short at 22\n",
+    }
+}
+
+/// Whether a front of the first message, its checksum mended where it has one, has the fault of its length.
+fn cut_says(alloc: Global, front: &[u8]) -> bool {
+    let Ok(mut cut) = Vec::from_slice(alloc, front) else {
+        return false;
+    };
+    if cut.len() >= 4 && cut.len() < 100 {
+        seal::<V4>(
+            [0; 4],
+            all_routers::<V4>(),
+            MessageType::JoinPrune,
+            &mut cut,
+        );
+    }
+    says_v4(alloc, &cut, "", line_of_cut(front.len()))
+}
+
 #[test]
 fn cuts_are_short_at_their_part(rt: HostRuntime) -> Result<(), Fail> {
-    let alloc = rt.alloc();
-    let whole = bytes_of(alloc, JOIN_STAR)?;
+    let whole = bytes_of(rt.alloc(), JOIN_STAR)?;
     for length in 0..whole.len() {
-        let mut cut = Vec::from_slice(alloc, &whole[..length])?;
-        if cut.len() >= 4 && cut.len() < 100 {
-            seal::<V4>(
-                [0; 4],
-                all_routers::<V4>(),
-                MessageType::JoinPrune,
-                &mut cut,
-            );
-        }
-        let fault = match length {
-            0..=3 => "pimtree: frame short\n",
-            4..=9 => "pimtree: join/prune short at 0\n",
-            10..=13 => "pimtree: join/prune short at 6\n",
-            14..=21 => "pimtree: join/prune short at 10\n",
-            22..=25 => "pimtree: join/prune short at 18\n",
-            _ => "pimtree: join/prune short at 22\n",
-        };
-        says::<V4>(&rt, alloc, &cut, all_routers::<V4>(), "", fault);
+        let (front, _) = whole.split_at(length);
+        assert!(rt; cut_says(rt.alloc(), front));
     }
     Ok(())
 }
 
-/// The first message with one byte behind its first changed to each other value, and nothing mended. (What is
-/// said of it once the checksum is mended is for the reader of the body, and tested there.)
+/// Whether a message with this byte changed to each other value, and nothing mended, fails the checksum.
+fn changes_fail_at(message: &mut [u8], place: usize) -> bool {
+    for change in 1..=255u8 {
+        if place >= message.len() || message.len() >= 100 {
+            return false;
+        }
+        message[place] ^= change;
+        let opened = open::<V4>([0; 4], all_routers::<V4>(), message);
+        if opened != Err(FrameFault::Checksum) || place >= message.len() {
+            return false;
+        }
+        message[place] ^= change;
+    }
+    true
+}
+
+/// The first message with one byte behind its first changed. (What is said of it once the checksum is mended is for the
+/// reader of the body, and tested there.)
 #[test]
 fn changed_bytes_fail_the_checksum(rt: HostRuntime) -> Result<(), Fail> {
     let mut message = bytes_of(rt.alloc(), JOIN_STAR)?;
     for place in 1..message.len() {
-        for change in 1..=255u8 {
-            assert!(rt; place < message.len() && message.len() < 100);
-            message[place] ^= change;
-            assert_eq!(rt;
-                open::<V4>([0; 4], all_routers::<V4>(), &message),
-                Err(FrameFault::Checksum)
-            );
-            assert!(rt; place < message.len());
-            message[place] ^= change;
-        }
+        assert!(rt; changes_fail_at(&mut message, place));
     }
     Ok(())
 }
 
-/// The first message with its first byte changed, and nothing mended: its version and type are told before its
-/// checksum, which is that of a Join/Prune alone.
+/// Whether the first message with this first byte, and nothing mended, is told: its version and type before its checksum,
+/// which is that of a Join/Prune alone.
+fn first_byte_is_told(message: &mut [u8], first: u8) -> bool {
+    if message.is_empty() || message.len() >= 100 {
+        return false;
+    }
+    message[0] = first;
+    let opened = open::<V4>([0; 4], all_routers::<V4>(), message);
+    match (first >> 4, first & 0x0f) {
+        (2, 3) => opened.is_ok(),
+        (2, 0) => opened == Err(FrameFault::Checksum),
+        (2, kind) => opened == Ok(Body::Other(kind)),
+        (version, _) => opened == Err(FrameFault::Version(version)),
+    }
+}
+
 #[test]
 fn changed_first_bytes_are_told(rt: HostRuntime) -> Result<(), Fail> {
     let mut message = bytes_of(rt.alloc(), JOIN_STAR)?;
     for first in 0..=255u8 {
-        assert!(rt; !message.is_empty() && message.len() < 100);
-        message[0] = first;
-        let opened = open::<V4>([0; 4], all_routers::<V4>(), &message);
-        match (first >> 4, first & 0x0f) {
-            (2, 3) => assert!(rt; opened.is_ok()),
-            (2, 0) => assert_eq!(rt; opened, Err(FrameFault::Checksum)),
-            (2, kind) => assert_eq!(rt; opened, Ok(Body::Other(kind))),
-            (version, _) => assert_eq!(rt; opened, Err(FrameFault::Version(version))),
-        }
+        assert!(rt; first_byte_is_told(&mut message, first));
     }
     Ok(())
 }
 
-/// A read that fails from this byte on is told, and nothing was written.
-fn fails_to_read(rt: &impl Abort, alloc: Global, message: &[u8], from: usize) {
+/// Whether a read that fails from this byte on is told, and nothing was written.
+fn fails_to_read(alloc: Global, message: &[u8], from: usize) -> bool {
     let mut input = ScriptedFeed::new(message, 1, from);
     let mut output = ScriptedDrain::new(alloc, 1, usize::MAX);
     let answer = check_into::<V4, _, _>(
@@ -324,16 +335,13 @@ fn fails_to_read(rt: &impl Abort, alloc: Global, message: &[u8], from: usize) {
         [0; 4],
         all_routers::<V4>(),
     );
-    assert!(rt; matches!(answer, Err(Fault::InputRead)));
-    assert!(rt; output.written().is_empty());
-    assert_eq!(rt;
-        line_of(rt, alloc, answer).written(),
-        b"pimtree: input read\n".as_slice()
-    );
+    output.written().is_empty()
+        && matches!(answer, Err(Fault::InputRead))
+        && has_line(alloc, answer, "pimtree: input read\n")
 }
 
-/// A write that fails from this byte on is told, behind a front of the text.
-fn fails_to_write(rt: &impl Abort, alloc: Global, message: &[u8], text: &str, from: usize) {
+/// Whether a write that fails from this byte on is told, behind a front of the text.
+fn fails_to_write(alloc: Global, message: &[u8], text: &str, from: usize) -> bool {
     let mut input = ScriptedFeed::new(message, usize::MAX, usize::MAX);
     let mut output = ScriptedDrain::new(alloc, 5, from);
     let answer = check_into::<V4, _, _>(
@@ -343,43 +351,46 @@ fn fails_to_write(rt: &impl Abort, alloc: Global, message: &[u8], text: &str, fr
         [0; 4],
         all_routers::<V4>(),
     );
-    assert!(rt; matches!(answer, Err(Fault::Output)));
-    assert_eq!(rt; Some(output.written()), text.as_bytes().get(..from));
-    assert_eq!(rt;
-        line_of(rt, alloc, answer).written(),
-        b"pimtree: output\n".as_slice()
-    );
+    Some(output.written()) == text.as_bytes().get(..from)
+        && matches!(answer, Err(Fault::Output))
+        && has_line(alloc, answer, "pimtree: output\n")
 }
 
-/// Each read fails in turn, and then each write.
-#[test]
-fn devices_that_fail_are_told(rt: HostRuntime) -> Result<(), Fail> {
-    let alloc = rt.alloc();
-    for (digits, text, _) in ROWS {
-        let message = bytes_of(alloc, digits)?;
-        for from in 0..=message.len() {
-            fails_to_read(&rt, alloc, &message, from);
+/// Whether each read of this message, and each write, that fails is told.
+fn failures_are_told(alloc: Global, digits: &str, text: &str) -> bool {
+    match bytes_of(alloc, digits) {
+        Ok(message) => {
+            (0..=message.len()).all(|from| fails_to_read(alloc, &message, from))
+                && (0..text.len()).all(|from| fails_to_write(alloc, &message, text, from))
         }
-        for from in 0..text.len() {
-            fails_to_write(&rt, alloc, &message, text, from);
-        }
+        Err(_) => false,
     }
-    Ok(())
 }
 
-/// The line of a fault stops where its writer fails.
 #[test]
-fn lines_of_faults_stop_at_a_failure(rt: HostRuntime) -> Result<(), Fail> {
-    let alloc = rt.alloc();
-    for (fault, text) in [
-        (Fault::Memory, "pimtree: memory\n"),
-        (Fault::InputTooLong, "pimtree: input too-long\n"),
-    ] {
-        for from in 0..text.len() {
-            let mut line = ScriptedDrain::new(alloc, 2, from);
-            assert!(rt; fault_line(&fault, &mut line).is_err());
-            assert_eq!(rt; line.written(), &text.as_bytes()[..from]);
-        }
+fn devices_that_fail_are_told(rt: HostRuntime) {
+    let wrong = ROWS.iter().position(|(digits, text, _)| !failures_are_told(
+        rt.alloc(),
+        digits,
+        text,
+    ));
+    assert_eq!(rt; wrong, None);
+}
+
+/// Whether the line of a fault stops where its writer fails.
+fn stops_at(alloc: Global, fault: &Fault<'_>, text: &str, from: usize) -> bool {
+    let mut line = ScriptedDrain::new(alloc, 2, from);
+    fault_line(fault, &mut line).is_err() && Some(line.written()) == text.as_bytes().get(..from)
+}
+
+#[test]
+fn lines_of_faults_stop_at_a_failure(rt: HostRuntime) {
+    let text = "pimtree: memory\n";
+    for from in 0..text.len() {
+        assert!(rt; stops_at(rt.alloc(), &Fault::Memory, text, from));
     }
-    Ok(())
+    let text = "pimtree: input too-long\n";
+    for from in 0..text.len() {
+        assert!(rt; stops_at(rt.alloc(), &Fault::InputTooLong, text, from));
+    }
 }

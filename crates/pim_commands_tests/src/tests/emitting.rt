@@ -1,15 +1,9 @@
 //! What `emit` answers to words, over captures that give few bytes a call.
 
-ghost use Rattle.pim_words.specs.Plan.{IsBounded, IsLimited, IsWritable};
-
 use super::checking::bytes_of;
 use super::examples::EXAMPLES;
-use super::mirroring::merge_of;
-use super::replaying::NEVER;
-use pim_addr::{Family, ScriptedDrain, V4, V6};
-use pim_commands::{Fault, emit_opened, first_rows, tell_into};
-use pim_words::{Captures, Plan, Task, Writing, plan};
-use std::alloc::{AllocError, Global};
+use super::running::{Inputs, NEVER, joined, run};
+use std::alloc::Global;
 use std::test::Fail;
 
 /// Words, with how many bytes the output takes before it fails, what is put out, the line on standard error and the
@@ -136,83 +130,43 @@ const FIRST6: [&str; 8] = [
     "fe80::1",
 ];
 
-/// Writes the messages that a plan asks for.
-fn emitted<F: Family>(
-    alloc: Global,
-    captures: &Captures<'_, F::Addr>,
-    writing: &Writing<F::Addr>,
-    shipped: &[u8],
-    output: &mut ScriptedDrain,
-) -> Result<u8, Fault<'static>>
-    requires after { IsBounded captures.now }
-    requires limit { IsLimited captures.now }
-    requires writing { IsWritable writing.now }
-{
-    let routes = first_rows::<F>(alloc, captures.rp, Some(writing.upstream))?;
-    let Ok(mut merge) = merge_of(alloc, &captures.ports, shipped) else {
-        return Err(Fault::Memory);
-    };
-    if merge.count() != captures.ports.len() {
-        return Err(Fault::InputRead);
-    }
-    emit_opened::<F, _, _>(alloc, captures, writing, &routes, &mut merge, output)
-}
-
-/// Does what the words ask for.
-fn answer<'a>(
-    alloc: Global,
-    words: &'a [&'a str],
-    shipped: &[u8],
-    output: &mut ScriptedDrain,
-) -> Result<u8, Fault<'a>> {
-    let plan = plan(alloc, words)?;
-    match &plan {
-        Plan::V4(Task::Emit(captures, writing)) => {
-            emitted::<V4>(alloc, captures, writing, shipped, output)
-        }
-        Plan::V6(Task::Emit(captures, writing)) => {
-            emitted::<V6>(alloc, captures, writing, shipped, output)
-        }
-        _ => Err(Fault::InputRead),
-    }
-}
-
 /// Whether these words end as the row says.
-fn ends(alloc: Global, words: &[&str], shipped: &[u8], row: &Row) -> Result<bool, AllocError> {
-    let bytes = bytes_of(alloc, row.bytes)?;
-    let mut output = ScriptedDrain::new(alloc, 5, row.room);
-    let mut errors = ScriptedDrain::new(alloc, 5, NEVER);
-    let told = match answer(alloc, words, shipped, &mut output) {
-        Ok(status) => status,
-        Err(fault) => tell_into(&fault, &mut output, &mut errors),
+fn ends(alloc: Global, words: &[&str], shipped: &[u8], row: &Row) -> bool {
+    let inputs = Inputs {
+        bytes: shipped,
+        most: 3,
     };
-    Ok(
-        told == row.status
-            && output.written() == bytes.as_slice()
-            && errors.written() == row.line.as_bytes(),
-    )
+    let ended = run(alloc, words, inputs, row.room);
+    let Ok(bytes) = bytes_of(alloc, row.bytes) else {
+        return false;
+    };
+    ended.status == row.status
+        && ended.output.written() == bytes.as_slice()
+        && ended.errors.written() == row.line.as_bytes()
 }
 
 /// Whether the words of a row, behind the first ones, end so.
-fn row_ends(alloc: Global, first: &[&str], shipped: &[u8], row: &Row) -> Result<bool, AllocError> {
-    let mut words = Vec::from_slice(alloc, first)?;
-    words.extend_from_slice(row.words)?;
-    ends(alloc, &words, shipped, row)
+fn row_ends(alloc: Global, first: &[&str], shipped: &[u8], row: &Row) -> bool {
+    match joined(alloc, first, row.words) {
+        Ok(words) => ends(alloc, &words, shipped, row),
+        Err(_) => false,
+    }
 }
 
 #[test]
-fn writes_the_messages_of_a_state(rt: HostRuntime) -> Result<(), Fail> {
-    for row in &ROWS {
-        assert!(rt; row_ends(rt.alloc(), &FIRST, b"", row)?);
-    }
-    Ok(())
+fn writes_the_messages_of_a_state(rt: HostRuntime) {
+    let wrong = ROWS
+        .iter()
+        .position(|row| !row_ends(rt.alloc(), &FIRST, b"", row));
+    assert_eq!(rt; wrong, None);
 }
 
 #[test]
 fn writes_the_messages_over_ipv6(rt: HostRuntime) -> Result<(), Fail> {
     let shipped = bytes_of(rt.alloc(), EXAMPLES[2].capture)?;
-    for row in &ROWS6 {
-        assert!(rt; row_ends(rt.alloc(), &FIRST6, &shipped, row)?);
-    }
+    let wrong = ROWS6
+        .iter()
+        .position(|row| !row_ends(rt.alloc(), &FIRST6, &shipped, row));
+    assert_eq!(rt; wrong, None);
     Ok(())
 }

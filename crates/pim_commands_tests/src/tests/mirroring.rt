@@ -1,25 +1,9 @@
 //! What `mirror` answers to words, over captures that give few bytes a call.
 
-ghost use Rattle.pim_words.specs.Plan.{IsBounded, IsLimited, IsWritable};
-
-use super::captures::file_named;
 use super::checking::bytes_of;
 use super::examples::EXAMPLES;
-use super::replaying::NEVER;
-use pim_addr::{Family, ScriptedDrain, ScriptedFeed, V4, V6};
-use pim_commands::{Fault, first_rows, mirror_opened, tell_into};
-use pim_merge::Merge;
-use pim_words::{Captures, Plan, Port, Task, Writing, plan};
-use std::alloc::{AllocError, Global};
+use super::running::{Row, first_wrong};
 use std::test::Fail;
-
-/// Words, with what is put out, the line on standard error and the status.
-struct Row {
-    words: &'static [&'static str],
-    text: &'static str,
-    line: &'static str,
-    status: u8,
-}
 
 /// Words over IPv4, behind `FIRST`.
 const ROWS: [Row; 9] = [
@@ -137,96 +121,14 @@ const FIRST6: [&str; 8] = [
     "fe80::1",
 ];
 
-/// The capture of each port.
-pub(super) fn merge_of<'c, A>(
-    alloc: Global,
-    ports: &[Port<'_, A>],
-    shipped: &'c [u8],
-) -> Result<Merge<ScriptedFeed<'c>>, AllocError> {
-    let mut merge = Merge::new(alloc);
-    for port in ports {
-        merge.add(
-            alloc,
-            ScriptedFeed::new(file_named(port.file, shipped), 3, NEVER),
-        )?;
-    }
-    Ok(merge)
-}
-
-/// Mirrors what a plan names.
-fn mirrored<F: Family>(
-    alloc: Global,
-    captures: &Captures<'_, F::Addr>,
-    writing: &Writing<F::Addr>,
-    shipped: &[u8],
-    output: &mut ScriptedDrain,
-) -> Result<u8, Fault<'static>>
-    requires after { IsBounded captures.now }
-    requires limit { IsLimited captures.now }
-    requires writing { IsWritable writing.now }
-{
-    let routes = first_rows::<F>(alloc, captures.rp, Some(writing.upstream))?;
-    let Ok(mut merge) = merge_of(alloc, &captures.ports, shipped) else {
-        return Err(Fault::Memory);
-    };
-    if merge.count() != captures.ports.len() {
-        return Err(Fault::InputRead);
-    }
-    mirror_opened::<F, _, _>(alloc, captures, writing, &routes, &mut merge, output)
-}
-
-/// Does what the words ask for.
-fn answer<'a>(
-    alloc: Global,
-    words: &'a [&'a str],
-    shipped: &[u8],
-    output: &mut ScriptedDrain,
-) -> Result<u8, Fault<'a>> {
-    let plan = plan(alloc, words)?;
-    match &plan {
-        Plan::V4(Task::Mirror(captures, writing)) => {
-            mirrored::<V4>(alloc, captures, writing, shipped, output)
-        }
-        Plan::V6(Task::Mirror(captures, writing)) => {
-            mirrored::<V6>(alloc, captures, writing, shipped, output)
-        }
-        _ => Err(Fault::InputRead),
-    }
-}
-
-/// Whether these words end as the row says.
-fn ends(alloc: Global, words: &[&str], shipped: &[u8], row: &Row) -> bool {
-    let mut output = ScriptedDrain::new(alloc, 5, NEVER);
-    let mut errors = ScriptedDrain::new(alloc, 5, NEVER);
-    let told = match answer(alloc, words, shipped, &mut output) {
-        Ok(status) => status,
-        Err(fault) => tell_into(&fault, &mut output, &mut errors),
-    };
-    told == row.status
-        && output.written() == row.text.as_bytes()
-        && errors.written() == row.line.as_bytes()
-}
-
-/// Whether the words of a row, behind the first ones, end so.
-fn row_ends(alloc: Global, first: &[&str], shipped: &[u8], row: &Row) -> Result<bool, AllocError> {
-    let mut words = Vec::from_slice(alloc, first)?;
-    words.extend_from_slice(row.words)?;
-    Ok(ends(alloc, &words, shipped, row))
-}
-
 #[test]
-fn tells_the_messages_of_a_state(rt: HostRuntime) -> Result<(), Fail> {
-    for row in &ROWS {
-        assert!(rt; row_ends(rt.alloc(), &FIRST, b"", row)?);
-    }
-    Ok(())
+fn tells_the_messages_of_a_state(rt: HostRuntime) {
+    assert_eq!(rt; first_wrong(rt.alloc(), &FIRST, b"", &ROWS), None);
 }
 
 #[test]
 fn tells_the_messages_over_ipv6(rt: HostRuntime) -> Result<(), Fail> {
     let shipped = bytes_of(rt.alloc(), EXAMPLES[2].capture)?;
-    for row in &ROWS6 {
-        assert!(rt; row_ends(rt.alloc(), &FIRST6, &shipped, row)?);
-    }
+    assert_eq!(rt; first_wrong(rt.alloc(), &FIRST6, &shipped, &ROWS6), None);
     Ok(())
 }

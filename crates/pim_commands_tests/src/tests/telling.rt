@@ -6,7 +6,6 @@ use pim_commands::{CaptureCause, Fault, tell_into};
 use pim_routes_file::RoutesFault;
 use pim_words::{Address, ConfigCause, Fault as Unplanned, Refusal, Side};
 use std::alloc::{AllocError, Global};
-use std::process::Abort;
 use std::test::Fail;
 
 /// What `clap` has to say, for these tests.
@@ -18,36 +17,43 @@ fn refusal(alloc: Global, kind: ErrorKind) -> Result<Fault<'static>, AllocError>
     Ok(Fault::Words(Unplanned::Clap(Refusal { kind, text })))
 }
 
-/// Tells a fault to devices of which the one that it goes to fails from some byte on. The other one isn't written to.
-fn tells(
-    rt: &impl Abort,
+/// Tells a fault to two devices, the first of which is the one that it goes to: the status.
+fn tell(
+    fault: &Fault<'_>,
+    is_asked_for: bool,
+    device: &mut ScriptedDrain,
+    other: &mut ScriptedDrain,
+) -> u8 {
+    if is_asked_for {
+        tell_into(fault, device, other)
+    } else {
+        tell_into(fault, other, device)
+    }
+}
+
+/// Whether a fault, told to a device that fails from this byte on, leaves the text up to there, and so many failures.
+/// The other device isn't written to.
+fn leaves(
     alloc: Global,
     fault: &Fault<'_>,
     is_asked_for: bool,
+    text: &str,
     fails_from: usize,
-) -> (ScriptedDrain, u8) {
+) -> bool {
     let mut device = ScriptedDrain::new(alloc, 3, fails_from);
     let mut other = ScriptedDrain::new(alloc, 3, 0);
-    let status = if is_asked_for {
-        tell_into(fault, &mut device, &mut other)
-    } else {
-        tell_into(fault, &mut other, &mut device)
-    };
-    assert_eq!(rt; other.failures(), 0);
-    (device, status)
+    let status = tell(fault, is_asked_for, &mut device, &mut other);
+    let fails = fails_from < text.len();
+    status == if is_asked_for && !fails { 0 } else { 2 }
+        && Some(device.written()) == text.as_bytes().get(..fails_from.min(text.len()))
+        && device.failures() == u64::from(fails)
+        && other.failures() == 0
 }
 
-/// A fault is told so where its device takes all, and a front of it where the device fails.
-fn is_told(rt: &impl Abort, alloc: Global, fault: &Fault<'_>, is_asked_for: bool, text: &str) {
-    let (device, status) = tells(rt, alloc, fault, is_asked_for, usize::MAX);
-    assert_eq!(rt; device.written(), text.as_bytes());
-    assert_eq!(rt; status, if is_asked_for { 0 } else { 2 });
-    for fails_from in 0..text.len() {
-        let (device, status) = tells(rt, alloc, fault, is_asked_for, fails_from);
-        assert_eq!(rt; Some(device.written()), text.as_bytes().get(..fails_from));
-        assert_eq!(rt; device.failures(), 1);
-        assert_eq!(rt; status, 2);
-    }
+/// Whether a fault is told so where its device takes all, and a front of it where the device fails.
+fn is_told(alloc: Global, fault: &Fault<'_>, is_asked_for: bool, text: &str) -> bool {
+    leaves(alloc, fault, is_asked_for, text, usize::MAX)
+        && (0..text.len()).all(|from| leaves(alloc, fault, is_asked_for, text, from))
 }
 
 #[test]
@@ -129,7 +135,7 @@ fn faults_are_lines_on_errors(rt: HostRuntime) {
         (Fault::Output, "pimtree: output\n"),
         (Fault::Memory, "pimtree: memory\n"),
     ] {
-        is_told(&rt, alloc, &fault, false, text);
+        assert!(rt; is_told(alloc, &fault, false, text));
     }
 }
 
@@ -144,7 +150,7 @@ fn refusals_are_told_in_the_words_of_clap(rt: HostRuntime) -> Result<(), Fail> {
         (ErrorKind::MissingSubcommand, false),
     ] {
         let fault = refusal(alloc, kind)?;
-        is_told(&rt, alloc, &fault, is_asked_for, TEXT);
+        assert!(rt; is_told(alloc, &fault, is_asked_for, TEXT));
     }
     Ok(())
 }

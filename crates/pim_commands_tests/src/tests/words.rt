@@ -1,12 +1,9 @@
 //! What the program answers to words.
 
 use super::checking::{JOIN_STAR, JOIN_STAR_TEXT, JOIN_STAR_V6, JOIN_STAR_V6_TEXT, bytes_of};
-use pim_addr::{ScriptedDrain, ScriptedFeed, V4, V6};
-use pim_commands::{Fault, check_into, tell_into};
-use pim_words::{Plan, Task, plan};
+use super::running::{Ended, Inputs, NEVER, ends, run};
+use pim_addr::ScriptedDrain;
 use std::alloc::Global;
-use std::process::Abort;
-use std::test::Fail;
 
 /// Words without addresses, which are for IPv4.
 const CHECK: &[&str] = &["pimtree", "check"];
@@ -115,99 +112,81 @@ const REQUESTS: [(&[&str], &str); 6] = [
     (&["pimtree", "--version"], "pimtree 0.1.0\n"),
 ];
 
-/// What a run put out and told, and its status.
-#[derive(Drop)]
-struct Ended {
-    output: ScriptedDrain,
-    errors: ScriptedDrain,
-    status: u8,
+/// Standard input with these bytes.
+fn input(bytes: &[u8]) -> Inputs<'_> {
+    Inputs { bytes, most: 7 }
 }
 
-/// Does what the words ask for, as the program does, with this input.
-fn answer<'a>(
-    alloc: Global,
-    words: &'a [&'a str],
-    message: &[u8],
-    output: &mut ScriptedDrain,
-) -> Result<u8, Fault<'a>> {
-    let plan = plan(alloc, words)?;
-    let mut input = ScriptedFeed::new(message, 7, usize::MAX);
-    match plan {
-        Plan::V4(Task::Check { src, dst }) => {
-            check_into::<V4, _, _>(alloc, &mut input, output, src, dst)
-        }
-        Plan::V6(Task::Check { src, dst }) => {
-            check_into::<V6, _, _>(alloc, &mut input, output, src, dst)
-        }
-        _ => Err(Fault::Output),
-    }
-}
-
-/// Runs the words over this input to the end, as the program does.
-fn run(alloc: Global, words: &[&str], message: &[u8]) -> Ended {
-    let mut output = ScriptedDrain::new(alloc, 5, usize::MAX);
-    let mut errors = ScriptedDrain::new(alloc, 5, usize::MAX);
-    let status = match answer(alloc, words, message, &mut output) {
-        Ok(status) => status,
-        Err(fault) => tell_into(&fault, &mut output, &mut errors),
-    };
-    Ended {
-        output,
-        errors,
-        status,
+/// Whether the words, over the message of these digits, end with this text, or else with this line on standard error.
+fn is_checked(alloc: Global, words: &[&str], digits: &str, text: &str, line: &str) -> bool {
+    let status = if line.is_empty() { 0 } else { 2 };
+    match bytes_of(alloc, digits) {
+        Ok(message) => ends(alloc, words, input(&message), (text, line, status)),
+        Err(_) => false,
     }
 }
 
 #[test]
-fn messages_are_checked_by_their_words(rt: HostRuntime) -> Result<(), Fail> {
-    let alloc = rt.alloc();
-    for (words, digits, text, line) in RUNS {
-        let message = bytes_of(alloc, digits)?;
-        let run = run(alloc, words, &message);
-        assert_eq!(rt; run.status, if line.is_empty() { 0 } else { 2 });
-        assert_eq!(rt; run.output.written(), text.as_bytes());
-        assert_eq!(rt; run.errors.written(), line.as_bytes());
-    }
-    Ok(())
+fn messages_are_checked_by_their_words(rt: HostRuntime) {
+    let wrong = RUNS.iter().position(|(words, digits, text, line)| !is_checked(
+        rt.alloc(),
+        words,
+        digits,
+        text,
+        line,
+    ));
+    assert_eq!(rt; wrong, None);
 }
 
 #[test]
 fn faults_of_addresses_are_told_in_order(rt: HostRuntime) {
-    for (words, line) in ADDRESS_FAULTS {
-        let run = run(rt.alloc(), words, b"");
-        assert_eq!(rt; run.status, 2);
-        assert!(rt; run.output.written().is_empty());
-        assert_eq!(rt; run.errors.written(), line.as_bytes());
+    let wrong = ADDRESS_FAULTS.iter().position(|(words, line)| !ends(
+        rt.alloc(),
+        words,
+        input(b""),
+        ("", line, 2),
+    ));
+    assert_eq!(rt; wrong, None);
+}
+
+/// Whether what a device was told is text with these words in it.
+fn shows(device: &ScriptedDrain, text: &str) -> bool {
+    match std::str::from_utf8(device.written()) {
+        Ok(shown) => shown.contains(text),
+        Err(_) => false,
     }
 }
 
-/// What a device was told is text with these words in it.
-fn shows(rt: &impl Abort, device: &ScriptedDrain, text: &str) -> Result<(), Fail> {
-    let shown = std::str::from_utf8(device.written())?;
-    assert!(rt; shown.contains(text), "{shown}");
-    Ok(())
+/// Runs the words without input.
+fn run_alone(alloc: Global, words: &[&str]) -> Ended {
+    run(alloc, words, input(b""), NEVER)
 }
 
-/// With ample memory no mistake is told as want of memory.
+/// Whether the words are a mistake that `clap` tells so. With ample memory none is told as want of memory.
+fn is_mistake(alloc: Global, words: &[&str], text: &str) -> bool {
+    let ended = run_alone(alloc, words);
+    ended.status == 2 && ended.output.written().is_empty() && shows(&ended.errors, text)
+}
+
 #[test]
-fn mistakes_have_status_2(rt: HostRuntime) -> Result<(), Fail> {
-    for (words, text) in MISTAKES {
-        let run = run(rt.alloc(), words, b"");
-        shows(&rt, &run.errors, text)?;
-        assert!(rt; run.output.written().is_empty());
-        assert_eq!(rt; run.status, 2);
-    }
-    Ok(())
+fn mistakes_have_status_2(rt: HostRuntime) {
+    let wrong = MISTAKES
+        .iter()
+        .position(|(words, text)| !is_mistake(rt.alloc(), words, text));
+    assert_eq!(rt; wrong, None);
 }
 
-/// With ample memory no request for help is told as want of memory.
+/// Whether the words ask for help or the version, and this is in the answer. With ample memory none is told as want of
+/// memory.
+fn is_request(alloc: Global, words: &[&str], text: &str) -> bool {
+    let ended = run_alone(alloc, words);
+    ended.status == 0 && ended.errors.written().is_empty() && shows(&ended.output, text)
+}
+
 #[test]
-fn help_has_status_0(rt: HostRuntime) -> Result<(), Fail> {
-    for (words, text) in REQUESTS {
-        let run = run(rt.alloc(), words, b"");
-        shows(&rt, &run.output, text)?;
-        assert!(rt; run.errors.written().is_empty());
-        assert_eq!(rt; run.status, 0);
-    }
-    Ok(())
+fn help_has_status_0(rt: HostRuntime) {
+    let wrong = REQUESTS
+        .iter()
+        .position(|(words, text)| !is_request(rt.alloc(), words, text));
+    assert_eq!(rt; wrong, None);
 }

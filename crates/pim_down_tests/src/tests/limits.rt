@@ -139,7 +139,7 @@ fn wrong(alloc: Global) -> Option<u8> {
     None
 }
 
-// With each allocation refused in turn (`rt try --test --fail-alloc 1..`): nothing has changed, and the same message,
+// With each allocation refused in turn (`tools/each_growth_refused.sh`): nothing has changed, and the same message,
 // with memory, leaves what it would have left.
 #[test]
 fn refusals_change_nothing(rt: HostRuntime) {

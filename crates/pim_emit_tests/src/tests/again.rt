@@ -4,13 +4,12 @@ use super::rows::{
     A, B, EXCEPT_A, Heard, LONE_PRUNE, STAR_EXCEPT_A, STAR_EXCEPT_BOTH, are_taken, is_taken,
     is_written,
 };
-use super::{GROUP, State, state4, write_to};
+use super::{GROUP, State, state4, written};
 use pim_addr::V4;
 use pim_device::ScriptedDrain;
 use pim_down::{Ports, Step};
 use pim_jp::Entry;
-use std::alloc::{AllocError, Global};
-use std::test::Fail;
+use std::alloc::Global;
 
 /// How many machines have so many milliseconds left.
 fn count_left(ports: &Ports<V4>, left: u64) -> usize {
@@ -22,28 +21,29 @@ fn count_left(ports: &Ports<V4>, left: u64) -> usize {
 
 /// Whether the star but A is written when it is heard, and when it is heard again 5 s later, from which both machines
 /// begin anew.
-fn is_heard_again(alloc: Global, state: &mut State<V4>) -> Result<bool, AllocError> {
-    Ok(
-        is_taken(alloc, state, GROUP, &STAR_EXCEPT_A)?
-            && is_written(alloc, state, 1, &EXCEPT_A)?
-            && state.ports.run_to(5_000) == Step::Reached
-            && count_left(&state.ports, 205_000) == 2
-            && is_taken(alloc, state, GROUP, &STAR_EXCEPT_A)?
-            && state.ports.now() == 5_000
-            && count_left(&state.ports, 210_000) == 2
-            && state.ports.records().count() == 2
-            && is_written(alloc, state, 1, &EXCEPT_A)?,
-    )
+fn is_heard_again(alloc: Global, state: &mut State<V4>) -> bool {
+    is_taken(alloc, state, GROUP, &STAR_EXCEPT_A)
+        && is_written(alloc, state, 1, &EXCEPT_A)
+        && state.ports.run_to(5_000) == Step::Reached
+        && count_left(&state.ports, 205_000) == 2
+        && is_taken(alloc, state, GROUP, &STAR_EXCEPT_A)
+        && state.ports.now() == 5_000
+        && count_left(&state.ports, 210_000) == 2
+        && state.ports.records().count() == 2
+        && is_written(alloc, state, 1, &EXCEPT_A)
+}
+
+/// The same of a new state.
+fn repeat_is_told(alloc: Global) -> bool {
+    match state4(alloc, 1, 1480) {
+        Some(mut state) => is_heard_again(alloc, &mut state),
+        None => false,
+    }
 }
 
 #[test]
-fn message_heard_again_writes_the_same(rt: HostRuntime) -> Result<(), Fail> {
-    let Some(mut state) = state4(rt.alloc(), 1, 1480) else {
-        assert!(rt; false);
-        return Ok(());
-    };
-    assert!(rt; is_heard_again(rt.alloc(), &mut state)?);
-    Ok(())
+fn message_heard_again_writes_the_same(rt: HostRuntime) {
+    assert!(rt; repeat_is_told(rt.alloc()));
 }
 
 /// What is heard for each of two demands, and whether these are equal.
@@ -114,37 +114,29 @@ const PAIRS: [Pair; 14] = [
     (&[STAR_ALONE, JOIN_A], &[STAR_ALONE], false),
 ];
 
-/// How many messages are written of what three ports heard, and their bytes; `None` where something is refused.
-fn written_of(alloc: Global, heard: &[Heard]) -> Result<Option<(u64, ScriptedDrain)>, AllocError> {
-    let Some(mut state) = state4(alloc, 3, 1480) else {
-        return Ok(None);
-    };
-    if !are_taken(alloc, &mut state, GROUP, heard)? {
-        return Ok(None);
-    }
-    let mut out = ScriptedDrain::new(alloc, 1, 10_000);
-    match write_to(alloc, &state, &mut out)? {
-        Ok(count) => Ok(Some((count, out))),
-        Err(_) => Ok(None),
+/// How many messages are written to this device of what three ports heard; `None` where something is refused.
+fn written_of(alloc: Global, heard: &[Heard], out: &mut ScriptedDrain) -> Option<u64> {
+    let mut state = state4(alloc, 3, 1480)?;
+    if are_taken(alloc, &mut state, GROUP, heard) {
+        written(alloc, &state, out)
+    } else {
+        None
     }
 }
 
 /// Whether the bytes of a pair's demands are equal exactly where it says so, and then as many messages.
-fn are_compared(alloc: Global, (one, other, same): Pair) -> Result<bool, AllocError> {
-    let Some((count, bytes)) = written_of(alloc, one)? else {
-        return Ok(false);
-    };
-    let Some((other_count, other_bytes)) = written_of(alloc, other)? else {
-        return Ok(false);
-    };
+fn are_compared(alloc: Global, (one, other, same): Pair) -> bool {
+    let mut bytes = ScriptedDrain::new(alloc, 1, 10_000);
+    let mut other_bytes = ScriptedDrain::new(alloc, 1, 10_000);
+    let count = written_of(alloc, one, &mut bytes);
+    let other_count = written_of(alloc, other, &mut other_bytes);
     let equal = bytes.written() == other_bytes.written();
-    Ok(equal == same && (!same || count == other_count))
+    count.is_some() && other_count.is_some() && equal == same && (!same || count == other_count)
 }
 
 #[test]
-fn equal_bytes_are_of_equal_demands(rt: HostRuntime) -> Result<(), Fail> {
+fn equal_bytes_are_of_equal_demands(rt: HostRuntime) {
     for pair in PAIRS {
-        assert!(rt; are_compared(rt.alloc(), pair)?);
+        assert!(rt; are_compared(rt.alloc(), pair));
     }
-    Ok(())
 }

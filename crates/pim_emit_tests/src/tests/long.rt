@@ -9,7 +9,6 @@ use pim_device::ScriptedDrain;
 use pim_emit::WriteFault;
 use pim_jp::Entry;
 use std::alloc::{AllocError, Global};
-use std::test::Fail;
 
 /// The front of the first message of 200 sources, behind its length; the second one's.
 const FIRST_OF_200: [u8; 28] = [
@@ -80,31 +79,12 @@ pub(super) fn messages_of_256_stars(alloc: Global) -> Result<Vec<u8>, AllocError
 }
 
 /// Whether a device that fails from this byte on was written the bytes before it, as is told.
-fn is_cut(
-    alloc: Global,
-    state: &State<V4>,
-    bytes: &[u8],
-    fails_from: usize,
-) -> Result<bool, AllocError> {
+fn is_cut(alloc: Global, state: &State<V4>, bytes: &[u8], fails_from: usize) -> bool {
     let mut out = ScriptedDrain::new(alloc, 64, fails_from);
-    let told = write_to(alloc, state, &mut out)?;
-    let (front, _) = bytes.split_at(fails_from.min(bytes.len()));
     let sent = fails_from as u64;
-    Ok(told == Err(WriteFault::Output { sent }) && out.written() == front && out.failures() == 1)
-}
-
-/// The first byte at which a device that fails there isn't written and told so.
-fn first_wrong_failure(
-    alloc: Global,
-    state: &State<V4>,
-    bytes: &[u8],
-) -> Result<Option<usize>, AllocError> {
-    for fails_from in 0..bytes.len() {
-        if !is_cut(alloc, state, bytes, fails_from)? {
-            return Ok(Some(fails_from));
-        }
-    }
-    Ok(None)
+    write_to(alloc, state, &mut out) == Some(Err(WriteFault::Output { sent }))
+        && Some(out.written()) == bytes.get(..fails_from)
+        && out.failures() == 1
 }
 
 fn push_exceptions(pruned: &mut Vec<Entry<[u8; 4]>>, count: u8) -> Result<(), AllocError> {
@@ -115,47 +95,45 @@ fn push_exceptions(pruned: &mut Vec<Entry<[u8; 4]>>, count: u8) -> Result<(), Al
 }
 
 /// Hears the star of the group, with so many exceptions.
-pub(super) fn hear_excepted(
-    alloc: Global,
-    state: &mut State<V4>,
-    count: u8,
-) -> Result<bool, AllocError> {
+pub(super) fn hear_excepted(alloc: Global, state: &mut State<V4>, count: u8) -> bool {
     let mut pruned = Vec::new(alloc);
     match push_exceptions(&mut pruned, count) {
         Ok(()) => hear(alloc, state, 0, GROUP, &[Entry::Star(RP)], &pruned),
-        Err(error) => Err(error),
+        Err(_) => false,
     }
 }
 
 /// Whether these are the bytes of two messages, and a device that fails at any of them was written the ones before.
-fn are_told(alloc: Global, state: &State<V4>, bytes: &[u8]) -> Result<bool, AllocError> {
-    let all = bytes.len() == 1656 && is_written(alloc, state, 2, bytes)?;
-    Ok(all && first_wrong_failure(alloc, state, bytes)?.is_none())
+fn are_told(alloc: Global, state: &State<V4>, bytes: &[u8]) -> bool {
+    bytes.len() == 1656
+        && is_written(alloc, state, 2, bytes)
+        && (0..bytes.len()).all(|fails_from| is_cut(alloc, state, bytes, fails_from))
 }
 
 /// The same where 200 sources were heard.
-fn are_told_of_200(alloc: Global, state: &State<V4>) -> Result<bool, AllocError> {
-    let bytes = messages_of_200(alloc)?;
-    are_told(alloc, state, &bytes)
+fn are_told_of_200(alloc: Global, state: &State<V4>) -> bool {
+    match messages_of_200(alloc) {
+        Ok(bytes) => are_told(alloc, state, &bytes),
+        Err(_) => false,
+    }
 }
 
 /// The same where they are heard now.
-fn are_heard_and_told(alloc: Global, state: &mut State<V4>) -> Result<bool, AllocError> {
-    Ok(hear_200(alloc, state)? && are_told_of_200(alloc, state)?)
+fn are_heard_and_told(alloc: Global, state: &mut State<V4>) -> bool {
+    hear_200(alloc, state) && are_told_of_200(alloc, state)
 }
 
 /// The same of a new state.
-fn each_byte_is_told(alloc: Global) -> Result<bool, AllocError> {
+fn each_byte_is_told(alloc: Global) -> bool {
     match state4(alloc, 1, 1480) {
         Some(mut state) => are_heard_and_told(alloc, &mut state),
-        None => Ok(false),
+        None => false,
     }
 }
 
 #[test]
-fn each_byte_of_200_sources(rt: HostRuntime) -> Result<(), Fail> {
-    assert!(rt; each_byte_is_told(rt.alloc())?);
-    Ok(())
+fn each_byte_of_200_sources(rt: HostRuntime) {
+    assert!(rt; each_byte_is_told(rt.alloc()));
 }
 
 /// The message of a star with 180 exceptions, behind its length.
@@ -166,28 +144,29 @@ fn message_of_180(alloc: Global) -> Result<Vec<u8>, AllocError> {
 }
 
 /// Whether it is what is written.
-fn is_told_of_180(alloc: Global, state: &State<V4>) -> Result<bool, AllocError> {
-    let bytes = message_of_180(alloc)?;
-    is_written(alloc, state, 1, &bytes)
+fn is_told_of_180(alloc: Global, state: &State<V4>) -> bool {
+    match message_of_180(alloc) {
+        Ok(bytes) => is_written(alloc, state, 1, &bytes),
+        Err(_) => false,
+    }
 }
 
 /// The same where the star is heard now.
-fn is_heard_and_told(alloc: Global, state: &mut State<V4>) -> Result<bool, AllocError> {
-    Ok(hear_excepted(alloc, state, 180)? && is_told_of_180(alloc, state)?)
+fn is_heard_and_told(alloc: Global, state: &mut State<V4>) -> bool {
+    hear_excepted(alloc, state, 180) && is_told_of_180(alloc, state)
 }
 
 /// The same of a new state.
-fn exceptions_fit(alloc: Global) -> Result<bool, AllocError> {
+fn exceptions_fit(alloc: Global) -> bool {
     match state4(alloc, 1, 1480) {
         Some(mut state) => is_heard_and_told(alloc, &mut state),
-        None => Ok(false),
+        None => false,
     }
 }
 
 #[test]
-fn as_many_exceptions_as_fit(rt: HostRuntime) -> Result<(), Fail> {
-    assert!(rt; exceptions_fit(rt.alloc())?);
-    Ok(())
+fn as_many_exceptions_as_fit(rt: HostRuntime) {
+    assert!(rt; exceptions_fit(rt.alloc()));
 }
 
 fn push_exceptions6(pruned: &mut Vec<Entry<[u8; 16]>>, count: u8) -> Result<(), AllocError> {
@@ -198,11 +177,11 @@ fn push_exceptions6(pruned: &mut Vec<Entry<[u8; 16]>>, count: u8) -> Result<(), 
 }
 
 /// Hears the star of the group of IPv6, with so many exceptions.
-fn hear_excepted6(alloc: Global, state: &mut State<V6>, count: u8) -> Result<bool, AllocError> {
+fn hear_excepted6(alloc: Global, state: &mut State<V6>, count: u8) -> bool {
     let mut pruned = Vec::new(alloc);
     match push_exceptions6(&mut pruned, count) {
         Ok(()) => hear(alloc, state, 0, GROUP6, &[Entry::Star(RP6)], &pruned),
-        Err(error) => Err(error),
+        Err(_) => false,
     }
 }
 
@@ -216,45 +195,47 @@ fn push_entries6(bytes: &mut Vec<u8>, count: u8) -> Result<(), AllocError> {
 }
 
 /// Whether the star is told to be too big, and nothing is written.
-fn is_too_big6(alloc: Global, state: &State<V6>) -> Result<bool, AllocError> {
+fn is_too_big6(alloc: Global, state: &State<V6>) -> bool {
     let mut out = ScriptedDrain::new(alloc, 1, 10_000);
-    let told = write_to(alloc, state, &mut out)?;
-    Ok(told == Err(WriteFault::TooBig(GROUP6)) && out.written().is_empty())
+    let told = write_to(alloc, state, &mut out);
+    told == Some(Err(WriteFault::TooBig(GROUP6))) && out.written().is_empty()
 }
 
-/// Whether these bytes are written, and behind them so many exceptions; where there are none, the star is too big.
-fn is_told(alloc: Global, state: &State<V6>, front: &[u8], count: u8) -> Result<bool, AllocError> {
+/// These bytes, and behind them so many exceptions.
+fn with_exceptions6(alloc: Global, front: &[u8], count: u8) -> Result<Vec<u8>, AllocError> {
+    let mut bytes = Vec::from_slice(alloc, front)?;
+    push_entries6(&mut bytes, count)?;
+    Ok(bytes)
+}
+
+/// Whether they are written; where the front is empty, the star is too big.
+fn is_told(alloc: Global, state: &State<V6>, front: &[u8], count: u8) -> bool {
     if front.is_empty() {
         return is_too_big6(alloc, state);
     }
-    let mut bytes = Vec::from_slice(alloc, front)?;
-    push_entries6(&mut bytes, count)?;
-    is_written(alloc, state, 1, &bytes)
+    match with_exceptions6(alloc, front, count) {
+        Ok(bytes) => is_written(alloc, state, 1, &bytes),
+        Err(_) => false,
+    }
 }
 
 /// The same where so many exceptions are heard now.
-fn is_told_behind(
-    alloc: Global,
-    state: &mut State<V6>,
-    count: u8,
-    front: &[u8],
-) -> Result<bool, AllocError> {
-    Ok(hear_excepted6(alloc, state, count)? && is_told(alloc, state, front, count)?)
+fn is_told_behind(alloc: Global, state: &mut State<V6>, count: u8, front: &[u8]) -> bool {
+    hear_excepted6(alloc, state, count) && is_told(alloc, state, front, count)
 }
 
 /// The same of a new state, for messages of at most so many bytes.
-fn fits6(alloc: Global, budget: usize, count: u8, front: &[u8]) -> Result<bool, AllocError> {
+fn fits6(alloc: Global, budget: usize, count: u8, front: &[u8]) -> bool {
     match state6(alloc, budget) {
         Some(mut state) => is_told_behind(alloc, &mut state, count, front),
-        None => Ok(false),
+        None => false,
     }
 }
 
 #[test]
-fn as_many_exceptions_of_ipv6_as_fit(rt: HostRuntime) -> Result<(), Fail> {
-    assert!(rt; fits6(rt.alloc(), 1460, 69, &STAR6_BUT_69)?);
-    assert!(rt; fits6(rt.alloc(), 1460, 70, &[])?);
-    assert!(rt; fits6(rt.alloc(), 70, 0, &STAR6)?);
-    assert!(rt; fits6(rt.alloc(), 70, 1, &[])?);
-    Ok(())
+fn as_many_exceptions_of_ipv6_as_fit(rt: HostRuntime) {
+    assert!(rt; fits6(rt.alloc(), 1460, 69, &STAR6_BUT_69));
+    assert!(rt; fits6(rt.alloc(), 1460, 70, &[]));
+    assert!(rt; fits6(rt.alloc(), 70, 0, &STAR6));
+    assert!(rt; fits6(rt.alloc(), 70, 1, &[]));
 }

@@ -2,104 +2,116 @@
 
 use super::long::{messages_of_200, messages_of_256_stars};
 use super::rows::{EXCEPT_A, is_written};
-use super::{GROUP, NEXT_GROUP, RP, State, hear, is_packed, source, state4, write_to};
+use super::{GROUP, NEXT_GROUP, RP, State, hear, is_packed, source, state4, written};
 use pim_addr::V4;
 use pim_device::ScriptedDrain;
 use pim_jp::Entry;
 use std::alloc::{AllocError, Global};
-use std::test::Fail;
 
 /// On each port the star is joined, and 192.0.2.1 pruned, and a source of the port's own.
-fn hear_meeting(alloc: Global, state: &mut State<V4>) -> Result<bool, AllocError> {
+fn hear_meeting(alloc: Global, state: &mut State<V4>) -> bool {
     for port in 0..64 {
         let pruned = [
             Entry::Rpt([192, 0, 2, 1]),
             Entry::Rpt(source((port + 1) as u8)),
         ];
-        if !hear(alloc, state, port, GROUP, &[Entry::Star(RP)], &pruned)? {
-            return Ok(false);
+        if !hear(alloc, state, port, GROUP, &[Entry::Star(RP)], &pruned) {
+            return false;
         }
     }
-    Ok(true)
+    true
 }
 
 /// Whether the exception of all ports is told alone.
-fn exceptions_meet(alloc: Global, state: &mut State<V4>) -> Result<bool, AllocError> {
-    Ok(hear_meeting(alloc, state)? && is_written(alloc, state, 1, &EXCEPT_A)?)
+fn exceptions_meet(alloc: Global, state: &mut State<V4>) -> bool {
+    hear_meeting(alloc, state) && is_written(alloc, state, 1, &EXCEPT_A)
+}
+
+/// The same of a new state.
+fn exceptions_are_met(alloc: Global) -> bool {
+    match state4(alloc, 64, 1480) {
+        Some(mut state) => exceptions_meet(alloc, &mut state),
+        None => false,
+    }
 }
 
 #[test]
-fn exceptions_of_64_ports_meet(rt: HostRuntime) -> Result<(), Fail> {
-    let Some(mut state) = state4(rt.alloc(), 64, 1480) else {
-        assert!(rt; false);
-        return Ok(());
-    };
-    assert!(rt; exceptions_meet(rt.alloc(), &mut state)?);
-    Ok(())
+fn exceptions_of_64_ports_meet(rt: HostRuntime) {
+    assert!(rt; exceptions_are_met(rt.alloc()));
 }
 
 /// 200 sources of the group, one a port by turns.
-fn hear_by_turns(alloc: Global, state: &mut State<V4>) -> Result<bool, AllocError> {
+fn hear_by_turns(alloc: Global, state: &mut State<V4>) -> bool {
     for number in 1..201 {
         let joined = [Entry::Source(source(number as u8))];
-        if !hear(alloc, state, (number - 1) % 64, GROUP, &joined, &[])? {
-            return Ok(false);
+        if !hear(alloc, state, (number - 1) % 64, GROUP, &joined, &[]) {
+            return false;
         }
     }
-    Ok(true)
+    true
 }
 
 /// Whether they are told in their order.
-fn are_told_in_order(alloc: Global, state: &State<V4>) -> Result<bool, AllocError> {
-    let bytes = messages_of_200(alloc)?;
-    is_written(alloc, state, 2, &bytes)
+fn are_told_in_order(alloc: Global, state: &State<V4>) -> bool {
+    match messages_of_200(alloc) {
+        Ok(bytes) => is_written(alloc, state, 2, &bytes),
+        Err(_) => false,
+    }
 }
 
 /// The same where they are heard now.
-fn sources_meet(alloc: Global, state: &mut State<V4>) -> Result<bool, AllocError> {
-    Ok(hear_by_turns(alloc, state)? && are_told_in_order(alloc, state)?)
+fn sources_meet(alloc: Global, state: &mut State<V4>) -> bool {
+    hear_by_turns(alloc, state) && are_told_in_order(alloc, state)
+}
+
+/// The same of a new state.
+fn sources_are_met(alloc: Global) -> bool {
+    match state4(alloc, 64, 1480) {
+        Some(mut state) => sources_meet(alloc, &mut state),
+        None => false,
+    }
 }
 
 #[test]
-fn sources_of_64_ports_meet(rt: HostRuntime) -> Result<(), Fail> {
-    let Some(mut state) = state4(rt.alloc(), 64, 1480) else {
-        assert!(rt; false);
-        return Ok(());
-    };
-    assert!(rt; sources_meet(rt.alloc(), &mut state)?);
-    Ok(())
+fn sources_of_64_ports_meet(rt: HostRuntime) {
+    assert!(rt; sources_are_met(rt.alloc()));
 }
 
 /// The stars of 239.1.0.0 to 239.1.0.255, one a port by turns.
-fn hear_stars(alloc: Global, state: &mut State<V4>) -> Result<bool, AllocError> {
+fn hear_stars(alloc: Global, state: &mut State<V4>) -> bool {
     for number in 0..256 {
         let group = [239, 1, 0, number as u8];
-        if !hear(alloc, state, number % 64, group, &[Entry::Star(RP)], &[])? {
-            return Ok(false);
+        if !hear(alloc, state, number % 64, group, &[Entry::Star(RP)], &[]) {
+            return false;
         }
     }
-    Ok(true)
+    true
 }
 
 /// Whether they are told in their order.
-fn stars_are_told(alloc: Global, state: &State<V4>) -> Result<bool, AllocError> {
-    let bytes = messages_of_256_stars(alloc)?;
-    Ok(bytes.len() == 5152 && is_written(alloc, state, 2, &bytes)?)
+fn stars_are_told(alloc: Global, state: &State<V4>) -> bool {
+    match messages_of_256_stars(alloc) {
+        Ok(bytes) => bytes.len() == 5152 && is_written(alloc, state, 2, &bytes),
+        Err(_) => false,
+    }
 }
 
 /// The same where they are heard now.
-fn groups_take_turns(alloc: Global, state: &mut State<V4>) -> Result<bool, AllocError> {
-    Ok(hear_stars(alloc, state)? && stars_are_told(alloc, state)?)
+fn groups_take_turns(alloc: Global, state: &mut State<V4>) -> bool {
+    hear_stars(alloc, state) && stars_are_told(alloc, state)
+}
+
+/// The same of a new state.
+fn turns_are_taken(alloc: Global) -> bool {
+    match state4(alloc, 64, 6000) {
+        Some(mut state) => groups_take_turns(alloc, &mut state),
+        None => false,
+    }
 }
 
 #[test]
-fn groups_of_64_ports_take_turns(rt: HostRuntime) -> Result<(), Fail> {
-    let Some(mut state) = state4(rt.alloc(), 64, 6000) else {
-        assert!(rt; false);
-        return Ok(());
-    };
-    assert!(rt; groups_take_turns(rt.alloc(), &mut state)?);
-    Ok(())
+fn groups_of_64_ports_take_turns(rt: HostRuntime) {
+    assert!(rt; turns_are_taken(rt.alloc()));
 }
 
 fn push_pruned(pruned: &mut Vec<Entry<[u8; 4]>>, port: usize) -> Result<(), AllocError> {
@@ -110,34 +122,30 @@ fn push_pruned(pruned: &mut Vec<Entry<[u8; 4]>>, port: usize) -> Result<(), Allo
 }
 
 /// A port joins the star, without one source more than the port before it.
-fn hear_star_on(alloc: Global, state: &mut State<V4>, port: usize) -> Result<bool, AllocError> {
+fn hear_star_on(alloc: Global, state: &mut State<V4>, port: usize) -> bool {
     let mut pruned = Vec::new(alloc);
     match push_pruned(&mut pruned, port) {
         Ok(()) => hear(alloc, state, port, GROUP, &[Entry::Star(RP)], &pruned),
-        Err(error) => Err(error),
+        Err(_) => false,
     }
 }
 
 /// Every second port joins two sources of the next group.
-fn hear_next_group_on(
-    alloc: Global,
-    state: &mut State<V4>,
-    port: usize,
-) -> Result<bool, AllocError> {
+fn hear_next_group_on(alloc: Global, state: &mut State<V4>, port: usize) -> bool {
     let two = [
         Entry::Source(source((port % 7 + 1) as u8)),
         Entry::Source(source(90)),
     ];
-    Ok(port % 2 == 0 || hear(alloc, state, port, NEXT_GROUP, &two, &[])?)
+    port % 2 == 0 || hear(alloc, state, port, NEXT_GROUP, &two, &[])
 }
 
 /// Ports that want of the group: all but the last a star, each but one source more than the one before, and all but
 /// three of the same sources; the last some sources. Every second one wants the next group too.
-fn hear_on_all(alloc: Global, state: &mut State<V4>) -> Result<bool, AllocError> {
+fn hear_on_all(alloc: Global, state: &mut State<V4>) -> bool {
     let last = state.ports.port_count().saturating_sub(1);
     for port in 0..last {
-        if !hear_star_on(alloc, state, port)? || !hear_next_group_on(alloc, state, port)? {
-            return Ok(false);
+        if !hear_star_on(alloc, state, port) || !hear_next_group_on(alloc, state, port) {
+            return false;
         }
     }
     let some = [Entry::Source(source(5)), Entry::Source(source(3))];
@@ -145,26 +153,24 @@ fn hear_on_all(alloc: Global, state: &mut State<V4>) -> Result<bool, AllocError>
 }
 
 /// Whether the packed messages are written.
-fn are_merged(alloc: Global, state: &State<V4>) -> Result<bool, AllocError> {
+fn are_merged(alloc: Global, state: &State<V4>) -> bool {
     let mut out = ScriptedDrain::new(alloc, 33, 100_000);
-    let told = write_to(alloc, state, &mut out)?;
-    Ok(told.is_ok() && is_packed(alloc, state, out.written()))
+    written(alloc, state, &mut out).is_some() && is_packed(alloc, state, out.written())
 }
 
 /// The same of a new state of so many ports.
-fn merges(alloc: Global, count: usize, budget: usize) -> Result<bool, AllocError> {
+fn merges(alloc: Global, count: usize, budget: usize) -> bool {
     match state4(alloc, count, budget) {
-        Some(mut state) => { Ok(hear_on_all(alloc, &mut state)? && are_merged(alloc, &state)?) }
-        None => Ok(false),
+        Some(mut state) => hear_on_all(alloc, &mut state) && are_merged(alloc, &state),
+        None => false,
     }
 }
 
 #[test]
-fn merges_the_ports(rt: HostRuntime) -> Result<(), Fail> {
+fn merges_the_ports(rt: HostRuntime) {
     for count in [1, 2, 3, 7, 64] {
         for budget in [70, 100, 1480] {
-            assert!(rt; merges(rt.alloc(), count, budget)?);
+            assert!(rt; merges(rt.alloc(), count, budget));
         }
     }
-    Ok(())
 }

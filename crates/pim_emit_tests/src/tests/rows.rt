@@ -1,13 +1,12 @@
 //! Rows with their bytes, written to a device that takes one byte a call.
 
-use super::{GROUP, RP, STAR, State, body, hear_body, is_packed, state4, write_to};
+use super::{GROUP, RP, STAR, State, body, hear_body, is_packed, state4, written};
 use pim_addr::{Family, Routes, V4};
 use pim_device::ScriptedDrain;
 use pim_down::Ports;
 use pim_form::Writer;
 use pim_jp::Entry;
-use std::alloc::{AllocError, Global};
-use std::test::Fail;
+use std::alloc::Global;
 
 pub(super) const A: [u8; 4] = [192, 0, 2, 1];
 
@@ -153,11 +152,11 @@ pub(super) fn is_written<F: Family>(
     state: &State<F>,
     messages: u64,
     bytes: &[u8],
-) -> Result<bool, AllocError> {
+) -> bool {
     let mut out = ScriptedDrain::new(alloc, 1, 10_000);
-    let told = write_to(alloc, state, &mut out)?;
-    let counted = told.is_ok_and(|count| count == messages);
-    Ok(counted && out.written() == bytes && is_packed(alloc, state, bytes))
+    written(alloc, state, &mut out) == Some(messages)
+        && out.written() == bytes
+        && is_packed(alloc, state, bytes)
 }
 
 /// Whether a port takes what it hears of a group.
@@ -166,10 +165,12 @@ pub(super) fn is_taken(
     state: &mut State<V4>,
     group: [u8; 4],
     heard: &Heard,
-) -> Result<bool, AllocError> {
+) -> bool {
     let upstream = state.writer.upstream();
-    let body = body::<V4>(alloc, upstream, group, heard.joined, heard.pruned)?;
-    Ok(hear_body(state, heard.port, &body, heard.several))
+    match body::<V4>(alloc, upstream, group, heard.joined, heard.pruned) {
+        Ok(body) => hear_body(state, heard.port, &body, heard.several),
+        Err(_) => false,
+    }
 }
 
 /// Whether ports take all that they hear of a group.
@@ -178,38 +179,30 @@ pub(super) fn are_taken(
     state: &mut State<V4>,
     group: [u8; 4],
     heard: &[Heard],
-) -> Result<bool, AllocError> {
+) -> bool {
     for one in heard {
-        if !is_taken(alloc, state, group, one)? {
-            return Ok(false);
+        if !is_taken(alloc, state, group, one) {
+            return false;
         }
     }
-    Ok(true)
+    true
 }
 
 /// Whether a row is so.
-fn is_so(alloc: Global, row: &Row) -> Result<bool, AllocError> {
-    let Some(mut state) = state4(alloc, 3, 1480) else {
-        return Ok(false);
-    };
-    let taken = are_taken(alloc, &mut state, GROUP, row.heard)?;
-    Ok(taken && is_written(alloc, &state, row.messages, row.bytes)?)
-}
-
-/// The number of the first row that isn't so.
-fn first_wrong(alloc: Global, rows: &[Row]) -> Result<Option<usize>, AllocError> {
-    for number in 0..rows.len() {
-        if !is_so(alloc, &rows[number])? {
-            return Ok(Some(number));
+fn is_so(alloc: Global, row: &Row) -> bool {
+    match state4(alloc, 3, 1480) {
+        Some(mut state) => {
+            are_taken(alloc, &mut state, GROUP, row.heard)
+                && is_written(alloc, &state, row.messages, row.bytes)
         }
+        None => false,
     }
-    Ok(None)
 }
 
 #[test]
-fn rows_are_written(rt: HostRuntime) -> Result<(), Fail> {
-    assert_eq!(rt; first_wrong(rt.alloc(), &ROWS)?, None);
-    Ok(())
+fn rows_are_written(rt: HostRuntime) {
+    let wrong = ROWS.iter().position(|row| !is_so(rt.alloc(), row));
+    assert_eq!(rt; wrong, None);
 }
 
 /// What is asked of 10.0.0.2: the source B, and the star of the other group.
@@ -242,22 +235,23 @@ const OTHER_GROUP: Heard = Heard {
     several: false,
 };
 
-/// A table that leads some groups and sources to 10.0.0.6, and the others to 10.0.0.2.
-fn two_ways(alloc: Global) -> Option<Routes<V4>> {
-    let mut routes = Routes::new(alloc);
-    routes.add_rp([239, 1, 0, 0], 16, RP).ok()?;
-    routes.add_rp([239, 1, 1, 0], 24, [10, 8, 8, 8]).ok()?;
-    routes.add_via([0; 4], 0, [10, 0, 0, 2]).ok()?;
-    routes.add_via([10, 8, 0, 0], 16, [10, 0, 0, 6]).ok()?;
-    routes.add_via([192, 0, 2, 0], 24, [10, 0, 0, 6]).ok()?;
-    routes.add_via(B, 32, [10, 0, 0, 2]).ok()?;
-    Some(routes)
+/// Leads some groups and sources to 10.0.0.6, and the others to 10.0.0.2: whether the table took all rows.
+fn lead_two_ways(routes: &mut Routes<V4>) -> bool {
+    routes.add_rp([239, 1, 0, 0], 16, RP).is_ok()
+        && routes.add_rp([239, 1, 1, 0], 24, [10, 8, 8, 8]).is_ok()
+        && routes.add_via([0; 4], 0, [10, 0, 0, 2]).is_ok()
+        && routes.add_via([10, 8, 0, 0], 16, [10, 0, 0, 6]).is_ok()
+        && routes.add_via([192, 0, 2, 0], 24, [10, 0, 0, 6]).is_ok()
+        && routes.add_via(B, 32, [10, 0, 0, 2]).is_ok()
 }
 
 /// One port under that table, and a writer to this neighbour from this address.
 fn between_two(alloc: Global, upstream: [u8; 4], own: [u8; 4]) -> Option<State<V4>> {
-    let routes = two_ways(alloc)?;
     let writer = Writer::new(upstream, own, 210, 1480).ok()?;
+    let mut routes = Routes::new(alloc);
+    if !lead_two_ways(&mut routes) {
+        return None;
+    }
     Some(State {
         ports: Ports::new(alloc, 1, 1000),
         routes,
@@ -265,24 +259,23 @@ fn between_two(alloc: Global, upstream: [u8; 4], own: [u8; 4]) -> Option<State<V
     })
 }
 
+/// Whether a state hears its part of both groups, and this message is written then.
+fn asks(alloc: Global, state: &mut State<V4>, bytes: &[u8]) -> bool {
+    is_taken(alloc, state, GROUP, &FIRST_GROUP)
+        && is_taken(alloc, state, [239, 1, 2, 1], &OTHER_GROUP)
+        && is_written(alloc, state, 1, bytes)
+}
+
 /// Whether a neighbour is asked by a message of these bytes for its part of both groups.
-fn is_asked(
-    alloc: Global,
-    upstream: [u8; 4],
-    own: [u8; 4],
-    bytes: &[u8],
-) -> Result<bool, AllocError> {
-    let Some(mut state) = between_two(alloc, upstream, own) else {
-        return Ok(false);
-    };
-    let taken = is_taken(alloc, &mut state, GROUP, &FIRST_GROUP)?
-        && is_taken(alloc, &mut state, [239, 1, 2, 1], &OTHER_GROUP)?;
-    Ok(taken && is_written(alloc, &state, 1, bytes)?)
+fn is_asked(alloc: Global, upstream: [u8; 4], own: [u8; 4], bytes: &[u8]) -> bool {
+    match between_two(alloc, upstream, own) {
+        Some(mut state) => asks(alloc, &mut state, bytes),
+        None => false,
+    }
 }
 
 #[test]
-fn each_neighbour_is_asked_for_its_part(rt: HostRuntime) -> Result<(), Fail> {
-    assert!(rt; is_asked(rt.alloc(), [10, 0, 0, 2], [10, 0, 0, 1], &OF_ONE)?);
-    assert!(rt; is_asked(rt.alloc(), [10, 0, 0, 6], [10, 0, 0, 5], &OF_OTHER)?);
-    Ok(())
+fn each_neighbour_is_asked_for_its_part(rt: HostRuntime) {
+    assert!(rt; is_asked(rt.alloc(), [10, 0, 0, 2], [10, 0, 0, 1], &OF_ONE));
+    assert!(rt; is_asked(rt.alloc(), [10, 0, 0, 6], [10, 0, 0, 5], &OF_OTHER));
 }

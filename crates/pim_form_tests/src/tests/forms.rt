@@ -172,7 +172,7 @@ fn want_at_last(alloc: Global, ports: &Ports<V4>) -> Option<bool> {
     want(alloc, ports, HELD.wanted).ok()
 }
 
-// With each allocation refused in turn (`rt try --test --fail-alloc 1..`): the ports hold what they held, and with
+// With each allocation refused in turn (`tools/each_growth_refused.sh`): the ports hold what they held, and with
 // memory their form is what it would have been.
 #[test]
 fn refusals_leave_the_ports(rt: HostRuntime) {

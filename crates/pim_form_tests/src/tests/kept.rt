@@ -106,7 +106,7 @@ fn hear_message(alloc: Global, ports: &mut Ports<V4>) -> bool {
     heard == Ok(true)
 }
 
-// With each allocation refused in turn (`rt try --test --fail-alloc 1..`): the form is as before, and the same call, with
+// With each allocation refused in turn (`tools/each_growth_refused.sh`): the form is as before, and the same call, with
 // memory, gives it again.
 #[test]
 fn refusals_leave_the_form(rt: HostRuntime) {

@@ -337,7 +337,7 @@ fn wants_are_packed(alloc: Global, router: &Router<V4>) -> bool {
     }
 }
 
-// With each allocation refused in turn (`rt try --test --fail-alloc 1..`): the form is as it was, and the same call,
+// With each allocation refused in turn (`tools/each_growth_refused.sh`): the form is as it was, and the same call,
 // with memory, gives its messages.
 #[test]
 fn refusals_change_nothing(rt: HostRuntime) -> Result<(), Fail> {

@@ -337,7 +337,7 @@ fn heard_at_last(alloc: Global) -> Option<Ports<V4>> {
     }
 }
 
-// With each allocation refused in turn (`rt try --test --fail-alloc 1..`): the answer is want of memory, and the same
+// With each allocation refused in turn (`tools/each_growth_refused.sh`): the answer is want of memory, and the same
 // call, with memory, answers what it would have answered.
 #[test]
 fn refusals_of_toward_change_nothing(rt: HostRuntime) {

@@ -292,7 +292,7 @@ fn holds_1024(rt: HostRuntime) -> Result<(), Fail> {
     Ok(())
 }
 
-// With each allocation refused in turn (`rt try --test --fail-alloc 1..`): the table is as it was, and the
+// With each allocation refused in turn (`tools/each_growth_refused.sh`): the table is as it was, and the
 // same Hello, with memory, is told as it would have been.
 #[test]
 fn refusals_change_nothing(rt: HostRuntime) {

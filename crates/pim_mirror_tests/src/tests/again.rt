@@ -1,6 +1,7 @@
 //! What a router is asked for, and what one asks for again that heard it by canonical messages alone.
 
-use pim_addr::{Family, RouteFault, Routes, V4};
+use super::tables::{self, Route};
+use pim_addr::{Family, Routes, V4};
 use pim_form::{Messages, Writer};
 use pim_frame::{MessageType, all_routers, seal};
 use pim_router::{Config, PortConfig, Router, Step, Verdict};
@@ -40,19 +41,15 @@ pub(super) const ASKED: [u8; 90] = [
     10, 9, 9, 9,
 ];
 
-/// Leads all groups to one RP, and all addresses to the upstream neighbour.
-fn lead_all(routes: &mut Routes<V4>) -> Result<(), RouteFault> {
-    routes.add_rp([224, 0, 0, 0], 4, [10, 9, 9, 9])?;
-    routes.add_via([0, 0, 0, 0], 0, UPSTREAM)
-}
+/// One RP for all groups, and one neighbour for all addresses.
+const ONE_WAY: [Route<[u8; 4]>; 2] = [
+    (true, [224, 0, 0, 0], 4, [10, 9, 9, 9]),
+    (false, [0, 0, 0, 0], 0, UPSTREAM),
+];
 
-/// One RP for all groups, and one neighbour for all addresses; `None` where memory is wanting.
+/// That table; `None` where memory is wanting.
 pub(super) fn table(alloc: Global) -> Option<Routes<V4>> {
-    let mut routes: Routes<V4> = Routes::new(alloc);
-    match lead_all(&mut routes) {
-        Ok(()) => Some(routes),
-        Err(_) => None,
-    }
+    tables::table(alloc, &ONE_WAY)
 }
 
 /// That table, and the writer.

@@ -360,7 +360,7 @@ fn exception_is_heard_at_last(alloc: Global) -> Option<Written> {
     }
 }
 
-/// Run with each allocation refused in turn (`rt try --test --fail-alloc 1..`).
+/// Run with each allocation refused in turn (`tools/each_growth_refused.sh`).
 #[test]
 fn exception_is_pruned_at_the_final_moment(rt: HostRuntime) -> Result<(), Fail> {
     let wanted = Ends {

@@ -9,6 +9,7 @@ mod written;
 
 use super::again::{reach, started, take};
 use super::mirrored::{OTHERS, mirrored};
+use super::tables::{Route, table};
 use pim_addr::{Family, Routes, V4};
 use pim_form::{Messages, Writer};
 use pim_frame::MessageType;
@@ -55,9 +56,6 @@ enum Event<'a> {
 /// A state: the writer's budget, what happened, and the messages by which the upstream neighbour is then asked.
 type State<'a> = (usize, &'a [Event<'a>], &'a [Spelled<'a>]);
 
-/// For an RP or a neighbour, a prefix and its length, and where it leads.
-type Route<A> = (bool, A, u8, A);
-
 /// Where a state arises, and whom it asks.
 struct Scene<'a, A> {
     routes: &'a [Route<A>],
@@ -76,31 +74,6 @@ struct Course<'a> {
     deliveries: &'a [Delivery],
     /// How many of the messages, the first ones, came at 0.
     at_once: usize,
-}
-
-/// Adds these rows; whether each was taken.
-fn add_all<F: Family>(routes: &mut Routes<F>, rows: &[Route<F::Addr>]) -> bool {
-    for &(is_rp, prefix, length, to) in rows {
-        let added = if is_rp {
-            routes.add_rp(prefix, length, to)
-        } else {
-            routes.add_via(prefix, length, to)
-        };
-        if added.is_err() {
-            return false;
-        }
-    }
-    true
-}
-
-/// A table of these rows; `None` where one is refused.
-fn table<F: Family>(alloc: Global, rows: &[Route<F::Addr>]) -> Option<Routes<F>> {
-    let mut routes: Routes<F> = Routes::new(alloc);
-    if add_all(&mut routes, rows) {
-        Some(routes)
-    } else {
-        None
-    }
 }
 
 /// Adds a run's bytes: whether there was memory.

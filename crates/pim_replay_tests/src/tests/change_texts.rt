@@ -1,6 +1,7 @@
 //! Captures whose states are compared, and what is written of the changes between them.
 
-use super::replays::{Input, ONE};
+use super::replays::ONE;
+use super::runs::Input;
 
 /// A capture of raw IP packets: a Hello from 10.0.0.9, and 5 ms later its Join of the star of 239.1.1.1 without the
 /// five sources from 192.0.2.1 on, in 74 bytes.

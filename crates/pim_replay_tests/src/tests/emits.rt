@@ -1,15 +1,14 @@
 //! Messages of a replay's state that are written as bytes, over devices that fail.
 
 use super::mirrors::WITH_EXCEPTION;
-use super::replays::{EMPTY, FIRST_PORT, Input, NEVER, ONE};
-use super::sames::{ROWS, merge_of};
-use super::world::{Device, add_rows};
-use pim_addr::{Routes, ScriptedDrain, V4};
+use super::replays::{EMPTY, ONE, fault};
+use super::runs;
+use super::runs::{Asked, End, Input, NEVER, ended};
+use super::sames::{BY, SCENE, THREE};
+use super::world::Device;
+use pim_addr::{ScriptedDrain, V4};
 use pim_capture::CaptureFault;
-use pim_form::Writer;
-use pim_merge::MergeFault;
-use pim_replay::{EmitFault, ReplayFault, emit_into};
-use pim_router::{Config, Router};
+use pim_replay::ReplayFault;
 use std::alloc::Global;
 
 /// The star of 239.1.1.1, behind its length.
@@ -24,65 +23,34 @@ const EXCEPTED: [u8; 44] = [
     0, 1, 1, 0, 7, 32, 10, 9, 9, 9, 1, 0, 5, 32, 192, 0, 2, 1,
 ];
 
-/// What was written of a router with one port, and how that ended; `None` where it can't begin.
-fn emitted(
-    alloc: Global,
-    input: Input<'_>,
-    device: Device,
-) -> Option<(ScriptedDrain, Result<u8, EmitFault<V4>>)> {
-    let mut routes = Routes::<V4>::new(alloc);
-    if !add_rows(&mut routes, &ROWS) {
-        return None;
-    }
-    let config = Config {
-        ports: &FIRST_PORT,
-        routes: &routes,
-        limit: 100,
-    };
-    let Ok(mut router) = Router::new(alloc, &config) else {
-        return None;
-    };
-    let mut merge = merge_of(alloc, input).ok()?;
-    if merge.count() != router.port_count() {
-        return None;
-    }
-    let by = Writer::<V4>::new([10, 0, 0, 2], [10, 0, 0, 1], 210, 1460).ok()?;
-    let mut bytes = ScriptedDrain::new(alloc, device.most, device.fails_from);
-    let answer = emit_into(alloc, &mut merge, &mut router, 0, &by, &mut bytes);
-    Some((bytes, answer))
+/// Whether it ends so, and has written these bytes, over this device.
+fn ends(alloc: Global, input: Input<'_>, device: Device, bytes: &[u8], end: End<[u8; 4]>) -> bool {
+    runs::ends::<V4>(
+        alloc,
+        Asked::Emit(BY),
+        &SCENE,
+        &[input],
+        device,
+        (bytes, end),
+    )
 }
 
-/// Whether it ends so, and has written these bytes, over a device that takes so many a call.
-fn ends(
-    alloc: Global,
-    input: Input<'_>,
-    most: usize,
-    bytes: &[u8],
-    end: Result<u8, EmitFault<V4>>,
-) -> bool {
+/// Whether what each capture asks for is written, over a device that takes so many bytes a call.
+fn are_written(alloc: Global, most: usize) -> bool {
     let device = Device {
         most,
         fails_from: NEVER,
     };
-    match emitted(alloc, input, device) {
-        Some((written, answer)) => answer == end && written.written() == bytes,
-        None => false,
-    }
+    ends(alloc, ONE, device, &STAR, End::Status(0))
+        && ends(alloc, WITH_EXCEPTION, device, &EXCEPTED, End::Status(0))
+        && ends(alloc, EMPTY, device, &[], End::Status(0))
 }
 
 #[test]
 fn messages_are_written_behind_their_lengths(rt: HostRuntime) {
     for most in [1, 3, 64] {
-        assert!(rt; ends(rt.alloc(), ONE, most, &STAR, Ok(0)));
-        assert!(rt; ends(rt.alloc(), WITH_EXCEPTION, most, &EXCEPTED, Ok(0)));
-        assert!(rt; ends(rt.alloc(), EMPTY, most, &[], Ok(0)));
+        assert!(rt; are_written(rt.alloc(), most));
     }
-}
-
-/// How it ends where its capture has this fault.
-fn fault(fault: CaptureFault) -> Result<u8, EmitFault<V4>> {
-    let told = MergeFault { capture: 0, fault };
-    Err(EmitFault::Replay(ReplayFault::Capture(told)))
 }
 
 #[test]
@@ -93,21 +61,17 @@ fn broken_captures_write_no_bytes(rt: HostRuntime) {
         fails_from: 139,
         ..ONE
     };
-    assert!(rt; ends(alloc, cut, 3, &[], fault(CaptureFault::Truncated)));
-    assert!(rt; ends(alloc, broken, 3, &[], fault(CaptureFault::Read)));
+    assert!(rt; ends(alloc, cut, THREE, &[], fault(CaptureFault::Truncated)));
+    assert!(rt; ends(alloc, broken, THREE, &[], fault(CaptureFault::Read)));
 }
 
 /// Whether a device that fails from this byte on, and takes so many a call, was written the bytes before it and told so.
 fn leaves_front(alloc: Global, most: usize, fails_from: usize) -> bool {
-    let (front, _) = STAR.split_at(fails_from.min(STAR.len()));
-    match emitted(alloc, ONE, Device { most, fails_from }) {
-        Some((bytes, answer)) => {
-            answer == Err(EmitFault::Replay(ReplayFault::Output))
-                && bytes.written() == front
-                && bytes.failures() == 1
-        }
-        None => false,
-    }
+    let mut bytes = ScriptedDrain::new(alloc, most, fails_from);
+    let end = ended::<V4>(alloc, Asked::Emit(BY), &SCENE, &[ONE], &mut bytes);
+    end == Some(End::Replay(ReplayFault::Output))
+        && bytes.failures() == 1
+        && Some(bytes.written()) == STAR.get(..fails_from)
 }
 
 #[test]
@@ -124,34 +88,30 @@ fn devices_that_fail_behind_the_last_byte_take_all(rt: HostRuntime) {
         most: 5,
         fails_from: STAR.len(),
     };
-    match emitted(rt.alloc(), ONE, device) {
-        Some((bytes, answer)) => {
-            assert!(rt; answer == Ok(0));
-            assert_eq!(rt; bytes.written(), STAR.as_slice());
-        }
-        None => assert!(rt; false),
-    }
+    assert!(rt; ends(rt.alloc(), ONE, device, &STAR, End::Status(0)));
 }
 
-/// Whether what is written goes with the answer: nothing for want of memory, and a front where the device failed, which
+/// Whether what is written goes with how it ends: nothing for want of memory, and a front where the device failed, which
 /// it does for want of memory of its own.
-fn goes_with(written: &[u8], answer: Result<u8, EmitFault<V4>>) -> bool {
-    match answer {
-        Ok(status) => status == 0 && written == EXCEPTED.as_slice(),
-        Err(EmitFault::Replay(ReplayFault::Memory)) => written.is_empty(),
-        Err(EmitFault::Replay(ReplayFault::Output)) => EXCEPTED.starts_with(written),
-        Err(_) => false,
+fn goes_with(written: &[u8], end: Option<End<[u8; 4]>>) -> bool {
+    match end {
+        Some(End::Status(status)) => status == 0 && written == EXCEPTED.as_slice(),
+        None | Some(End::Replay(ReplayFault::Memory)) => written.is_empty(),
+        Some(End::Replay(ReplayFault::Output)) => EXCEPTED.starts_with(written),
+        Some(_) => false,
     }
 }
 
 // With each allocation refused in turn (`tools/each_growth_refused.sh`).
 #[test]
 fn refused_memory_leaves_a_front_of_the_bytes(rt: HostRuntime) {
-    let device = Device {
-        most: 3,
-        fails_from: NEVER,
-    };
-    if let Some((bytes, answer)) = emitted(rt.alloc(), WITH_EXCEPTION, device) {
-        assert!(rt; goes_with(bytes.written(), answer));
-    }
+    let mut bytes = ScriptedDrain::new(rt.alloc(), 3, NEVER);
+    let end = ended::<V4>(
+        rt.alloc(),
+        Asked::Emit(BY),
+        &SCENE,
+        &[WITH_EXCEPTION],
+        &mut bytes,
+    );
+    assert!(rt; goes_with(bytes.written(), end));
 }

@@ -1,14 +1,12 @@
 //! Messages of a replay's state, which a fresh router hears, over devices that fail.
 
-use super::replays::{EMPTY, FIRST_PORT, Input, NEVER, ONE};
-use super::sames::{ROWS, merge_of};
-use super::world::{Device, add_rows};
-use pim_addr::{Routes, ScriptedDrain, V4};
+use super::replays::{EMPTY, ONE, fault};
+use super::runs;
+use super::runs::{Asked, End, Input, NEVER, ended};
+use super::sames::{BY, SCENE, THREE};
+use pim_addr::{ScriptedDrain, V4};
 use pim_capture::CaptureFault;
-use pim_form::Writer;
-use pim_merge::MergeFault;
-use pim_replay::{MirrorTextFault, ReplayFault, mirror_into};
-use pim_router::{Config, Router};
+use pim_replay::ReplayFault;
 use std::alloc::Global;
 
 /// A capture of raw IP packets: a Hello from 10.0.0.9, and 5 ms later its Join of the star of 239.1.1.1 without
@@ -47,72 +45,29 @@ messages 1
 agrees
 ";
 
-/// What was written of a router with one port, and how that ended; `None` where it can't begin. The fresh router may
-/// hold so many records.
-fn mirrored(
-    alloc: Global,
-    input: Input<'_>,
-    limit: usize,
-    device: Device,
-) -> Option<(ScriptedDrain, Result<u8, MirrorTextFault<V4>>)> {
-    let mut routes = Routes::<V4>::new(alloc);
-    if limit == 0 || limit > 100 || !add_rows(&mut routes, &ROWS) {
-        return None;
-    }
-    let config = Config {
-        ports: &FIRST_PORT,
-        routes: &routes,
-        limit: 100,
-    };
-    let Ok(mut router) = Router::new(alloc, &config) else {
-        return None;
-    };
-    let mut merge = merge_of(alloc, input).ok()?;
-    if merge.count() != router.port_count() {
-        return None;
-    }
-    let by = Writer::<V4>::new([10, 0, 0, 2], [10, 0, 0, 1], 210, 1460).ok()?;
-    let mut text = ScriptedDrain::new(alloc, device.most, device.fails_from);
-    let answer = mirror_into(alloc, &mut merge, &mut router, 0, &by, limit, &mut text);
-    Some((text, answer))
-}
-
-/// Whether a mirror ends so, and has written this.
-fn ends(
-    alloc: Global,
-    input: Input<'_>,
-    limit: usize,
-    text: &str,
-    end: Result<u8, MirrorTextFault<V4>>,
-) -> bool {
-    let device = Device {
-        most: 3,
-        fails_from: NEVER,
-    };
-    match mirrored(alloc, input, limit, device) {
-        Some((written, answer)) => answer == end && written.written() == text.as_bytes(),
-        None => false,
-    }
+/// Whether a mirror ends so, and has written this. The fresh router may hold so many records.
+fn ends(alloc: Global, input: Input<'_>, limit: usize, text: &str, end: End<[u8; 4]>) -> bool {
+    runs::ends::<V4>(
+        alloc,
+        Asked::Mirror(BY, limit),
+        &SCENE,
+        &[input],
+        THREE,
+        (text.as_bytes(), end),
+    )
 }
 
 #[test]
 fn messages_are_heard_again(rt: HostRuntime) {
     let alloc = rt.alloc();
-    assert!(rt; ends(alloc, ONE, 1, STAR_TEXT, Ok(0)));
-    assert!(rt; ends(alloc, EMPTY, 1, "messages 0\nagrees\n", Ok(0)));
-    assert!(rt; ends(alloc, WITH_EXCEPTION, 2, EXCEPTED_TEXT, Ok(0)));
+    assert!(rt; ends(alloc, ONE, 1, STAR_TEXT, End::Status(0)));
+    assert!(rt; ends(alloc, EMPTY, 1, "messages 0\nagrees\n", End::Status(0)));
+    assert!(rt; ends(alloc, WITH_EXCEPTION, 2, EXCEPTED_TEXT, End::Status(0)));
 }
 
 #[test]
 fn fresh_router_has_no_room(rt: HostRuntime) {
-    let full = Err(MirrorTextFault::Full { needed: 2 });
-    assert!(rt; ends(rt.alloc(), WITH_EXCEPTION, 1, EXCEPTED_LINES, full));
-}
-
-/// How a mirror ends where its capture has this fault.
-fn fault(fault: CaptureFault) -> Result<u8, MirrorTextFault<V4>> {
-    let told = MergeFault { capture: 0, fault };
-    Err(MirrorTextFault::Replay(ReplayFault::Capture(told)))
+    assert!(rt; ends(rt.alloc(), WITH_EXCEPTION, 1, EXCEPTED_LINES, End::Full(2)));
 }
 
 #[test]
@@ -129,19 +84,10 @@ fn broken_captures_tell_no_messages(rt: HostRuntime) {
 
 /// Whether a device that fails from this byte on leaves the text up to there.
 fn leaves_front(alloc: Global, fails_from: usize) -> bool {
-    let (front, _) = STAR_TEXT
-        .as_bytes()
-        .split_at(fails_from.min(STAR_TEXT.len()));
-    let device = Device {
-        most: 3,
-        fails_from,
-    };
-    match mirrored(alloc, ONE, 1, device) {
-        Some((text, answer)) => {
-            answer == Err(MirrorTextFault::Replay(ReplayFault::Output)) && text.written() == front
-        }
-        None => false,
-    }
+    let mut text = ScriptedDrain::new(alloc, 3, fails_from);
+    let end = ended::<V4>(alloc, Asked::Mirror(BY, 1), &SCENE, &[ONE], &mut text);
+    end == Some(End::Replay(ReplayFault::Output))
+        && Some(text.written()) == STAR_TEXT.as_bytes().get(..fails_from)
 }
 
 #[test]
@@ -151,29 +97,26 @@ fn failed_text_leaves_a_front(rt: HostRuntime) {
     }
 }
 
-/// Whether what is written goes with the answer: nothing, or all but the last line, for want of memory, and a front where
-/// the device failed, which it does for want of memory of its own.
-fn goes_with(written: &[u8], answer: Result<u8, MirrorTextFault<V4>>) -> bool {
-    match answer {
-        Ok(status) => status == 0 && written == EXCEPTED_TEXT.as_bytes(),
-        Err(MirrorTextFault::Replay(ReplayFault::Memory)) => {
+/// Whether what is written goes with how it ends: nothing, or all but the last line, for want of memory, and a front
+/// where the device failed, which it does for want of memory of its own.
+fn goes_with(written: &[u8], end: Option<End<[u8; 4]>>) -> bool {
+    let whole = EXCEPTED_TEXT.as_bytes();
+    match end {
+        None => written.is_empty(),
+        Some(End::Status(status)) => status == 0 && written == whole,
+        Some(End::Replay(ReplayFault::Memory)) => {
             written.is_empty() || written == EXCEPTED_LINES.as_bytes()
         }
-        Err(MirrorTextFault::Replay(ReplayFault::Output)) => {
-            EXCEPTED_TEXT.as_bytes().starts_with(written)
-        }
-        Err(_) => false,
+        Some(End::Replay(ReplayFault::Output)) => whole.starts_with(written),
+        Some(_) => false,
     }
 }
 
-// With each allocation refused in turn (`tools/refuse_memory.sh`).
+// With each allocation refused in turn (`tools/each_growth_refused.sh`).
 #[test]
 fn refused_memory_tells_whole_lines(rt: HostRuntime) {
-    let device = Device {
-        most: 64,
-        fails_from: NEVER,
-    };
-    if let Some((text, answer)) = mirrored(rt.alloc(), WITH_EXCEPTION, 2, device) {
-        assert!(rt; goes_with(text.written(), answer));
-    }
+    let mut text = ScriptedDrain::new(rt.alloc(), 64, NEVER);
+    let asked = Asked::Mirror(BY, 2);
+    let end = ended::<V4>(rt.alloc(), asked, &SCENE, &[WITH_EXCEPTION], &mut text);
+    assert!(rt; goes_with(text.written(), end));
 }

@@ -1,15 +1,14 @@
 //! Replays of small captures, by readers that give few bytes, end early or fail, over devices that fail.
 
+use super::runs::{Asked, End, Input, NEVER, Scene, ended, ends};
 use super::states::ONE_RP;
-use super::world::{Device, Route, add_rows};
-use pim_addr::{Family, Routes, ScriptedDrain, ScriptedFeed, V4};
+use super::world::Device;
+use pim_addr::{ScriptedDrain, V4};
 use pim_capture::CaptureFault;
-use pim_merge::{Merge, MergeFault};
-use pim_replay::{ReplayFault, replay_into};
-use pim_router::{Config, PortConfig, Router};
+use pim_merge::MergeFault;
+use pim_replay::ReplayFault;
+use pim_router::PortConfig;
 use std::alloc::Global;
-
-pub(super) const NEVER: usize = usize::MAX;
 
 /// A capture of raw IP packets: a Hello from 10.0.0.9 at 100 s, and 5 ms later its Join of the star of 239.1.1.1, to
 /// 10.0.0.2 and with the RP 10.9.9.9.
@@ -22,70 +21,11 @@ const CAPTURE: [u8; 140] = [
     0xef, 1, 1, 1, 0, 1, 0, 0, 1, 0, 7, 0x20, 0x0a, 9, 9, 9,
 ];
 
-/// A reader: these bytes, so many a call, and failures from this byte on.
-#[derive(Clone, Copy)]
-pub(super) struct Input<'a> {
-    pub(super) bytes: &'a [u8],
-    pub(super) most: usize,
-    pub(super) fails_from: usize,
-}
-
-/// A replay: its ports, its route table, and how long it goes on behind the last record.
-#[derive(Clone, Copy)]
-pub(super) struct Scene<'a, A> {
-    pub(super) ports: &'a [PortConfig<A>],
-    pub(super) rows: &'a [Route<A>],
-    pub(super) after_ms: u64,
-}
-
-/// What was written of a replay, with one capture a port, and how it ended; `None` where it can't begin.
-fn replayed<F: Family>(
-    alloc: Global,
-    scene: &Scene<'_, F::Addr>,
-    captures: &[Input<'_>],
-    device: Device,
-) -> Option<(ScriptedDrain, Result<u8, ReplayFault>)> {
-    let mut routes = Routes::<F>::new(alloc);
-    if !add_rows(&mut routes, scene.rows) {
-        return None;
-    }
-    let config = Config {
-        ports: scene.ports,
-        routes: &routes,
-        limit: 100,
-    };
-    let mut router = Router::new(alloc, &config).ok()?;
-    let mut merge = Merge::new(alloc);
-    for input in captures {
-        let reader = ScriptedFeed::new(input.bytes, input.most, input.fails_from);
-        merge.add(alloc, reader).ok()?;
-    }
-    if merge.count() != router.port_count() || router.now() > 0 {
-        return None;
-    }
-    let after_ms = scene.after_ms.min(1_000_000_000);
-    let mut text = ScriptedDrain::new(alloc, device.most, device.fails_from);
-    let answer = replay_into(alloc, &mut merge, &mut router, after_ms, false, &mut text);
-    Some((text, answer))
-}
-
-/// Whether a replay ends so, and has written this.
-pub(super) fn ends<F: Family>(
-    alloc: Global,
-    scene: &Scene<'_, F::Addr>,
-    captures: &[Input<'_>],
-    text: &str,
-    end: Result<u8, ReplayFault>,
-) -> bool {
-    let device = Device {
-        most: 7,
-        fails_from: NEVER,
-    };
-    match replayed::<F>(alloc, scene, captures, device) {
-        Some((written, answer)) => answer == end && written.written() == text.as_bytes(),
-        None => false,
-    }
-}
+/// A device that takes seven bytes a call.
+pub(super) const SEVEN: Device = Device {
+    most: 7,
+    fails_from: NEVER,
+};
 
 pub(super) const ONE: Input<'static> = Input {
     bytes: &CAPTURE,
@@ -192,47 +132,58 @@ skipped 0 refreshes 2
     (SCENE, &[EMPTY], NOTHING),
 ];
 
+/// Whether the report of these captures is this one, and ends so.
+fn reports(
+    alloc: Global,
+    scene: &Scene<'_, [u8; 4]>,
+    captures: &[Input<'_>],
+    (text, end): (&str, End<[u8; 4]>),
+) -> bool {
+    ends::<V4>(
+        alloc,
+        Asked::Report,
+        scene,
+        captures,
+        SEVEN,
+        (text.as_bytes(), end),
+    )
+}
+
 #[test]
 fn replays_are_reported(rt: HostRuntime) {
-    let wrong = ROWS.iter().position(|(scene, captures, text)| !ends::<V4>(
+    let wrong = ROWS.iter().position(|(scene, captures, text)| !reports(
         rt.alloc(),
         scene,
         captures,
-        text,
-        Ok(0),
+        (text, End::Status(0)),
     ));
     assert_eq!(rt; wrong, None);
 }
 
-/// How a replay ends where the capture of the first port has this fault.
-pub(super) fn fault(fault: CaptureFault) -> Result<u8, ReplayFault> {
-    Err(ReplayFault::Capture(MergeFault { capture: 0, fault }))
+/// How it ends where the capture of the first port has this fault.
+pub(super) fn fault<A>(fault: CaptureFault) -> End<A> {
+    End::Replay(ReplayFault::Capture(MergeFault { capture: 0, fault }))
 }
 
 const FIRST_LINE: &str = "0 port 0 from 10.0.0.9 hello new\n";
 
 /// What is written of the capture where it is cut to these many bytes, and how the replay ends.
-fn cut_to(length: usize) -> (&'static str, Result<u8, ReplayFault>) {
+fn cut_to(length: usize) -> (&'static str, End<[u8; 4]>) {
     match length {
-        24 => (NOTHING, Ok(0)),
+        24 => (NOTHING, End::Status(0)),
         70 => (
             "0 port 0 from 10.0.0.9 hello new\nstate at 0\nskipped 0 refreshes 0\n",
-            Ok(0),
+            End::Status(0),
         ),
-        140 => (REPORT, Ok(0)),
+        140 => (REPORT, End::Status(0)),
         0..70 => ("", fault(CaptureFault::Truncated)),
         _ => (FIRST_LINE, fault(CaptureFault::Truncated)),
     }
 }
 
-/// Whether the replay of this reader ends so, and has written this.
-pub(super) fn ends_with(
-    alloc: Global,
-    input: Input<'_>,
-    text: &str,
-    end: Result<u8, ReplayFault>,
-) -> bool {
-    ends::<V4>(alloc, &SCENE, &[input], text, end)
+/// Whether the report of this reader is this one, and ends so.
+pub(super) fn ends_with(alloc: Global, input: Input<'_>, text: &str, end: End<[u8; 4]>) -> bool {
+    reports(alloc, &SCENE, &[input], (text, end))
 }
 
 #[test]
@@ -268,59 +219,46 @@ fn a_fault_of_another_word_ends_it(rt: HostRuntime) {
         ports: &TWO_PORTS,
         ..SCENE
     };
-    let end = Err(ReplayFault::Capture(MergeFault {
+    let end = End::Replay(ReplayFault::Capture(MergeFault {
         capture: 1,
         fault: CaptureFault::Truncated,
     }));
-    assert!(rt; ends::<V4>(rt.alloc(), &scene, &[ONE, bad], "", end));
+    assert!(rt; reports(rt.alloc(), &scene, &[ONE, bad], ("", end)));
 }
 
-/// Whether the device failed once, and this front of the report went out.
-fn leaves(alloc: Global, device: Device, front: &[u8]) -> bool {
-    match replayed::<V4>(alloc, &SCENE, &[ONE], device) {
-        Some((text, answer)) => {
-            let failed = answer == Err(ReplayFault::Output) && text.failures() == 1;
-            failed && text.written() == front
-        }
-        None => false,
-    }
+/// Whether a device that fails from this byte on failed once, and the front of the report went out.
+fn leaves_front(alloc: Global, fails_from: usize) -> bool {
+    let mut text = ScriptedDrain::new(alloc, 3, fails_from);
+    let end = ended::<V4>(alloc, Asked::Report, &SCENE, &[ONE], &mut text);
+    end == Some(End::Replay(ReplayFault::Output))
+        && text.failures() == 1
+        && Some(text.written()) == REPORT.as_bytes().get(..fails_from)
 }
 
 #[test]
 fn failed_writes_leave_a_front(rt: HostRuntime) {
-    let whole = REPORT.as_bytes();
-    for fails_from in 0..whole.len() {
-        let (front, _) = whole.split_at(fails_from);
-        let device = Device {
-            most: 3,
-            fails_from,
-        };
-        assert!(rt; leaves(rt.alloc(), device, front));
+    for fails_from in 0..REPORT.len() {
+        assert!(rt; leaves_front(rt.alloc(), fails_from));
     }
 }
 
-// With each allocation refused in turn (`rt try --test --fail-alloc 1..`): want of memory, of the replay or of the
-// device that keeps the text, leaves a front of the report; replayed again, it is whole.
+/// Whether what is written goes with how it ends: want of memory, of the replay or of the device that keeps the text,
+/// leaves a front of the report.
+fn goes_with(written: &[u8], end: Option<End<[u8; 4]>>) -> bool {
+    let whole = REPORT.as_bytes();
+    match end {
+        None => written.is_empty(),
+        Some(End::Status(status)) => status == 0 && written == whole,
+        Some(End::Replay(ReplayFault::Memory | ReplayFault::Output)) => whole.starts_with(written),
+        Some(_) => false,
+    }
+}
+
+// With each allocation refused in turn (`tools/each_growth_refused.sh`): replayed again, it is whole.
 #[test]
 fn refused_memory_leaves_a_front(rt: HostRuntime) {
-    let whole = REPORT.as_bytes();
-    let device = Device {
-        most: 64,
-        fails_from: NEVER,
-    };
-    let Some((text, answer)) = replayed::<V4>(rt.alloc(), &SCENE, &[ONE], device) else {
-        return;
-    };
-    match answer {
-        Ok(status) => {
-            assert_eq!(rt; status, 0);
-            assert_eq!(rt; text.written(), whole);
-            return;
-        }
-        Err(fault) => {
-            assert!(rt; fault == ReplayFault::Memory || fault == ReplayFault::Output);
-            assert!(rt; whole.starts_with(text.written()));
-        }
-    }
-    assert!(rt; ends::<V4>(rt.alloc(), &SCENE, &[ONE], REPORT, Ok(0)));
+    let mut text = ScriptedDrain::new(rt.alloc(), 64, NEVER);
+    let end = ended::<V4>(rt.alloc(), Asked::Report, &SCENE, &[ONE], &mut text);
+    assert!(rt; goes_with(text.written(), end));
+    assert!(rt; end == Some(End::Status(0)) || ends_with(rt.alloc(), ONE, REPORT, End::Status(0)));
 }

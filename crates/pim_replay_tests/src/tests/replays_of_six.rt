@@ -1,10 +1,10 @@
 //! Replays of a small capture of IPv6, by readers that end early or fail.
 
-use super::replays::{Input, NEVER, NOTHING, Scene, ends, fault};
+use super::replays::{NOTHING, SEVEN, fault};
+use super::runs::{Asked, End, Input, NEVER, Scene, ends};
 use super::states_of_six::{PORT_OF_SIX, ROWS_OF_SIX};
 use pim_addr::V6;
 use pim_capture::CaptureFault;
-use pim_replay::ReplayFault;
 use std::alloc::Global;
 
 /// A capture of raw IP packets: a Hello from fe80::1 at 100 s, and 5 ms later its Join of the star of ff0e::1, to
@@ -54,17 +54,24 @@ const BOTH_LINES: &str = "0 port 0 from fe80:0000:0000:0000:0000:0000:0000:0001 
 5 port 0 from fe80:0000:0000:0000:0000:0000:0000:0001 applied
 ";
 
-/// Whether the replay of this reader ends so, and has written this.
-fn ends_with(alloc: Global, input: Input<'_>, text: &str, end: Result<u8, ReplayFault>) -> bool {
-    ends::<V6>(alloc, &SCENE, &[input], text, end)
+/// Whether the report of this reader is this one, and ends so.
+fn ends_with(alloc: Global, input: Input<'_>, text: &str, end: End<[u8; 16]>) -> bool {
+    ends::<V6>(
+        alloc,
+        Asked::Report,
+        &SCENE,
+        &[input],
+        SEVEN,
+        (text.as_bytes(), end),
+    )
 }
 
 /// What is written of the capture where it is cut to these many bytes, and how the replay ends.
-fn cut_to(length: usize) -> (&'static str, Result<u8, ReplayFault>) {
+fn cut_to(length: usize) -> (&'static str, End<[u8; 16]>) {
     match length {
-        24 => (NOTHING, Ok(0)),
-        98 => (HELLO_REPORT, Ok(0)),
-        224 => (REPORT, Ok(0)),
+        24 => (NOTHING, End::Status(0)),
+        98 => (HELLO_REPORT, End::Status(0)),
+        224 => (REPORT, End::Status(0)),
         0..98 => ("", fault(CaptureFault::Truncated)),
         _ => (FIRST_LINE, fault(CaptureFault::Truncated)),
     }

@@ -1,106 +1,58 @@
 //! Two replays that are compared, over devices that fail.
 
-use super::replays::{EMPTY, FIRST_PORT, Input, NEVER, ONE};
-use super::world::{Device, Route, add_rows};
-use pim_addr::{Routes, ScriptedDrain, ScriptedFeed, V4};
+use super::replays::{EMPTY, FIRST_PORT, ONE, fault};
+use super::runs::{Comparison, End, Input, NEVER, Scene, Writing, compared, two_end};
+use super::world::{Device, Route};
+use pim_addr::{ScriptedDrain, V4};
 use pim_capture::CaptureFault;
-use pim_form::Writer;
-use pim_merge::{Merge, MergeFault};
-use pim_replay::{ReplayFault, SameFault, same_into};
-use pim_router::{Config, Router};
-use std::alloc::{AllocError, Global};
+use pim_replay::ReplayFault;
+use std::alloc::Global;
 
 /// One RP for all groups, and one upstream neighbour for all addresses.
-pub(super) const ROWS: [Route<[u8; 4]>; 2] = [
+const ROWS: [Route<[u8; 4]>; 2] = [
     (true, [224, 0, 0, 0], 4, [10, 9, 9, 9]),
     (false, [0, 0, 0, 0], 0, [10, 0, 0, 2]),
 ];
 
-/// The merge of one capture.
-pub(super) fn merge_of(
-    alloc: Global,
-    input: Input<'_>,
-) -> Result<Merge<ScriptedFeed<'_>>, AllocError> {
-    let mut merge = Merge::new(alloc);
-    merge.add(
-        alloc,
-        ScriptedFeed::new(input.bytes, input.most, input.fails_from),
-    )?;
-    Ok(merge)
-}
+/// Routers with a port each.
+pub(super) const SCENE: Scene<'static, [u8; 4]> = Scene {
+    ports: &FIRST_PORT,
+    rows: &ROWS,
+    after_ms: 0,
+};
 
-/// What was written of two routers with a port each, and how that ended; `None` where it can't begin.
-fn compared(
-    alloc: Global,
-    one: Input<'_>,
-    other: Input<'_>,
-    device: Device,
-) -> Option<(ScriptedDrain, Result<u8, SameFault<V4>>)> {
-    let mut routes = Routes::<V4>::new(alloc);
-    if !add_rows(&mut routes, &ROWS) {
-        return None;
-    }
-    let config = Config {
-        ports: &FIRST_PORT,
-        routes: &routes,
-        limit: 100,
-    };
-    let Ok(mut a) = Router::new(alloc, &config) else {
-        return None;
-    };
-    let Ok(mut b) = Router::new(alloc, &config) else {
-        return None;
-    };
-    let mut merge_a = merge_of(alloc, one).ok()?;
-    let mut merge_b = merge_of(alloc, other).ok()?;
-    if merge_a.count() != a.port_count() || merge_b.count() != b.port_count() {
-        return None;
-    }
-    let by = Writer::<V4>::new([10, 0, 0, 2], [10, 0, 0, 1], 210, 1460).ok()?;
-    let mut text = ScriptedDrain::new(alloc, device.most, device.fails_from);
-    let answer = same_into(
-        alloc,
-        &mut merge_a,
-        &mut a,
-        &mut merge_b,
-        &mut b,
-        0,
-        &by,
-        &mut text,
-    );
-    Some((text, answer))
-}
+/// Asks that neighbour.
+pub(super) const BY: Writing<[u8; 4]> = Writing {
+    upstream: [10, 0, 0, 2],
+    own: [10, 0, 0, 1],
+    budget: 1460,
+};
+
+/// A device that takes three bytes a call.
+pub(super) const THREE: Device = Device {
+    most: 3,
+    fails_from: NEVER,
+};
 
 /// Whether a comparison ends so, and has written this.
-fn ends(
-    alloc: Global,
-    one: Input<'_>,
-    other: Input<'_>,
-    text: &str,
-    end: Result<u8, SameFault<V4>>,
-) -> bool {
-    let device = Device {
-        most: 3,
-        fails_from: NEVER,
-    };
-    match compared(alloc, one, other, device) {
-        Some((written, answer)) => answer == end && written.written() == text.as_bytes(),
-        None => false,
-    }
+fn ends(alloc: Global, one: Input<'_>, other: Input<'_>, text: &str, end: End<[u8; 4]>) -> bool {
+    two_end::<V4>(
+        alloc,
+        Comparison::Same(BY),
+        &SCENE,
+        (one, other),
+        THREE,
+        (text, end),
+    )
 }
 
 #[test]
 fn demands_are_compared(rt: HostRuntime) {
     let alloc = rt.alloc();
-    assert!(rt; ends(alloc, ONE, ONE, "same\n", Ok(0)));
-    assert!(rt; ends(alloc, EMPTY, EMPTY, "same\n", Ok(0)));
-    assert!(rt; ends(alloc, ONE, EMPTY, "different\n", Ok(1)));
-    assert!(rt; ends(alloc, EMPTY, ONE, "different\n", Ok(1)));
-}
-
-/// How a comparison ends where a capture has this fault.
-fn fault(fault: CaptureFault) -> Result<u8, SameFault<V4>> {
-    Err(SameFault::Replay(ReplayFault::Capture(MergeFault { capture: 0, fault })))
+    assert!(rt; ends(alloc, ONE, ONE, "same\n", End::Status(0)));
+    assert!(rt; ends(alloc, EMPTY, EMPTY, "same\n", End::Status(0)));
+    assert!(rt; ends(alloc, ONE, EMPTY, "different\n", End::Status(1)));
+    assert!(rt; ends(alloc, EMPTY, ONE, "different\n", End::Status(1)));
 }
 
 #[test]
@@ -116,45 +68,45 @@ fn the_first_router_comes_first(rt: HostRuntime) {
     assert!(rt; ends(alloc, ONE, cut, "", fault(CaptureFault::Truncated)));
 }
 
+const WHOLE: &str = "different\n";
+
+/// Whether a device that fails from this byte on leaves the answer up to there.
+fn leaves_front(alloc: Global, fails_from: usize) -> bool {
+    let mut text = ScriptedDrain::new(alloc, 3, fails_from);
+    let end = compared::<V4>(alloc, Comparison::Same(BY), &SCENE, (ONE, EMPTY), &mut text);
+    end == Some(End::Replay(ReplayFault::Output))
+        && Some(text.written()) == WHOLE.as_bytes().get(..fails_from)
+}
+
 #[test]
 fn failed_answers_leave_a_front(rt: HostRuntime) {
-    let whole = "different\n".as_bytes();
-    for fails_from in 0..whole.len() {
-        let device = Device {
-            most: 3,
-            fails_from,
-        };
-        let (front, _) = whole.split_at(fails_from);
-        match compared(rt.alloc(), ONE, EMPTY, device) {
-            Some((text, answer)) => {
-                assert!(rt; answer == Err(SameFault::Replay(ReplayFault::Output)));
-                assert_eq!(rt; text.written(), front);
-            }
-            None => assert!(rt; false),
-        }
+    for fails_from in 0..WHOLE.len() {
+        assert!(rt; leaves_front(rt.alloc(), fails_from));
     }
 }
 
-/// Whether what is written goes with the answer: nothing for want of memory, and a front where the device failed, which
+/// Whether what is written goes with how it ends: nothing for want of memory, and a front where the device failed, which
 /// it does for want of memory of its own.
-fn goes_with(written: &[u8], answer: Result<u8, SameFault<V4>>) -> bool {
-    let whole = "different\n".as_bytes();
-    match answer {
-        Ok(status) => status == 1 && written == whole,
-        Err(SameFault::Replay(ReplayFault::Memory)) => written.is_empty(),
-        Err(SameFault::Replay(ReplayFault::Output)) => whole.starts_with(written),
-        Err(_) => false,
+fn goes_with(written: &[u8], end: Option<End<[u8; 4]>>) -> bool {
+    let whole = WHOLE.as_bytes();
+    match end {
+        Some(End::Status(status)) => status == 1 && written == whole,
+        None | Some(End::Replay(ReplayFault::Memory)) => written.is_empty(),
+        Some(End::Replay(ReplayFault::Output)) => whole.starts_with(written),
+        Some(_) => false,
     }
 }
 
-// With each allocation refused in turn (`tools/refuse_memory.sh`).
+// With each allocation refused in turn (`tools/each_growth_refused.sh`).
 #[test]
 fn refused_memory_tells_nothing(rt: HostRuntime) {
-    let device = Device {
-        most: 64,
-        fails_from: NEVER,
-    };
-    if let Some((text, answer)) = compared(rt.alloc(), ONE, EMPTY, device) {
-        assert!(rt; goes_with(text.written(), answer));
-    }
+    let mut text = ScriptedDrain::new(rt.alloc(), 64, NEVER);
+    let end = compared::<V4>(
+        rt.alloc(),
+        Comparison::Same(BY),
+        &SCENE,
+        (ONE, EMPTY),
+        &mut text,
+    );
+    assert!(rt; goes_with(text.written(), end));
 }

@@ -1,7 +1,7 @@
 //! The state that a router holds, as the table of lines has it, over devices that move few bytes and fail.
 
-use super::world::{Case, Device, Packet, Route, is_told, told};
-use pim_addr::V4;
+use super::world::{Case, Packet, Route, is_told, told};
+use pim_addr::{ScriptedDrain, V4};
 use pim_replay::TextFault;
 use pim_router::PortConfig;
 use std::alloc::Global;
@@ -296,49 +296,37 @@ const ASKED: Case<'static, [u8; 4]> = Case {
     ..EMPTY
 };
 
-/// Whether the device failed once, and a front of the text went out.
-fn leaves(alloc: Global, device: Device, front: &[u8]) -> bool {
-    match told::<V4>(alloc, &ASKED, device) {
-        Some((text, result)) => {
-            let failed = result == Err(TextFault::Output) && text.failures() == 1;
-            failed && text.written() == front
-        }
-        None => false,
-    }
+/// Whether a device that fails from this byte on failed once, and the front of the text went out.
+fn leaves_front(alloc: Global, fails_from: usize) -> bool {
+    let mut text = ScriptedDrain::new(alloc, 3, fails_from);
+    told::<V4>(alloc, &ASKED, &mut text) == Some(Err(TextFault::Output))
+        && text.failures() == 1
+        && Some(text.written()) == SIX_ROWS_TEXT.as_bytes().get(..fails_from)
 }
 
 #[test]
 fn failed_states_leave_a_front(rt: HostRuntime) {
-    let whole = SIX_ROWS_TEXT.as_bytes();
-    for fails_from in 0..whole.len() {
-        let (front, _) = whole.split_at(fails_from);
-        let device = Device {
-            most: 3,
-            fails_from,
-        };
-        assert!(rt; leaves(rt.alloc(), device, front));
+    for fails_from in 0..SIX_ROWS_TEXT.len() {
+        assert!(rt; leaves_front(rt.alloc(), fails_from));
     }
 }
 
-// With each allocation refused in turn (`rt try --test --fail-alloc 1..`): nothing went out where the form can't be
-// made, and a front where the device has no room; told again, the state is whole.
+/// Whether what is written goes with the answer: nothing where the form can't be made, and a front where the device has
+/// no room.
+fn goes_with(written: &[u8], answer: Option<Result<(), TextFault>>) -> bool {
+    let whole = SIX_ROWS_TEXT.as_bytes();
+    match answer {
+        Some(Ok(())) => written == whole,
+        None | Some(Err(TextFault::Memory)) => written.is_empty(),
+        Some(Err(TextFault::Output)) => whole.starts_with(written),
+    }
+}
+
+// With each allocation refused in turn (`tools/each_growth_refused.sh`): told again, the state is whole.
 #[test]
 fn refusals_leave_a_front(rt: HostRuntime) {
-    let whole = SIX_ROWS_TEXT.as_bytes();
-    let device = Device {
-        most: 64,
-        fails_from: usize::MAX,
-    };
-    let Some((text, result)) = told::<V4>(rt.alloc(), &ASKED, device) else {
-        return;
-    };
-    match result {
-        Ok(()) => {
-            assert_eq!(rt; text.written(), whole);
-            return;
-        }
-        Err(TextFault::Memory) => assert!(rt; text.written().is_empty()),
-        Err(TextFault::Output) => assert!(rt; whole.starts_with(text.written())),
-    }
-    assert!(rt; is_told::<V4>(rt.alloc(), &ASKED));
+    let mut text = ScriptedDrain::new(rt.alloc(), 64, usize::MAX);
+    let answer = told::<V4>(rt.alloc(), &ASKED, &mut text);
+    assert!(rt; goes_with(text.written(), answer));
+    assert!(rt; answer == Some(Ok(())) || is_told::<V4>(rt.alloc(), &ASKED));
 }

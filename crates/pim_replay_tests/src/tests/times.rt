@@ -1,6 +1,7 @@
 //! Replays of packets at their times, with echoes and refreshes between, and of another family's.
 
-use super::replays::{EMPTY, Input, ONE, ends_with};
+use super::replays::{EMPTY, ONE, ends_with};
+use super::runs::{End, Input};
 use super::states::{ANNE, BOB, HELLO, JOIN_FOREVER, JOIN_STAR, PRUNE_STAR};
 use super::states_of_six::{EVE, HELLO_OF_EVE};
 use std::alloc::{AllocError, Global};
@@ -45,7 +46,7 @@ fn reports(alloc: Global, packets: &[Sent<'_>], last: u64, text: &str) -> Result
         bytes: bytes.as_slice(),
         ..ONE
     };
-    Ok(ends_with(alloc, input, text, Ok(0)))
+    Ok(ends_with(alloc, input, text, End::Status(0)))
 }
 
 #[test]
@@ -98,6 +99,6 @@ fn packets_of_the_other_family_are_skipped(rt: HostRuntime) -> Result<(), Fail> 
         ..ONE
     };
     let text = "state at 0\nskipped 1 refreshes 0\n";
-    assert!(rt; ends_with(rt.alloc(), input, text, Ok(0)));
+    assert!(rt; ends_with(rt.alloc(), input, text, End::Status(0)));
     Ok(())
 }

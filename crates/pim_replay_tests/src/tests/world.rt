@@ -76,41 +76,53 @@ fn take_all<F: Family>(router: &mut Router<'_, F>, packets: &[Packet<'_, F::Addr
     Some(refreshes)
 }
 
-/// What is written of the state in which a case ends, and how that went; `None` where there is no such router.
-pub(super) fn told<F: Family>(
+/// Tells the state in which a case leaves this router.
+fn told_by<F: Family>(
     alloc: Global,
     case: &Case<'_, F::Addr>,
-    device: Device,
-) -> Option<(ScriptedDrain, Result<(), TextFault>)> {
-    let mut routes = Routes::<F>::new(alloc);
-    if !add_rows(&mut routes, case.rows) {
-        return None;
-    }
-    let config = Config {
-        ports: case.ports,
-        routes: &routes,
-        limit: 100,
-    };
-    let mut router = Router::new(alloc, &config).ok()?;
-    let before = take_all(&mut router, case.packets)?;
-    let refreshes = before.saturating_add(pass(&mut router, case.end));
+    router: &mut Router<'_, F>,
+    text: &mut ScriptedDrain,
+) -> Option<Result<(), TextFault>> {
+    let before = take_all(router, case.packets)?;
+    let refreshes = before.saturating_add(pass(router, case.end));
     let counts = Counts {
         skipped: case.skipped,
         refreshes,
     };
-    let mut text = ScriptedDrain::new(alloc, device.most, device.fails_from);
-    let result = write_state(alloc, &mut text, &router, case.tells_via, counts);
-    Some((text, result))
+    Some(write_state(alloc, text, router, case.tells_via, counts))
+}
+
+/// The same of a new router under this table.
+fn told_under<F: Family>(
+    alloc: Global,
+    case: &Case<'_, F::Addr>,
+    routes: &Routes<F>,
+    text: &mut ScriptedDrain,
+) -> Option<Result<(), TextFault>> {
+    let config = Config {
+        ports: case.ports,
+        routes,
+        limit: 100,
+    };
+    let mut router = Router::new(alloc, &config).ok()?;
+    told_by(alloc, case, &mut router, text)
+}
+
+/// Tells the state in which a case ends; `None` where there is no such router.
+pub(super) fn told<F: Family>(
+    alloc: Global,
+    case: &Case<'_, F::Addr>,
+    text: &mut ScriptedDrain,
+) -> Option<Result<(), TextFault>> {
+    let mut routes = Routes::<F>::new(alloc);
+    if !add_rows(&mut routes, case.rows) {
+        return None;
+    }
+    told_under(alloc, case, &routes, text)
 }
 
 /// Whether the state is told as it should be.
 pub(super) fn is_told<F: Family>(alloc: Global, case: &Case<'_, F::Addr>) -> bool {
-    let device = Device {
-        most: 7,
-        fails_from: usize::MAX,
-    };
-    match told::<F>(alloc, case, device) {
-        Some((text, result)) => result.is_ok() && text.written() == case.text.as_bytes(),
-        None => false,
-    }
+    let mut text = ScriptedDrain::new(alloc, 7, usize::MAX);
+    told::<F>(alloc, case, &mut text) == Some(Ok(())) && text.written() == case.text.as_bytes()
 }

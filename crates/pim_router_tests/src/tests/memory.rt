@@ -1,6 +1,6 @@
-//! Growths that are refused. Run with each allocation refused in turn (`rt try --test --fail-alloc 1..`).
+//! Growths that are refused. Run with each allocation refused in turn (`tools/each_growth_refused.sh`).
 
-use super::{OWN, PORTS, RP, receive};
+use super::{PORTS, receive};
 use pim_addr::{Routes, V4};
 use pim_down::Record;
 use pim_frame::{MessageType, all_routers, seal};

@@ -1,7 +1,8 @@
 //! Where worked states arise, whom they ask, and how the messages come to the neighbour that is asked.
 
 use super::super::again::{UP, UPSTREAM, WRITER};
-use super::{Course, Route, Scene};
+use super::super::tables::Route;
+use super::{Course, Scene};
 use pim_hello::Parameters;
 use pim_mirror::{Delivery, OtherNeighbour};
 use pim_router::PortConfig;

@@ -2,7 +2,7 @@ use Rattle.std.proofs.Common.{◌≡◌, ◌+◌, drop, length}
 use Rattle.std.specs.List.{filter}
 use Rattle.pim_words.specs.declared.fault.Side.TheVariants.{A, B}
 use Rattle.pim_commands.specs.Comparing.{is_of}
-use Rattle.pim_commands_tests.proofs.tests.comparing.pair.Given as goal
+use Rattle.pim_commands_tests.proofs.tests.running.pair.Given as goal
 
 -- as many captures of each router as words of it before this one
 abbrev pub invariant-loop-port : goal.invariant-loop-port

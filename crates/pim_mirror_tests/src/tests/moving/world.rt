@@ -1,13 +1,11 @@
 //! Routers that are asked for something by messages, and what they ask for in turn.
 
+use super::super::tables::Route;
 use pim_addr::{Family, Routes};
 use pim_form::{Messages, NormalForm, Writer, settled};
 use pim_frame::all_routers;
 use pim_router::{Config, PortConfig, Router, Step, Verdict};
 use std::alloc::Global;
-
-/// For an RP or a neighbour, a prefix and its length, and where it leads.
-pub(super) type Route<A> = (bool, A, u8, A);
 
 /// Who asks whom, in messages of at most so many bytes.
 #[derive(Clone, Copy)]
@@ -20,22 +18,6 @@ pub(super) struct Scene<'a, A> {
     pub(super) own: A,
     pub(super) hello: &'a [u8],
     pub(super) budget: usize,
-}
-
-/// A table of these rows; `None` where one is refused.
-pub(super) fn table<F: Family>(alloc: Global, rows: &[Route<F::Addr>]) -> Option<Routes<F>> {
-    let mut routes: Routes<F> = Routes::new(alloc);
-    for &(is_rp, prefix, length, to) in rows {
-        let added = if is_rp {
-            routes.add_rp(prefix, length, to)
-        } else {
-            routes.add_via(prefix, length, to)
-        };
-        if added.is_err() {
-            return None;
-        }
-    }
-    Some(routes)
 }
 
 /// Lets the first port take a sealed packet; `None` where there is no port, or memory is wanting.

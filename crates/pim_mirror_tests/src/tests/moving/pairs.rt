@@ -1,8 +1,9 @@
 //! From each state to each other one, and back: the mirror of the first one hears the change.
 
+use super::super::tables::table;
 use super::scenes::{OTHERS, OTHERS6, SCENE, SCENE6};
 use super::states::{Row, STATES, STATES6};
-use super::world::{Scene, asks, form_of, hears, is_quiet_until, is_settled, started, table};
+use super::world::{Scene, asks, form_of, hears, is_quiet_until, is_settled, started};
 use pim_addr::{Family, Routes, V4, V6};
 use pim_form::{Messages, Writer};
 use pim_mirror::{Delivery, FreshConfig, OtherNeighbour, are_short, fits, hear_deliveries, mirror};

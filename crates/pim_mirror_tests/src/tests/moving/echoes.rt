@@ -1,7 +1,8 @@
 //! The echo of a prune, which a router of two neighbours tells when the other one could have overridden it.
 
+use super::super::tables::table;
 use super::scenes::{HELLO, PRUNED, SCENE, STAR};
-use super::world::{hears, is_quiet_until, is_settled, started, table, take};
+use super::world::{hears, is_quiet_until, is_settled, started, take};
 use pim_addr::{Routes, V4};
 use pim_down::What;
 use pim_form::Writer;
@@ -39,12 +40,32 @@ fn asked<'a>(alloc: Global, routes: &'a Routes<V4>, messages: &[&[u8]]) -> Optio
     }
 }
 
-/// Lets a router hear at 10 that the star is pruned, at 2,000 perhaps once more, and run to 3,009: whether nothing is
-/// told on the way.
-fn is_pruned(router: &mut Router<'_, V4>, again: bool) -> bool {
-    let told = hears(router, SCENE.own, &[&PRUNED]) && is_quiet_until(router, 2_000);
-    let once_more = !again || hears(router, SCENE.own, &[&PRUNED]);
-    told && once_more && is_quiet_until(router, 3_009)
+/// What happens to a router.
+#[derive(Clone, Copy)]
+enum Event {
+    /// It hears that the star is pruned.
+    Pruned,
+    /// It runs to this moment, and nothing is told on the way.
+    Quiet(u64),
+}
+
+/// The star is pruned at 10, and 3,009 comes.
+const ONCE: &[Event] = &[Event::Pruned, Event::Quiet(3_009)];
+
+/// It is pruned at 2,000 once more.
+const TWICE: &[Event] = &[
+    Event::Pruned,
+    Event::Quiet(2_000),
+    Event::Pruned,
+    Event::Quiet(3_009),
+];
+
+/// Lets something happen to a router: whether it goes as it should.
+fn goes(router: &mut Router<'_, V4>, event: Event) -> bool {
+    match event {
+        Event::Pruned => hears(router, SCENE.own, &[&PRUNED]),
+        Event::Quiet(moment) => is_quiet_until(router, moment),
+    }
 }
 
 /// Whether a router is settled at what each of two others asks for.
@@ -66,10 +87,10 @@ fn echoes(
     router: &mut Router<'_, V4>,
     others: (&Router<'_, V4>, &Router<'_, V4>),
     writer: &Writer<V4>,
-    again: bool,
+    events: &[Event],
 ) -> Option<Course> {
     let held = are_settled(alloc, router, others, writer);
-    if !is_pruned(router, again) {
+    if !events.iter().all(|&event| goes(router, event)) {
         return None;
     }
     let pending = are_settled(alloc, router, others, writer);
@@ -87,18 +108,18 @@ fn echoed_under(
     alloc: Global,
     routes: &Routes<V4>,
     writer: &Writer<V4>,
-    again: bool,
+    events: &[Event],
 ) -> Option<Course> {
     let mut router = asked(alloc, routes, &[&STAR])?;
     let star = asked(alloc, routes, &[&STAR])?;
     let nothing = asked(alloc, routes, &[])?;
-    echoes(alloc, &mut router, (&star, &nothing), writer, again)
+    echoes(alloc, &mut router, (&star, &nothing), writer, events)
 }
 
-fn echoed(alloc: Global, again: bool) -> Option<Course> {
+fn echoed(alloc: Global, events: &[Event]) -> Option<Course> {
     let writer = Writer::<V4>::new(SCENE.upstream, SCENE.own, 210, SCENE.budget).ok()?;
     let routes = table::<V4>(alloc, SCENE.routes)?;
-    echoed_under(alloc, &routes, &writer, again)
+    echoed_under(alloc, &routes, &writer, events)
 }
 
 #[test]
@@ -108,7 +129,7 @@ fn prune_settles_when_its_echo_comes(rt: HostRuntime) -> Result<(), Fail> {
         moment: 3_010,
         settled: [[true, false], [false, false], [false, true]],
     };
-    assert_eq!(rt; echoed(rt.alloc(), false), Some(wanted));
-    assert_eq!(rt; echoed(rt.alloc(), true), Some(wanted));
+    assert_eq!(rt; echoed(rt.alloc(), ONCE), Some(wanted));
+    assert_eq!(rt; echoed(rt.alloc(), TWICE), Some(wanted));
     Ok(())
 }

@@ -1,7 +1,0 @@
-//! Worked examples.
-
-mod echoes;
-mod pairs;
-mod scenes;
-mod states;
-mod world;
