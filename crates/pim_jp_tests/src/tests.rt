@@ -8,6 +8,8 @@ use pim_jp::{
     Entry, JpKind, JpView, head_length, put_entry, put_group_and_counts, put_head, put_set,
     set_length,
 };
+use std::alloc::Global;
+use std::fmt::Debug;
 use std::test::Fail;
 
 mod changed_bytes;
@@ -57,33 +59,25 @@ fn reads_star(rt: HostRuntime) -> Result<(), Fail> {
     Ok(())
 }
 
+/// Whether a value shows this in print.
+fn shows<T: Debug>(alloc: Global, value: &T, want: &str) -> bool {
+    match format!(in alloc; "{value:?}") {
+        Ok(text) => text.as_str() == want,
+        Err(_) => false,
+    }
+}
+
 #[test]
 fn shows_what_was_read(rt: HostRuntime) -> Result<(), Fail> {
+    let alloc = rt.alloc();
     let message = JpView::<V4>::read(&STAR)?;
+    let shown = "JpView { upstream: [10, 0, 0, 2], holdtime: 210, set_count: 1 }";
+    assert!(rt; shows(alloc, &message, shown));
+    assert!(rt; shows(alloc, &message.sets(), "Sets { count_left: 1 }"));
     let set = message.sets().next().ok_or("one set")?;
-    let sets = message.sets();
-    let joined = set.joined();
-    let rows = [
-        (
-            format!(in rt.alloc(); "{message:?}")?,
-            "JpView { upstream: [10, 0, 0, 2], holdtime: 210, set_count: 1 }",
-        ),
-        (
-            format!(in rt.alloc(); "{set:?}")?,
-            "SetView { group: [239, 1, 1, 1], joined_count: 1, pruned_count: 0 }",
-        ),
-        (
-            format!(in rt.alloc(); "{sets:?}")?,
-            "Sets { count_left: 1 }",
-        ),
-        (
-            format!(in rt.alloc(); "{joined:?}")?,
-            "Entries { count_left: 1 }",
-        ),
-    ];
-    for (shown, want) in rows {
-        assert_eq!(rt; shown.as_str(), want);
-    }
+    let shown = "SetView { group: [239, 1, 1, 1], joined_count: 1, pruned_count: 0 }";
+    assert!(rt; shows(alloc, &set, shown));
+    assert!(rt; shows(alloc, &set.joined(), "Entries { count_left: 1 }"));
     Ok(())
 }
 
@@ -138,113 +132,128 @@ fn tells_cuts(rt: HostRuntime) {
     }
 }
 
+/// A place in `STAR`, another byte there, and the fault.
+type Changed = (usize, u8, Option<(JpKind, usize)>);
+
+const CHANGED: [Changed; 20] = [
+    (0, 2, Some((Family, 0))),
+    (1, 1, Some((Encoding, 0))),
+    (6, 255, None),
+    (7, 0, Some((Trailing, 10))),
+    (7, 2, Some((Short, 30))),
+    (10, 2, Some((Family, 10))),
+    (11, 1, Some((Encoding, 10))),
+    (12, 255, None),
+    (13, 24, Some((Mask, 10))),
+    (14, 10, Some((NotGroup, 10))),
+    (19, 0, Some((Trailing, 22))),
+    (19, 2, Some((Short, 30))),
+    (21, 1, Some((Short, 30))),
+    (22, 2, Some((Family, 22))),
+    (23, 1, Some((Encoding, 22))),
+    (24, 0, None),
+    (24, 6, Some((Flags, 22))),
+    (24, 253, None),
+    (25, 24, Some((Mask, 22))),
+    (26, 239, Some((NotSource, 22))),
+];
+
+/// The fault of `STAR` with this byte in this place.
+fn fault_of_change(at: usize, byte: u8) -> Option<(JpKind, usize)> {
+    let mut body = STAR;
+    if at < 30 {
+        body[at] = byte;
+    }
+    fault_v4(&body)
+}
+
 #[test]
 fn tells_changed_bytes(rt: HostRuntime) {
-    let rows = [
-        (0, 2, Some((Family, 0))),
-        (1, 1, Some((Encoding, 0))),
-        (6, 255, None),
-        (7, 0, Some((Trailing, 10))),
-        (7, 2, Some((Short, 30))),
-        (10, 2, Some((Family, 10))),
-        (11, 1, Some((Encoding, 10))),
-        (12, 255, None),
-        (13, 24, Some((Mask, 10))),
-        (14, 10, Some((NotGroup, 10))),
-        (19, 0, Some((Trailing, 22))),
-        (19, 2, Some((Short, 30))),
-        (21, 1, Some((Short, 30))),
-        (22, 2, Some((Family, 22))),
-        (23, 1, Some((Encoding, 22))),
-        (24, 0, None),
-        (24, 6, Some((Flags, 22))),
-        (24, 253, None),
-        (25, 24, Some((Mask, 22))),
-        (26, 239, Some((NotSource, 22))),
-    ];
-    for (at, byte, fault) in rows {
-        let mut body = STAR;
-        for (place, old) in body.iter_mut().enumerate() {
-            if place == at {
-                *old = byte;
-            }
-        }
-        assert_eq!(rt; fault_v4(&body), fault, "byte {at} is {byte}");
-    }
+    let wrong = CHANGED
+        .iter()
+        .position(|&(at, byte, fault)| fault_of_change(at, byte) != fault);
+    assert_eq!(rt; wrong, None);
 }
 
 /// Bodies whose head and group are those of `STAR`: what stands behind them, and the fault.
+const SETS: [(&str, &[u8], Option<(JpKind, usize)>); 13] = [
+    (
+        "a byte more",
+        b"\0\x01\0\0\x01\0\x07\x20\x0a\x09\x09\x09\0",
+        Some((Trailing, 30)),
+    ),
+    ("an empty set", b"\0\0\0\0", None),
+    (
+        "a source in both lists",
+        b"\0\x01\0\x01\x01\0\x04\x20\xc0\0\x02\x01\x01\0\x04\x20\xc0\0\x02\x01",
+        Some((BothLists, 30)),
+    ),
+    (
+        "as (S,G,rpt) in both lists",
+        b"\0\x01\0\x01\x01\0\x01\x20\xc0\0\x02\x01\x01\0\x05\x20\xc0\0\x02\x01",
+        Some((BothLists, 30)),
+    ),
+    (
+        "another source in the other list",
+        b"\0\x01\0\x01\x01\0\x04\x20\xc0\0\x02\x01\x01\0\x04\x20\xc0\0\x02\x02",
+        None,
+    ),
+    (
+        "a source twice in one list",
+        b"\0\x02\0\0\x01\0\x04\x20\xc0\0\x02\x01\x01\0\x04\x20\xc0\0\x02\x01",
+        None,
+    ),
+    (
+        "two stars joined",
+        b"\0\x02\0\0\x01\0\x07\x20\x0a\x09\x09\x09\x01\0\x07\x20\x0a\x09\x09\x08",
+        Some((SecondStar, 30)),
+    ),
+    (
+        "a star in each list",
+        b"\0\x01\0\x01\x01\0\x07\x20\x0a\x09\x09\x09\x01\0\x07\x20\x0a\x09\x09\x09",
+        Some((SecondStar, 30)),
+    ),
+    (
+        "a source of 0.0.0.0",
+        b"\0\x01\0\0\x01\0\x04\x20\0\0\0\0",
+        Some((NotSource, 22)),
+    ),
+    (
+        "an RP of 0.0.0.0",
+        b"\0\x01\0\0\x01\0\x07\x20\0\0\0\0",
+        Some((NotSource, 22)),
+    ),
+    (
+        "mask and flags",
+        b"\0\x01\0\0\x01\0\x06\x18\x0a\x09\x09\x09",
+        Some((Mask, 22)),
+    ),
+    (
+        "W alone, and a star behind it",
+        b"\0\x02\0\0\x01\0\x06\x20\x0a\x09\x09\x09\x01\0\x07\x20\x0a\x09\x09\x09",
+        Some((Flags, 22)),
+    ),
+    (
+        "W alone behind a star",
+        b"\0\x02\0\0\x01\0\x07\x20\x0a\x09\x09\x09\x01\0\x06\x20\x0a\x09\x09\x09",
+        Some((Flags, 30)),
+    ),
+];
+
+/// Whether this fault is told of the head and the group of `STAR` with this behind them.
+fn tells_behind(alloc: Global, set: &[u8], fault: Option<(JpKind, usize)>) -> bool {
+    let (front, _) = STAR.split_at(18);
+    let Ok(mut body) = Vec::from_slice(alloc, front) else {
+        return false;
+    };
+    body.extend_from_slice(set).is_ok() && fault_v4(&body) == fault
+}
+
 #[test]
-fn tells_of_sets(rt: HostRuntime) -> Result<(), Fail> {
-    let rows: [(&str, &[u8], Option<(JpKind, usize)>); 13] = [
-        (
-            "a byte more",
-            b"\0\x01\0\0\x01\0\x07\x20\x0a\x09\x09\x09\0",
-            Some((Trailing, 30)),
-        ),
-        ("an empty set", b"\0\0\0\0", None),
-        (
-            "a source in both lists",
-            b"\0\x01\0\x01\x01\0\x04\x20\xc0\0\x02\x01\x01\0\x04\x20\xc0\0\x02\x01",
-            Some((BothLists, 30)),
-        ),
-        (
-            "as (S,G,rpt) in both lists",
-            b"\0\x01\0\x01\x01\0\x01\x20\xc0\0\x02\x01\x01\0\x05\x20\xc0\0\x02\x01",
-            Some((BothLists, 30)),
-        ),
-        (
-            "another source in the other list",
-            b"\0\x01\0\x01\x01\0\x04\x20\xc0\0\x02\x01\x01\0\x04\x20\xc0\0\x02\x02",
-            None,
-        ),
-        (
-            "a source twice in one list",
-            b"\0\x02\0\0\x01\0\x04\x20\xc0\0\x02\x01\x01\0\x04\x20\xc0\0\x02\x01",
-            None,
-        ),
-        (
-            "two stars joined",
-            b"\0\x02\0\0\x01\0\x07\x20\x0a\x09\x09\x09\x01\0\x07\x20\x0a\x09\x09\x08",
-            Some((SecondStar, 30)),
-        ),
-        (
-            "a star in each list",
-            b"\0\x01\0\x01\x01\0\x07\x20\x0a\x09\x09\x09\x01\0\x07\x20\x0a\x09\x09\x09",
-            Some((SecondStar, 30)),
-        ),
-        (
-            "a source of 0.0.0.0",
-            b"\0\x01\0\0\x01\0\x04\x20\0\0\0\0",
-            Some((NotSource, 22)),
-        ),
-        (
-            "an RP of 0.0.0.0",
-            b"\0\x01\0\0\x01\0\x07\x20\0\0\0\0",
-            Some((NotSource, 22)),
-        ),
-        (
-            "mask and flags",
-            b"\0\x01\0\0\x01\0\x06\x18\x0a\x09\x09\x09",
-            Some((Mask, 22)),
-        ),
-        (
-            "W alone, and a star behind it",
-            b"\0\x02\0\0\x01\0\x06\x20\x0a\x09\x09\x09\x01\0\x07\x20\x0a\x09\x09\x09",
-            Some((Flags, 22)),
-        ),
-        (
-            "W alone behind a star",
-            b"\0\x02\0\0\x01\0\x07\x20\x0a\x09\x09\x09\x01\0\x06\x20\x0a\x09\x09\x09",
-            Some((Flags, 30)),
-        ),
-    ];
-    for (name, set, fault) in rows {
-        let mut body = Vec::from_slice(rt.alloc(), &STAR[..18])?;
-        body.extend_from_slice(set)?;
-        assert_eq!(rt; fault_v4(&body), fault, "{name}");
+fn tells_of_sets(rt: HostRuntime) {
+    for (name, set, fault) in SETS {
+        assert!(rt; tells_behind(rt.alloc(), set, fault), "{name}");
     }
-    Ok(())
 }
 
 #[test]

@@ -59,48 +59,74 @@ fn leads_as_six(routes: &Routes<V4>) -> bool {
         && leads(routes, false, "198.51.100.1", Some("10.0.0.2"))
 }
 
-/// The six rows, in the order of this number of 720.
-fn six_in_order(alloc: Global, order: usize) -> Option<Routes<V4>> {
-    let mut routes: Routes<V4> = Routes::new(alloc);
+/// Takes the place out of those that are left in front of which so many are left.
+fn take_place(left: &mut [bool; 6], skipped: usize) -> usize {
+    let mut others = skipped;
+    for place in 0..6 {
+        if left[place] && others == 0 {
+            left[place] = false;
+            return place;
+        }
+        others = others.saturating_sub(usize::from(left[place]));
+    }
+    0
+}
+
+/// Adds the six rows in the order of this number of 720: whether each was taken.
+fn add_six(routes: &mut Routes<V4>, order: usize) -> bool {
     let mut left = [true; 6];
     let mut number = order;
     for choices in [6, 5, 4, 3, 2, 1usize] {
-        let mut skipped = number % choices;
+        let place = take_place(&mut left, number % choices);
         number /= choices;
-        for (index, row) in SIX.iter().enumerate() {
-            if !left[index] {
-                continue;
-            }
-            if skipped == 0 {
-                left[index] = false;
-                if add(&mut routes, *row).is_err() {
-                    return None;
-                }
-                break;
-            }
-            skipped -= 1;
+        if place >= 6 || add(routes, SIX[place]).is_err() {
+            return false;
         }
     }
-    Some(routes)
+    true
+}
+
+/// A table of the six rows, added in that order.
+fn six_in_order(alloc: Global, order: usize) -> Option<Routes<V4>> {
+    let mut routes: Routes<V4> = Routes::new(alloc);
+    let added = add_six(&mut routes, order);
+    added.then_some(routes)
+}
+
+/// Whether a table of the six rows in this order is this one, and leads where they lead.
+fn is_as(alloc: Global, first: &Routes<V4>, order: usize) -> bool {
+    match six_in_order(alloc, order) {
+        Some(routes) => routes.equals(first) && leads_as_six(&routes),
+        None => false,
+    }
+}
+
+/// The first order in which the table is another one.
+fn wrong_order(alloc: Global) -> Option<usize> {
+    match six_in_order(alloc, 0) {
+        Some(first) => (0..720).find(|&order| !is_as(alloc, &first, order)),
+        None => Some(0),
+    }
 }
 
 #[test]
 fn six_rows_in_every_order(rt: HostRuntime) {
-    let first = six_in_order(rt.alloc(), 0);
-    assert!(rt; first.is_some());
-    for order in 0..720 {
-        let routes = six_in_order(rt.alloc(), order);
-        if let (Some(first), Some(routes)) = (&first, &routes) {
-            assert!(rt; routes.equals(first), "order {order}");
-            assert!(rt; leads_as_six(routes), "order {order}");
-        }
-        assert!(rt; routes.is_some(), "order {order}");
-    }
+    assert_eq!(rt; wrong_order(rt.alloc()), None);
 }
 
 /// A row as a walk gives it.
 fn row(prefix: [u8; 4], length: u8, to: [u8; 4]) -> Option<Route<[u8; 4]>> {
     Some(Route { prefix, length, to })
+}
+
+/// Whether a table's rows are walked so.
+fn are_walked(
+    routes: &Routes<V4>,
+    rps: &[Option<Route<[u8; 4]>>],
+    vias: &[Option<Route<[u8; 4]>>],
+) -> bool {
+    let (mut rp, mut via) = (routes.rps(), routes.vias());
+    rps.iter().all(|want| rp.next() == *want) && vias.iter().all(|want| via.next() == *want)
 }
 
 #[test]
@@ -117,17 +143,9 @@ fn rows_are_walked(rt: HostRuntime) {
         row([0, 0, 0, 0], 0, [10, 0, 0, 2]),
         None,
     ];
-    let routes = six_in_order(rt.alloc(), 0);
-    assert!(rt; routes.is_some());
-    if let Some(routes) = &routes {
-        let mut walk = routes.rps();
-        for want in rps {
-            assert_eq!(rt; walk.next(), want);
-        }
-        let mut walk = routes.vias();
-        for want in vias {
-            assert_eq!(rt; walk.next(), want);
-        }
+    match six_in_order(rt.alloc(), 0) {
+        Some(routes) => assert!(rt; are_walked(&routes, &rps, &vias)),
+        None => assert!(rt; false),
     }
 }
 
@@ -142,112 +160,121 @@ fn no_rows(rt: HostRuntime) {
     assert!(rt; routes.equals(&Routes::new(rt.alloc())));
 }
 
-/// Adds these rows one after another and compares the answers; after a refusal the table is as it was.
-fn answers<F: Family>(alloc: Global, rows: &[(Told<'_>, Result<(), RouteFault>)]) -> Option<usize> {
+/// A row, and what is answered where it is added.
+type Answer = (Told<'static>, Result<(), RouteFault>);
+
+/// Whether a row is answered so, and the table is then as one that has only the rows that were taken.
+fn is_answered<F: Family>(
+    routes: &mut Routes<F>,
+    as_before: &mut Routes<F>,
+    (row, want): Answer,
+) -> bool {
+    add(routes, row) == want
+        && (want.is_err() || add(as_before, row).is_ok())
+        && routes.equals(as_before)
+}
+
+/// The first of these rows, added one after another, that is answered otherwise; after a refusal the table is as it was.
+fn wrong_answer<F: Family>(alloc: Global, rows: &[Answer]) -> Option<usize> {
     let mut routes: Routes<F> = Routes::new(alloc);
     let mut as_before: Routes<F> = Routes::new(alloc);
-    for (index, (row, want)) in rows.iter().enumerate() {
-        if add(&mut routes, *row) != *want {
-            return Some(index);
-        }
-        if want.is_ok() && add(&mut as_before, *row).is_err() {
-            return Some(index);
-        }
-        if !routes.equals(&as_before) {
-            return Some(index);
-        }
-    }
-    None
+    rows.iter()
+        .position(|row| !is_answered(&mut routes, &mut as_before, *row))
 }
+
+const LENGTH: Result<(), RouteFault> = Err(RouteFault::Length);
+
+const BITS: Result<(), RouteFault> = Err(RouteFault::Bits);
+
+const KIND: Result<(), RouteFault> = Err(RouteFault::Kind);
+
+const TWICE: Result<(), RouteFault> = Err(RouteFault::Twice);
+
+const ANSWERS: [Answer; 18] = [
+    ((false, "10.8.0.1", 16, "10.0.0.6"), BITS),
+    ((false, "10.8.0.1", 33, "10.0.0.6"), LENGTH),
+    ((false, "0.0.0.0", 33, "10.0.0.6"), LENGTH),
+    ((true, "239.1.1.1", 255, "224.0.0.1"), LENGTH),
+    ((true, "224.0.0.0", 3, "10.0.0.6"), KIND),
+    ((true, "224.0.0.0", 4, "10.0.0.6"), Ok(())),
+    ((true, "10.0.0.0", 8, "10.0.0.6"), KIND),
+    ((true, "239.0.0.0", 8, "0.0.0.0"), KIND),
+    ((true, "239.0.0.1", 8, "0.0.0.0"), BITS),
+    ((false, "10.0.0.0", 8, "224.0.0.1"), KIND),
+    ((false, "224.0.0.0", 3, "10.0.0.6"), Ok(())),
+    ((false, "10.8.0.0", 16, "10.0.0.6"), Ok(())),
+    ((false, "10.8.0.0", 16, "10.0.0.6"), TWICE),
+    ((false, "10.8.0.0", 16, "10.0.0.2"), TWICE),
+    ((false, "10.8.0.0", 16, "224.0.0.1"), KIND),
+    ((false, "10.8.0.0", 17, "10.0.0.6"), Ok(())),
+    ((true, "224.0.0.0", 4, "10.0.0.7"), TWICE),
+    ((true, "224.0.0.0", 5, "10.0.0.7"), Ok(())),
+];
 
 #[test]
 fn refusals_ipv4(rt: HostRuntime) {
-    let length = Err(RouteFault::Length);
-    let bits = Err(RouteFault::Bits);
-    let kind = Err(RouteFault::Kind);
-    let twice = Err(RouteFault::Twice);
-    let rows = [
-        ((false, "10.8.0.1", 16, "10.0.0.6"), bits),
-        ((false, "10.8.0.1", 33, "10.0.0.6"), length),
-        ((false, "0.0.0.0", 33, "10.0.0.6"), length),
-        ((true, "239.1.1.1", 255, "224.0.0.1"), length),
-        ((true, "224.0.0.0", 3, "10.0.0.6"), kind),
-        ((true, "224.0.0.0", 4, "10.0.0.6"), Ok(())),
-        ((true, "10.0.0.0", 8, "10.0.0.6"), kind),
-        ((true, "239.0.0.0", 8, "0.0.0.0"), kind),
-        ((true, "239.0.0.1", 8, "0.0.0.0"), bits),
-        ((false, "10.0.0.0", 8, "224.0.0.1"), kind),
-        ((false, "224.0.0.0", 3, "10.0.0.6"), Ok(())),
-        ((false, "10.8.0.0", 16, "10.0.0.6"), Ok(())),
-        ((false, "10.8.0.0", 16, "10.0.0.6"), twice),
-        ((false, "10.8.0.0", 16, "10.0.0.2"), twice),
-        ((false, "10.8.0.0", 16, "224.0.0.1"), kind),
-        ((false, "10.8.0.0", 17, "10.0.0.6"), Ok(())),
-        ((true, "224.0.0.0", 4, "10.0.0.7"), twice),
-        ((true, "224.0.0.0", 5, "10.0.0.7"), Ok(())),
-    ];
-    assert_eq!(rt; answers::<V4>(rt.alloc(), &rows), None);
+    assert_eq!(rt; wrong_answer::<V4>(rt.alloc(), &ANSWERS), None);
 }
+
+const ANSWERS6: [Answer; 15] = [
+    ((false, "2001:db8::1", 127, "fe80::1"), BITS),
+    ((false, "2001:db8::1", 129, "fe80::1"), LENGTH),
+    ((false, "8000::", 0, "fe80::1"), BITS),
+    ((false, "4000::", 1, "fe80::1"), BITS),
+    ((false, "0100::", 7, "fe80::1"), BITS),
+    ((true, "fe00::", 7, "fe80::1"), KIND),
+    ((true, "ff00::", 7, "fe80::1"), BITS),
+    ((true, "ff00::", 8, "fe80::1"), Ok(())),
+    ((true, "ff00::", 8, "fe80::2"), TWICE),
+    ((true, "ff02::", 16, "ff02::1"), KIND),
+    ((true, "ff02::", 16, "::"), KIND),
+    ((false, "2001:db8::", 64, "ff02::1"), KIND),
+    ((false, "2001:db8::", 64, "fe80::1"), Ok(())),
+    ((false, "2001:db8::", 64, "fe80::2"), TWICE),
+    ((false, "2001:db8:0:0:0:0:0:1", 64, "fe80::2"), BITS),
+];
 
 #[test]
 fn refusals_ipv6(rt: HostRuntime) {
-    let length = Err(RouteFault::Length);
-    let bits = Err(RouteFault::Bits);
-    let kind = Err(RouteFault::Kind);
-    let twice = Err(RouteFault::Twice);
-    let rows = [
-        ((false, "2001:db8::1", 127, "fe80::1"), bits),
-        ((false, "2001:db8::1", 129, "fe80::1"), length),
-        ((false, "8000::", 0, "fe80::1"), bits),
-        ((false, "4000::", 1, "fe80::1"), bits),
-        ((false, "0100::", 7, "fe80::1"), bits),
-        ((true, "fe00::", 7, "fe80::1"), kind),
-        ((true, "ff00::", 7, "fe80::1"), bits),
-        ((true, "ff00::", 8, "fe80::1"), Ok(())),
-        ((true, "ff00::", 8, "fe80::2"), twice),
-        ((true, "ff02::", 16, "ff02::1"), kind),
-        ((true, "ff02::", 16, "::"), kind),
-        ((false, "2001:db8::", 64, "ff02::1"), kind),
-        ((false, "2001:db8::", 64, "fe80::1"), Ok(())),
-        ((false, "2001:db8::", 64, "fe80::2"), twice),
-        ((false, "2001:db8:0:0:0:0:0:1", 64, "fe80::2"), bits),
-    ];
-    assert_eq!(rt; answers::<V6>(rt.alloc(), &rows), None);
+    assert_eq!(rt; wrong_answer::<V6>(rt.alloc(), &ANSWERS6), None);
 }
+
+const EIGHT: [Told<'static>; 8] = [
+    (false, "::", 0, "fe80::1"),
+    (false, "8000::", 1, "fe80::2"),
+    (false, "fe00::", 7, "fe80::3"),
+    (false, "fe00::", 8, "fe80::4"),
+    (false, "fe00:0:0:5::", 64, "fe80::5"),
+    (false, "fe00:0:0:5::6", 127, "fe80::6"),
+    (false, "fe00:0:0:5::6", 128, "fe80::7"),
+    (true, "ff00::", 8, "fe80::8"),
+];
+
+/// An address for which an RP or a neighbour is looked up, and which.
+type Lead = (bool, &'static str, Option<&'static str>);
+
+/// Where the eight rows lead.
+const LEADS: [Lead; 12] = [
+    (false, "7fff::1", Some("fe80::1")),
+    (false, "8000::", Some("fe80::2")),
+    (false, "fd00::1", Some("fe80::2")),
+    (false, "ff00::1", Some("fe80::3")),
+    (false, "fe01::1", Some("fe80::4")),
+    (false, "fe00:0:0:4:ffff::", Some("fe80::4")),
+    (false, "fe00:0:0:5:ffff::", Some("fe80::5")),
+    (false, "fe00:0:0:5::8", Some("fe80::5")),
+    (false, "fe00:0:0:5::7", Some("fe80::6")),
+    (false, "fe00:0:0:5::6", Some("fe80::7")),
+    (true, "ff05::1:3", Some("fe80::8")),
+    (true, "fe05::1:3", None),
+];
 
 #[test]
 fn lengths_of_ipv6(rt: HostRuntime) {
-    let rows: [Told<'_>; 8] = [
-        (false, "::", 0, "fe80::1"),
-        (false, "8000::", 1, "fe80::2"),
-        (false, "fe00::", 7, "fe80::3"),
-        (false, "fe00::", 8, "fe80::4"),
-        (false, "fe00:0:0:5::", 64, "fe80::5"),
-        (false, "fe00:0:0:5::6", 127, "fe80::6"),
-        (false, "fe00:0:0:5::6", 128, "fe80::7"),
-        (true, "ff00::", 8, "fe80::8"),
-    ];
     let mut routes: Routes<V6> = Routes::new(rt.alloc());
-    for row in rows {
-        assert_eq!(rt; add(&mut routes, row), Ok(()));
-    }
-    let wanted = [
-        ("7fff::1", "fe80::1"),
-        ("8000::", "fe80::2"),
-        ("fd00::1", "fe80::2"),
-        ("ff00::1", "fe80::3"),
-        ("fe01::1", "fe80::4"),
-        ("fe00:0:0:4:ffff::", "fe80::4"),
-        ("fe00:0:0:5:ffff::", "fe80::5"),
-        ("fe00:0:0:5::8", "fe80::5"),
-        ("fe00:0:0:5::7", "fe80::6"),
-        ("fe00:0:0:5::6", "fe80::7"),
-    ];
-    for (address, to) in wanted {
-        assert!(rt; leads(&routes, false, address, Some(to)), "at {address}");
-    }
-    assert!(rt; leads(&routes, true, "ff05::1:3", Some("fe80::8")));
-    assert!(rt; leads(&routes, true, "fe05::1:3", None));
+    assert!(rt; EIGHT.iter().all(|row| add(&mut routes, *row).is_ok()));
+    let wrong = LEADS.iter().position(|&(to_rp, address, to)| !leads(&routes, to_rp, address, to));
+    assert_eq!(rt; wrong, None);
 }
 
 /// The prefix of 24 bits of this number behind 10.
@@ -256,25 +283,57 @@ fn numbered(number: u16) -> [u8; 4] {
     [10, high, low, 0]
 }
 
+/// Adds so many rows as a table may have: whether each was taken.
+fn fill(routes: &mut Routes<V4>) -> bool {
+    for number in 0..4096u16 {
+        let row = number.wrapping_mul(1171) % 4096;
+        if routes.add_via(numbered(row), 24, [10, 0, 0, 1]).is_err() {
+            return false;
+        }
+    }
+    true
+}
+
+const FULL: Result<(), RouteFault> = Err(RouteFault::Full);
+
 #[test]
 fn full_at_the_limit(rt: HostRuntime) {
     let mut routes: Routes<V4> = Routes::new(rt.alloc());
-    for number in 0..4096u16 {
-        let row = number.wrapping_mul(1171) % 4096;
-        let added = routes.add_via(numbered(row), 24, [10, 0, 0, 1]);
-        assert!(rt; added.is_ok(), "row {row}");
-    }
-    let full = Err(RouteFault::Full);
-    assert_eq!(rt; routes.add_via([10, 16, 0, 0], 24, [10, 0, 0, 1]), full);
-    assert_eq!(rt; routes.add_via([0, 0, 0, 0], 0, [10, 0, 0, 1]), full);
-    assert_eq!(rt;
-        routes.add_via([10, 0, 0, 0], 24, [10, 0, 0, 2]),
-        Err(RouteFault::Twice)
+    assert!(rt; fill(&mut routes));
+    let rows = [
+        ((false, "10.16.0.0", 24, "10.0.0.1"), FULL),
+        ((false, "0.0.0.0", 0, "10.0.0.1"), FULL),
+        ((false, "10.0.0.0", 24, "10.0.0.2"), TWICE),
+        ((true, "239.0.0.0", 8, "10.0.0.3"), Ok(())),
+    ];
+    assert!(rt;
+        rows.iter()
+            .all(|(row, want)| add(&mut routes, *row) == *want)
     );
-    assert_eq!(rt; routes.add_rp([239, 0, 0, 0], 8, [10, 0, 0, 3]), Ok(()));
-    assert_eq!(rt; routes.via([10, 15, 255, 9]), Some([10, 0, 0, 1]));
-    assert_eq!(rt; routes.via([10, 16, 0, 9]), None);
-    assert_eq!(rt; routes.rp_of([239, 1, 1, 1]), Some([10, 0, 0, 3]));
+    assert!(rt; leads(&routes, false, "10.15.255.9", Some("10.0.0.1")));
+    assert!(rt; leads(&routes, false, "10.16.0.9", None));
+    assert!(rt; leads(&routes, true, "239.1.1.1", Some("10.0.0.3")));
+}
+
+/// Whether so many neighbours' rows, and none of an RP, are in the table, and an address leads so.
+fn has_rows(routes: &Routes<V4>, count: usize, address: [u8; 4], to: Option<[u8; 4]>) -> bool {
+    routes.vias().count() == count && routes.rps().count() == 0 && routes.via(address) == to
+}
+
+/// Whether a row is added behind so many, at once or, where a growth is refused, with nothing changed and then again.
+fn is_added(routes: &mut Routes<V4>, number: u8) -> bool {
+    let count = usize::from(number);
+    let (prefix, length, to) = ([10, number, 0, 0], 16 + number % 5, [10, 0, 0, 1]);
+    let address = [10, number, 0, 1];
+    let added = match routes.add_via(prefix, length, to) {
+        Ok(()) => true,
+        Err(fault) => {
+            fault == RouteFault::Memory
+                && has_rows(routes, count, address, None)
+                && routes.add_via(prefix, length, to).is_ok()
+        }
+    };
+    added && has_rows(routes, count + 1, address, Some(to))
 }
 
 // With each allocation refused in turn (`tools/each_growth_refused.sh`): the table is as it was, and the same row,
@@ -283,17 +342,6 @@ fn full_at_the_limit(rt: HostRuntime) {
 fn refusals_change_nothing(rt: HostRuntime) {
     let mut routes: Routes<V4> = Routes::new(rt.alloc());
     for number in 0..40u8 {
-        let prefix = [10, number, 0, 0];
-        let length = 16 + number % 5;
-        let to = [10, 0, 0, 1];
-        if let Err(fault) = routes.add_via(prefix, length, to) {
-            assert_eq!(rt; fault, RouteFault::Memory);
-            assert_eq!(rt; routes.via([10, number, 0, 1]), None);
-            assert_eq!(rt; routes.vias().count(), usize::from(number));
-            assert_eq!(rt; routes.add_via(prefix, length, to), Ok(()));
-        }
-        assert_eq!(rt; routes.via([10, number, 0, 1]), Some(to));
-        assert_eq!(rt; routes.vias().count(), usize::from(number) + 1);
-        assert_eq!(rt; routes.rps().count(), 0);
+        assert!(rt; is_added(&mut routes, number));
     }
 }

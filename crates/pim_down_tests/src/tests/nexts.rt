@@ -5,9 +5,8 @@ use super::{
 };
 use pim_addr::{V4, V6};
 use pim_down::{Near, Ports, What, compare_addresses};
-use std::alloc::{AllocError, Global};
+use std::alloc::Global;
 use std::cmp::Ordering;
-use std::test::Fail;
 
 pub(super) const EXAMPLES: [Example; 2] = [
     Example {
@@ -129,32 +128,33 @@ const ANOTHER_GROUP: Row = Row::Hear(0, &[([239, 1, 1, 2], &[JOIN_STAR], &[])]);
 const ANOTHER_PORT: Row = Row::Hear(1, &[(GROUP, &[JOIN_SECOND], &[])]);
 
 /// Whether they are told from a place among them, and from none.
-fn are_told_from_each(alloc: Global) -> Result<bool, AllocError> {
+fn are_told_from_each(alloc: Global) -> bool {
     let mut ports: Ports<V4> = Ports::new(alloc, 2, 100);
-    let heard = goes(alloc, &mut ports, MANY)?
-        && goes(alloc, &mut ports, ANOTHER_GROUP)?
-        && goes(alloc, &mut ports, ANOTHER_PORT)?;
-    Ok(heard && are_told(&ports, Near::UNKNOWN) && are_told(&ports, place_in(&ports)))
+    [MANY, ANOTHER_GROUP, ANOTHER_PORT]
+        .iter()
+        .all(|row| goes(alloc, &mut ports, *row))
+        && are_told(&ports, Near::UNKNOWN)
+        && are_told(&ports, place_in(&ports))
 }
 
 #[test]
-fn machines_of_a_group_are_told_one_after_another(rt: HostRuntime) -> Result<(), Fail> {
-    assert!(rt; are_told_from_each(rt.alloc())?);
-    Ok(())
+fn machines_of_a_group_are_told_one_after_another(rt: HostRuntime) {
+    assert!(rt; are_told_from_each(rt.alloc()));
 }
 
 const FEW: Row = Row::Hear(0, &[(GROUP, &[JOIN_FIRST], &[])]);
 
 /// Whether look-ups in each of two states go right from a place of the other.
-fn hints_are_exchanged(alloc: Global) -> Result<bool, AllocError> {
+fn hints_are_exchanged(alloc: Global) -> bool {
     let mut many: Ports<V4> = Ports::new(alloc, 2, 100);
     let mut few: Ports<V4> = Ports::new(alloc, 2, 100);
-    let heard = goes(alloc, &mut many, MANY)? && goes(alloc, &mut few, FEW)?;
-    Ok(heard && is_alike_near(&few, place_in(&many)) && is_alike_near(&many, place_in(&few)))
+    goes(alloc, &mut many, MANY)
+        && goes(alloc, &mut few, FEW)
+        && is_alike_near(&few, place_in(&many))
+        && is_alike_near(&many, place_in(&few))
 }
 
 #[test]
-fn a_hint_of_other_ports_changes_no_answer(rt: HostRuntime) -> Result<(), Fail> {
-    assert!(rt; hints_are_exchanged(rt.alloc())?);
-    Ok(())
+fn a_hint_of_other_ports_changes_no_answer(rt: HostRuntime) {
+    assert!(rt; hints_are_exchanged(rt.alloc()));
 }

@@ -1,15 +1,14 @@
-ghost use Rattle.std.specs.Prelude.{◌≤◌};
-
 use pim_addr::V4;
 use pim_hello::{
     Heard, Hello, KnownNeighbour, LanDelay, NeighbourFault, Neighbours, Parameters, PortDelays,
 };
 use std::alloc::Global;
-use std::test::Fail;
 
 const SENDER: [u8; 4] = [10, 0, 0, 1];
 
 const OTHER: [u8; 4] = [10, 0, 0, 2];
+
+const THIRD: [u8; 4] = [10, 0, 0, 3];
 
 const NOTHING: Parameters = Parameters {
     holdtime: None,
@@ -18,35 +17,53 @@ const NOTHING: Parameters = Parameters {
     generation: None,
 };
 
-fn with_generation(generation: u32) -> Parameters {
-    Parameters {
-        generation: Some(generation),
-        ..NOTHING
-    }
+/// What a Hello says.
+#[derive(Clone, Copy)]
+enum Says {
+    Nothing,
+    Generation(u32),
+    /// This holdtime, in seconds.
+    Holdtime(u16),
+    /// A propagation delay of up to 32,767 ms, and an override delay.
+    Delays(u16, u16),
+    /// The same, and a holdtime of one second.
+    Briefly(u16, u16),
 }
 
-fn with_holdtime(seconds: u16) -> Parameters {
-    Parameters {
-        holdtime: Some(seconds),
-        ..NOTHING
-    }
+fn delays(propagation: u16, override_ms: u16) -> Option<LanDelay> {
+    Some(LanDelay {
+        t: false,
+        propagation: propagation.min(32_767),
+        override_ms,
+    })
 }
 
-fn with_delays(propagation: u16, override_ms: u16) -> Parameters
-    requires { propagation ≤ 32767 }
-{
-    Parameters {
-        lan: Some(LanDelay {
-            t: false,
-            propagation,
-            override_ms,
-        }),
-        ..NOTHING
+fn parameters(says: Says) -> Parameters {
+    match says {
+        Says::Nothing => NOTHING,
+        Says::Generation(generation) => Parameters {
+            generation: Some(generation),
+            ..NOTHING
+        },
+        Says::Holdtime(seconds) => Parameters {
+            holdtime: Some(seconds),
+            ..NOTHING
+        },
+        Says::Delays(propagation, override_ms) => Parameters {
+            lan: delays(propagation, override_ms),
+            ..NOTHING
+        },
+        Says::Briefly(propagation, override_ms) => Parameters {
+            lan: delays(propagation, override_ms),
+            holdtime: Some(1),
+            ..NOTHING
+        },
     }
 }
 
 /// A Hello that says this and has no Address List.
-fn saying(parameters: Parameters) -> Hello<'static, V4> {
+fn saying(says: Says) -> Hello<'static, V4> {
+    let parameters = parameters(says);
     Hello {
         holdtime: parameters.holdtime,
         lan: parameters.lan,
@@ -56,289 +73,384 @@ fn saying(parameters: Parameters) -> Hello<'static, V4> {
     }
 }
 
+/// What is told of a Hello.
+type Answer = Result<Heard, NeighbourFault>;
+
+const NEW: Answer = Ok(Heard::New);
+
+const SAME: Answer = Ok(Heard::Same);
+
+const RESTARTED: Answer = Ok(Heard::Restarted);
+
+const GONE: Answer = Ok(Heard::Gone);
+
+/// What happens to a table of neighbours, and what it tells.
+#[derive(Clone, Copy)]
+enum Row {
+    /// A Hello of this sender comes at this moment, and this is told.
+    Hears([u8; 4], Says, u64, Answer),
+    /// Neighbours whose time is over by this moment go.
+    Expires(u64),
+    Gathers,
+    Knows([u8; 4], bool),
+    Count(usize),
+    /// The override interval of a port with this propagation delay and this override delay of its own.
+    Interval(u16, u16, u32),
+}
+
+/// The last moment that a table takes.
+const LATEST: u64 = 1_000_000_000_000_000;
+
+/// Whether a row goes as it says.
+fn goes(neighbours: &mut Neighbours<V4>, row: Row) -> bool {
+    match row {
+        Row::Hears(sender, says, moment, want) => {
+            moment <= LATEST && neighbours.hear(sender, &saying(says), moment) == want
+        }
+        Row::Expires(moment) => {
+            if moment <= LATEST {
+                neighbours.expire(moment);
+            }
+            moment <= LATEST
+        }
+        Row::Gathers => {
+            neighbours.gather_delays();
+            true
+        }
+        Row::Knows(sender, known) => neighbours.knows(sender) == known,
+        Row::Count(count) => neighbours.count() == count,
+        Row::Interval(propagation, override_ms, want) => {
+            let own = PortDelays {
+                propagation: propagation.min(32_767),
+                override_ms,
+            };
+            neighbours.override_interval(own) == want
+        }
+    }
+}
+
+/// The first of these rows, played on a new table, that doesn't go as it says.
+fn first_wrong(alloc: Global, rows: &[Row]) -> Option<usize> {
+    let mut neighbours: Neighbours<V4> = Neighbours::new(alloc);
+    rows.iter().position(|row| !goes(&mut neighbours, *row))
+}
+
+const MEANINGS: [Row; 19] = [
+    Row::Hears(SENDER, Says::Generation(1), 0, NEW),
+    Row::Knows(SENDER, true),
+    Row::Hears(SENDER, Says::Generation(1), 0, SAME),
+    Row::Knows(SENDER, true),
+    Row::Hears(SENDER, Says::Generation(2), 0, RESTARTED),
+    Row::Knows(SENDER, true),
+    Row::Hears(SENDER, Says::Nothing, 0, RESTARTED),
+    Row::Knows(SENDER, true),
+    Row::Hears(SENDER, Says::Nothing, 0, SAME),
+    Row::Knows(SENDER, true),
+    Row::Hears(SENDER, Says::Generation(2), 0, RESTARTED),
+    Row::Knows(SENDER, true),
+    Row::Hears(SENDER, Says::Holdtime(0), 0, GONE),
+    Row::Knows(SENDER, false),
+    Row::Hears(SENDER, Says::Holdtime(0), 0, GONE),
+    Row::Knows(SENDER, false),
+    Row::Hears(SENDER, Says::Nothing, 0, NEW),
+    Row::Knows(SENDER, true),
+    Row::Count(1),
+];
+
 #[test]
 fn tells_what_a_hello_means(rt: HostRuntime) {
-    let mut neighbours: Neighbours<V4> = Neighbours::new(rt.alloc());
-    let rows = [
-        (with_generation(1), Heard::New),
-        (with_generation(1), Heard::Same),
-        (with_generation(2), Heard::Restarted),
-        (NOTHING, Heard::Restarted),
-        (NOTHING, Heard::Same),
-        (with_generation(2), Heard::Restarted),
-        (with_holdtime(0), Heard::Gone),
-        (with_holdtime(0), Heard::Gone),
-        (NOTHING, Heard::New),
-    ];
-    for (hello, want) in rows {
-        assert_eq!(rt;
-            neighbours.hear(SENDER, &saying(hello), 0),
-            Ok(want),
-            "at {hello:?}"
-        );
-        assert_eq!(rt;
-            neighbours.knows(SENDER),
-            want != Heard::Gone,
-            "at {hello:?}"
-        );
-    }
-    assert_eq!(rt; neighbours.count(), 1);
+    assert_eq!(rt; first_wrong(rt.alloc(), &MEANINGS), None);
 }
+
+/// With the default delays of a port.
+const INTERVALS: [Row; 5] = [
+    Row::Interval(500, 2500, 3000),
+    Row::Hears(SENDER, Says::Delays(700, 2000), 0, NEW),
+    Row::Interval(500, 2500, 3200),
+    Row::Hears(OTHER, Says::Nothing, 0, NEW),
+    Row::Interval(500, 2500, 3000),
+];
+
+const OTHER_INTERVALS: [Row; 3] = [
+    Row::Interval(700, 100, 800),
+    Row::Hears(SENDER, Says::Delays(500, 2500), 0, NEW),
+    Row::Interval(700, 100, 3200),
+];
 
 #[test]
-fn makes_the_override_interval(rt: HostRuntime) -> Result<(), Fail> {
-    let own = PortDelays::default();
-    let mut neighbours: Neighbours<V4> = Neighbours::new(rt.alloc());
-    assert_eq!(rt; neighbours.override_interval(own), 3000);
-    neighbours.hear(SENDER, &saying(with_delays(700, 2000)), 0)?;
-    assert_eq!(rt; neighbours.override_interval(own), 3200);
-    neighbours.hear(OTHER, &saying(NOTHING), 0)?;
-    assert_eq!(rt; neighbours.override_interval(own), 3000);
-
-    let other_own = PortDelays {
-        propagation: 700,
-        override_ms: 100,
-    };
-    let mut others: Neighbours<V4> = Neighbours::new(rt.alloc());
-    assert_eq!(rt; others.override_interval(other_own), 800);
-    others.hear(SENDER, &saying(with_delays(500, 2500)), 0)?;
-    assert_eq!(rt; others.override_interval(other_own), 3200);
-    Ok(())
+fn makes_the_override_interval(rt: HostRuntime) {
+    let usual = PortDelays::default();
+    assert!(rt; usual.propagation == 500 && usual.override_ms == 2500);
+    assert_eq!(rt; first_wrong(rt.alloc(), &INTERVALS), None);
+    assert_eq!(rt; first_wrong(rt.alloc(), &OTHER_INTERVALS), None);
 }
 
-/// What the first of these Hellos should leave that leaves another override interval, of a port whose own delays are
-/// 100 ms each; `gathers` says whether the delays are gathered behind each.
-fn first_wrong(
-    alloc: Global,
-    rows: &[([u8; 4], Parameters, u32)],
-    gathers: bool,
-) -> Result<Option<u32>, NeighbourFault> {
-    let own = PortDelays {
-        propagation: 100,
-        override_ms: 100,
-    };
+/// A Hello of this sender, and the override interval that it leaves.
+type Left = ([u8; 4], Says, u32);
+
+/// Whether a Hello leaves this override interval of a port whose own delays are 100 ms each; `gathers` says whether the
+/// delays are gathered before.
+fn is_left(neighbours: &mut Neighbours<V4>, (sender, says, want): Left, gathers: bool) -> bool {
+    let heard = neighbours.hear(sender, &saying(says), 0).is_ok();
+    if gathers {
+        neighbours.gather_delays();
+    }
+    heard && goes(neighbours, Row::Interval(100, 100, want))
+}
+
+/// The first of these Hellos, which come one after the other, that leaves another override interval.
+fn first_otherwise(alloc: Global, rows: &[Left], gathers: bool) -> Option<usize> {
     let mut neighbours: Neighbours<V4> = Neighbours::new(alloc);
-    for (sender, hello, want) in rows {
-        neighbours.hear(*sender, &saying(*hello), 0)?;
-        if gathers {
-            neighbours.gather_delays();
-        }
-        if neighbours.override_interval(own) != *want {
-            return Ok(Some(*want));
-        }
-    }
-    Ok(None)
+    rows.iter()
+        .position(|row| !is_left(&mut neighbours, *row, gathers))
 }
 
-#[test]
-fn goes_by_the_greatest_delays_that_are_left(rt: HostRuntime) -> Result<(), Fail> {
-    let rows = [
-        (SENDER, with_delays(700, 2000), 2700),
-        (OTHER, with_delays(600, 3000), 3700),
-        (OTHER, with_delays(600, 3000), 3700),
-        // One tells smaller ones, one leaves, one tells none and leaves.
-        (SENDER, with_delays(300, 400), 3600),
-        (OTHER, with_holdtime(0), 700),
-        (OTHER, with_holdtime(0), 700),
-        (OTHER, NOTHING, 3000),
-        (SENDER, with_delays(300, 500), 3000),
-        (OTHER, with_holdtime(0), 800),
-        (OTHER, with_delays(0, 600), 900),
-        (SENDER, NOTHING, 3000),
-        (SENDER, with_delays(50, 50), 700),
-        (SENDER, with_holdtime(0), 700),
-        (OTHER, with_holdtime(0), 200),
-    ];
-    assert_eq!(rt; first_wrong(rt.alloc(), &rows, false)?, None);
-    assert_eq!(rt; first_wrong(rt.alloc(), &rows, true)?, None);
-    Ok(())
-}
+const GREATEST: [Left; 14] = [
+    (SENDER, Says::Delays(700, 2000), 2700),
+    (OTHER, Says::Delays(600, 3000), 3700),
+    (OTHER, Says::Delays(600, 3000), 3700),
+    // One tells smaller ones, one leaves, one tells none and leaves.
+    (SENDER, Says::Delays(300, 400), 3600),
+    (OTHER, Says::Holdtime(0), 700),
+    (OTHER, Says::Holdtime(0), 700),
+    (OTHER, Says::Nothing, 3000),
+    (SENDER, Says::Delays(300, 500), 3000),
+    (OTHER, Says::Holdtime(0), 800),
+    (OTHER, Says::Delays(0, 600), 900),
+    (SENDER, Says::Nothing, 3000),
+    (SENDER, Says::Delays(50, 50), 700),
+    (SENDER, Says::Holdtime(0), 700),
+    (OTHER, Says::Holdtime(0), 200),
+];
 
 #[test]
-fn goes_by_delays_that_are_raised_and_lowered(rt: HostRuntime) -> Result<(), Fail> {
-    let rows = [
-        (SENDER, with_delays(700, 2000), 2700),
-        (OTHER, with_delays(600, 3000), 3700),
-        (OTHER, with_delays(800, 3000), 3800),
-        (SENDER, with_delays(900, 3500), 4400),
-        // Each delay counts by itself.
-        (SENDER, with_delays(1000, 2500), 4000),
-        (SENDER, with_delays(500, 2500), 3800),
-        (SENDER, with_delays(500, 3200), 4000),
-    ];
-    assert_eq!(rt; first_wrong(rt.alloc(), &rows, false)?, None);
-    assert_eq!(rt; first_wrong(rt.alloc(), &rows, true)?, None);
-    Ok(())
+fn goes_by_the_greatest_delays_that_are_left(rt: HostRuntime) {
+    assert_eq!(rt; first_otherwise(rt.alloc(), &GREATEST, false), None);
+    assert_eq!(rt; first_otherwise(rt.alloc(), &GREATEST, true), None);
 }
 
-#[test]
-fn goes_by_delays_that_are_told_around_none(rt: HostRuntime) -> Result<(), Fail> {
-    let rows = [
-        (SENDER, with_delays(700, 2000), 2700),
-        (OTHER, with_delays(600, 3000), 3700),
-        (OTHER, NOTHING, 3000),
-        (OTHER, NOTHING, 3000),
-        (SENDER, with_delays(800, 4000), 3000),
-        (OTHER, with_delays(50, 200), 4800),
-        (SENDER, NOTHING, 3000),
-        (OTHER, NOTHING, 3000),
-        (SENDER, with_delays(300, 400), 3000),
-        (OTHER, with_delays(200, 500), 800),
-    ];
-    assert_eq!(rt; first_wrong(rt.alloc(), &rows, false)?, None);
-    assert_eq!(rt; first_wrong(rt.alloc(), &rows, true)?, None);
-    Ok(())
-}
+const RAISED: [Left; 7] = [
+    (SENDER, Says::Delays(700, 2000), 2700),
+    (OTHER, Says::Delays(600, 3000), 3700),
+    (OTHER, Says::Delays(800, 3000), 3800),
+    (SENDER, Says::Delays(900, 3500), 4400),
+    // Each delay counts by itself.
+    (SENDER, Says::Delays(1000, 2500), 4000),
+    (SENDER, Says::Delays(500, 2500), 3800),
+    (SENDER, Says::Delays(500, 3200), 4000),
+];
 
 #[test]
-fn forgets_the_delays_of_those_that_end(rt: HostRuntime) -> Result<(), Fail> {
-    let own = PortDelays::default();
-    let mut neighbours: Neighbours<V4> = Neighbours::new(rt.alloc());
-    let short = Parameters {
-        holdtime: Some(1),
-        ..with_delays(700, 3000)
-    };
-    neighbours.hear(SENDER, &saying(short), 0)?;
-    neighbours.hear(OTHER, &saying(with_delays(600, 2000)), 0)?;
-    neighbours.expire(999);
-    assert_eq!(rt; neighbours.override_interval(own), 3700);
-    neighbours.expire(1000);
-    assert_eq!(rt; neighbours.override_interval(own), 3100);
-    neighbours.gather_delays();
-    assert_eq!(rt; neighbours.override_interval(own), 3100);
-    Ok(())
+fn goes_by_delays_that_are_raised_and_lowered(rt: HostRuntime) {
+    assert_eq!(rt; first_otherwise(rt.alloc(), &RAISED, false), None);
+    assert_eq!(rt; first_otherwise(rt.alloc(), &RAISED, true), None);
 }
 
+const AROUND_NONE: [Left; 10] = [
+    (SENDER, Says::Delays(700, 2000), 2700),
+    (OTHER, Says::Delays(600, 3000), 3700),
+    (OTHER, Says::Nothing, 3000),
+    (OTHER, Says::Nothing, 3000),
+    (SENDER, Says::Delays(800, 4000), 3000),
+    (OTHER, Says::Delays(50, 200), 4800),
+    (SENDER, Says::Nothing, 3000),
+    (OTHER, Says::Nothing, 3000),
+    (SENDER, Says::Delays(300, 400), 3000),
+    (OTHER, Says::Delays(200, 500), 800),
+];
+
 #[test]
-fn ends_times(rt: HostRuntime) -> Result<(), Fail> {
-    let mut neighbours: Neighbours<V4> = Neighbours::new(rt.alloc());
-    neighbours.hear(SENDER, &saying(NOTHING), 0)?;
-    neighbours.hear(OTHER, &saying(with_holdtime(0xffff)), 0)?;
-    neighbours.expire(104_999);
-    assert!(rt; neighbours.knows(SENDER));
+fn goes_by_delays_that_are_told_around_none(rt: HostRuntime) {
+    assert_eq!(rt; first_otherwise(rt.alloc(), &AROUND_NONE, false), None);
+    assert_eq!(rt; first_otherwise(rt.alloc(), &AROUND_NONE, true), None);
+}
+
+const FORGOTTEN: [Row; 8] = [
+    Row::Hears(SENDER, Says::Briefly(700, 3000), 0, NEW),
+    Row::Hears(OTHER, Says::Delays(600, 2000), 0, NEW),
+    Row::Expires(999),
+    Row::Interval(500, 2500, 3700),
+    Row::Expires(1000),
+    Row::Interval(500, 2500, 3100),
+    Row::Gathers,
+    Row::Interval(500, 2500, 3100),
+];
+
+#[test]
+fn forgets_the_delays_of_those_that_end(rt: HostRuntime) {
+    assert_eq!(rt; first_wrong(rt.alloc(), &FORGOTTEN), None);
+}
+
+const TIMES: [Row; 14] = [
+    Row::Hears(SENDER, Says::Nothing, 0, NEW),
+    Row::Hears(OTHER, Says::Holdtime(0xffff), 0, NEW),
+    Row::Expires(104_999),
+    Row::Knows(SENDER, true),
     // An earlier moment counts as this one: the time of this sender ends at 105,999.
-    neighbours.hear([10, 0, 0, 3], &saying(with_holdtime(1)), 7)?;
-    neighbours.expire(105_000);
-    assert!(rt; !neighbours.knows(SENDER));
-    neighbours.expire(105_998);
-    assert!(rt; neighbours.knows([10, 0, 0, 3]));
-    neighbours.expire(105_999);
-    assert!(rt; !neighbours.knows([10, 0, 0, 3]));
-    neighbours.expire(1_000_000_000_000_000);
-    assert!(rt; neighbours.knows(OTHER));
-    assert_eq!(rt; neighbours.count(), 1);
-    Ok(())
+    Row::Hears(THIRD, Says::Holdtime(1), 7, NEW),
+    Row::Expires(105_000),
+    Row::Knows(SENDER, false),
+    Row::Expires(105_998),
+    Row::Knows(THIRD, true),
+    Row::Expires(105_999),
+    Row::Knows(THIRD, false),
+    Row::Expires(LATEST),
+    Row::Knows(OTHER, true),
+    Row::Count(1),
+];
+
+#[test]
+fn ends_times(rt: HostRuntime) {
+    assert_eq!(rt; first_wrong(rt.alloc(), &TIMES), None);
+}
+
+const TWO: [Row; 3] = [
+    Row::Hears(OTHER, Says::Holdtime(0xffff), 1_000, NEW),
+    Row::Hears(SENDER, Says::Generation(7), 1_000, NEW),
+    Row::Expires(6_000),
+];
+
+/// Whether these are the neighbours, in their order.
+fn are_known(neighbours: &Neighbours<V4>, wanted: &[Option<KnownNeighbour<[u8; 4]>>]) -> bool {
+    let mut entries = neighbours.entries();
+    wanted.iter().all(|want| entries.next() == *want)
 }
 
 #[test]
-fn walks_in_address_order(rt: HostRuntime) -> Result<(), Fail> {
+fn walks_in_address_order(rt: HostRuntime) {
     let mut neighbours: Neighbours<V4> = Neighbours::new(rt.alloc());
-    neighbours.hear(OTHER, &saying(with_holdtime(0xffff)), 1_000)?;
-    neighbours.hear(SENDER, &saying(with_generation(7)), 1_000)?;
-    neighbours.expire(6_000);
-    let mut entries = neighbours.entries();
+    assert!(rt; TWO.iter().all(|row| goes(&mut neighbours, *row)));
     let first = KnownNeighbour {
         address: SENDER,
-        parameters: with_generation(7),
+        parameters: parameters(Says::Generation(7)),
         left: Some(100_000),
     };
     let second = KnownNeighbour {
         address: OTHER,
-        parameters: with_holdtime(0xffff),
+        parameters: parameters(Says::Holdtime(0xffff)),
         left: None,
     };
-    assert_eq!(rt; entries.next(), Some(first));
-    assert_eq!(rt; entries.next(), Some(second));
-    assert_eq!(rt; entries.next(), None);
-    Ok(())
+    assert!(rt; are_known(&neighbours, &[Some(first), Some(second), None]));
 }
 
-#[test]
-fn holds_1024(rt: HostRuntime) -> Result<(), Fail> {
-    let newcomer = [10, 1, 4, 0];
-    let mut neighbours: Neighbours<V4> = Neighbours::new(rt.alloc());
-    for third in 0..4 {
-        for fourth in 0..=255 {
-            assert_eq!(rt;
-                neighbours.hear([10, 1, third, fourth], &saying(NOTHING), 0),
-                Ok(Heard::New)
-            );
+/// Lets so many new neighbours come as a table may hold, from 10.1.0.0 on: whether each is told as new.
+fn crowd_comes(neighbours: &mut Neighbours<V4>) -> bool {
+    for number in 0..1024u16 {
+        let [third, fourth] = number.to_be_bytes();
+        if !goes(
+            neighbours,
+            Row::Hears([10, 1, third, fourth], Says::Nothing, 0, NEW),
+        ) {
+            return false;
         }
     }
-    assert_eq!(rt; neighbours.count(), 1024);
-    assert_eq!(rt;
-        neighbours.hear(newcomer, &saying(NOTHING), 0),
-        Err(NeighbourFault::Full)
-    );
-    assert_eq!(rt;
-        neighbours.hear(newcomer, &saying(with_holdtime(0)), 0),
-        Ok(Heard::Gone)
-    );
-    assert_eq!(rt;
-        neighbours.hear([10, 1, 0, 0], &saying(NOTHING), 0),
-        Ok(Heard::Same)
-    );
-    assert_eq!(rt;
-        neighbours.hear([10, 1, 0, 0], &saying(with_holdtime(0)), 0),
-        Ok(Heard::Gone)
-    );
-    assert_eq!(rt;
-        neighbours.hear(newcomer, &saying(NOTHING), 0),
-        Ok(Heard::New)
-    );
-    assert_eq!(rt; neighbours.count(), 1024);
-    neighbours.expire(105_000);
-    assert_eq!(rt; neighbours.count(), 0);
-    Ok(())
+    true
 }
+
+const FIRST_COMER: [u8; 4] = [10, 1, 0, 0];
+
+const NEWCOMER: [u8; 4] = [10, 1, 4, 0];
+
+const FULL: [Row; 9] = [
+    Row::Count(1024),
+    Row::Hears(NEWCOMER, Says::Nothing, 0, Err(NeighbourFault::Full)),
+    Row::Hears(NEWCOMER, Says::Holdtime(0), 0, GONE),
+    Row::Hears(FIRST_COMER, Says::Nothing, 0, SAME),
+    Row::Hears(FIRST_COMER, Says::Holdtime(0), 0, GONE),
+    Row::Hears(NEWCOMER, Says::Nothing, 0, NEW),
+    Row::Count(1024),
+    Row::Expires(105_000),
+    Row::Count(0),
+];
+
+#[test]
+fn holds_1024(rt: HostRuntime) {
+    let mut neighbours: Neighbours<V4> = Neighbours::new(rt.alloc());
+    assert!(rt; crowd_comes(&mut neighbours));
+    let wrong = FULL.iter().position(|row| !goes(&mut neighbours, *row));
+    assert_eq!(rt; wrong, None);
+}
+
+/// Whether a Hello is told so, at once or, where a growth is refused, with nothing changed and then again; so many are
+/// known before.
+fn is_told(
+    neighbours: &mut Neighbours<V4>,
+    sender: [u8; 4],
+    says: Says,
+    (moment, want): (u64, Answer),
+    count: usize,
+) -> bool {
+    let known = neighbours.knows(sender);
+    let hears = Row::Hears(sender, says, moment, want);
+    match neighbours.hear(sender, &saying(says), moment.min(LATEST)) {
+        Err(NeighbourFault::Memory) => {
+            neighbours.count() == count
+                && neighbours.knows(sender) == known
+                && goes(neighbours, hears)
+        }
+        told => told == want,
+    }
+}
+
+/// Whether a neighbour comes, and tells another holdtime, behind so many others.
+fn comes_behind(neighbours: &mut Neighbours<V4>, number: u8) -> bool {
+    let (sender, moment, count) = ([10, 1, 0, number], u64::from(number), usize::from(number));
+    is_told(
+        neighbours,
+        sender,
+        Says::Delays(500, 2500),
+        (moment, NEW),
+        count,
+    ) && goes(neighbours, Row::Count(count + 1))
+        && is_told(
+            neighbours,
+            sender,
+            Says::Holdtime(60),
+            (moment, SAME),
+            count + 1,
+        )
+        && goes(neighbours, Row::Count(count + 1))
+}
+
+const ENDS: [Row; 4] = [
+    Row::Expires(60_019),
+    Row::Count(20),
+    Row::Expires(60_039),
+    Row::Count(0),
+];
 
 // With each allocation refused in turn (`tools/each_growth_refused.sh`): the table is as it was, and the
 // same Hello, with memory, is told as it would have been.
 #[test]
 fn refusals_change_nothing(rt: HostRuntime) {
     let mut neighbours: Neighbours<V4> = Neighbours::new(rt.alloc());
-    let mut count = 0;
-    for fourth in 0..40 {
-        let address = [10, 1, 0, fourth];
-        for (hello, want) in [
-            (with_delays(500, 2500), Heard::New),
-            (with_holdtime(60), Heard::Same),
-        ] {
-            let known = neighbours.knows(address);
-            if let Err(fault) = neighbours.hear(address, &saying(hello), fourth as u64) {
-                assert_eq!(rt; fault, NeighbourFault::Memory);
-                assert_eq!(rt; neighbours.count(), count);
-                assert_eq!(rt; neighbours.knows(address), known);
-                assert_eq!(rt;
-                    neighbours.hear(address, &saying(hello), fourth as u64),
-                    Ok(want)
-                );
-            }
-            count = fourth as usize + 1;
-            assert_eq!(rt; neighbours.count(), count);
-        }
+    for number in 0..40 {
+        assert!(rt; comes_behind(&mut neighbours, number));
     }
-    neighbours.expire(60_019);
-    assert_eq!(rt; neighbours.count(), 20);
-    neighbours.expire(60_039);
-    assert_eq!(rt; neighbours.count(), 0);
+    let wrong = ENDS.iter().position(|row| !goes(&mut neighbours, *row));
+    assert_eq!(rt; wrong, None);
 }
+
+/// What is told of a body, over IPv4, that comes at this moment; `None` where it isn't read.
+fn heard_of(neighbours: &mut Neighbours<V4>, body: &[u8], moment: u64) -> Option<Answer> {
+    let hello = Hello::<V4>::read(body).ok()?;
+    Some(neighbours.hear(SENDER, &hello, moment.min(LATEST)))
+}
+
+const OVER: [Row; 4] = [
+    Row::Expires(105_000),
+    Row::Knows(SENDER, true),
+    Row::Expires(105_001),
+    Row::Knows(SENDER, false),
+];
 
 /// A Hello as it comes: holdtime 105, generation 16,909,060.
 #[test]
 fn hears_a_hello(rt: HostRuntime) {
     let mut neighbours: Neighbours<V4> = Neighbours::new(rt.alloc());
     let body = [0, 1, 0, 2, 0, 105, 0, 20, 0, 4, 1, 2, 3, 4];
-    let heard = match Hello::<V4>::read(&body) {
-        Ok(hello) => [
-            neighbours.hear(SENDER, &hello, 0),
-            neighbours.hear(SENDER, &hello, 1),
-        ],
-        Err(_) => [Err(NeighbourFault::Memory), Err(NeighbourFault::Memory)],
-    };
-    assert_eq!(rt; heard, [Ok(Heard::New), Ok(Heard::Same)]);
-    neighbours.expire(105_000);
-    assert!(rt; neighbours.knows(SENDER));
-    neighbours.expire(105_001);
-    assert!(rt; !neighbours.knows(SENDER));
+    assert!(rt; heard_of(&mut neighbours, &body, 0) == Some(NEW));
+    assert!(rt; heard_of(&mut neighbours, &body, 1) == Some(SAME));
+    let wrong = OVER.iter().position(|row| !goes(&mut neighbours, *row));
+    assert_eq!(rt; wrong, None);
 }

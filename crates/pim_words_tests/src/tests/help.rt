@@ -1,6 +1,7 @@
 //! What is told where help is asked for.
 
 use pim_words::{Fault, plan};
+use std::alloc::Global;
 
 /// Requests for help, with a part of the answer.
 const HELP: [(&[&str], &str); 22] = [
@@ -84,13 +85,18 @@ fn shows(fault: &Fault<'_>, part: &str) -> bool {
     }
 }
 
+/// Whether this is in what is told of the words.
+fn is_shown(alloc: Global, words: &[&str], part: &str) -> bool {
+    match plan(alloc, words) {
+        Ok(_) => false,
+        Err(fault) => shows(&fault, part),
+    }
+}
+
 #[test]
 fn help_names_units_ranges_and_defaults(rt: HostRuntime) {
-    for (words, part) in HELP {
-        let is_shown = match plan(rt.alloc(), words) {
-            Ok(_) => false,
-            Err(fault) => shows(&fault, part),
-        };
-        assert!(rt; is_shown);
-    }
+    let wrong = HELP
+        .iter()
+        .position(|(words, part)| !is_shown(rt.alloc(), words, part));
+    assert_eq!(rt; wrong, None);
 }

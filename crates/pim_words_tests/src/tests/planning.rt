@@ -2,7 +2,6 @@
 
 use pim_words::{ConfigCause, Fault, Plan, Side, Task, plan};
 use std::alloc::Global;
-use std::test::Fail;
 
 /// What is to be shown of a plan or of a fault.
 #[derive(Clone, Copy, Debug, PartialEq, Eq)]
@@ -315,25 +314,22 @@ pub(super) fn made<'a>(alloc: Global, words: &'a [&'a str]) -> Shown<'a> {
 
 #[test]
 fn words_make_plans_and_faults(rt: HostRuntime) {
-    for (words, shown) in ROWS {
-        assert_eq!(rt; made(rt.alloc(), words), shown);
-    }
+    let wrong = ROWS
+        .iter()
+        .position(|(words, shown)| made(rt.alloc(), words) != *shown);
+    assert_eq!(rt; wrong, None);
 }
 
 /// Sixty-five words are too many, and sixty-four aren't.
 #[test]
-fn ports_are_at_most_64(rt: HostRuntime) -> Result<(), Fail> {
-    let mut words = Vec::from_slice(rt.alloc(), &["p", R])?;
-    for _ in 0..64 {
-        words.push(A)?;
-    }
-    assert_eq!(rt;
-        made(rt.alloc(), &words),
-        Shown::Captures(64, false, 100_000, 0)
-    );
-    words.push(A)?;
+fn ports_are_at_most_64(rt: HostRuntime) {
+    let mut words = [A; 67];
+    words[0] = "p";
+    words[1] = R;
+    let (fewer, _) = words.split_at(66);
+    let all = Shown::Captures(64, false, 100_000, 0);
+    assert_eq!(rt; made(rt.alloc(), fewer), all);
     assert_eq!(rt; made(rt.alloc(), &words), Shown::Config(ConfigCause::Ports));
-    Ok(())
 }
 
 /// Words of `check`, with the ends of the message that they ask for.
@@ -361,13 +357,18 @@ fn has_ends(plan: &Plan<'_>, from: &[u8], to: &[u8]) -> bool {
     }
 }
 
+/// Whether the words ask for a message with these ends.
+fn give(alloc: Global, words: &[&str], from: &[u8], to: &[u8]) -> bool {
+    match plan(alloc, words) {
+        Ok(plan) => has_ends(&plan, from, to),
+        Err(_) => false,
+    }
+}
+
 #[test]
 fn options_give_the_ends(rt: HostRuntime) {
-    for (words, from, to) in ENDS {
-        let is_so = match plan(rt.alloc(), words) {
-            Ok(plan) => has_ends(&plan, from, to),
-            Err(_) => false,
-        };
-        assert!(rt; is_so);
-    }
+    let wrong = ENDS
+        .iter()
+        .position(|(words, from, to)| !give(rt.alloc(), words, from, to));
+    assert_eq!(rt; wrong, None);
 }
