@@ -1,4 +1,5 @@
-//! The tests of `pim_capture`, in a crate of their own: `pim_capture` is proved once and not a second time with them.
+//! The tests of `pim_capture` and of `pim_merge`, in a crate of their own: these are proved once and not a second time with
+//! them.
 #![tactic(auto)]
 
 #[cfg(test)]

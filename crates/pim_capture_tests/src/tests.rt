@@ -1,6 +1,7 @@
 //! Captures, answer by answer.
 
 mod ipv6;
+mod merging;
 
 use pim_addr::ScriptedFeed;
 use pim_capture::{Capture, CaptureFault, Event, Ip, Why};

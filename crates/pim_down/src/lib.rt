@@ -30,8 +30,6 @@ mod run;
 mod schedule;
 mod step;
 mod store;
-#[cfg(test)]
-mod tests;
 mod timers;
 mod walk;
 

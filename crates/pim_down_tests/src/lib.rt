@@ -1,5 +1,4 @@
-//! The tests of `pim_down`, in a crate of their own, so that `pim_down` isn't proved a second time for them; the random
-//! runs, which want blocks of another size, stand in `pim_down`.
+//! The tests of `pim_down`, in a crate of their own, so that `pim_down` isn't proved a second time for them.
 #![tactic(auto)]
 
 #[cfg(test)]

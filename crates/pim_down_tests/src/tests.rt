@@ -3,11 +3,14 @@
 //! far longer to prove.
 
 mod bodies;
+mod courses;
 mod hearing;
 mod limits;
 mod looks;
 mod nexts;
+mod random;
 mod running;
+mod slow;
 mod tables;
 
 use bodies::{body, hear_body, table};
@@ -200,83 +203,40 @@ fn hears(
     }
 }
 
-/// The message that a row is about, and how it is answered.
-fn heard_in(row: Row) -> Option<(Heard, Result<(), HearFault>)> {
-    let heard = Heard {
-        port: 0,
-        holdtime: 210,
-        timing: ALONE,
-        leads: &ONE_RP,
-        sets: &[],
-    };
+/// A message of this holdtime on a port.
+fn message(
+    port: usize,
+    (holdtime, timing): (u16, Timing),
+    leads: &'static [Lead],
+    sets: &'static [Set],
+) -> Heard {
+    Heard {
+        port,
+        holdtime,
+        timing,
+        leads,
+        sets,
+    }
+}
+
+/// The message that a row is about.
+fn heard_in(row: Row) -> Option<Heard> {
     match row {
-        Row::Hear(port, sets) => Some((
-            Heard {
-                port,
-                sets,
-                ..heard
-            },
-            Ok(()),
-        )),
-        Row::HearAmong(port, sets) => {
-            let timing = SEVERAL;
-            Some((
-                Heard {
-                    port,
-                    timing,
-                    sets,
-                    ..heard
-                },
-                Ok(()),
-            ))
-        }
-        Row::HearFor(holdtime, timing, sets) => {
-            Some((
-                Heard {
-                    holdtime,
-                    timing,
-                    sets,
-                    ..heard
-                },
-                Ok(()),
-            ))
-        }
-        Row::HearUnder(leads, timing, sets) => {
-            Some((
-                Heard {
-                    leads,
-                    timing,
-                    sets,
-                    ..heard
-                },
-                Ok(()),
-            ))
-        }
-        Row::Full(port, sets, needed) => {
-            let holdtime = 300;
-            let full = HearFault::Full { needed };
-            Some((
-                Heard {
-                    port,
-                    holdtime,
-                    sets,
-                    ..heard
-                },
-                Err(full),
-            ))
-        }
-        Row::FullUnder(leads, sets, needed) => {
-            let full = HearFault::Full { needed };
-            Some((
-                Heard {
-                    leads,
-                    sets,
-                    ..heard
-                },
-                Err(full),
-            ))
-        }
+        Row::Hear(port, sets) => Some(message(port, (210, ALONE), &ONE_RP, sets)),
+        Row::HearAmong(port, sets) => Some(message(port, (210, SEVERAL), &ONE_RP, sets)),
+        Row::HearFor(holdtime, timing, sets) => Some(message(0, (holdtime, timing), &ONE_RP, sets)),
+        Row::HearUnder(leads, timing, sets) => Some(message(0, (210, timing), leads, sets)),
+        Row::Full(port, sets, _) => Some(message(port, (300, ALONE), &ONE_RP, sets)),
+        Row::FullUnder(leads, sets, _) => Some(message(0, (210, ALONE), leads, sets)),
         _ => None,
+    }
+}
+
+/// How the message of a row is answered.
+fn answer_in(row: Row) -> Result<(), HearFault> {
+    match row {
+        Row::Full(_, _, needed) | Row::FullUnder(_, _, needed) => Err(HearFault::Full { needed }),
+        _ => Ok(()),
     }
 }
 
@@ -367,8 +327,8 @@ fn is_seen(ports: &Ports<V4>, row: Row) -> bool {
 
 /// Plays a row: whether it goes as it says.
 fn goes(alloc: Global, ports: &mut Ports<V4>, row: Row) -> bool {
-    if let Some((heard, answer)) = heard_in(row) {
-        return hears(alloc, ports, &heard, answer);
+    if let Some(heard) = heard_in(row) {
+        return hears(alloc, ports, &heard, answer_in(row));
     }
     match row {
         Row::Reach(moment) => runs(ports, moment, Step::Reached),

@@ -8,8 +8,6 @@
 
 mod checksum;
 mod frame;
-#[cfg(test)]
-mod tests;
 
 pub use frame::{
     Body, FrameFault, MessageType, all_routers, one_checksum, open, seal, sealed_opens,

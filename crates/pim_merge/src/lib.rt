@@ -14,6 +14,3 @@ mod search;
 pub use clock::Clock;
 pub use laws::merge_has_one_end;
 pub use merge::{Merge, MergeFault, Turn};
-
-#[cfg(test)]
-mod tests;

@@ -24,7 +24,6 @@ use pim_frame::{MessageType, all_routers, seal};
 use pim_jp::Entry;
 use pim_router::{Config, PortConfig, Router, Step, Verdict};
 use std::alloc::{AllocError, Global};
-use std::test::Fail;
 
 const RP: [u8; 4] = [10, 9, 9, 9];
 
@@ -69,22 +68,15 @@ const FOR_EVER: [u8; 6] = [0, 1, 0, 2, 255, 255];
 /// The joined and the pruned list of a set of the group.
 type Lists<'a> = (&'a [Entry<[u8; 4]>], &'a [Entry<[u8; 4]>]);
 
-/// A Join/Prune that comes to the first port.
-#[derive(Clone, Copy)]
-struct Message<'a> {
-    from: [u8; 4],
-    upstream: [u8; 4],
-    holdtime: u16,
-    sets: &'a [Lists<'a>],
-}
-
 /// A row of an example: a call, and what it tells or leaves.
 #[derive(Clone, Copy)]
 enum Row<'a> {
     /// A Hello with this body comes to the first port.
     Hello([u8; 4], &'a [u8], Verdict),
-    /// A Join/Prune comes to the first port.
-    Hears(Message<'a>, Verdict),
+    /// A Join/Prune of Anne to the first port's address comes there, with this holdtime and these sets.
+    Hears(u16, &'a [Lists<'a>], Verdict),
+    /// Such a Join/Prune to another upstream neighbour.
+    HearsOf([u8; 4], &'a [Lists<'a>], Verdict),
     /// These bytes come to this port.
     Bytes(usize, [u8; 4], &'a [u8], Verdict),
     /// The first port hears Hellos of 10.1.0.0 to 10.1.3.255, each of which is told as new.
@@ -103,26 +95,12 @@ enum Row<'a> {
     Neighbours(usize, usize),
 }
 
-/// A message to the first port's address with the holdtime 210.
-fn from<'a>(from: [u8; 4], sets: &'a [Lists<'a>]) -> Message<'a> {
-    let (upstream, holdtime) = (OWN, 210);
-    Message {
-        from,
-        upstream,
-        holdtime,
-        sets,
-    }
-}
-
-/// A message with this holdtime.
-fn lasting<'a>(holdtime: u16, sets: &'a [Lists<'a>]) -> Message<'a> {
-    let (from, upstream) = (ANNE, OWN);
-    Message {
-        from,
-        upstream,
-        holdtime,
-        sets,
-    }
+/// Rows that are played on a new router that has room for so many records on each port.
+#[derive(Clone, Copy)]
+struct Example {
+    name: &'static str,
+    limit: usize,
+    rows: &'static [Row<'static>],
 }
 
 fn small(number: usize) -> u8 {
@@ -140,11 +118,16 @@ fn entry_bytes(entry: Entry<[u8; 4]>) -> [u8; 8] {
 }
 
 /// The body of a Join/Prune.
-fn body(alloc: Global, message: &Message<'_>) -> Result<Vec<u8>, AllocError> {
-    let [a, b, c, d] = message.upstream;
-    let [high, low] = message.holdtime.to_be_bytes();
-    let mut bytes = vec![in alloc; 1, 0, a, b, c, d, 0, small(message.sets.len()), high, low]?;
-    for &(joined, pruned) in message.sets {
+fn body(
+    alloc: Global,
+    upstream: [u8; 4],
+    holdtime: u16,
+    sets: &[Lists<'_>],
+) -> Result<Vec<u8>, AllocError> {
+    let [a, b, c, d] = upstream;
+    let [high, low] = holdtime.to_be_bytes();
+    let mut bytes = vec![in alloc; 1, 0, a, b, c, d, 0, small(sets.len()), high, low]?;
+    for &(joined, pruned) in sets {
         bytes.extend_from_slice(&[1, 0, 0, 32, 239, 1, 1, 1])?;
         bytes.extend_from_slice(&[0, small(joined.len()), 0, small(pruned.len())])?;
         for &entry in joined {
@@ -227,76 +210,121 @@ fn refreshes(router: &mut Router<'_, V4>, moment: u64) -> Option<u64> {
     None
 }
 
-/// Lets the first port hear a Join/Prune.
-fn receive_message(
+/// Lets the first port hear a Hello: whether it is told so.
+fn greets(
     alloc: Global,
     router: &mut Router<'_, V4>,
-    message: &Message<'_>,
-) -> Result<Option<Verdict>, AllocError> {
-    let bytes = body(alloc, message)?;
-    receive_body(alloc, router, message.from, MessageType::JoinPrune, &bytes)
+    from: [u8; 4],
+    body: &[u8],
+    wanted: Verdict,
+) -> bool {
+    receive_body(alloc, router, from, MessageType::Hello, body) == Ok(Some(wanted))
+}
+
+/// Lets the first port hear a Join/Prune of Anne: whether it is told so.
+fn hears(
+    alloc: Global,
+    router: &mut Router<'_, V4>,
+    (upstream, holdtime): ([u8; 4], u16),
+    sets: &[Lists<'_>],
+    wanted: Verdict,
+) -> bool {
+    match body(alloc, upstream, holdtime, sets) {
+        Ok(bytes) => {
+            receive_body(alloc, router, ANNE, MessageType::JoinPrune, &bytes) == Ok(Some(wanted))
+        }
+        Err(_) => false,
+    }
+}
+
+/// Runs to a moment: whether it tells this.
+fn runs(router: &mut Router<'_, V4>, moment: u64, wanted: Step<[u8; 4]>) -> bool {
+    moment <= 1_000_000_000_000_000 && router.run_to(moment) == wanted
+}
+
+/// Whether what a row sees is so.
+fn is_seen(router: &Router<'_, V4>, row: &Row<'_>) -> bool {
+    match *row {
+        Row::Now(moment) => router.now() == moment,
+        Row::State(what, state) => router.ports().state_of(0, GROUP, what) == state,
+        Row::Left(what, left) => has_left(router, what, left),
+        Row::Neighbours(port, count) => neighbour_count(router, port) == count,
+        _ => false,
+    }
 }
 
 /// Plays a row: whether it goes as it says.
-fn goes(alloc: Global, router: &mut Router<'_, V4>, row: &Row<'_>) -> Result<bool, AllocError> {
+fn goes(alloc: Global, router: &mut Router<'_, V4>, row: &Row<'_>) -> bool {
     match *row {
-        Row::Hello(from, body, wanted) => {
-            let told = receive_body(alloc, router, from, MessageType::Hello, body)?;
-            Ok(told == Some(wanted))
-        }
-        Row::Hears(message, wanted) => {
-            Ok(receive_message(alloc, router, &message)? == Some(wanted))
-        }
+        Row::Hello(from, body, wanted) => greets(alloc, router, from, body, wanted),
+        Row::Hears(holdtime, sets, wanted) => hears(alloc, router, (OWN, holdtime), sets, wanted),
+        Row::HearsOf(upstream, sets, wanted) => hears(alloc, router, (upstream, 210), sets, wanted),
         Row::Bytes(port, from, bytes, wanted) => {
-            Ok(receive(router, port, from, bytes)? == Some(wanted))
+            receive(router, port, from, bytes) == Ok(Some(wanted))
         }
         Row::Crowd => crowd_comes(alloc, router),
-        Row::Run(moment, wanted) => {
-            Ok(moment <= 1_000_000_000_000_000 && router.run_to(moment) == wanted)
-        }
-        Row::Refreshes(moment, count) => Ok(refreshes(router, moment) == Some(count)),
-        Row::Now(moment) => Ok(router.now() == moment),
-        Row::State(what, state) => Ok(router.ports().state_of(0, GROUP, what) == state),
-        Row::Left(what, left) => Ok(has_left(router, what, left)),
-        Row::Neighbours(port, count) => Ok(neighbour_count(router, port) == count),
+        Row::Run(moment, wanted) => runs(router, moment, wanted),
+        Row::Refreshes(moment, count) => refreshes(router, moment) == Some(count),
+        _ => is_seen(router, row),
     }
 }
 
 /// Plays rows up to the first that doesn't go as it says, and tells its index.
-fn first_wrong(
-    alloc: Global,
-    router: &mut Router<'_, V4>,
-    rows: &[Row<'_>],
-) -> Result<Option<usize>, AllocError> {
+fn wrong_row(alloc: Global, router: &mut Router<'_, V4>, rows: &[Row<'_>]) -> Option<usize> {
     for (index, row) in rows.iter().enumerate() {
-        if !goes(alloc, router, row)? {
-            return Ok(Some(index));
+        if !goes(alloc, router, row) {
+            return Some(index);
         }
     }
-    Ok(None)
+    None
 }
 
-/// Plays rows on a new router with this table and this limit of records.
-fn play_under(
+/// The same of a new router under this table; no router is wrong, too.
+fn wrong_row_under(
     alloc: Global,
     routes: &Routes<V4>,
     limit: usize,
     rows: &[Row<'_>],
-) -> Result<Option<usize>, Fail> {
+) -> Option<usize> {
     let config = Config {
         ports: &PORTS,
         routes,
         limit,
     };
-    let mut router = Router::new(alloc, &config)?;
-    let wrong = first_wrong(alloc, &mut router, rows)?;
-    Ok(wrong)
+    match Router::new(alloc, &config) {
+        Ok(mut router) => wrong_row(alloc, &mut router, rows),
+        Err(_) => Some(rows.len()),
+    }
 }
 
-/// Plays rows on a new router with this limit of records, up to the first that doesn't go as it says, and tells its
-/// index.
-fn play(alloc: Global, limit: usize, rows: &[Row<'_>]) -> Result<Option<usize>, Fail> {
+/// The same where all groups have one RP.
+fn wrong_row_of(alloc: Global, limit: usize, rows: &[Row<'_>]) -> Option<usize> {
     let mut routes = Routes::new(alloc);
-    routes.add_rp([224, 0, 0, 0], 4, RP)?;
-    play_under(alloc, &routes, limit, rows)
+    match routes.add_rp([224, 0, 0, 0], 4, RP) {
+        Ok(()) => wrong_row_under(alloc, &routes, limit, rows),
+        Err(_) => Some(rows.len()),
+    }
+}
+
+/// The first example with a wrong row, and that row.
+fn wrong(alloc: Global, examples: &[Example]) -> Option<(&'static str, usize)> {
+    for example in examples {
+        if let Some(index) = wrong_row_of(alloc, example.limit, example.rows) {
+            return Some((example.name, index));
+        }
+    }
+    None
+}
+
+#[test]
+fn examples_go_as_they_say(rt: HostRuntime) {
+    let all: [&[Example]; 4] = [
+        &crowds::EXAMPLES,
+        &jumps::EXAMPLES,
+        &packets::EXAMPLES,
+        &time::EXAMPLES,
+    ];
+    for examples in all {
+        assert_eq!(rt; wrong(rt.alloc(), examples), None);
+    }
 }

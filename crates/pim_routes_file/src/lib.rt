@@ -8,8 +8,6 @@ mod fault;
 mod lines;
 mod reading;
 mod row;
-#[cfg(test)]
-mod tests;
 
 pub use fault::RoutesFault;
 pub use reading::read_routes;

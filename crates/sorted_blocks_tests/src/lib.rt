@@ -1,4 +1,5 @@
-//! The tests of `sorted_blocks`, in a crate of their own: `sorted_blocks` is proved once and not a second time with them.
+//! The tests of `sorted_blocks` and of `sorted_slab`, in a crate of their own: these are proved once and not a second time
+//! with them.
 #![tactic(auto)]
 
 #[cfg(test)]

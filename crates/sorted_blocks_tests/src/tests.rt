@@ -1,5 +1,7 @@
 //! A list in blocks of four or eight items beside a plain vector, over some thousands of steps.
 
+mod slab;
+
 ghost use Rattle.std.specs.Ordering.{nat_cmp};
 
 use sorted_blocks::{Blocks, Items, Place, Probe};

@@ -9,8 +9,6 @@
 
 mod probe;
 mod slab_list;
-#[cfg(test)]
-mod tests;
 mod walk;
 
 pub use slab_list::SortedSlab;

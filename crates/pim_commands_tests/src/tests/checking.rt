@@ -147,10 +147,11 @@ pub fn bytes_of(alloc: Global, digits: &str) -> Result<Vec<u8>, AllocError> {
     Ok(bytes)
 }
 
-/// Whether the line of this answer's fault is this one; no line, where it has none.
+/// Whether the answer is a fault with this line, or the status 0 where there is no line.
 fn has_line(alloc: Global, answer: Result<u8, Fault<'_>>, line: &str) -> bool {
-    let Err(fault) = answer else {
-        return line.is_empty();
+    let fault = match answer {
+        Ok(status) => return status == 0 && line.is_empty(),
+        Err(fault) => fault,
     };
     let mut written = ScriptedDrain::new(alloc, 1, usize::MAX);
     fault_line(&fault, &mut written).is_ok() && written.written() == line.as_bytes()

@@ -1,8 +1,7 @@
 //! Many neighbours and many records: up to the limits, and past them.
 
-use super::{ANNE, FOR_EVER, Lists, Row, from, play, play_under, receive_body};
-use pim_addr::{Routes, V4};
-use pim_frame::MessageType;
+use super::{ANNE, Example, FOR_EVER, Lists, Row, greets, wrong_row_of};
+use pim_addr::V4;
 use pim_hello::Heard;
 use pim_jp::Entry;
 use pim_router::{Router, Store, Verdict};
@@ -23,36 +22,31 @@ const FIRST_OF_ALL: [u8; 4] = [10, 1, 0, 0];
 const ONE_MORE: [u8; 4] = [10, 1, 4, 0];
 
 /// Lets the first port hear a Hello of 10.1.0.0 to 10.1.3.255: whether each is told as new.
-pub(super) fn crowd_comes(alloc: Global, router: &mut Router<'_, V4>) -> Result<bool, AllocError> {
+pub(super) fn crowd_comes(alloc: Global, router: &mut Router<'_, V4>) -> bool {
     for number in 0..1024u16 {
         let [third, fourth] = number.to_be_bytes();
-        let sender = [10, 1, third, fourth];
-        let told = receive_body(alloc, router, sender, MessageType::Hello, &FOR_EVER)?;
-        if told != Some(NEW) {
-            return Ok(false);
+        if !greets(alloc, router, [10, 1, third, fourth], &FOR_EVER, NEW) {
+            return false;
         }
     }
-    Ok(true)
+    true
 }
 
-const NEIGHBOURS: [Row<'static>; 9] = [
-    Row::Crowd,
-    Row::Neighbours(0, 1024),
-    Row::Hello(ONE_MORE, &FOR_EVER, Verdict::Full(Store::Neighbours)),
-    Row::Hello(ONE_MORE, &GOODBYE, GONE),
-    Row::Hello(FIRST_OF_ALL, &FOR_EVER, SAME),
-    Row::Hello(FIRST_OF_ALL, &GOODBYE, GONE),
-    Row::Hello(ONE_MORE, &FOR_EVER, NEW),
-    Row::Neighbours(0, 1024),
-    Row::Neighbours(1, 0),
-];
-
-#[test]
-fn full_of_neighbours(rt: HostRuntime) -> Result<(), Fail> {
-    let routes = Routes::new(rt.alloc());
-    assert_eq!(rt; play_under(rt.alloc(), &routes, 1, &NEIGHBOURS)?, None);
-    Ok(())
-}
+pub(super) const EXAMPLES: [Example; 1] = [Example {
+    name: "full of neighbours",
+    limit: 1,
+    rows: &[
+        Row::Crowd,
+        Row::Neighbours(0, 1024),
+        Row::Hello(ONE_MORE, &FOR_EVER, Verdict::Full(Store::Neighbours)),
+        Row::Hello(ONE_MORE, &GOODBYE, GONE),
+        Row::Hello(FIRST_OF_ALL, &FOR_EVER, SAME),
+        Row::Hello(FIRST_OF_ALL, &GOODBYE, GONE),
+        Row::Hello(ONE_MORE, &FOR_EVER, NEW),
+        Row::Neighbours(0, 1024),
+        Row::Neighbours(1, 0),
+    ],
+}];
 
 /// Joins of the sources from 10.1.0.`first` to 10.1.0.`last`.
 fn joins(alloc: Global, first: u8, last: u8) -> Result<Vec<Entry<[u8; 4]>>, AllocError> {
@@ -72,11 +66,11 @@ fn each_message_has_room_or_none(rt: HostRuntime) -> Result<(), Fail> {
     let full = |needed| Verdict::Full(Store::Records { needed });
     let rows = [
         Row::Hello(ANNE, &FOR_EVER, NEW),
-        Row::Hears(from(ANNE, &many), full(181)),
-        Row::Hears(from(ANNE, &few), Verdict::Applied),
-        Row::Hears(from(ANNE, &many), full(200)),
-        Row::Hears(from(ANNE, &few), Verdict::Applied),
+        Row::Hears(210, &many, full(181)),
+        Row::Hears(210, &few, Verdict::Applied),
+        Row::Hears(210, &many, full(200)),
+        Row::Hears(210, &few, Verdict::Applied),
     ];
-    assert_eq!(rt; play(rt.alloc(), 100, &rows)?, None);
+    assert_eq!(rt; wrong_row_of(rt.alloc(), 100, &rows), None);
     Ok(())
 }

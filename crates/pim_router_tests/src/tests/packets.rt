@@ -1,8 +1,8 @@
 //! Verdicts on packets, and what a router is made from.
 
 use super::{
-    ANNE, BERT, FIRST, FOR_EVER, JOIN_FIRST, JOIN_SECOND, JOIN_STAR, Message, OWN, PORTS,
-    RPT_FIRST, Row, SECOND, from, play,
+    ANNE, BERT, Example, FIRST, FOR_EVER, JOIN_FIRST, JOIN_SECOND, JOIN_STAR, Lists, OWN, PORTS,
+    RPT_FIRST, Row, SECOND,
 };
 use pim_addr::{Routes, V4, V6};
 use pim_down::{State, What};
@@ -11,9 +11,11 @@ use pim_hello::{Heard, HelloFault, HelloKind};
 use pim_jp::{Entry, JpFault, JpKind};
 use pim_router::{Config, ConfigFault, Malformed, PortConfig, Router, Step, Store, Verdict};
 use std::alloc::Global;
-use std::test::Fail;
 
 const NEW: Verdict = Verdict::HelloTaken(Heard::New);
+
+/// A set with the Join(*,G).
+const JOIN: Lists<'static> = (&[JOIN_STAR], &[]);
 
 /// A Join(*,G) with an RP that isn't the one known.
 const OTHER_STAR: Entry<[u8; 4]> = Entry::Star([10, 9, 9, 8]);
@@ -24,140 +26,124 @@ const STAR: [u8; 34] = [
     0, 7, 32, 10, 9, 9, 9,
 ];
 
-#[test]
-fn sender_has_to_be_a_neighbour(rt: HostRuntime) -> Result<(), Fail> {
-    let join = from(ANNE, &[(&[JOIN_STAR], &[])]);
-    let elsewhere = Message {
-        upstream: [10, 0, 0, 2],
-        ..join
-    };
-    let rows = [
-        Row::Hears(join, Verdict::UnknownNeighbour),
-        Row::Bytes(0, ANNE, &STAR, Verdict::UnknownNeighbour),
-        Row::State(What::Star, None),
-        Row::Hello(ANNE, &FOR_EVER, NEW),
-        Row::Hears(elsewhere, Verdict::NotForUs),
-        Row::State(What::Star, None),
-        Row::Hears(join, Verdict::Applied),
-        Row::State(What::Star, Some(State::Join)),
-        Row::Bytes(1, ANNE, &STAR, Verdict::UnknownNeighbour),
-    ];
-    assert_eq!(rt; play(rt.alloc(), 100, &rows)?, None);
-    Ok(())
-}
+/// A Hello and a Join/Prune whose bodies are cut.
+const CUT_HELLO: Malformed = Malformed::Hello(HelloFault {
+    at: 0,
+    kind: HelloKind::Short,
+});
 
-#[test]
-fn own_packets_and_malformed_ones(rt: HostRuntime) -> Result<(), Fail> {
-    let frame = |fault| Verdict::Malformed(Malformed::Frame(fault));
-    let short = HelloFault {
-        at: 0,
-        kind: HelloKind::Short,
-    };
-    let trailing = JpFault {
-        at: 0,
-        kind: JpKind::Short,
-    };
-    let rows = [
-        Row::Bytes(0, OWN, &[0x23, 0, 0, 0, 1], Verdict::Mine),
-        Row::Bytes(0, OWN, &STAR, Verdict::Mine),
-        Row::Bytes(1, OWN, &STAR, Verdict::UnknownNeighbour),
-        Row::Bytes(0, ANNE, &[0x23, 0, 0, 0, 1], frame(FrameFault::Checksum)),
-        Row::Bytes(0, ANNE, &[0x33, 0, 0, 0], frame(FrameFault::Version(3))),
-        Row::Bytes(0, ANNE, &[0x20], frame(FrameFault::Short)),
-        Row::Bytes(0, ANNE, &[0x25, 0, 0, 0], Verdict::OtherType(5)),
-        Row::Hello(
-            ANNE,
-            &[0, 1, 0],
-            Verdict::Malformed(Malformed::Hello(short)),
-        ),
-        Row::Bytes(
-            0,
-            ANNE,
-            &[0x23, 0, 0xdc, 0xff],
-            Verdict::Malformed(Malformed::JoinPrune(trailing)),
-        ),
-    ];
-    assert_eq!(rt; play(rt.alloc(), 100, &rows)?, None);
-    Ok(())
-}
+const CUT_JOIN_PRUNE: Malformed = Malformed::JoinPrune(JpFault {
+    at: 0,
+    kind: JpKind::Short,
+});
 
-#[test]
-fn hellos(rt: HostRuntime) -> Result<(), Fail> {
-    let rows = [
-        Row::Hello(ANNE, &[0, 20, 0, 4, 0, 0, 0, 1], NEW),
-        Row::Hello(
-            ANNE,
-            &[0, 20, 0, 4, 0, 0, 0, 1],
-            Verdict::HelloTaken(Heard::Same),
-        ),
-        Row::Hello(
-            ANNE,
-            &[0, 20, 0, 4, 0, 0, 0, 2],
-            Verdict::HelloTaken(Heard::Restarted),
-        ),
-        Row::Hello(ANNE, &[0, 1, 0, 2, 0, 0], Verdict::HelloTaken(Heard::Gone)),
-        Row::Hears(
-            from(ANNE, &[(&[JOIN_STAR], &[])]),
-            Verdict::UnknownNeighbour,
-        ),
-        Row::Hello(BERT, &[0, 1, 0, 2, 0, 0], Verdict::HelloTaken(Heard::Gone)),
-    ];
-    assert_eq!(rt; play(rt.alloc(), 100, &rows)?, None);
-    Ok(())
-}
-
-#[test]
-fn prunes_end_that_are_not_repeated(rt: HostRuntime) -> Result<(), Fail> {
-    let rows = [
-        Row::Hello(ANNE, &FOR_EVER, NEW),
-        Row::Hears(
-            from(ANNE, &[(&[JOIN_STAR], &[RPT_FIRST])]),
-            Verdict::Applied,
-        ),
-        Row::Run(10, Step::Reached),
-        Row::State(What::Rpt(FIRST), Some(State::Prune)),
-        Row::Hears(
-            from(ANNE, &[(&[OTHER_STAR, JOIN_SECOND], &[])]),
-            Verdict::Applied,
-        ),
-        Row::State(What::Star, Some(State::Join)),
-        Row::Left(What::Star, 209_990),
-        Row::State(What::Source(SECOND), Some(State::Join)),
-        Row::Left(What::Source(SECOND), 210_000),
-        Row::State(What::Rpt(FIRST), Some(State::Prune)),
-        Row::Left(What::Rpt(FIRST), 209_990),
-        Row::Hears(from(ANNE, &[(&[JOIN_STAR], &[])]), Verdict::Applied),
-        Row::State(What::Rpt(FIRST), None),
-        Row::State(What::Star, Some(State::Join)),
-    ];
-    assert_eq!(rt; play(rt.alloc(), 100, &rows)?, None);
-    Ok(())
-}
-
-#[test]
-fn full_of_records(rt: HostRuntime) -> Result<(), Fail> {
-    let rows = [
-        Row::Hello(ANNE, &FOR_EVER, NEW),
-        Row::Hears(
-            from(ANNE, &[(&[JOIN_STAR, JOIN_FIRST], &[])]),
-            Verdict::Applied,
-        ),
-        Row::Hears(
-            from(
+pub(super) const EXAMPLES: [Example; 5] = [
+    Example {
+        name: "sender has to be a neighbour",
+        limit: 100,
+        rows: &[
+            Row::Hears(210, &[JOIN], Verdict::UnknownNeighbour),
+            Row::Bytes(0, ANNE, &STAR, Verdict::UnknownNeighbour),
+            Row::State(What::Star, None),
+            Row::Hello(ANNE, &FOR_EVER, NEW),
+            Row::HearsOf([10, 0, 0, 2], &[JOIN], Verdict::NotForUs),
+            Row::State(What::Star, None),
+            Row::Hears(210, &[JOIN], Verdict::Applied),
+            Row::State(What::Star, Some(State::Join)),
+            Row::Bytes(1, ANNE, &STAR, Verdict::UnknownNeighbour),
+        ],
+    },
+    Example {
+        name: "own packets and malformed ones",
+        limit: 100,
+        rows: &[
+            Row::Bytes(0, OWN, &[0x23, 0, 0, 0, 1], Verdict::Mine),
+            Row::Bytes(0, OWN, &STAR, Verdict::Mine),
+            Row::Bytes(1, OWN, &STAR, Verdict::UnknownNeighbour),
+            Row::Bytes(
+                0,
                 ANNE,
-                &[(&[JOIN_STAR, JOIN_SECOND], &[]), (&[JOIN_SECOND], &[])],
+                &[0x23, 0, 0, 0, 1],
+                Verdict::Malformed(Malformed::Frame(FrameFault::Checksum)),
             ),
-            Verdict::Full(Store::Records { needed: 4 }),
-        ),
-        Row::State(What::Source(SECOND), None),
-        Row::Hears(
-            from(ANNE, &[(&[JOIN_STAR, JOIN_FIRST], &[])]),
-            Verdict::Applied,
-        ),
-    ];
-    assert_eq!(rt; play(rt.alloc(), 2, &rows)?, None);
-    Ok(())
-}
+            Row::Bytes(
+                0,
+                ANNE,
+                &[0x33, 0, 0, 0],
+                Verdict::Malformed(Malformed::Frame(FrameFault::Version(3))),
+            ),
+            Row::Bytes(
+                0,
+                ANNE,
+                &[0x20],
+                Verdict::Malformed(Malformed::Frame(FrameFault::Short)),
+            ),
+            Row::Bytes(0, ANNE, &[0x25, 0, 0, 0], Verdict::OtherType(5)),
+            Row::Hello(ANNE, &[0, 1, 0], Verdict::Malformed(CUT_HELLO)),
+            Row::Bytes(
+                0,
+                ANNE,
+                &[0x23, 0, 0xdc, 0xff],
+                Verdict::Malformed(CUT_JOIN_PRUNE),
+            ),
+        ],
+    },
+    Example {
+        name: "hellos",
+        limit: 100,
+        rows: &[
+            Row::Hello(ANNE, &[0, 20, 0, 4, 0, 0, 0, 1], NEW),
+            Row::Hello(
+                ANNE,
+                &[0, 20, 0, 4, 0, 0, 0, 1],
+                Verdict::HelloTaken(Heard::Same),
+            ),
+            Row::Hello(
+                ANNE,
+                &[0, 20, 0, 4, 0, 0, 0, 2],
+                Verdict::HelloTaken(Heard::Restarted),
+            ),
+            Row::Hello(ANNE, &[0, 1, 0, 2, 0, 0], Verdict::HelloTaken(Heard::Gone)),
+            Row::Hears(210, &[JOIN], Verdict::UnknownNeighbour),
+            Row::Hello(BERT, &[0, 1, 0, 2, 0, 0], Verdict::HelloTaken(Heard::Gone)),
+        ],
+    },
+    Example {
+        name: "prunes end that are not repeated",
+        limit: 100,
+        rows: &[
+            Row::Hello(ANNE, &FOR_EVER, NEW),
+            Row::Hears(210, &[(&[JOIN_STAR], &[RPT_FIRST])], Verdict::Applied),
+            Row::Run(10, Step::Reached),
+            Row::State(What::Rpt(FIRST), Some(State::Prune)),
+            Row::Hears(210, &[(&[OTHER_STAR, JOIN_SECOND], &[])], Verdict::Applied),
+            Row::State(What::Star, Some(State::Join)),
+            Row::Left(What::Star, 209_990),
+            Row::State(What::Source(SECOND), Some(State::Join)),
+            Row::Left(What::Source(SECOND), 210_000),
+            Row::State(What::Rpt(FIRST), Some(State::Prune)),
+            Row::Left(What::Rpt(FIRST), 209_990),
+            Row::Hears(210, &[JOIN], Verdict::Applied),
+            Row::State(What::Rpt(FIRST), None),
+            Row::State(What::Star, Some(State::Join)),
+        ],
+    },
+    Example {
+        name: "full of records",
+        limit: 2,
+        rows: &[
+            Row::Hello(ANNE, &FOR_EVER, NEW),
+            Row::Hears(210, &[(&[JOIN_STAR, JOIN_FIRST], &[])], Verdict::Applied),
+            Row::Hears(
+                210,
+                &[(&[JOIN_STAR, JOIN_SECOND], &[]), (&[JOIN_SECOND], &[])],
+                Verdict::Full(Store::Records { needed: 4 }),
+            ),
+            Row::State(What::Source(SECOND), None),
+            Row::Hears(210, &[(&[JOIN_STAR, JOIN_FIRST], &[])], Verdict::Applied),
+        ],
+    },
+];
 
 /// The fault of a configuration of these ports, if it has one.
 fn fault(alloc: Global, ports: &[PortConfig<[u8; 4]>], limit: usize) -> Option<ConfigFault> {
@@ -194,7 +180,7 @@ fn wrong(alloc: Global, rows: &[Configuration<'_>]) -> Option<usize> {
 }
 
 #[test]
-fn numbers_of_ports(rt: HostRuntime) -> Result<(), Fail> {
+fn numbers_of_ports(rt: HostRuntime) {
     let (most, too_many) = (most(PORTS[0]), too_many(PORTS[0]));
     let rows: [Configuration<'_>; 3] = [
         (&[], 0, Some(ConfigFault::Ports)),
@@ -202,11 +188,10 @@ fn numbers_of_ports(rt: HostRuntime) -> Result<(), Fail> {
         (&most, 1, None),
     ];
     assert_eq!(rt; wrong(rt.alloc(), &rows), None);
-    Ok(())
 }
 
 #[test]
-fn configurations(rt: HostRuntime) -> Result<(), Fail> {
+fn configurations(rt: HostRuntime) {
     let [first, second] = PORTS;
     let group = PortConfig {
         address: [224, 0, 0, 1],
@@ -226,7 +211,6 @@ fn configurations(rt: HostRuntime) -> Result<(), Fail> {
         (&PORTS, 100_001, Some(ConfigFault::Limit)),
     ];
     assert_eq!(rt; wrong(rt.alloc(), &rows), None);
-    Ok(())
 }
 
 /// fe80::1
@@ -250,8 +234,7 @@ fn is_new(alloc: Global, routes: &Routes<V6>) -> Option<[bool; 3]> {
 }
 
 #[test]
-fn new_router_of_ipv6(rt: HostRuntime) -> Result<(), Fail> {
+fn new_router_of_ipv6(rt: HostRuntime) {
     let routes = Routes::<V6>::new(rt.alloc());
     assert_eq!(rt; is_new(rt.alloc(), &routes), Some([true, true, true]));
-    Ok(())
 }

@@ -1,10 +1,9 @@
 //! Runs to a moment.
 
-use super::{ANNE, BERT, FOR_EVER, GROUP, JOIN_STAR, Lists, Row, from, lasting, play};
+use super::{ANNE, BERT, Example, FOR_EVER, GROUP, JOIN_STAR, Lists, Row};
 use pim_down::{State, What};
 use pim_hello::Heard;
 use pim_router::{Step, Verdict};
-use std::test::Fail;
 
 const JOIN: Lists<'static> = (&[JOIN_STAR], &[]);
 
@@ -12,128 +11,121 @@ const PRUNE: Lists<'static> = (&[], &[JOIN_STAR]);
 
 const NEW: Verdict = Verdict::HelloTaken(Heard::New);
 
-#[test]
-fn refreshes_each_minute(rt: HostRuntime) -> Result<(), Fail> {
-    let rows = [
-        Row::Run(130_000, Step::Refresh),
-        Row::Now(60_000),
-        Row::Run(130_000, Step::Refresh),
-        Row::Now(120_000),
-        Row::Run(130_000, Step::Reached),
-        Row::Now(130_000),
-        Row::Run(5, Step::Reached),
-        Row::Now(130_000),
-    ];
-    assert_eq!(rt; play(rt.alloc(), 100, &rows)?, None);
-    Ok(())
-}
+const ECHO: Step<[u8; 4]> = Step::Echo {
+    port: 0,
+    group: GROUP,
+    what: What::Star,
+};
 
-#[test]
-fn timers_of_the_millisecond_end_before_a_refresh(rt: HostRuntime) -> Result<(), Fail> {
-    let rows = [
-        Row::Hello(ANNE, &FOR_EVER, NEW),
-        Row::Hears(lasting(60, &[JOIN]), Verdict::Applied),
-        Row::Run(59_999, Step::Reached),
-        Row::State(What::Star, Some(State::Join)),
-        Row::Run(60_000, Step::Refresh),
-        Row::State(What::Star, None),
-        Row::Run(60_000, Step::Reached),
-    ];
-    assert_eq!(rt; play(rt.alloc(), 100, &rows)?, None);
-    Ok(())
-}
-
-#[test]
-fn neighbours_end_with_their_holdtime(rt: HostRuntime) -> Result<(), Fail> {
-    let rows = [
-        Row::Hello(ANNE, &[], NEW),
-        Row::Run(104_999, Step::Refresh),
-        Row::Run(104_999, Step::Reached),
-        Row::Hears(from(ANNE, &[JOIN]), Verdict::Applied),
-        Row::Run(105_000, Step::Reached),
-        Row::Hears(from(ANNE, &[JOIN]), Verdict::UnknownNeighbour),
-    ];
-    assert_eq!(rt; play(rt.alloc(), 100, &rows)?, None);
-    Ok(())
-}
-
-#[test]
-fn prune_waits_for_another_neighbour(rt: HostRuntime) -> Result<(), Fail> {
-    let echo = Step::Echo {
-        port: 0,
-        group: GROUP,
-        what: What::Star,
-    };
-    let rows = [
-        Row::Hello(ANNE, &FOR_EVER, NEW),
-        Row::Hello(BERT, &FOR_EVER, NEW),
-        Row::Hears(from(ANNE, &[JOIN]), Verdict::Applied),
-        Row::Hears(from(ANNE, &[PRUNE]), Verdict::Applied),
-        Row::Run(2_999, Step::Reached),
-        Row::State(What::Star, Some(State::PrunePending)),
-        Row::Run(3_000, echo),
-        Row::Run(3_000, Step::Reached),
-        Row::State(What::Star, None),
-    ];
-    assert_eq!(rt; play(rt.alloc(), 100, &rows)?, None);
-    let rows = [
-        Row::Hello(ANNE, &FOR_EVER, NEW),
-        Row::Hears(from(ANNE, &[JOIN]), Verdict::Applied),
-        Row::Hears(from(ANNE, &[PRUNE]), Verdict::Applied),
-        Row::State(What::Star, Some(State::PrunePending)),
-        Row::Run(0, Step::Reached),
-        Row::State(What::Star, None),
-    ];
-    assert_eq!(rt; play(rt.alloc(), 100, &rows)?, None);
-    Ok(())
-}
-
-#[test]
-fn neighbours_whose_time_is_over_are_not_waited_for(rt: HostRuntime) -> Result<(), Fail> {
-    let rows = [
-        Row::Hello(ANNE, &FOR_EVER, NEW),
-        Row::Hello(BERT, &[0, 1, 0, 2, 0, 1], NEW),
-        Row::Hears(from(ANNE, &[JOIN]), Verdict::Applied),
-        Row::Run(1_000, Step::Reached),
-        Row::Hears(from(ANNE, &[PRUNE]), Verdict::Applied),
-        Row::Run(1_000, Step::Reached),
-        Row::State(What::Star, None),
-    ];
-    assert_eq!(rt; play(rt.alloc(), 100, &rows)?, None);
-    Ok(())
-}
-
-#[test]
-fn expiry_by_the_greatest_holdtime(rt: HostRuntime) -> Result<(), Fail> {
-    let rows = [
-        Row::Hello(ANNE, &FOR_EVER, NEW),
-        Row::Hears(lasting(210, &[JOIN]), Verdict::Applied),
-        Row::Run(5_000, Step::Reached),
-        Row::Hears(lasting(10, &[JOIN]), Verdict::Applied),
-        Row::Run(209_999, Step::Refresh),
-        Row::Run(209_999, Step::Refresh),
-        Row::Run(209_999, Step::Refresh),
-        Row::Run(209_999, Step::Reached),
-        Row::State(What::Star, Some(State::Join)),
-        Row::Run(210_000, Step::Reached),
-        Row::State(What::Star, None),
-    ];
-    assert_eq!(rt; play(rt.alloc(), 100, &rows)?, None);
-    Ok(())
-}
-
-#[test]
-fn expiry_while_a_prune_is_pending(rt: HostRuntime) -> Result<(), Fail> {
-    let rows = [
-        Row::Hello(ANNE, &FOR_EVER, NEW),
-        Row::Hello(BERT, &FOR_EVER, NEW),
-        Row::Hears(lasting(1, &[JOIN]), Verdict::Applied),
-        Row::Hears(lasting(1, &[PRUNE]), Verdict::Applied),
-        Row::Run(999, Step::Reached),
-        Row::State(What::Star, Some(State::PrunePending)),
-        Row::Run(3_000, Step::Reached),
-        Row::State(What::Star, None),
-    ];
-    assert_eq!(rt; play(rt.alloc(), 100, &rows)?, None);
-    Ok(())
-}
+pub(super) const EXAMPLES: [Example; 8] = [
+    Example {
+        name: "refreshes each minute",
+        limit: 100,
+        rows: &[
+            Row::Run(130_000, Step::Refresh),
+            Row::Now(60_000),
+            Row::Run(130_000, Step::Refresh),
+            Row::Now(120_000),
+            Row::Run(130_000, Step::Reached),
+            Row::Now(130_000),
+            Row::Run(5, Step::Reached),
+            Row::Now(130_000),
+        ],
+    },
+    Example {
+        name: "timers of the millisecond end before a refresh",
+        limit: 100,
+        rows: &[
+            Row::Hello(ANNE, &FOR_EVER, NEW),
+            Row::Hears(60, &[JOIN], Verdict::Applied),
+            Row::Run(59_999, Step::Reached),
+            Row::State(What::Star, Some(State::Join)),
+            Row::Run(60_000, Step::Refresh),
+            Row::State(What::Star, None),
+            Row::Run(60_000, Step::Reached),
+        ],
+    },
+    Example {
+        name: "neighbours end with their holdtime",
+        limit: 100,
+        rows: &[
+            Row::Hello(ANNE, &[], NEW),
+            Row::Run(104_999, Step::Refresh),
+            Row::Run(104_999, Step::Reached),
+            Row::Hears(210, &[JOIN], Verdict::Applied),
+            Row::Run(105_000, Step::Reached),
+            Row::Hears(210, &[JOIN], Verdict::UnknownNeighbour),
+        ],
+    },
+    Example {
+        name: "prune waits for another neighbour",
+        limit: 100,
+        rows: &[
+            Row::Hello(ANNE, &FOR_EVER, NEW),
+            Row::Hello(BERT, &FOR_EVER, NEW),
+            Row::Hears(210, &[JOIN], Verdict::Applied),
+            Row::Hears(210, &[PRUNE], Verdict::Applied),
+            Row::Run(2_999, Step::Reached),
+            Row::State(What::Star, Some(State::PrunePending)),
+            Row::Run(3_000, ECHO),
+            Row::Run(3_000, Step::Reached),
+            Row::State(What::Star, None),
+        ],
+    },
+    Example {
+        name: "prune waits for nobody",
+        limit: 100,
+        rows: &[
+            Row::Hello(ANNE, &FOR_EVER, NEW),
+            Row::Hears(210, &[JOIN], Verdict::Applied),
+            Row::Hears(210, &[PRUNE], Verdict::Applied),
+            Row::State(What::Star, Some(State::PrunePending)),
+            Row::Run(0, Step::Reached),
+            Row::State(What::Star, None),
+        ],
+    },
+    Example {
+        name: "neighbours whose time is over are not waited for",
+        limit: 100,
+        rows: &[
+            Row::Hello(ANNE, &FOR_EVER, NEW),
+            Row::Hello(BERT, &[0, 1, 0, 2, 0, 1], NEW),
+            Row::Hears(210, &[JOIN], Verdict::Applied),
+            Row::Run(1_000, Step::Reached),
+            Row::Hears(210, &[PRUNE], Verdict::Applied),
+            Row::Run(1_000, Step::Reached),
+            Row::State(What::Star, None),
+        ],
+    },
+    Example {
+        name: "expiry by the greatest holdtime",
+        limit: 100,
+        rows: &[
+            Row::Hello(ANNE, &FOR_EVER, NEW),
+            Row::Hears(210, &[JOIN], Verdict::Applied),
+            Row::Run(5_000, Step::Reached),
+            Row::Hears(10, &[JOIN], Verdict::Applied),
+            Row::Run(209_999, Step::Refresh),
+            Row::Run(209_999, Step::Refresh),
+            Row::Run(209_999, Step::Refresh),
+            Row::Run(209_999, Step::Reached),
+            Row::State(What::Star, Some(State::Join)),
+            Row::Run(210_000, Step::Reached),
+            Row::State(What::Star, None),
+        ],
+    },
+    Example {
+        name: "expiry while a prune is pending",
+        limit: 100,
+        rows: &[
+            Row::Hello(ANNE, &FOR_EVER, NEW),
+            Row::Hello(BERT, &FOR_EVER, NEW),
+            Row::Hears(1, &[JOIN], Verdict::Applied),
+            Row::Hears(1, &[PRUNE], Verdict::Applied),
+            Row::Run(999, Step::Reached),
+            Row::State(What::Star, Some(State::PrunePending)),
+            Row::Run(3_000, Step::Reached),
+            Row::State(What::Star, None),
+        ],
+    },
+];

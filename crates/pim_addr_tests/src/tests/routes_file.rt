@@ -1,9 +1,8 @@
 //! Files of routes: the forms of their lines, what stops them, and devices and memory that fail.
 
-use crate::{RoutesFault, read_routes};
 use pim_addr::{Family, Routes, ScriptedFeed, V4, V6, read_text};
+use pim_routes_file::{RoutesFault, read_routes};
 use std::alloc::Global;
-use std::process::Abort;
 
 /// Reads a file with a reader that gives so many bytes a call and fails from some byte on, and answers how many rows
 /// are there then.
@@ -44,91 +43,96 @@ fn a_prefix_with_bits_past_its_length(rt: HostRuntime) {
     assert_eq!(rt; read::<V4>(alloc, two), (Err(RoutesFault::Line(2)), 1));
 }
 
+/// Files, and how many rows each has.
+const FILES: [(&str, usize); 10] = [
+    ("", 0),
+    ("\n", 0),
+    ("\n\n\n", 0),
+    ("# rp 1.2.3.4", 0),
+    ("#\n", 0),
+    ("rp 239.1.0.0/16 10.9.9.9", 1),
+    ("rp 239.1.0.0/16 10.9.9.9\n", 1),
+    (
+        "\nrp 239.1.0.0/16 10.9.9.9\n\n# via\nvia 10.8.0.0/16 10.0.0.6\n",
+        2,
+    ),
+    ("rp 224.0.0.0/4 10.9.9.9\nvia 224.0.0.0/4 10.9.9.9\n", 2),
+    (
+        "via 10.8.0.1/32 10.0.0.6\nvia 0.0.0.0/0 10.0.0.2\nvia 10.0.0.0/8 10.0.0.2\n",
+        3,
+    ),
+];
+
 #[test]
 fn files_that_are_read(rt: HostRuntime) {
-    for (file, rows) in [
-        ("", 0),
-        ("\n", 0),
-        ("\n\n\n", 0),
-        ("# rp 1.2.3.4", 0),
-        ("#\n", 0),
-        ("rp 239.1.0.0/16 10.9.9.9", 1),
-        ("rp 239.1.0.0/16 10.9.9.9\n", 1),
-        (
-            "\nrp 239.1.0.0/16 10.9.9.9\n\n# via\nvia 10.8.0.0/16 10.0.0.6\n",
-            2,
-        ),
-        ("rp 224.0.0.0/4 10.9.9.9\nvia 224.0.0.0/4 10.9.9.9\n", 2),
-        (
-            "via 10.8.0.1/32 10.0.0.6\nvia 0.0.0.0/0 10.0.0.2\nvia 10.0.0.0/8 10.0.0.2\n",
-            3,
-        ),
-    ] {
+    for (file, rows) in FILES {
         assert_eq!(rt; read::<V4>(rt.alloc(), file), (Ok(()), rows));
     }
     let six = "rp ff00::/8 2001:db8::9\nvia ::/0 fe80::1\nvia 2001:DB8::/32 FE80::2\n";
     assert_eq!(rt; read::<V6>(rt.alloc(), six), (Ok(()), 3));
 }
 
-/// A line behind two others, of which one is passed over, is told by its number, and only the row before it is there.
-fn is_refused(rt: &impl Abort, alloc: Global, line: &str) {
-    let Ok(file) = format!(in alloc;
+/// Whether a line behind two others, of which one is passed over, is told by its number, and only the row before it is
+/// there.
+fn is_refused(alloc: Global, line: &str) -> bool {
+    match format!(in alloc;
         "# rows\nvia 10.1.0.0/16 10.0.0.6\n{line}\nvia 10.2.0.0/16 10.0.0.6\n"
-    ) else {
-        assert!(rt; false);
-        return;
-    };
-    assert_eq!(rt; read::<V4>(alloc, &file), (Err(RoutesFault::Line(3)), 1));
+    ) {
+        Ok(file) => read::<V4>(alloc, &file) == (Err(RoutesFault::Line(3)), 1),
+        Err(_) => false,
+    }
 }
+
+const LINES: [&str; 40] = [
+    // another form
+    " ",
+    " # no comment",
+    "via",
+    "via ",
+    "via 10.8.0.0/16",
+    "via 10.8.0.0/16 ",
+    "via 10.8.0.0 10.0.0.6",
+    "via 10.8.0.0/ 10.0.0.6",
+    "via 10.8.0.0/16 10.0.0.6\r",
+    "via 10.8.0.0/16 10.0.0.6 ",
+    " via 10.8.0.0/16 10.0.0.6",
+    "via  10.8.0.0/16 10.0.0.6",
+    "via 10.8.0.0/16  10.0.0.6",
+    "via 10.8.0.0/ 16 10.0.0.6",
+    "via\t10.8.0.0/16 10.0.0.6",
+    "via 10.8.0.0/016 10.0.0.6",
+    "via 0.0.0.0/00 10.0.0.6",
+    "via 10.8.0.0/+16 10.0.0.6",
+    "via 10.8.0.0/-0 10.0.0.6",
+    "via 10.8.0.0/16/16 10.0.0.6",
+    "via 10.8.0.0/33 10.0.0.6",
+    "via 10.8.0.0/256 10.0.0.6",
+    "via 10.8.0.0/272 10.0.0.6",
+    "via 10.8.0.0/18446744073709551632 10.0.0.6",
+    "via 10.8.00.0/16 10.0.0.6",
+    "via 10.8.0.0/16 10.0.0.256",
+    "via 10.8.0.0/16 10.0.0.6# comment",
+    "VIA 10.8.0.0/16 10.0.0.6",
+    "Via 10.8.0.0/16 10.0.0.6",
+    "RP 239.1.0.0/16 10.0.0.6",
+    "to 10.8.0.0/16 10.0.0.6",
+    "vias 10.8.0.0/16 10.0.0.6",
+    // an address of the other family
+    "via 2001:db8::/32 10.0.0.6",
+    "via 10.8.0.0/16 fe80::1",
+    // a row that the table refuses
+    "via 10.8.0.0/8 10.0.0.6",
+    "via 10.8.0.0/16 224.0.0.1",
+    "via 10.1.0.0/16 10.0.0.6",
+    "via 10.1.0.0/16 10.0.0.7",
+    "rp 10.8.0.0/16 10.0.0.6",
+    "rp 224.0.0.0/3 10.0.0.6",
+];
 
 #[test]
 fn lines_that_are_refused(rt: HostRuntime) {
-    for line in [
-        // another form
-        " ",
-        " # no comment",
-        "via",
-        "via ",
-        "via 10.8.0.0/16",
-        "via 10.8.0.0/16 ",
-        "via 10.8.0.0 10.0.0.6",
-        "via 10.8.0.0/ 10.0.0.6",
-        "via 10.8.0.0/16 10.0.0.6\r",
-        "via 10.8.0.0/16 10.0.0.6 ",
-        " via 10.8.0.0/16 10.0.0.6",
-        "via  10.8.0.0/16 10.0.0.6",
-        "via 10.8.0.0/16  10.0.0.6",
-        "via 10.8.0.0/ 16 10.0.0.6",
-        "via\t10.8.0.0/16 10.0.0.6",
-        "via 10.8.0.0/016 10.0.0.6",
-        "via 0.0.0.0/00 10.0.0.6",
-        "via 10.8.0.0/+16 10.0.0.6",
-        "via 10.8.0.0/-0 10.0.0.6",
-        "via 10.8.0.0/16/16 10.0.0.6",
-        "via 10.8.0.0/33 10.0.0.6",
-        "via 10.8.0.0/256 10.0.0.6",
-        "via 10.8.0.0/272 10.0.0.6",
-        "via 10.8.0.0/18446744073709551632 10.0.0.6",
-        "via 10.8.00.0/16 10.0.0.6",
-        "via 10.8.0.0/16 10.0.0.256",
-        "via 10.8.0.0/16 10.0.0.6# comment",
-        "VIA 10.8.0.0/16 10.0.0.6",
-        "Via 10.8.0.0/16 10.0.0.6",
-        "RP 239.1.0.0/16 10.0.0.6",
-        "to 10.8.0.0/16 10.0.0.6",
-        "vias 10.8.0.0/16 10.0.0.6",
-        // an address of the other family
-        "via 2001:db8::/32 10.0.0.6",
-        "via 10.8.0.0/16 fe80::1",
-        // a row that the table refuses
-        "via 10.8.0.0/8 10.0.0.6",
-        "via 10.8.0.0/16 224.0.0.1",
-        "via 10.1.0.0/16 10.0.0.6",
-        "via 10.1.0.0/16 10.0.0.7",
-        "rp 10.8.0.0/16 10.0.0.6",
-        "rp 224.0.0.0/3 10.0.0.6",
-    ] {
-        is_refused(&rt, rt.alloc(), line);
+    for line in LINES {
+        assert!(rt; is_refused(rt.alloc(), line), "{line}");
     }
 }
 
@@ -176,19 +180,22 @@ fn a_file_that_is_too_long(rt: HostRuntime) {
     }
 }
 
+/// Whether a fault is told in these words.
+fn is_in_words(alloc: Global, fault: RoutesFault, words: &str) -> bool {
+    match format!(in alloc; "{fault}") {
+        Ok(text) => text.as_str() == words,
+        Err(_) => false,
+    }
+}
+
 #[test]
 fn a_line_is_told_in_words(rt: HostRuntime) {
-    let alloc = rt.alloc();
     for (fault, words) in [
         (RoutesFault::TooLong, "routes too-long"),
         (RoutesFault::Read, "routes read"),
         (RoutesFault::Line(12), "routes line 12"),
         (RoutesFault::Memory, "memory"),
     ] {
-        let Ok(text) = format!(in alloc; "{fault}") else {
-            assert!(rt; false);
-            return;
-        };
-        assert_eq!(rt; text.as_str(), words);
+        assert!(rt; is_in_words(rt.alloc(), fault, words), "{words}");
     }
 }

@@ -1,25 +1,9 @@
 //! A list in blocks of four numbers beside a plain vector, over some thousands of steps.
 
-ghost use Rattle.std.specs.Ordering.{nat_cmp};
-
-use crate::{SortedSlab, Walk};
-use sorted_blocks::{Place, Probe};
-use std::cmp::Ordering;
+use super::Number;
+use sorted_blocks::Place;
+use sorted_slab::{SortedSlab, Walk};
 use std::test::Fail;
-
-/// The number that is sought.
-#[derive(Drop)]
-struct Number(u32);
-
-impl Probe<u32> for Number {
-    ghost can_compare = { λ _ _. Unit {0} };
-
-    ghost order = { λ number item. nat_cmp item number.0 };
-
-    fn compare(&self, item: &u32) -> Ordering {
-        item.cmp(&self.0)
-    }
-}
 
 /// Whether these are the items that are left of the walk.
 fn are_left(walk: Walk<'_, u32, 2>, plain: &[u32]) -> bool {

@@ -1,8 +1,8 @@
 //! Merges of small captures, by readers that give few bytes, end early or fail.
 
-use crate::{Merge, MergeFault, Turn};
 use pim_addr::{Feed, ScriptedFeed};
 use pim_capture::CaptureFault;
+use pim_merge::{Merge, MergeFault, Turn};
 use std::alloc::{AllocError, Global};
 use std::process::Abort;
 use std::test::Fail;

@@ -1,10 +1,11 @@
 //! Random messages and runs, each told alike by `Ports` and by the slow list.
 
-use super::RP;
+use super::bodies::{hear_body, table};
 use super::slow::{Named, Slow, SlowRecord};
-use crate::{HearFault, Key, Machine, Pending, Ports, Record, Timing, What};
+use super::{ONE_RP, RP};
 use pim_addr::{Routes, V4};
-use pim_jp::{Entry, JpView};
+use pim_down::{HearFault, Key, Machine, Pending, Ports, Record, Timing, What};
+use pim_jp::Entry;
 use std::alloc::{AllocError, Global};
 use std::test::Fail;
 
@@ -105,30 +106,6 @@ fn message(alloc: Global, numbers: &mut Numbers) -> Result<Vec<Named>, AllocErro
         entries.push(numbers.named())?;
     }
     Ok(entries)
-}
-
-/// The table that leads all groups to the RP.
-fn table(alloc: Global) -> Option<Routes<V4>> {
-    let mut routes: Routes<V4> = Routes::new(alloc);
-    if routes.add_rp([224, 0, 0, 0], 4, RP).is_err() {
-        return None;
-    }
-    Some(routes)
-}
-
-/// Hears a body on a port. `None` where the body is no message or the port isn't there.
-fn hear_body(
-    ports: &mut Ports<V4>,
-    routes: &Routes<V4>,
-    port: usize,
-    body: &[u8],
-    timing: Timing,
-) -> Option<Result<(), HearFault>> {
-    let message = JpView::<V4>::read(body).ok()?;
-    if port >= ports.port_count() || timing.override_ms > 98_302 {
-        return None;
-    }
-    Some(ports.hear(port, &message, routes, timing))
 }
 
 /// Both hear a message: whether they answer alike.
@@ -261,7 +238,7 @@ fn step(
 /// The first step after which they differ; each hundredth one compares all records.
 fn first_difference(alloc: Global, seed: u64) -> Result<Option<u32>, AllocError> {
     let mut numbers = Numbers(seed);
-    let Some(routes) = table(alloc) else {
+    let Some(routes) = table(alloc, &ONE_RP) else {
         return Ok(Some(0));
     };
     let mut ports: Ports<V4> = Ports::new(alloc, 2, LIMIT);

@@ -3,7 +3,7 @@
 
 use super::RP;
 use super::courses::{Course, is_tmp, joined, pruned, rpt_pruned, star_joined, start_at};
-use crate::{Key, State, Step, Timing, What};
+use pim_down::{Key, State, Step, Timing, What};
 use pim_jp::Entry;
 use std::alloc::{AllocError, Global};
 use std::cmp::Ordering;

@@ -1,6 +1,6 @@
 //! One downstream machine by moments, and what events make of it, read off the transition tables of RFC 7761 (4.5).
 
-use crate::{State, Timing};
+use pim_down::{State, Timing};
 
 /// A machine that is held, and the moments at which its timers end; an expiry timer without an end never does.
 #[derive(Clone, Copy, PartialEq, Eq, Debug)]

@@ -1,7 +1,7 @@
 //! Worked messages, with the answers of the definitions.
 
-use super::*;
 use pim_addr::{V4, V6};
+use pim_frame::{Body, FrameFault, MessageType, all_routers, open, seal};
 
 /// A Hello whose checksum is written 0x0000.
 const HELLO_ZERO: [u8; 10] = [0x20, 0x00, 0x00, 0x00, 0x00, 0x01, 0x00, 0x02, 0xdf, 0xfc];
