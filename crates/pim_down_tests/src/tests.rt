@@ -4,6 +4,7 @@
 
 mod bodies;
 mod courses;
+mod fresh;
 mod hearing;
 mod limits;
 mod looks;
@@ -13,7 +14,7 @@ mod running;
 mod slow;
 mod tables;
 
-use bodies::{body, hear_body, table};
+use bodies::{body, body_of_sources, hear_body, table};
 use nexts::{is_alike_near, place_in};
 use pim_addr::{Routes, V4};
 use pim_down::{
@@ -90,6 +91,9 @@ enum Row {
     HearAmong(usize, &'static [Set]),
     /// A message with this holdtime is heard on the first port.
     HearFor(u16, Timing, &'static [Set]),
+    /// A message with the holdtime 210 is heard on the first port with several neighbours, which joins the sources from
+    /// 10.1.0.FIRST on, so many.
+    HearSources(u8, u8),
     /// A message with the holdtime 210 is heard on the first port under this table.
     HearUnder(&'static [Lead], Timing, &'static [Set]),
     /// A message with the holdtime 300 is refused on a port, since so many records are needed.
@@ -120,6 +124,8 @@ enum Row {
     HoldsOn(usize, &'static [Held]),
     /// How many records a port holds.
     Count(usize, usize),
+    /// How many machines are in Join, with so many milliseconds left and no prune-pending timer.
+    Lasting(u64, usize),
     /// How many ports there are, and how many records each may have.
     Sizes(usize, usize),
     /// The group that comes next on a port.
@@ -240,6 +246,27 @@ fn answer_in(row: Row) -> Result<(), HearFault> {
     }
 }
 
+/// Lets the first port hear a message that joins these sources: whether it is taken.
+fn hears_sources(alloc: Global, ports: &mut Ports<V4>, first: u8, count: u8) -> bool {
+    match (body_of_sources(alloc, first, count), table(alloc, &ONE_RP)) {
+        (Ok(bytes), Some(routes)) => hear_body(ports, &routes, 0, &bytes, SEVERAL) == Some(Ok(())),
+        _ => false,
+    }
+}
+
+/// Whether a machine is in Join, with so much left and no prune-pending timer.
+fn is_lasting(machine: &Machine, left: u64) -> bool {
+    machine.state == State::Join && machine.expires_in == Some(left) && machine.pending.is_none()
+}
+
+/// How many machines are so.
+fn lasting(ports: &Ports<V4>, left: u64) -> usize {
+    ports
+        .records()
+        .filter(|record| is_lasting(&record.machine, left))
+        .count()
+}
+
 /// Runs to a moment: whether it tells this.
 fn runs(ports: &mut Ports<V4>, moment: u64, wanted: Step<[u8; 4]>) -> bool {
     moment <= 1_000_000_000_000_000 && ports.run_to(moment) == wanted
@@ -318,6 +345,7 @@ fn is_seen(ports: &Ports<V4>, row: Row) -> bool {
                 && tells(ports.records_on(port), wanted)
         }
         Row::Count(port, count) => ports.count_on(port) == count,
+        Row::Lasting(left, count) => lasting(ports, left) == count,
         Row::Sizes(count, limit) => ports.port_count() == count && ports.limit() == limit,
         Row::GroupAfter(port, group, next) => ports.group_after(port, group) == next,
         Row::MachineAfter(group, what, next) => machine_after(ports, group, what) == next,
@@ -331,6 +359,7 @@ fn goes(alloc: Global, ports: &mut Ports<V4>, row: Row) -> bool {
         return hears(alloc, ports, &heard, answer_in(row));
     }
     match row {
+        Row::HearSources(first, count) => hears_sources(alloc, ports, first, count),
         Row::Reach(moment) => runs(ports, moment, Step::Reached),
         Row::Echo(moment, port, what) => {
             let group = GROUP;
@@ -380,7 +409,8 @@ fn wrong(alloc: Global, examples: &[Example]) -> Option<(&'static str, usize)> {
 
 #[test]
 fn examples_go_as_they_say(rt: HostRuntime) {
-    let all: [&[Example]; 5] = [
+    let all: [&[Example]; 6] = [
+        &fresh::EXAMPLES,
         &hearing::EXAMPLES,
         &limits::EXAMPLES,
         &nexts::EXAMPLES,

@@ -20,49 +20,105 @@ const EACH_OPTION: [u8; 52] = [
     7,
 ];
 
-#[test]
-fn reads_each_option(rt: HostRuntime) -> Result<(), Fail> {
-    let hello = Hello::<V4>::read(&EACH_OPTION)?;
-    assert_eq!(rt; hello.holdtime, Some(35));
-    let delays = LanDelay {
-        t: false,
-        propagation: 500,
-        override_ms: 2500,
-    };
-    assert_eq!(rt; hello.lan, Some(delays));
-    assert_eq!(rt; hello.priority, Some(1));
-    assert_eq!(rt; hello.generation, Some(249_250_183));
-    assert_eq!(rt; hello.addresses.len(), 0);
-    let mut addresses = Hello::<V6>::read(&EACH_OPTION)?.addresses;
-    let link_local = [0xfe, 0x80, 0, 0, 0, 0, 0, 0, 0, 0, 0, 0xff, 0xfe, 0, 0, 7];
-    assert_eq!(rt; addresses.next(), Some(link_local));
-    assert_eq!(rt; addresses.next(), None);
-    Ok(())
+/// What a Hello tells, but for its Address List.
+type Told = (Option<u16>, Option<LanDelay>, Option<u32>, Option<u32>);
+
+/// Whether a Hello tells this, and so many addresses.
+fn tells(
+    hello: &Hello<'_, V4>,
+    (holdtime, lan, priority, generation): Told,
+    addresses: usize,
+) -> bool {
+    hello.holdtime == holdtime
+        && hello.lan == lan
+        && hello.priority == priority
+        && hello.generation == generation
+        && hello.addresses.len() == addresses
 }
 
-#[test]
-fn skips_what_it_does_not_know(rt: HostRuntime) -> Result<(), Fail> {
-    for body in [[].as_slice(), &[0xfd, 0xe8, 0, 1, 0xaa]] {
-        let hello = Hello::<V4>::read(body)?;
-        assert_eq!(rt; hello.holdtime, None);
-        assert_eq!(rt; hello.holdtime_seconds(), 105);
-        assert_eq!(rt; hello.lan, None);
-        assert_eq!(rt; hello.priority, None);
-        assert_eq!(rt; hello.generation, None);
-        assert_eq!(rt; hello.addresses.len(), 0);
+/// Whether a body over IPv4 tells this, and so many addresses.
+fn is_read(body: &[u8], told: Told, addresses: usize) -> bool {
+    match Hello::<V4>::read(body) {
+        Ok(hello) => tells(&hello, told, addresses),
+        Err(_) => false,
     }
-    Ok(())
+}
+
+const DELAYS: LanDelay = LanDelay {
+    t: false,
+    propagation: 500,
+    override_ms: 2500,
+};
+
+const NOTHING: Told = (None, None, None, None);
+
+/// Bodies, and what they tell.
+const READ: [(&[u8], Told, usize); 6] = [
+    (
+        &EACH_OPTION,
+        (Some(35), Some(DELAYS), Some(1), Some(249_250_183)),
+        0,
+    ),
+    (&[], NOTHING, 0),
+    // an unknown option
+    (&[0xfd, 0xe8, 0, 1, 0xaa], NOTHING, 0),
+    // the last of an option counts
+    (
+        &[0, 20, 0, 4, 0, 0, 0, 1, 0, 20, 0, 4, 0, 0, 0, 2],
+        (None, None, None, Some(2)),
+        0,
+    ),
+    (&TWO_LISTS, NOTHING, 0),
+    (&ONE_LIST, NOTHING, 1),
+];
+
+/// An Address List of one address, and an empty one behind it.
+const TWO_LISTS: [u8; 14] = [0, 24, 0, 6, 1, 0, 192, 0, 2, 1, 0, 24, 0, 0];
+
+/// The first of them alone.
+const ONE_LIST: [u8; 10] = [0, 24, 0, 6, 1, 0, 192, 0, 2, 1];
+
+#[test]
+fn reads_options(rt: HostRuntime) {
+    for (body, told, addresses) in READ {
+        assert!(rt; is_read(body, told, addresses), "of {body:?}");
+    }
+    assert_eq!(rt; holdtime_of(&[]), Some(105));
+    assert_eq!(rt; holdtime_of(&[0xfd, 0xe8, 0, 1, 0xaa]), Some(105));
+    assert_eq!(rt; holdtime_of(&EACH_OPTION), Some(35));
+}
+
+/// The holdtime that counts of a body over IPv4, in seconds.
+fn holdtime_of(body: &[u8]) -> Option<u16> {
+    match Hello::<V4>::read(body) {
+        Ok(hello) => Some(hello.holdtime_seconds()),
+        Err(_) => None,
+    }
+}
+
+/// The first two addresses of a body over IPv4.
+fn addresses(body: &[u8]) -> [Option<[u8; 4]>; 2] {
+    match Hello::<V4>::read(body) {
+        Ok(mut hello) => [hello.addresses.next(), hello.addresses.next()],
+        Err(_) => [None, None],
+    }
+}
+
+/// The same over IPv6.
+fn addresses_of_ipv6(body: &[u8]) -> [Option<[u8; 16]>; 2] {
+    match Hello::<V6>::read(body) {
+        Ok(mut hello) => [hello.addresses.next(), hello.addresses.next()],
+        Err(_) => [None, None],
+    }
 }
 
 #[test]
-fn takes_the_last_of_an_option(rt: HostRuntime) -> Result<(), Fail> {
-    let generations = [0, 20, 0, 4, 0, 0, 0, 1, 0, 20, 0, 4, 0, 0, 0, 2];
-    assert_eq!(rt; Hello::<V4>::read(&generations)?.generation, Some(2));
-    let lists = [0, 24, 0, 6, 1, 0, 192, 0, 2, 1, 0, 24, 0, 0];
-    assert_eq!(rt; Hello::<V4>::read(&lists)?.addresses.len(), 0);
-    let mut addresses = Hello::<V4>::read(&lists[..10])?.addresses;
-    assert_eq!(rt; addresses.next(), Some([192, 0, 2, 1]));
-    Ok(())
+fn reads_address_lists(rt: HostRuntime) {
+    assert_eq!(rt; addresses(&ONE_LIST), [Some([192, 0, 2, 1]), None]);
+    assert_eq!(rt; addresses(&TWO_LISTS), [None, None]);
+    assert_eq!(rt; addresses(&EACH_OPTION), [None, None]);
+    let link_local = [0xfe, 0x80, 0, 0, 0, 0, 0, 0, 0, 0, 0, 0xff, 0xfe, 0, 0, 7];
+    assert_eq!(rt; addresses_of_ipv6(&EACH_OPTION), [Some(link_local), None]);
 }
 
 #[test]

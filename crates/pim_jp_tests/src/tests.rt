@@ -5,12 +5,11 @@ use pim_jp::JpKind::{
     BothLists, Encoding, Family, Flags, Mask, NotGroup, NotSource, SecondStar, Short, Trailing,
 };
 use pim_jp::{
-    Entry, JpKind, JpView, head_length, put_entry, put_group_and_counts, put_head, put_set,
-    set_length,
+    Entries, Entry, JpKind, JpView, SetView, Sets, head_length, put_entry, put_group_and_counts,
+    put_head, put_set, set_length,
 };
 use std::alloc::Global;
 use std::fmt::Debug;
-use std::test::Fail;
 
 mod changed_bytes;
 mod clashes;
@@ -38,25 +37,74 @@ fn fault_v6(body: &[u8]) -> Option<(JpKind, usize)> {
     Some((fault.kind, fault.at))
 }
 
+/// Whether these entries are left, and no others.
+fn are_left(mut left: Entries<'_, V4>, wanted: &[Entry<[u8; 4]>]) -> bool {
+    for entry in wanted {
+        if left.next() != Some(*entry) {
+            return false;
+        }
+    }
+    left.count_left() == 0 && left.next().is_none()
+}
+
+/// Whether it is a set of 239.1.1.1 with these lists.
+fn is_set(set: &SetView<'_, V4>, joined: &[Entry<[u8; 4]>], pruned: &[Entry<[u8; 4]>]) -> bool {
+    set.group() == [239, 1, 1, 1]
+        && usize::from(set.joined_count()) == joined.len()
+        && usize::from(set.pruned_count()) == pruned.len()
+        && are_left(set.joined(), joined)
+        && are_left(set.pruned(), pruned)
+}
+
+/// Whether such a set is left, and no other.
+fn is_left(mut left: Sets<'_, V4>, joined: &[Entry<[u8; 4]>], pruned: &[Entry<[u8; 4]>]) -> bool {
+    match left.next() {
+        Some(set) => {
+            left.count_left() == 0 && left.next().is_none() && is_set(&set, joined, pruned)
+        }
+        None => false,
+    }
+}
+
+/// Whether it is a message to 10.0.0.2 with the holdtime 210 and one such set.
+fn is_message(
+    message: &JpView<'_, V4>,
+    joined: &[Entry<[u8; 4]>],
+    pruned: &[Entry<[u8; 4]>],
+) -> bool {
+    message.upstream() == [10, 0, 0, 2]
+        && message.holdtime() == 210
+        && message.set_count() == 1
+        && message.sets().count_left() == 1
+        && is_left(message.sets(), joined, pruned)
+}
+
+/// A body, and the joined and the pruned list of its one set.
+type Read<'a> = (&'a [u8], &'a [Entry<[u8; 4]>], &'a [Entry<[u8; 4]>]);
+
+const READ: [Read<'static>; 2] = [
+    (&STAR, &[Entry::Star([10, 9, 9, 9])], &[]),
+    (
+        &[
+            1, 0, 10, 0, 0, 2, 0, 1, 0, 210, 1, 0, 0, 32, 239, 1, 1, 1, 0, 1, 0, 1, 1, 0, 4, 32,
+            192, 0, 2, 1, 1, 0, 5, 32, 192, 0, 2, 1,
+        ],
+        &[Entry::Source([192, 0, 2, 1])],
+        &[Entry::Rpt([192, 0, 2, 1])],
+    ),
+];
+
+/// Whether a body is read so.
+fn is_read(&(body, joined, pruned): &Read<'_>) -> bool {
+    match JpView::<V4>::read(body) {
+        Ok(message) => is_message(&message, joined, pruned),
+        Err(_) => false,
+    }
+}
+
 #[test]
-fn reads_star(rt: HostRuntime) -> Result<(), Fail> {
-    let message = JpView::<V4>::read(&STAR)?;
-    assert_eq!(rt; message.upstream(), [10, 0, 0, 2]);
-    assert_eq!(rt; message.holdtime(), 210);
-    assert_eq!(rt; message.set_count(), 1);
-    let mut sets = message.sets();
-    assert_eq!(rt; sets.count_left(), 1);
-    let set = sets.next().ok_or("one set")?;
-    assert_eq!(rt; sets.count_left(), 0);
-    assert!(rt; sets.next().is_none());
-    assert_eq!(rt; set.group(), [239, 1, 1, 1]);
-    assert_eq!(rt; (set.joined_count(), set.pruned_count()), (1, 0));
-    let mut joined = set.joined();
-    assert_eq!(rt; joined.next(), Some(Entry::Star([10, 9, 9, 9])));
-    assert_eq!(rt; joined.count_left(), 0);
-    assert_eq!(rt; joined.next(), None);
-    assert_eq!(rt; set.pruned().next(), None);
-    Ok(())
+fn reads_what_bodies_say(rt: HostRuntime) {
+    assert_eq!(rt; READ.iter().position(|row| !is_read(row)), None);
 }
 
 /// Whether a value shows this in print.
@@ -67,51 +115,69 @@ fn shows<T: Debug>(alloc: Global, value: &T, want: &str) -> bool {
     }
 }
 
-#[test]
-fn shows_what_was_read(rt: HostRuntime) -> Result<(), Fail> {
-    let alloc = rt.alloc();
-    let message = JpView::<V4>::read(&STAR)?;
-    let shown = "JpView { upstream: [10, 0, 0, 2], holdtime: 210, set_count: 1 }";
-    assert!(rt; shows(alloc, &message, shown));
-    assert!(rt; shows(alloc, &message.sets(), "Sets { count_left: 1 }"));
-    let set = message.sets().next().ok_or("one set")?;
+/// Whether a set and its joined entries are shown so.
+fn set_shows(alloc: Global, set: &SetView<'_, V4>) -> bool {
     let shown = "SetView { group: [239, 1, 1, 1], joined_count: 1, pruned_count: 0 }";
-    assert!(rt; shows(alloc, &set, shown));
-    assert!(rt; shows(alloc, &set.joined(), "Entries { count_left: 1 }"));
-    Ok(())
+    shows(alloc, set, shown) && shows(alloc, &set.joined(), "Entries { count_left: 1 }")
+}
+
+/// Whether a message, its sets and the first of them are shown so.
+fn message_shows(alloc: Global, message: &JpView<'_, V4>) -> bool {
+    let shown = "JpView { upstream: [10, 0, 0, 2], holdtime: 210, set_count: 1 }";
+    match message.sets().next() {
+        Some(set) => {
+            shows(alloc, message, shown)
+                && shows(alloc, &message.sets(), "Sets { count_left: 1 }")
+                && set_shows(alloc, &set)
+        }
+        None => false,
+    }
 }
 
 #[test]
-fn reads_star_of_ipv6(rt: HostRuntime) -> Result<(), Fail> {
-    let message = JpView::<V6>::read(&STAR_V6)?;
-    let upstream = [0xfe, 0x80, 0, 0, 0, 0, 0, 0, 0, 0, 0, 0, 0, 0, 0, 2];
-    assert_eq!(rt; message.upstream(), upstream);
-    assert_eq!(rt; message.holdtime(), 210);
-    let set = message.sets().next().ok_or("one set")?;
-    assert_eq!(rt;
-        set.group(),
-        [0xff, 0x0e, 0, 0, 0, 0, 0, 0, 0, 0, 0, 0, 0, 0, 0, 1]
-    );
-    let rp = [0x20, 1, 0x0d, 0xb8, 0, 0, 0, 0, 0, 0, 0, 0, 0, 0, 0, 9];
-    assert_eq!(rt; set.joined().next(), Some(Entry::Star(rp)));
-    assert_eq!(rt; set.pruned_count(), 0);
+fn shows_what_was_read(rt: HostRuntime) {
+    match JpView::<V4>::read(&STAR) {
+        Ok(message) => assert!(rt; message_shows(rt.alloc(), &message)),
+        Err(_) => assert!(rt; false),
+    }
+}
+
+/// fe80::2
+const UPSTREAM_V6: [u8; 16] = [0xfe, 0x80, 0, 0, 0, 0, 0, 0, 0, 0, 0, 0, 0, 0, 0, 2];
+
+/// ff0e::1
+const GROUP_V6: [u8; 16] = [0xff, 0x0e, 0, 0, 0, 0, 0, 0, 0, 0, 0, 0, 0, 0, 0, 1];
+
+/// 2001:db8::9
+const RP_V6: [u8; 16] = [0x20, 1, 0x0d, 0xb8, 0, 0, 0, 0, 0, 0, 0, 0, 0, 0, 0, 9];
+
+/// Whether it is a set of that group that joins that RP, and prunes nothing.
+fn is_star_of_ipv6(set: &SetView<'_, V6>) -> bool {
+    set.group() == GROUP_V6
+        && set.joined().next() == Some(Entry::Star(RP_V6))
+        && (set.joined_count(), set.pruned_count()) == (1, 0)
+}
+
+/// Whether it is a message to that neighbour with the holdtime 210 whose first set is that one.
+fn is_message_of_ipv6(message: &JpView<'_, V6>) -> bool {
+    match message.sets().next() {
+        Some(set) => {
+            message.upstream() == UPSTREAM_V6
+                && (message.holdtime(), message.set_count()) == (210, 1)
+                && is_star_of_ipv6(&set)
+        }
+        None => false,
+    }
+}
+
+#[test]
+fn reads_star_of_ipv6(rt: HostRuntime) {
+    match JpView::<V6>::read(&STAR_V6) {
+        Ok(message) => assert!(rt; is_message_of_ipv6(&message)),
+        Err(_) => assert!(rt; false),
+    }
     assert_eq!(rt; fault_v6(&STAR_V6[..65]), Some((Short, 46)));
     assert_eq!(rt; fault_v6(&STAR), Some((Family, 0)));
-    Ok(())
-}
-
-#[test]
-fn reads_a_source_in_both_lists(rt: HostRuntime) -> Result<(), Fail> {
-    let body = [
-        1, 0, 10, 0, 0, 2, 0, 1, 0, 210, 1, 0, 0, 32, 239, 1, 1, 1, 0, 1, 0, 1, 1, 0, 4, 32, 192,
-        0, 2, 1, 1, 0, 5, 32, 192, 0, 2, 1,
-    ];
-    let message = JpView::<V4>::read(&body)?;
-    let set = message.sets().next().ok_or("one set")?;
-    assert_eq!(rt; (set.joined_count(), set.pruned_count()), (1, 1));
-    assert_eq!(rt; set.joined().next(), Some(Entry::Source([192, 0, 2, 1])));
-    assert_eq!(rt; set.pruned().next(), Some(Entry::Rpt([192, 0, 2, 1])));
-    Ok(())
 }
 
 #[test]
@@ -279,11 +345,8 @@ fn writes_star(rt: HostRuntime) {
 fn writes_star_of_ipv6(rt: HostRuntime) {
     let mut body = [0xff; 66];
     let (head, set) = body.split_at_mut(head_length::<V6>());
-    let upstream = [0xfe, 0x80, 0, 0, 0, 0, 0, 0, 0, 0, 0, 0, 0, 0, 0, 2];
-    put_head::<V6>(upstream, 1, 210, head);
-    let group = [0xff, 0x0e, 0, 0, 0, 0, 0, 0, 0, 0, 0, 0, 0, 0, 0, 1];
-    let joined = [Entry::Star([0x20, 1, 0x0d, 0xb8, 0, 0, 0, 0, 0, 0, 0, 0, 0, 0, 0, 9])];
-    put_set::<V6>(group, &joined, &[], set);
+    put_head::<V6>(UPSTREAM_V6, 1, 210, head);
+    put_set::<V6>(GROUP_V6, &[Entry::Star(RP_V6)], &[], set);
     assert_eq!(rt; body, STAR_V6);
 }
 

@@ -9,7 +9,7 @@ use pim_jp::Entry;
 use std::alloc::{AllocError, Global};
 use std::test::Fail;
 
-/// How many records a port may have.
+/// How many records a port may have: fewer than there would be without a limit, and together more than two blocks hold.
 const LIMIT: usize = 700;
 
 const STEPS: u32 = 10_000;
@@ -37,9 +37,9 @@ impl Numbers {
         (self.below(bound) & 0xff) as u8
     }
 
-    /// One of 64 sources.
+    /// One of 256 sources.
     fn source(&mut self) -> [u8; 4] {
-        [192, 0, 2, self.byte(64)]
+        [192, 0, 2, self.byte(256)]
     }
 
     /// An entry of one of eight groups: mostly of a source.
