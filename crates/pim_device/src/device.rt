@@ -6,9 +6,6 @@ ghost use Rattle.pim_device.specs.Device.{failures_after, AppendsAll, ConsumesAt
 
 use thiserror::Error;
 
-#[cfg(test)]
-mod tests;
-
 /// A device failed: it gave nothing, or took nothing, in that call.
 #[derive(Clone, Copy, Debug, PartialEq, Eq, Error)]
 #[error("the device failed")]

@@ -2,6 +2,7 @@
 //! table of rows that are played one after the other, each by a small helper: a test that makes its calls itself takes
 //! far longer to prove.
 
+mod blocks;
 mod bodies;
 mod courses;
 mod fresh;

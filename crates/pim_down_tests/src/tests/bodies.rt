@@ -10,7 +10,8 @@ fn small(number: usize) -> u8 {
     u8::try_from(number).unwrap_or(0)
 }
 
-fn entry_bytes(entry: Entry<[u8; 4]>) -> [u8; 8] {
+/// An entry as it is spelled.
+pub(super) fn entry_bytes(entry: Entry<[u8; 4]>) -> [u8; 8] {
     let (flags, address) = match entry {
         Entry::Star(rp) => (7, rp),
         Entry::Source(source) => (4, source),

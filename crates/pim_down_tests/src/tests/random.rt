@@ -1,6 +1,6 @@
 //! Random messages and runs, each told alike by `Ports` and by the slow list.
 
-use super::bodies::{hear_body, table};
+use super::bodies::{entry_bytes, hear_body, table};
 use super::slow::{Named, Slow, SlowRecord};
 use super::{ONE_RP, RP};
 use pim_addr::{Routes, V4};
@@ -76,16 +76,10 @@ impl Numbers {
 
 /// Appends a set of one entry.
 fn push_set(body: &mut Vec<u8>, named: Named) -> Result<(), AllocError> {
-    let (flags, address) = match named.entry {
-        Entry::Star(rp) => (7, rp),
-        Entry::Source(source) => (4, source),
-        Entry::Rpt(source) => (5, source),
-    };
     let [_, _, _, group] = named.group;
-    let [a, b, c, d] = address;
     let (joined, pruned) = (u8::from(named.joins), u8::from(!named.joins));
     body.extend_from_slice(&[1, 0, 0, 32, 239, 1, 1, group, 0, joined, 0, pruned])?;
-    body.extend_from_slice(&[1, 0, flags, 32, a, b, c, d])
+    body.extend_from_slice(&entry_bytes(named.entry))
 }
 
 /// The body of a message with a set for each entry.

@@ -1,6 +1,0 @@
-use Rattle.std.proofs.Common.{◌≡◌, length}
-use Rattle.packets_to_messages.proofs.hear.Given as goal
-
--- the only port stays
-abbrev pub invariant-loop-moment : goal.invariant-loop-moment
-invariant-loop-moment l = length l.router.ports ≡ 1

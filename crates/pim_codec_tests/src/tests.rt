@@ -1,0 +1,7 @@
+//! What is read and written: devices, addresses, headers and tables, Hellos and neighbours, Join/Prune bodies, captures.
+
+mod addr;
+mod capture;
+mod device;
+mod hello;
+mod jp;

@@ -1,0 +1,152 @@
+//! Bodies with any one byte changed to any other, beside what a reader of its own, in another language, tells of them.
+
+ghost use Rattle.std.specs.Prelude.{◌≤◌};
+
+use super::STAR;
+use pim_addr::V4;
+use pim_jp::{JpFault, JpKind, JpView};
+
+/// A set that joins the RP 10.9.9.9, the source 192.0.2.1 and, on the RP's tree, 192.0.2.2, and prunes 192.0.2.2 and,
+/// on the RP's tree, 192.0.2.1.
+const LISTS: [u8; 62] = [
+    1, 0, 10, 0, 0, 2, 0, 1, 0, 210, 1, 0, 0, 32, 239, 1, 1, 1, 0, 3, 0, 2, 1, 0, 7, 32, 10, 9, 9,
+    9, 1, 0, 4, 32, 192, 0, 2, 1, 1, 0, 5, 32, 192, 0, 2, 2, 1, 0, 4, 32, 192, 0, 2, 2, 1, 0, 5,
+    32, 192, 0, 2, 1,
+];
+
+/// What was told of many bodies.
+#[derive(Clone, Copy, Debug, PartialEq, Eq)]
+struct Told {
+    /// Of how many there was no fault, and of how many one of each kind, in the order in which kinds are told.
+    counts: [u32; 11],
+    /// All offsets and kinds, in the order of the bodies: 31 times what came before, and 16 times the offset and the
+    /// kind's number more, modulo 2^32.
+    digest: u32,
+}
+
+/// 0 for no fault, else the place of its kind in the order in which faults of one part are told.
+fn number_of(fault: Option<JpFault>) -> usize
+    ensures { result ≤ 10 }
+{
+    match fault.map(|fault| fault.kind) {
+        None => 0,
+        Some(JpKind::Short) => 1,
+        Some(JpKind::Family) => 2,
+        Some(JpKind::Encoding) => 3,
+        Some(JpKind::Mask) => 4,
+        Some(JpKind::NotGroup) => 5,
+        Some(JpKind::Flags) => 6,
+        Some(JpKind::NotSource) => 7,
+        Some(JpKind::SecondStar) => 8,
+        Some(JpKind::BothLists) => 9,
+        Some(JpKind::Trailing) => 10,
+    }
+}
+
+impl Told {
+    /// One more body.
+    fn count(&mut self, body: &[u8]) {
+        let fault = JpView::<V4>::read(body).err();
+        let number = number_of(fault);
+        self.counts[number] = self.counts[number].saturating_add(1);
+        let at = fault.map_or(0, |fault| fault.at);
+        let place = at.saturating_mul(16).saturating_add(number);
+        let place = u32::try_from(place).unwrap_or(u32::MAX);
+        self.digest = self.digest.wrapping_mul(31).wrapping_add(place);
+    }
+}
+
+/// What is told of the body with each byte changed to each value, byte by byte.
+fn told_of_changes(body: &mut [u8]) -> Told {
+    let mut told = Told {
+        counts: [0; 11],
+        digest: 0,
+    };
+    for at in 0..body.len() {
+        let old = body[at];
+        for byte in 0..=255 {
+            body[at] = byte;
+            told.count(body);
+        }
+        body[at] = old;
+    }
+    told
+}
+
+#[test]
+fn tells_of_changed_bytes(rt: HostRuntime) {
+    let mut star = STAR;
+    let want = Told {
+        counts: [4029, 1273, 765, 765, 510, 240, 64, 32, 0, 0, 2],
+        digest: 3_754_923_866,
+    };
+    assert_eq!(rt; told_of_changes(&mut star), want);
+    let mut lists = LISTS;
+    let want = Told {
+        counts: [8261, 1269, 1785, 1785, 1530, 240, 320, 160, 256, 260, 6],
+        digest: 3_908_895_790,
+    };
+    assert_eq!(rt; told_of_changes(&mut lists), want);
+}
+
+/// Where an entry that is joined stands, and where it is written among the pruned ones, too; and what is told of all changes
+/// of the body.
+const IN_BOTH_LISTS: [(usize, usize, Told); 6] = [
+    (
+        22,
+        46,
+        Told {
+            counts: [256, 0, 1530, 1530, 1275, 240, 256, 128, 10653, 0, 4],
+            digest: 197_196_014,
+        },
+    ),
+    (
+        22,
+        54,
+        Told {
+            counts: [256, 0, 1785, 1785, 1530, 240, 320, 160, 9660, 130, 6],
+            digest: 2_750_905_835,
+        },
+    ),
+    (
+        30,
+        46,
+        Told {
+            counts: [2040, 507, 1530, 1530, 1275, 240, 256, 128, 192, 8170, 4],
+            digest: 102_671_295,
+        },
+    ),
+    (
+        30,
+        54,
+        Told {
+            counts: [2103, 506, 1785, 1785, 1530, 240, 320, 160, 256, 7181, 6],
+            digest: 2_342_861_546,
+        },
+    ),
+    (
+        38,
+        46,
+        Told {
+            counts: [2103, 507, 1530, 1530, 1275, 240, 256, 128, 192, 8106, 5],
+            digest: 697_445_475,
+        },
+    ),
+    (
+        38,
+        54,
+        Told {
+            counts: [2040, 506, 1785, 1785, 1530, 240, 320, 160, 256, 7244, 6],
+            digest: 4_117_703_567,
+        },
+    ),
+];
+
+#[test]
+fn tells_of_changed_bytes_in_both_lists(rt: HostRuntime) {
+    for (joined, pruned, told) in IN_BOTH_LISTS {
+        let mut body = LISTS;
+        body.copy_within(joined..joined + 8, pruned);
+        assert_eq!(rt; told_of_changes(&mut body), told, "{joined} {pruned}");
+    }
+}

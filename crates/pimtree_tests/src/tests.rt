@@ -1,0 +1,5 @@
+//! The program without its process: its words, its reports, and its commands.
+
+mod commands;
+mod replay;
+mod words;
