@@ -1,7 +1,7 @@
 #!/usr/bin/env python3
 """What tests expect of messages that are cut, or with any one byte changed to any other: of bodies those of pim_jp
-(crates/pim_jp_tests/src/tests/changed_bytes.rt), of whole messages those of pim_router
-(crates/pim_router_tests/src/tests/spoilt.rt).
+(crates/pim_codec_tests/src/tests/jp/changed_bytes.rt), of whole messages those of pim_router
+(crates/pim_router_tests/src/tests/router/spoilt.rt).
 
 A reader that is written apart from the engine (RFC 7761, 4.9): it lists all the faults of all the parts, as pairs of
 an offset and a number, and takes the least. Of many bodies or messages it prints how often each number is told, 0 for

@@ -49,26 +49,26 @@ while read -r crate name calls; do
     refuse "$crate" "$name"
     ran=1
 done << 'LIST'
-pim_addr_tests routes::refusals_change_nothing Routes::add_via
-pim_hello_tests neighbours::refusals_change_nothing Neighbours::hear
+pim_codec_tests addr::routes::refusals_change_nothing Routes::add_via
+pim_codec_tests hello::neighbours::refusals_change_nothing Neighbours::hear
 pim_down_tests limits::refusals_change_nothing Ports::hear
-pim_form_tests forms::refusals_leave_the_ports NormalForm::of
-pim_form_tests toward::refusals_of_toward_change_nothing NormalForm::toward
-pim_form_tests kept::refusals_leave_the_form normal_again
-pim_form_tests packing::refusals_change_nothing pack
-pim_change_tests units::refusals_leave_the_forms changed
-pim_change_tests refused::refusals_leave_what_is_told triggered
-pim_router_tests memory::refusals_change_nothing Router::new, take_packet of Hellos and of Join/Prunes
-pim_router_tests refused::messages_are_made_again Router::canonical
-pim_router_tests refused::wants_are_compared_again same_wants
-pim_mirror_tests mirrored::exception_is_pruned_at_the_final_moment mirror
-pim_capture_tests refused_growth Capture::next
-pim_replay_tests states::refusals_leave_a_front write_state
-pim_replay_tests replays::refused_memory_leaves_a_front replay_into
-pim_replay_tests sames::refused_memory_tells_nothing same_into
-pim_replay_tests mirrors::refused_memory_tells_whole_lines mirror_into
-pim_replay_tests emits::refused_memory_leaves_a_front_of_the_bytes emit_into
-pim_replay_tests changes::refused_memory_tells_whole_lines change_into
+pim_form_tests form::forms::refusals_leave_the_ports NormalForm::of
+pim_form_tests form::toward::refusals_of_toward_change_nothing NormalForm::toward
+pim_form_tests form::kept::refusals_leave_the_form normal_again
+pim_form_tests form::packing::refusals_change_nothing pack
+pim_form_tests change::units::refusals_leave_the_forms changed
+pim_form_tests change::refused::refusals_leave_what_is_told triggered
+pim_router_tests router::memory::refusals_change_nothing Router::new, take_packet of Hellos and of Join/Prunes
+pim_router_tests router::refused::messages_are_made_again Router::canonical
+pim_router_tests router::refused::wants_are_compared_again same_wants
+pim_router_tests mirror::mirrored::exception_is_pruned_at_the_final_moment mirror
+pim_codec_tests capture::refused_growth Capture::next
+pimtree_tests replay::states::refusals_leave_a_front write_state
+pimtree_tests replay::replays::refused_memory_leaves_a_front replay_into
+pimtree_tests replay::sames::refused_memory_tells_nothing same_into
+pimtree_tests replay::mirrors::refused_memory_tells_whole_lines mirror_into
+pimtree_tests replay::emits::refused_memory_leaves_a_front_of_the_bytes emit_into
+pimtree_tests replay::changes::refused_memory_tells_whole_lines change_into
 LIST
 if [ "$ran" = 0 ]; then
     echo "no test of $*"

@@ -2,13 +2,13 @@
 """Writes the shipped captures, with their words and reports, as constants of the tests of pim_commands, and the first of them
 as the program's stored run (args, data and stdout of crates/pimtree):
 
-    python3 tools/examples_as_tests.py && cd crates/pim_commands_tests && rt fmt
+    python3 tools/examples_as_tests.py && cd crates/pimtree_tests && rt fmt
 """
 import os
 
 TOP = os.path.join(os.path.dirname(os.path.abspath(__file__)), "..")
 NAMES = ["lan", "lost", "ipv6", "fault"]
-PLACE = os.path.join(TOP, "crates", "pim_commands_tests", "src", "tests", "examples.rt")
+PLACE = os.path.join(TOP, "crates", "pimtree_tests", "src", "tests", "commands", "examples.rt")
 
 
 def content(name, kind):

@@ -5,7 +5,7 @@
 # top of the repository:
 #
 #   tools/refuse_memory.sh crates/pimtree/out/pimtree check < examples/join-star.pim
-#   tools/refuse_memory.sh crates/pim_hello_tests/out/pim_hello_tests_tests tests::neighbours::refusals_change_nothing
+#   tools/refuse_memory.sh crates/pim_codec_tests/out/pim_codec_tests_tests tests::hello::neighbours::refusals_change_nothing
 #
 # each_growth_refused.sh does it of all tests of refused growths.
 set -eu

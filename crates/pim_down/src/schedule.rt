@@ -38,15 +38,49 @@ impl<A: Copy, O: KeyOrder<A>> Probe<Deadline<A>> for Wanted<A, O> {
     }
 }
 
+/// For each kind of timers a place to begin at: those of one kind mostly come and go side by side, and the two kinds of one machine
+/// stand far apart.
+#[derive(Drop)]
+struct Hints {
+    pending: Place,
+    expiry: Place,
+}
+
+impl Hints {
+    /// The beginning, for either kind.
+    fn new() -> Self {
+        Hints {
+            pending: Place::START,
+            expiry: Place::START,
+        }
+    }
+
+    /// The place for timers of this kind.
+    fn of(&self, timer: TimerKind) -> Place {
+        match timer {
+            TimerKind::PendingTimer => self.pending,
+            TimerKind::ExpiryTimer => self.expiry,
+        }
+    }
+
+    /// Timers of this kind begin at this place from now on.
+    fn keep(&mut self, timer: TimerKind, place: Place) {
+        match timer {
+            TimerKind::PendingTimer => self.pending = place,
+            TimerKind::ExpiryTimer => self.expiry = place,
+        }
+    }
+}
+
 /// The timers that run, in the order in which they fire, in blocks of up to twice `HALF`. Contracts see them, and how
 /// many fit without memory.
 #[derive(Drop)]
 pub(crate) struct Schedule<A: Copy, O: KeyOrder<A>, const HALF: usize> {
     list: Blocks<Deadline<A>, HALF>,
-    /// Where a timer was put in last: a place to begin at.
-    put: Place,
-    /// Where one was taken out last.
-    taken: Place,
+    /// Where timers were put in last.
+    put: Hints,
+    /// Where they were taken out last.
+    taken: Hints,
     order: PhantomData<O>,
 }
 
@@ -98,8 +132,8 @@ impl<A: Copy, O: KeyOrder<A>, const HALF: usize> Schedule<A, O, HALF> {
     {
         Schedule {
             list: Blocks::new(alloc),
-            put: Place::START,
-            taken: Place::START,
+            put: Hints::new(),
+            taken: Hints::new(),
             order: PhantomData,
         }
     }
@@ -146,9 +180,9 @@ impl<A: Copy, O: KeyOrder<A>, const HALF: usize> Schedule<A, O, HALF> {
         ensures timers { self.new.timers ≡ placed deadline_cmp (deadline_seen O.bytes_of deadline) self.old.timers }
         ensures capacity { self.new.capacity ≡ self.old.capacity }
     {
-        let place = slot_of::<A, O, HALF>(&self.list, self.put, deadline);
+        let place = slot_of::<A, O, HALF>(&self.list, self.put.of(deadline.timer), deadline);
         let stands = self.list.insert_within(place, deadline);
-        self.put = stands;
+        self.put.keep(deadline.timer, stands);
     }
 
     /// Takes a timer out, if it is there.
@@ -161,9 +195,9 @@ impl<A: Copy, O: KeyOrder<A>, const HALF: usize> Schedule<A, O, HALF> {
             deadline,
             order: PhantomData,
         };
-        if let Ok(place) = self.list.find_near(self.taken, &wanted) {
+        if let Ok(place) = self.list.find_near(self.taken.of(deadline.timer), &wanted) {
             let (_gone, behind) = self.list.remove(place);
-            self.taken = behind;
+            self.taken.keep(deadline.timer, behind);
         }
     }
 

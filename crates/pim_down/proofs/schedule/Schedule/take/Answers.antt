@@ -11,8 +11,8 @@ returns-in-Ok-clause-timers g c =
     let list = c.self.inside.list in
     let i = before list c.in-Ok.place in
     let seen = deadline_seen g.O.KeyOrder.bytes_of in
-    let new = c.remove-gone.new.self in
-    let is = ap (map seen) c.remove-gone.ensures.items ∙ seen_remove g.O.KeyOrder.bytes_of c.args.deadline (items list) i ∙ gone_at g.O.KeyOrder.bytes_of c.args.deadline (items list) i c.self.invariant (c.in-Ok.ensures {u = tt}).1 in
+    let new = c.remove.new.self in
+    let is = ap (map seen) c.remove.ensures.items ∙ seen_remove g.O.KeyOrder.bytes_of c.args.deadline (items list) i ∙ gone_at g.O.KeyOrder.bytes_of c.args.deadline (items list) i c.self.invariant (c.in-Ok.ensures {u = tt}).1 in
     subst (λ (s : Scheduled). map seen (items new) ≡ without deadline_cmp (seen c.args.deadline) s.timers) c.self.view_is is
 
 pub returns-in_default-clause-timers : goal.returns-in_default-clause-timers
@@ -29,5 +29,5 @@ invariant_of-self g c =
     let list = c.self.inside.list in
     let i = before list c.in-Ok.place in
     let seen = deadline_seen g.O.KeyOrder.bytes_of in
-    let is = ap (map seen) c.remove-gone.ensures.items ∙ seen_remove g.O.KeyOrder.bytes_of c.args.deadline (items list) i ∙ gone_at g.O.KeyOrder.bytes_of c.args.deadline (items list) i c.self.invariant (c.in-Ok.ensures {u = tt}).1 in
+    let is = ap (map seen) c.remove.ensures.items ∙ seen_remove g.O.KeyOrder.bytes_of c.args.deadline (items list) i ∙ gone_at g.O.KeyOrder.bytes_of c.args.deadline (items list) i c.self.invariant (c.in-Ok.ensures {u = tt}).1 in
     subst (IsInOrder deadline_cmp) (sym is) (order_without deadline_cmp deadline_total same_deadline (seen c.args.deadline) (map seen (items list)) c.self.invariant)
