@@ -12,6 +12,8 @@ nothing, first copy crates/NAME/out/rlib of these crates from the copy in which 
     tools/over_gate.py plant [rt plant's flags]
     tools/over_gate.py stamps                   after `libraries`: from then on `rt run` and `rt test` take these libraries up
 
+OVER_GATE_JOBS=N lets a check use N processors, and not one.
+
 What it answers is no verdict: `rt ci` gives that. It knows the inside of rattle-kit-13b and 13f.
 """
 import importlib.machinery
@@ -40,7 +42,7 @@ def crate_here(rtlib):
 
 
 def run(rtlib, crate, verb, flags):
-    words = crate.words(["--jobs", "1", *flags])
+    words = crate.words(["--jobs", os.environ.get("OVER_GATE_JOBS", "1"), *flags])
     words += ["--incremental", KEPT]
     words += ["-o", crate.rlib] if verb == "build" else ["--progress"]
     os.makedirs(KEPT, exist_ok=True)

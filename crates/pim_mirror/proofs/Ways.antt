@@ -4,7 +4,7 @@ use Rattle.std.proofs.lemmas.List.{append-nil}
 use Rattle.std.specs.List.{list_any}
 use Rattle.pim_addr.specs.declared.family.AddressFamily.{AddressFamily}
 use Rattle.pim_frame.specs.Frame.{Content, hello, join_prune, other, content, all_routers}
-use Rattle.pim_down.specs.Seen.{what_seen}
+use Rattle.pim_down.specs.Seen.{what_seen, step_seen as fires_seen}
 use Rattle.pim_down.specs.declared.key.What.{What}
 use Rattle.pim_down.specs.declared.machine.Record.{Record}
 use Rattle.pim_down.specs.declared.step.Step.{Step as Fires}
@@ -17,7 +17,7 @@ use Rattle.pim_router.specs.Course.{Input, runs_to, takes, Telling, echo, refres
 use Rattle.pim_fresh.specs.Deliveries.{Delivery}
 use Rattle.pim_router.specs.Laws.{CourseGoesOn, EveryListHasACourse}
 use Rattle.pim_router.specs.Packets.{Packet, causes, body_taken, unless, received, Receives}
-use Rattle.pim_router.specs.Seen.{step_seen}
+use Rattle.pim_router.specs.Refreshes.{RunsPast, told_behind}
 use Rattle.pim_router.specs.State.{Port, RouterState}
 use Rattle.pim_router.specs.Time.{Outcome, rests, moves, tells, told, has_ended, turn, turn_of_time, turn_of_refresh, turn_of_timers, run_on, run_within, Runs}
 use Rattle.pim_mirror.specs.declared.mirroring.MirrorFault.{MirrorFault}
@@ -116,35 +116,34 @@ unfolding Reaches first_needed
 refresh_before moment state between after runs more =
     record { told = refresh ∷ more.told; reaches = (between, runs, more.reaches); none_needed = more.none_needed }
 
+-- Refreshes on the way, and then what comes behind them
+past_before : (refreshes moment : ℕ) (state between after : RouterState) (answer : Step (List ℕ)) → RunsPast refreshes moment state answer between →
+    ((earlier : RouterState) → Runs moment earlier answer between → HasReached moment earlier after) → HasReached moment state after
+unfolding RunsPast
+past_before zero moment state between after answer runs more = more state runs
+past_before (suc refreshes) moment state between after answer (next, runs, past) more =
+    refresh_before moment state next after runs (past_before refreshes moment next between after answer past more)
+
+not_false : ◌≡◌ {A = Bool} true false → ⊥
+not_false e = cc
+
 -- what is told before the moment is reached, and then the way to it
-pub onward : {A : Type 0} (bytes_of : A → List ℕ) (step : Step A) (moment : ℕ) (state between after : RouterState) →
-    is_reached step ≡ false → Runs moment state (step_seen bytes_of step) between → HasReached moment between after →
+pub onward : {A : Type 0} (bytes_of : A → List ℕ) (step : Fires A) (refreshes moment : ℕ) (state between after : RouterState) →
+    is_reached step ≡ false → RunsPast refreshes moment state (told_behind (fires_seen bytes_of step)) between → HasReached moment between after →
     HasReached moment state after
-onward bytes_of Reached moment state between after ends runs more = absurd (not_false ends)
-  where
-    not_false : ◌≡◌ {A = Bool} true false → ⊥
-    not_false e = cc
-onward bytes_of Refresh moment state between after ends runs more = refresh_before moment state between after runs more
-onward bytes_of (Echo port group what) moment state between after ends runs more =
-    echo_before moment port (bytes_of group) (what_seen bytes_of what) state between after runs more
+onward bytes_of fires.Reached refreshes moment state between after ends past more = absurd (not_false ends)
+onward bytes_of (fires.Echo port group what) refreshes moment state between after ends past more =
+    past_before refreshes moment state between after (Echo port (bytes_of group) (what_seen bytes_of what)) past
+    (λ earlier runs. echo_before moment port (bytes_of group) (what_seen bytes_of what) earlier between after runs more)
 
-pub isnt_reached : {A : Type 0} (step : Step A) → is_reached step ≡ false → step ≢ Reached
+pub isnt_reached : {A : Type 0} (step : Fires A) → is_reached step ≡ false → step ≢ fires.Reached
 isnt_reached step ends same = not_false (sym (ap is_reached same) ∙ ends)
-  where
-    not_false : ◌≡◌ {A = Bool} true false → ⊥
-    not_false e = cc
 
-pub ended : {A : Type 0} (bytes_of : A → List ℕ) (step : Step A) (moment : ℕ) (state after : RouterState) →
-    is_reached step ≡ true → Runs moment state (step_seen bytes_of step) after → HasReached moment state after
-ended bytes_of Reached moment state after ends runs = reached_now moment state after runs
-ended bytes_of Refresh moment state after ends runs = absurd (not_true ends)
-  where
-    not_true : ◌≡◌ {A = Bool} false true → ⊥
-    not_true e = cc
-ended bytes_of (Echo port group what) moment state after ends runs = absurd (not_true ends)
-  where
-    not_true : ◌≡◌ {A = Bool} false true → ⊥
-    not_true e = cc
+pub ended : {A : Type 0} (bytes_of : A → List ℕ) (step : Fires A) (refreshes moment : ℕ) (state after : RouterState) →
+    is_reached step ≡ true → RunsPast refreshes moment state (told_behind (fires_seen bytes_of step)) after → HasReached moment state after
+ended bytes_of fires.Reached refreshes moment state after ends past =
+    past_before refreshes moment state after after Reached past (λ earlier runs. reached_now moment earlier after runs)
+ended bytes_of (fires.Echo port group what) refreshes moment state after ends past = absurd (not_false (sym ends))
 
 -- ---- one way after the other
 

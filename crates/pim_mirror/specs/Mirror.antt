@@ -7,11 +7,11 @@ use Rattle.pim_frame.specs.Frame.{all_routers}
 use Rattle.pim_frame.specs.Seal.{IsSealed}
 use Rattle.pim_frame.specs.declared.frame.MessageType.TheVariants.{Hello}
 use Rattle.pim_hello.specs.Spelling.{spelling_of, ParametersFit}
+use Rattle.pim_down.specs.declared.step.Step.{Step}
+use Rattle.pim_down.specs.declared.step.Step.TheVariants.{Reached}
 use Rattle.pim_router.specs.Course.{Input, runs_to, takes, Telling, verdict, Reaches, IsCourse}
 use Rattle.pim_router.specs.Packets.{Packet}
 use Rattle.pim_router.specs.State.{RouterState, new_router}
-use Rattle.pim_router.specs.declared.step.Step.{Step}
-use Rattle.pim_router.specs.declared.step.Step.TheVariants.{Reached}
 use Rattle.pim_router.specs.declared.verdict.Verdict.{Verdict}
 use Rattle.pim_router.specs.declared.verdict.Verdict.TheVariants.{Full}
 use Rattle.pim_router.specs.declared.verdict.Store.TheVariants.{Records}

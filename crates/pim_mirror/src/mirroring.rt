@@ -18,9 +18,10 @@ use crate::fresh::end_of;
 use crate::headline_laws::mirror_answers_for_the_form;
 use crate::meeting::introduced;
 use pim_addr::Family;
+use pim_down::Step;
 use pim_form::{Messages, Writer};
 use pim_frame::all_routers;
-use pim_router::{Router, Step, Store, Verdict, course_goes_on, every_list_has_a_course};
+use pim_router::{Router, Store, Verdict, course_goes_on, every_list_has_a_course};
 use std::alloc::{AllocError, Global};
 use thiserror::Error;
 
@@ -96,7 +97,12 @@ fn reach<F: Family>(router: &mut Router<'_, F>, moment: u64)
     ensures ports { router.new.ports ≡ router.old.ports }
     ensures reaches { HasReached moment router.old router.new }
 {
-    while !is_reached(router.run_to(moment)) {}
+    loop {
+        let (step, _refreshes) = router.run_past_refreshes(moment);
+        if is_reached(step) {
+            return;
+        }
+    }
 }
 
 /// The bytes of the message with this number; none where there is no such message.

@@ -1,11 +1,13 @@
 -- On the way to a moment, run by run.
-use Rattle.std.proofs.Common.{◌≡◌, ◌≤◌, ◌+◌, ℕ, suc, min, List, [], ◌∷◌, ◌++◌, Option, Result, Ok, Err, OnErr, refl, sym, subst, arith, append_assoc, append-nil}
+use Rattle.std.proofs.Common.{◌≡◌, ◌≤◌, ◌+◌, ℕ, zero, suc, min, List, [], ◌∷◌, ◌++◌, Option, Result, Ok, Err, OnErr, refl, sym, subst, arith, append_assoc, append-nil}
 use Rattle.std.specs.Io.KnownBytes.{Appends}
 use Rattle.std.proofs.KnownBytes.{Appends-nil, Appends-trans}
 use Rattle.pim_addr.specs.declared.family.AddressFamily.{AddressFamily}
 use Rattle.pim_device.specs.Device.{AppendsFront, top_count}
 use Rattle.pim_down.specs.declared.key.What.{What}
+use Rattle.pim_router.specs.declared.step.Step.{Step}
 use Rattle.pim_router.specs.declared.step.Step.TheVariants.{Echo, Refresh, Reached}
+use Rattle.pim_router.specs.Refreshes.{RunsPast}
 use Rattle.pim_router.specs.Course.{Telling, echo, refresh, verdict, runs_to, Reaches, IsCourse}
 use Rattle.pim_router.specs.State.{RouterState}
 use Rattle.pim_router.specs.Time.{Runs}
@@ -116,3 +118,42 @@ module _ (family : AddressFamily) (moment : ℕ) where
             passes = w.goes_on (piece ++ rest.lines) rest.refreshes rest.after (record { told = echo port group what ∷ rest.passes.told; passes = (between, rest.lines, runs, refl, rest.passes.passes) });
             written = front-more old new newer w.done (piece ++ rest.lines) w.written (front-longer new newer piece rest.lines front);
           }
+
+  -- What is told behind Refreshes is told from where these have passed.
+  pub record ComesTo (start after : RouterState) (old new : Option (List ℕ)) (count more : ℕ) (answer : Step (List ℕ)) : Type 0 where
+    pub between : RouterState
+    pub way : IsOnTheWay family moment start between old new count more
+    pub runs : Runs moment between answer after
+
+  pub refreshed_past : (refreshes : ℕ) (start now after : RouterState) (old new : Option (List ℕ)) (count count' more : ℕ) (answer : Step (List ℕ)) →
+      IsOnTheWay family moment start now old new count count' → RunsPast refreshes moment now answer after → more ≡ min (count' + refreshes) top_count →
+      ComesTo start after old new count more answer
+  unfolding RunsPast
+  refreshed_past zero start now after old new count count' more answer w runs is =
+      let counted = w.counted in
+      let same : count' ≡ more = omega (arith, is, counted) in
+      record { between = now; way = subst (λ n. IsOnTheWay family moment start now old new count n) same w; runs = runs }
+  refreshed_past (suc refreshes) start now after old new count count' more answer w (between, runs, past) is =
+      refreshed_past refreshes start between after old new count (min (count' + 1) top_count) more answer
+      (refreshed_once start old count now new count' w between (min (count' + 1) top_count) runs refl) past (omega (arith, is))
+
+  -- ---- the same of a run that goes on past Refreshes
+
+  module _ (start now after : RouterState) (old new : Option (List ℕ)) (count count' refreshes more : ℕ)
+      (w : IsOnTheWay family moment start now old new count count') (is : more ≡ min (count' + refreshes) top_count) where
+    pub echoed_past : (port : ℕ) (group : List ℕ) (what : What (List ℕ)) (newer : Option (List ℕ)) → RunsPast refreshes moment now (Echo port group what) after
+        → Appends new newer (echo_line family after.machines.moment port group what) → IsOnTheWay family moment start after old newer count more
+    echoed_past port group what newer runs written =
+        let come = refreshed_past refreshes start now after old new count count' more (Echo port group what) w runs is in
+        echoed start old count come.between new more come.way port group what after newer come.runs written
+
+    pub stopped_past : (port : ℕ) (group : List ℕ) (what : What (List ℕ)) (newer : Option (List ℕ)) → EveryListHasACourse → RunsPast refreshes moment now (Echo port group what) after
+        → AppendsFront new newer (echo_line family after.machines.moment port group what) → HasStopped family moment start old newer
+    stopped_past port group what newer law runs front =
+        let come = refreshed_past refreshes start now after old new count count' more (Echo port group what) w runs is in
+        stopped start old count come.between new more come.way port group what after newer law come.runs front
+
+    pub arrived_past : RunsPast refreshes moment now Reached after → HasPassed family moment start after old new count more
+    arrived_past runs =
+        let come = refreshed_past refreshes start now after old new count count' more Reached w runs is in
+        arrived start old count come.between new more come.way after come.runs

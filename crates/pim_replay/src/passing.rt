@@ -6,7 +6,8 @@ ghost use Rattle.pim_replay.specs.Passing.{HasPassed, HasStopped};
 
 use crate::echo_line::write_echo_line;
 use pim_addr::{Drain, Failed, Family};
-use pim_router::{Router, Step, every_list_has_a_course};
+use pim_down::Step;
+use pim_router::{Router, every_list_has_a_course};
 
 /// Lets a router run to this moment, in milliseconds. Each echo is a line, written where it falls. The answer is the
 /// count of Refreshes, these and those before, which stops at 2^64 - 1.
@@ -30,11 +31,12 @@ pub fn pass_time<F: Family, W: Drain>(
     every_list_has_a_course();
     let mut count = refreshes;
     loop {
-        match router.run_to(moment) {
+        let (step, passed) = router.run_past_refreshes(moment);
+        count = count.saturating_add(passed);
+        match step {
             Step::Echo { port, group, what } => {
                 write_echo_line::<F, W>(writer, router.now(), port, group, what)?;
             }
-            Step::Refresh => count = count.saturating_add(1),
             Step::Reached => return Ok(count),
         }
     }

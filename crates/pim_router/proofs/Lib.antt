@@ -10,6 +10,7 @@ pub mod Turns
 pub mod Setups
 pub mod Passing
 pub mod RunTo
+pub mod PastRefreshes
 pub mod Courses
 pub mod Onward
 pub mod Compared

@@ -122,7 +122,7 @@ module _ (twice : ExpiringTwiceIsExpiringOnce) (ports : List Port) (routes : Rou
   nobody_over [] at = refl
   nobody_over (t ∷ ts) at = rw (nobody (filter stays (passed_to at t).entries) (none_over (passed_to at t).entries)) (nobody_over ts at)
 
-  quiet_turn : (machines : Downstream) → turn moment (router machines) ≡ turn_of_timers moment (router machines) (fired machines.records)
+  pub quiet_turn : (machines : Downstream) → turn moment (router machines) ≡ turn_of_timers moment (router machines) (fired machines.records)
   unfolding turn
   quiet_turn machines = rw (nobody_over start machines.moment) refl
 
@@ -150,7 +150,7 @@ module _ (twice : ExpiringTwiceIsExpiringOnce) (ports : List Port) (routes : Rou
       let soon : machines.moment < moment = omega (arith, before, before_moment) in
       quiet_turn machines ∙ rw (quiet, ne_eqb (next - machines.moment) 0 apart, lt-ltb machines.moment moment soon) refl
 
-  passes : (machines : Downstream) (answer : Step (List ℕ)) (after : RouterState) → fired machines.records ≡ None → machines.moment < until →
+  pub passes : (machines : Downstream) (answer : Step (List ℕ)) (after : RouterState) → fired machines.records ≡ None → machines.moment < until →
       Runs moment (router (down.tick machines)) answer after → Runs moment (router machines) answer after
   passes machines answer after quiet before more =
       run_more moment (router machines) (tick (router machines)) after answer (passing_turn machines quiet before)
@@ -158,13 +158,13 @@ module _ (twice : ExpiringTwiceIsExpiringOnce) (ports : List Port) (routes : Rou
 
   -- ---- a timer
 
-  fires_on : (machines : Downstream) (records : List (Record (List ℕ))) (answer : Step (List ℕ)) (after : RouterState) →
+  pub fires_on : (machines : Downstream) (records : List (Record (List ℕ))) (answer : Step (List ℕ)) (after : RouterState) →
       fired machines.records ≡ Some (fires.Reached, records) →
       Runs moment (router (with_records machines records)) answer after → Runs moment (router machines) answer after
   fires_on machines records answer after f more =
       run_more moment (router machines) (router (with_records machines records)) after answer (quiet_turn machines ∙ rw f refl) more
 
-  echoes_on : (machines : Downstream) (records : List (Record (List ℕ))) (port : ℕ) (group : List ℕ) (what : What (List ℕ)) →
+  pub echoes_on : (machines : Downstream) (records : List (Record (List ℕ))) (port : ℕ) (group : List ℕ) (what : What (List ℕ)) →
       fired machines.records ≡ Some (fires.Echo port group what, records) →
       Runs moment (router machines) (Echo port group what) (router (with_records machines records))
   echoes_on machines records port group what f =

@@ -5,6 +5,7 @@ pub mod Sound
 pub mod Packets
 pub mod Told
 pub mod Time
+pub mod Refreshes
 pub mod Course
 pub mod Laws
 pub mod Canonical

@@ -4,10 +4,10 @@
 //! Proved: a router is made exactly where its configuration has no fault, or else the first fault is told. A packet has
 //! the first verdict that applies, and only a Hello or a Join/Prune that is taken changes anything. Time is one machine
 //! of milliseconds over the neighbours, the downstream machines and the refreshes; a run stops at an echo and at a
-//! refresh, and between calls no neighbour's time is over. What a router tells over a list of packets and moments, its
-//! course, is a function of the list. `canonical` gives the messages by which an upstream neighbour is asked for what
-//! the ports want of it, `triggered` those that move it there from what it was last told, and `same_wants` tells whether
-//! two routers under one table want the same of it.
+//! refresh, or goes on past refreshes and counts them, and between calls no neighbour's time is over. What a router
+//! tells over a list of packets and moments, its course, is a function of the list. `canonical` gives the messages by
+//! which an upstream neighbour is asked for what the ports want of it, `triggered` those that move it there from what
+//! it was last told, and `same_wants` tells whether two routers under one table want the same of it.
 #![tactic(auto)]
 
 mod canonical;

@@ -1,6 +1,6 @@
 //! The router: its ports with their machines and neighbours, and its time.
 
-ghost use Rattle.std.specs.Prelude.{◌≡◌, ◌≢◌, ◌<◌, ◌≤◌, ◌^◌, length, replicate, map, max};
+ghost use Rattle.std.specs.Prelude.{◌≡◌, ◌≢◌, ◌<◌, ◌≤◌, ◌+◌, ◌*◌, ◌^◌, length, replicate, map, max};
 ghost use Rattle.std.specs.Prelude.{IfOk, OnErr, IsTrue, not, nat_lt};
 ghost use Rattle.pim_hello.specs.Laws.{expired_at};
 ghost use Rattle.pim_frame.specs.Frame.{content, hello, join_prune};
@@ -12,7 +12,10 @@ ghost use Rattle.pim_router.specs.Packets.{hello_causes, hello_taken, new_by, ma
 ghost use Rattle.pim_router.specs.Packets.{message_taken, room_causes, unless, timing_on, knows, neighbours_on};
 ghost use Rattle.pim_router.specs.Seen.{setup_seen, port_seen, packet_seen, step_seen};
 ghost use Rattle.pim_router.specs.Time.{Runs, turns_left};
+ghost use Rattle.pim_router.specs.Refreshes.{RunsPast, told_behind, first_untold};
 ghost use Rattle.pim_router.specs.declared.step.Step.TheVariants.{Reached};
+ghost use Rattle.pim_down.specs.declared.step.Step.TheVariants as fires;
+ghost use Rattle.pim_down.specs.Seen.{step_seen as fires_seen};
 ghost use Rattle.pim_router.specs.Told.{hello_verdict, message_verdict};
 ghost use Rattle.pim_router.specs.Sound.{IsRouter};
 ghost use Rattle.pim_router.specs.State.{new_router, port_at, setup_of, table_at};
@@ -103,6 +106,26 @@ fn message_verdict(heard: Result<(), HearFault>) -> Result<Verdict, AllocError>
         Err(HearFault::Full { needed }) => Ok(Verdict::Full(Store::Records { needed })),
         Err(HearFault::Memory) => Err(AllocError),
     }
+}
+
+/// The first moment of which a run of the machines that stopped so, then, tells no Refresh: an echo comes before the
+/// Refresh of its millisecond.
+fn first_untold<A: Copy>(step: Fires<A>, now: u64) -> u64
+    requires { now ≤ 10 ^ 15 }
+    ensures { result ≡ first_untold step now }
+{
+    match step {
+        Fires::Echo { .. } => now,
+        Fires::Reached => now + 1,
+    }
+}
+
+/// How many Refreshes come from the next one on before a moment.
+fn refreshes_before(next: u64, end: u64) -> u64
+    ensures all { end ≤ next + 60000 * result }
+    ensures no_more { next + 60000 * result < max end next + 60000 }
+{
+    end.saturating_sub(next).div_ceil(REFRESH_PERIOD)
 }
 
 impl<'a, F: Family> Router<'a, F> {
@@ -380,7 +403,8 @@ impl<'a, F: Family> Router<'a, F> {
     }
 
     /// Runs to this moment, in milliseconds, at most 10^15, or until an echo or a Refresh is told; an earlier moment
-    /// counts as now. What is still due stays due, and the next call goes on.
+    /// counts as now. What is still due stays due, and the next call goes on. A caller who only counts Refreshes calls
+    /// `run_past_refreshes`, for which a jump of years costs no more than one of a minute.
     ///
     /// It takes no memory. Of the machines it looks at the timer that fires first alone, once for each timer that fires
     /// and once more, so that a quiet minute costs the same however many records are held; and it walks through no
@@ -420,5 +444,44 @@ impl<'a, F: Family> Router<'a, F> {
         }
         self.next_refresh += REFRESH_PERIOD;
         Step::Refresh
+    }
+
+    /// Runs to this moment, in milliseconds, at most 10^15, or until an echo is told, and goes on past the Refreshes on
+    /// its way; an earlier moment counts as now. Beside what is told stands how many Refreshes came before it. What is
+    /// still due stays due, and the next call goes on.
+    ///
+    /// It does what `run_to` does again and again until that tells no Refresh, and costs as much as one such call: it
+    /// counts the Refreshes by a division, however many there are. It takes no memory.
+    pub fn run_past_refreshes(&mut self, moment: u64) -> (Fires<F::Addr>, u64)
+        requires { moment ≤ 10 ^ 15 }
+        ensures run { RunsPast result.1 moment self.old (told_behind (fires_seen F.bytes_of result.0)) self.new }
+        ensures later { self.old.machines.moment ≤ self.new.machines.moment }
+        ensures moment { self.new.machines.moment ≤ max self.old.machines.moment moment }
+        ensures reached { result.0 ≡ fires.Reached →
+            self.new.machines.moment ≡ max self.old.machines.moment moment }
+        ensures nearer { result.0 ≢ fires.Reached → turns_left moment self.new < turns_left moment self.old }
+        ensures setup { setup_of self.new ≡ setup_of self.old }
+    {
+        runs_come_nearer();
+        self.run_machines(moment)
+    }
+
+    /// Lets the machines run to this moment, and time pass for all.
+    fn run_machines(&mut self, moment: u64) -> (Fires<F::Addr>, u64)
+        requires { moment ≤ 10 ^ 15 }
+        ensures run { RunsPast result.1 moment self.old (told_behind (fires_seen F.bytes_of result.0)) self.new }
+        ensures later { self.old.machines.moment ≤ self.new.machines.moment }
+        ensures moment { self.new.machines.moment ≤ max self.old.machines.moment moment }
+        ensures reached { result.0 ≡ fires.Reached →
+            self.new.machines.moment ≡ max self.old.machines.moment moment }
+    {
+        expiring_twice_is_expiring_once();
+        let step = self.machines.run_to(moment);
+        self.machines.is_sound();
+        let stopped = self.machines.now();
+        expire_all(&mut self.neighbours, stopped);
+        let refreshes = refreshes_before(self.next_refresh, first_untold(step, stopped));
+        self.next_refresh += refreshes * REFRESH_PERIOD;
+        (step, refreshes)
     }
 }

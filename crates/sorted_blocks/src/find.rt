@@ -15,26 +15,47 @@ use std::cmp::Ordering;
 /// So many blocks behind a place are looked at before all are.
 const NEAR_BLOCKS: usize = 4;
 
-/// A guess how many items of a row are less than what is sought: right where the row has the probe's order.
+/// A guess how many items of a row are less than what is sought, where those before `from` are and those behind `count`
+/// more are not: right where the row has the probe's order.
 ///
 /// No branch goes by an item, so that a processor has none to guess: what is left is as long as a power of two, and
 /// whether an item is less is shifted into its place.
-fn guess<T: Copy, P: Probe<T>>(probe: &P, row: &[T]) -> usize
-    requires { All (P.can_compare probe.now) row.now }
+fn guess<T: Copy, P: Probe<T>>(probe: &P, row: &[T], from: usize, count: usize) -> usize
+    requires can { All (P.can_compare probe.now) row.now }
+    requires within { from + count ≤ length row.now }
     ensures { result ≤ length row.now }
 {
-    if row.is_empty() {
-        return 0;
+    if count == 0 {
+        return from;
     }
-    let mut shift = row.len().ilog2();
-    let over = row.len() - (1 << shift);
-    let mut base = over * usize::from(probe.compare(&row[over]).is_lt());
+    let mut shift = count.ilog2();
+    let over = count - (1 << shift);
+    let mut base = from + over * usize::from(probe.compare(&row[from + over]).is_lt());
     while shift > 0 {
         shift -= 1;
         let is_less = probe.compare(&row[base + (1 << shift)]).is_lt();
         base += usize::from(is_less) << shift;
     }
     base + usize::from(probe.compare(&row[base]).is_lt())
+}
+
+/// The same guess for what mostly stands soon behind `low`. It looks twice as far ahead each time, so that it reads few
+/// items, which lie near one another in memory, and which the next search from there reads again.
+fn guess_soon<T: Copy, P: Probe<T>>(probe: &P, row: &[T], low: usize) -> usize
+    requires can { All (P.can_compare probe.now) row.now }
+    requires low { low ≤ length row.now }
+    ensures { result ≤ length row.now }
+{
+    let mut from = low;
+    let mut step = 1usize;
+    while step < row.len() - from {
+        if probe.compare(&row[from + step]).is_ge() {
+            return guess(probe, row, from, step);
+        }
+        from += step;
+        step = step.saturating_mul(2);
+    }
+    guess(probe, row, from, row.len() - from)
 }
 
 /// Whether the item before this place of a row is less than what is sought, or there is none.
@@ -52,9 +73,18 @@ fn is_behind_lesser<T: Copy, P: Probe<T>>(probe: &P, row: &[T], at: usize) -> bo
     }
 }
 
-/// Where in a row of items what is sought stands, or would stand; the items before `low` are less. The guess is
-/// looked at, so that the answer is right for any probe.
+/// Where in a row of items what is sought stands, or would stand; the items before `low` are less.
 fn seek<T: Copy, P: Probe<T>>(probe: &P, row: &[T], low: usize) -> Result<usize, usize>
+    requires can { All (P.can_compare probe.now) row.now }
+    requires low { low ≤ length row.now }
+    requires less { (d : T) → 0 < low → P.order probe.now (slice_index_or row.now (low - 1) d) ≡ Ordering.Less }
+    ensures { IsSought (P.order probe.now) row.now low result }
+{
+    seek_at(probe, row, low, guess(probe, row, 0, row.len()))
+}
+
+/// The same, where it mostly stands soon behind those before `low`.
+fn seek_soon<T: Copy, P: Probe<T>>(probe: &P, row: &[T], low: usize) -> Result<usize, usize>
     requires can { All (P.can_compare probe.now) row.now }
     requires low { low ≤ length row.now }
     requires less { (d : T) → 0 < low → P.order probe.now (slice_index_or row.now (low - 1) d) ≡ Ordering.Less }
@@ -63,7 +93,22 @@ fn seek<T: Copy, P: Probe<T>>(probe: &P, row: &[T], low: usize) -> Result<usize,
     if low == row.len() {
         return Err(low);
     }
-    let at = guess(probe, row);
+    seek_at(probe, row, low, guess_soon(probe, row, low))
+}
+
+/// The same by a guess, which is looked at, so that the answer is right for any probe.
+fn seek_at<T: Copy, P: Probe<T>>(
+    probe: &P,
+    row: &[T],
+    low: usize,
+    at: usize,
+) -> Result<usize, usize>
+    requires can { All (P.can_compare probe.now) row.now }
+    requires low { low ≤ length row.now }
+    requires at { at ≤ length row.now }
+    requires less { (d : T) → 0 < low → P.order probe.now (slice_index_or row.now (low - 1) d) ≡ Ordering.Less }
+    ensures { IsSought (P.order probe.now) row.now low result }
+{
     if at < low {
         return seek_in_any(probe, row, low);
     }
@@ -185,6 +230,18 @@ impl<T: Copy, const HALF: usize> Store<T, HALF> {
         }
     }
 
+    /// The same, where it mostly stands soon behind the items that are known to be less.
+    fn find_soon<P: Probe<T>>(&self, probe: &P, block: usize, low: usize) -> Result<Place, Place>
+        requires can { All (P.can_compare probe.now) (items self.now) }
+        requires row { IsRowLeft (P.order probe.now) self.now.blocks block low }
+        ensures { IsFound (P.order probe.now) self.now result }
+    {
+        match seek_soon(probe, self.row(block), low) {
+            Ok(at) => Ok(Place { block, at }),
+            Err(at) => Err(Place { block, at }),
+        }
+    }
+
     /// The answer behind an item that is less than what is sought.
     fn find_behind<P: Probe<T>>(&self, near: Place, probe: &P) -> Result<Place, Place>
         requires can { All (P.can_compare probe.now) (items self.now) }
@@ -243,7 +300,7 @@ impl<T: Copy, const HALF: usize> Store<T, HALF> {
         let _len = self.block_len(near.block);
         let behind = near.block + 1;
         if behind >= self.block_count() {
-            return Some(self.find_in(probe, near.block, near.at + 1));
+            return Some(self.find_soon(probe, near.block, near.at + 1));
         }
         match probe.compare(self.first_of(behind)) {
             Ordering::Less => None,
@@ -251,7 +308,7 @@ impl<T: Copy, const HALF: usize> Store<T, HALF> {
                 block: behind,
                 at: 0,
             })),
-            Ordering::Greater => Some(self.find_in(probe, near.block, near.at + 1)),
+            Ordering::Greater => Some(self.find_soon(probe, near.block, near.at + 1)),
         }
     }
 }

@@ -19,7 +19,7 @@ mod world;
 
 use crowds::crowd_comes;
 use pim_addr::{Routes, V4};
-use pim_down::{State, What};
+use pim_down::{State, Step as Fires, What};
 use pim_frame::{MessageType, all_routers, seal};
 use pim_jp::Entry;
 use pim_router::{Config, PortConfig, Router, Step, Verdict};
@@ -85,6 +85,8 @@ enum Row<'a> {
     Run(u64, Step<[u8; 4]>),
     /// Runs to a moment tell a Refresh so many times, and then something else.
     Refreshes(u64, u64),
+    /// A run to a moment goes on past so many Refreshes, and tells this behind them.
+    Passes(u64, u64, Fires<[u8; 4]>),
     /// The present moment.
     Now(u64),
     /// The state of one of the group's machines on the first port.
@@ -242,6 +244,16 @@ fn runs(router: &mut Router<'_, V4>, moment: u64, wanted: Step<[u8; 4]>) -> bool
     moment <= 1_000_000_000_000_000 && router.run_to(moment) == wanted
 }
 
+/// Runs to a moment past Refreshes: whether it tells this behind so many.
+fn passes(
+    router: &mut Router<'_, V4>,
+    moment: u64,
+    refreshes: u64,
+    wanted: Fires<[u8; 4]>,
+) -> bool {
+    moment <= 1_000_000_000_000_000 && router.run_past_refreshes(moment) == (wanted, refreshes)
+}
+
 /// Whether what a row sees is so.
 fn is_seen(router: &Router<'_, V4>, row: &Row<'_>) -> bool {
     match *row {
@@ -265,6 +277,7 @@ fn goes(alloc: Global, router: &mut Router<'_, V4>, row: &Row<'_>) -> bool {
         Row::Crowd => crowd_comes(alloc, router),
         Row::Run(moment, wanted) => runs(router, moment, wanted),
         Row::Refreshes(moment, count) => refreshes(router, moment) == Some(count),
+        Row::Passes(moment, count, wanted) => passes(router, moment, count, wanted),
         _ => is_seen(router, row),
     }
 }

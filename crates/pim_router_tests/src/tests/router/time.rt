@@ -1,7 +1,7 @@
 //! Runs to a moment.
 
 use super::{ANNE, BERT, Example, FOR_EVER, GROUP, JOIN_STAR, Lists, Row};
-use pim_down::{State, What};
+use pim_down::{State, Step as Fires, What};
 use pim_hello::Heard;
 use pim_router::{Step, Verdict};
 
@@ -17,7 +17,14 @@ const ECHO: Step<[u8; 4]> = Step::Echo {
     what: What::Star,
 };
 
-pub(super) const EXAMPLES: [Example; 8] = [
+/// The same, of a run that goes on past Refreshes.
+const ECHO_BEHIND: Fires<[u8; 4]> = Fires::Echo {
+    port: 0,
+    group: GROUP,
+    what: What::Star,
+};
+
+pub(super) const EXAMPLES: [Example; 10] = [
     Example {
         name: "refreshes each minute",
         limit: 100,
@@ -30,6 +37,41 @@ pub(super) const EXAMPLES: [Example; 8] = [
             Row::Now(130_000),
             Row::Run(5, Step::Reached),
             Row::Now(130_000),
+        ],
+    },
+    Example {
+        name: "a run goes on past refreshes",
+        limit: 100,
+        rows: &[
+            Row::Passes(59_999, 0, Fires::Reached),
+            Row::Now(59_999),
+            Row::Passes(60_000, 1, Fires::Reached),
+            Row::Passes(60_000, 0, Fires::Reached),
+            Row::Passes(200_000, 2, Fires::Reached),
+            Row::Passes(5, 0, Fires::Reached),
+            Row::Now(200_000),
+            Row::Run(240_000, Step::Refresh),
+            Row::Passes(240_000, 0, Fires::Reached),
+        ],
+    },
+    Example {
+        name: "an echo comes before the refresh of its millisecond",
+        limit: 100,
+        rows: &[
+            Row::Hello(ANNE, &FOR_EVER, NEW),
+            Row::Hello(BERT, &FOR_EVER, NEW),
+            Row::Passes(57_000, 0, Fires::Reached),
+            Row::Hears(210, &[JOIN], Verdict::Applied),
+            Row::Hears(210, &[PRUNE], Verdict::Applied),
+            Row::Passes(100_000, 0, ECHO_BEHIND),
+            Row::Now(60_000),
+            Row::Passes(118_000, 1, Fires::Reached),
+            Row::Hears(210, &[JOIN], Verdict::Applied),
+            Row::Hears(210, &[PRUNE], Verdict::Applied),
+            Row::Passes(200_000, 1, ECHO_BEHIND),
+            Row::Now(121_000),
+            Row::Passes(200_000, 1, Fires::Reached),
+            Row::State(What::Star, None),
         ],
     },
     Example {

@@ -12,8 +12,8 @@ overflow_add-near g c =
     let l = item_within c.args.self.now c.args.near c.requires.item in
     omega (arith, l, c.block_len-len.ensures.len, c.block_len-len.ensures.most, c.block_len-len.ensures.small)
 
-pub find_in-requires : goal.find_in-requires
-find_in-requires g c =
+pub find_soon-requires : goal.find_soon-requires
+find_soon-requires g c =
     let h = item_block c.args.self.now c.args.near c.requires.item in
     let l = item_within c.args.self.now c.args.near c.requires.item in
     (lit< tt, (c.requires.can, rest_left (g.P.Probe.order c.args.probe.now) c.args.self.now.blocks c.args.near.block c.args.near.at h l c.requires.less (λ d m. absurd (omega (arith, m, c.if-behind-block_count.true, c.block_count.ensures.count))) (λ m. absurd (omega (arith, m, c.if-behind-block_count.true, c.block_count.ensures.count)))))
@@ -27,8 +27,8 @@ overflow_add-near-in-Greater g c =
     let l = item_within c.args.self.now c.args.near c.requires.item in
     omega (arith, l, c.block_len-len.ensures.len, c.block_len-len.ensures.most, c.block_len-len.ensures.small)
 
-pub find_in-requires-in-Greater : goal.find_in-requires-in-Greater
-find_in-requires-in-Greater g c =
+pub find_soon-requires-in-Greater : goal.find_soon-requires-in-Greater
+find_soon-requires-in-Greater g c =
     let h = item_block c.args.self.now c.args.near c.requires.item in
     let l = item_within c.args.self.now c.args.near c.requires.item in
     (lit< tt, (c.requires.can, rest_left (g.P.Probe.order c.args.probe.now) c.args.self.now.blocks c.args.near.block c.args.near.at h l c.requires.less (λ d m. reads (g.P.Probe.order c.args.probe.now) (get_or c.args.self.now.blocks (c.args.near.block + 1) []) 0 c.first_of.result.now Greater c.first_of.ensures.some c.first_of.ensures.item c.in-Greater.ensures d) (λ m. c.first_of.ensures.some)))
