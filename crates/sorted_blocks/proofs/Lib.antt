@@ -1,5 +1,6 @@
 pub mod Capacity
 pub mod Counted
+pub mod Cuts
 pub mod Dense
 pub mod Finding
 pub mod Firsts

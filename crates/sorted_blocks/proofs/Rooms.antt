@@ -72,12 +72,12 @@ module _ {A : Type 0} where
   unfolding room
   room_least half t = omega (arith, used_up_most half t.blocks)
 
-  pub room_whole : (half : ℕ) (s t : Shape A) (i : ℕ) → i < length s.blocks → length (get_or s.blocks i []) ≡ 1 → 1 ≤ half → t.blocks ≡ remove s.blocks i → t.spare ≡ s.spare + 1 → room half s ≤ room half t
-  room_whole half s t i h one some e p =
+  pub room_gone : (half : ℕ) (s t : Shape A) (i : ℕ) → i < length s.blocks → t.blocks ≡ remove s.blocks i → t.spare ≡ s.spare + 1 → room half s ≤ room half t
+  room_gone half s t i h e p =
       let a = room_some half s (omega (arith, h)) in
       let b = room_least half t in
       let o = ap (beyond half) e in
-      omega (arith, a, b, o, one, some, beyond-remove half s.blocks i h, more half t.spare s.spare (sym p))
+      omega (arith, a, b, o, beyond-remove half s.blocks i h, more half t.spare s.spare (sym p))
 
   pub room_merge : (half : ℕ) (s t : Shape A) (i : ℕ) → i + 1 < length s.blocks → length (get_or s.blocks i []) + length (get_or s.blocks (i + 1) []) ≤ half → t.blocks ≡ set (remove s.blocks (i + 1)) i (get_or s.blocks i [] ++ get_or s.blocks (i + 1) []) → t.spare ≡ s.spare + 1 → room half s ≤ room half t
   room_merge half s t i h short e p =

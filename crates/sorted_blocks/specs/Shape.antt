@@ -7,6 +7,10 @@ pub record Shape (A : Type 0) : Type 0 where
   pub blocks : List (List A)
   pub spare : ℕ
 
+-- a list without so many items from an index on
+unfoldable pub cut : {A : Type 0} → List A → ℕ → ℕ → List A
+cut xs at count = take at xs ++ drop (at + count) xs
+
 module _ {A : Type 0} where
   -- the block of this number
   abbrev pub block_at : List (List A) → ℕ → List A
@@ -22,6 +26,10 @@ module _ {A : Type 0} where
 
   abbrev pub taken_out : List (List A) → ℕ → ℕ → List (List A)
   taken_out blocks block at = slice_set blocks block (remove (block_at blocks block) at)
+
+  -- so many items taken out of a block
+  abbrev pub cut_from : List (List A) → ℕ → ℕ → ℕ → List (List A)
+  cut_from blocks block at count = slice_set blocks block (cut (block_at blocks block) at count)
 
   -- a block in two, and two as one
   abbrev pub split : ℕ → List (List A) → ℕ → List (List A)

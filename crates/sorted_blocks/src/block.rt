@@ -2,6 +2,7 @@
 
 ghost use Rattle.std.specs.Prelude.{◌≡◌, ℕ, ◌+◌, ◌<◌, ◌≤◌, [], ◌++◌, length, take, drop, slice_index_or, vec_len, vec_capacity, IfOk};
 ghost use Rattle.std.specs.List.{insert, remove};
+ghost use Rattle.sorted_blocks.specs.Shape.{cut};
 
 use std::alloc::{AllocError, Global};
 use std::marker::Model;
@@ -101,6 +102,22 @@ impl<T: Copy, const HALF: usize> Block<T, HALF> {
             return item;
         }
         self.items.remove(start + at)
+    }
+
+    /// Takes out so many items from this place on. Those before it are moved where they are few, else those behind.
+    pub(crate) fn cut_out(&mut self, at: usize, count: usize)
+        requires { at + count ≤ length self.old }
+        ensures { self.new ≡ cut self.old at count }
+    {
+        let start = self.start;
+        if at <= self.len() / FRONT {
+            self.items.copy_within(start..start + at, start + count);
+            self.start += count;
+            return;
+        }
+        let len = self.items.len();
+        self.items.copy_within(start + at + count..len, start + at);
+        self.items.truncate(len - count);
     }
 
     /// Lets go of all items.

@@ -3,7 +3,7 @@
 ghost use Rattle.std.specs.Prelude.{◌≡◌, ◌+◌, ◌-◌, ◌*◌, ◌<◌, ◌≤◌, [], length, drop, slice_index_or};
 ghost use Rattle.std.specs.Prelude.{OnOk, IsOk, IsTrue, ◌↔◌};
 ghost use Rattle.std.specs.List.{All, insert, remove};
-ghost use Rattle.sorted_blocks.specs.Shape.{items, room, capacity, Shape};
+ghost use Rattle.sorted_blocks.specs.Shape.{items, room, capacity, cut, Shape};
 ghost use Rattle.sorted_blocks.specs.Places.{before, IsPlace, IsItem};
 ghost use Rattle.sorted_blocks.specs.Found.{IsFound};
 ghost use Rattle.sorted_blocks.specs.declared.place.Place.{Place};
@@ -143,6 +143,29 @@ impl<T: Copy, const HALF: usize> Blocks<T, HALF> {
         ensures before { before self.new result.1 ≡ before self.old place }
     {
         self.store.remove(place)
+    }
+
+    /// Takes out so many items from this place on. It takes a step for each block that they stand in, moves the items of a few
+    /// blocks, whatever their number, and for each block that goes as a whole a record and an item for each block behind
+    /// them all. The answer is the place of the item that came behind them.
+    pub fn remove_run(&mut self, place: Place, count: usize) -> Place
+        requires place { IsPlace self.old place }
+        requires within { before self.old place + count ≤ length (items self.old) }
+        ensures items { items self.new ≡ cut (items self.old) (before self.old place) count }
+        ensures room { room HALF self.old ≤ room HALF self.new }
+        ensures capacity { capacity HALF self.new ≡ capacity HALF self.old }
+        ensures place { IsPlace self.new result }
+        ensures before { before self.new result ≡ before self.old place }
+    {
+        self.store.remove_run(place, count)
+    }
+
+    /// Whether no item stands before this place.
+    pub fn is_first(&self, place: Place) -> bool
+        requires { IsPlace self.now place }
+        ensures { IsTrue result ↔ before self.now place ≡ 0 }
+    {
+        self.store.is_first(place)
     }
 
     /// Whether an item stands at this place.

@@ -80,7 +80,7 @@ impl<T: Copy, const HALF: usize> Store<T, HALF> {
     }
 
     /// The place before the items of the block of this number; behind all items where there is no such block.
-    fn start_of(&self, block: usize) -> Place
+    pub(crate) fn start_of(&self, block: usize) -> Place
         requires { block ≤ length self.now.blocks }
         ensures place { IsPlace self.now result }
         ensures before { before self.now result ≡ before self.now (record { block = block; at = 0 }) }
@@ -103,7 +103,7 @@ impl<T: Copy, const HALF: usize> Store<T, HALF> {
     }
 
     /// Makes one of the place's block and the one behind it where both are short.
-    fn join_behind(&mut self, place: Place) -> Place
+    pub(crate) fn join_behind(&mut self, place: Place) -> Place
         requires block { place.block < length self.old.blocks }
         requires at { place.at ≤ length (block_at self.old.blocks place.block) }
         ensures items { items self.new ≡ items self.old }
@@ -124,7 +124,7 @@ impl<T: Copy, const HALF: usize> Store<T, HALF> {
     }
 
     /// Makes one of the place's block and the one before it where both are short.
-    fn join_before(&mut self, place: Place) -> Place
+    pub(crate) fn join_before(&mut self, place: Place) -> Place
         requires block { place.block < length self.old.blocks }
         requires at { place.at ≤ length (block_at self.old.blocks place.block) }
         ensures items { items self.new ≡ items self.old }

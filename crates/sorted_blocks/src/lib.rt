@@ -1,6 +1,7 @@
 //! A list in order, kept in blocks: an insert or a removal moves the items of one block, not half of the list.
 //!
-//! Proved: contracts see the list of the items. An insert is std's `insert` on it, a removal its `remove`; after
+//! Proved: contracts see the list of the items. An insert is std's `insert` on it, a removal its `remove`, and so many items
+//! that stand side by side can go at once; after
 //! `reserve(n)` n inserts succeed without memory, whatever blocks they split; below the capacity, which no edit
 //! changes, every insert does, however many removals stand between; a look-up by the caller's comparison answers an
 //! item that compares equal, or a gap between a lesser and a greater one; a walk yields the items from a place on.
@@ -21,6 +22,7 @@ mod laws;
 mod place;
 mod probe;
 mod room;
+mod runs;
 mod store;
 mod walk;
 

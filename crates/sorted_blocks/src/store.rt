@@ -3,7 +3,7 @@
 ghost use Rattle.std.specs.Prelude.{◌≡◌, ◌+◌, ◌-◌, ◌<◌, ◌≤◌, [], ◌∷◌, length, slice_index_or, OnOk, OnErr};
 ghost use Rattle.std.specs.List.{remove};
 ghost use Rattle.sorted_blocks.specs.Shape.{Shape, joined, room, block_at, together, put_into, taken_out, split};
-ghost use Rattle.sorted_blocks.specs.Shape.{merged, block_total};
+ghost use Rattle.sorted_blocks.specs.Shape.{merged, block_total, cut, cut_from};
 ghost use Rattle.sorted_blocks.specs.Sound.{AllFilled};
 ghost use Rattle.sorted_blocks.specs.Sought.{IsLead};
 
@@ -48,6 +48,13 @@ fn grown<const HALF: usize>(len: usize) -> usize
     ensures { result ≡ (len + 1 - HALF) - (len - HALF) }
 {
     if len < HALF { 0 } else { 1 }
+}
+
+/// How many of a block's items stand beyond its half.
+fn excess<const HALF: usize>(len: usize) -> usize
+    ensures { result ≡ len - HALF }
+{
+    len.saturating_sub(HALF)
 }
 
 impl<T: Copy, const HALF: usize> Store<T, HALF> {
@@ -235,6 +242,51 @@ impl<T: Copy, const HALF: usize> Store<T, HALF> {
         self.spare.push_reserved(row);
         self.count -= 1;
         item
+    }
+
+    /// Takes so many items out of a block that keeps others.
+    pub(crate) fn cut_out(&mut self, block: usize, at: usize, count: usize)
+        requires block { block < length self.old.blocks }
+        requires within { at + count ≤ length (block_at self.old.blocks block) }
+        requires others { count < length (block_at self.old.blocks block) }
+        ensures blocks { self.new.blocks ≡ cut_from self.old.blocks block at count }
+        ensures spare { self.new.spare ≡ self.old.spare }
+    {
+        let row = &mut self.used[block];
+        let len = row.len();
+        row.cut_out(at, count);
+        self.firsts[block] = *row.get(0);
+        self.over -= excess::<HALF>(len) - excess::<HALF>(len - count);
+        self.count -= count;
+    }
+
+    /// Lets go of a block with all its items. It is spare from then on.
+    pub(crate) fn let_go(&mut self, block: usize)
+        requires { block < length self.old.blocks }
+        ensures blocks { self.new.blocks ≡ remove self.old.blocks block }
+        ensures spare { self.new.spare ≡ self.old.spare + 1 }
+    {
+        let row = self.used.remove(block);
+        let _first = self.firsts.remove(block);
+        let len = row.len();
+        self.over -= excess::<HALF>(len);
+        self.count -= len;
+        self.spare.push_reserved(row);
+    }
+
+    /// Lets go of so many blocks from this one on, from the last one back: each moves the blocks behind it alone.
+    pub(crate) fn let_go_all(&mut self, block: usize, count: usize)
+        requires { block + count ≤ length self.old.blocks }
+        ensures blocks { self.new.blocks ≡ cut self.old.blocks block count }
+        ensures spare { self.new.spare ≡ self.old.spare + count }
+        ensures room { room HALF self.old ≤ room HALF self.new }
+    {
+        let _most = self.block_count();
+        let mut left = count;
+        while left > 0 {
+            left -= 1;
+            self.let_go(block + left);
+        }
     }
 
     /// Makes one of two neighbours that are half a block together.

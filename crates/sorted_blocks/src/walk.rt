@@ -28,6 +28,18 @@ impl<T: Copy, const HALF: usize> Store<T, HALF> {
         self.item_of(place.block, place.at)
     }
 
+    /// Whether no item stands before this place.
+    pub(crate) fn is_first(&self, place: Place) -> bool
+        requires { IsPlace self.now place }
+        ensures { IsTrue result ↔ before self.now place ≡ 0 }
+    {
+        if place.block == 0 {
+            return place.at == 0;
+        }
+        let _some = self.block_len(place.block - 1);
+        false
+    }
+
     /// The place before all items: the first one's, where there is any.
     pub(crate) fn first(&self) -> Place
         ensures place { IsPlace self.now result }

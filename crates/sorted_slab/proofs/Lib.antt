@@ -1,2 +1,3 @@
+pub mod Cuts
 pub mod Found
 pub mod Kept

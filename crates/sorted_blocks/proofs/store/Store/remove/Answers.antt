@@ -1,6 +1,6 @@
 use Rattle.sorted_blocks.specs.Sound.{IsDenseIn}
 use Rattle.std.proofs.Common.{◌+◌, length, sym, ◌∙◌, arith, lit<}
-use Rattle.sorted_blocks.proofs.Rooms.{room_whole}
+use Rattle.sorted_blocks.proofs.Rooms.{room_gone}
 use Rattle.sorted_blocks.proofs.Moves.{item_block, item_within, item_of, set_before, take_items, take_room, take_block, take_at, whole_items, whole_before, whole_is}
 use Rattle.sorted_blocks.proofs.Dense.{dense-remove, front-set, back-set}
 use Rattle.sorted_blocks.proofs.store.Store.remove.Goals as goal
@@ -18,7 +18,7 @@ returns-then-block_len-eq1-clause-items g c =
 
 pub returns-then-block_len-eq1-clause-room : goal.returns-then-block_len-eq1-clause-room
 returns-then-block_len-eq1-clause-room g c =
-    room_whole g.row.HALF c.args.self.now c.take_whole-item.new.self c.args.place.block (item_block c.args.self.now c.args.place c.requires) (sym c.block_len.ensures.len ∙ c.if-block_len-eq1.true) c.block_len.ensures.half c.take_whole-item.ensures.blocks c.take_whole-item.ensures.spare
+    room_gone g.row.HALF c.args.self.now c.take_whole-item.new.self c.args.place.block (item_block c.args.self.now c.args.place c.requires) c.take_whole-item.ensures.blocks c.take_whole-item.ensures.spare
 
 pub returns-then-block_len-eq1-clause-before : goal.returns-then-block_len-eq1-clause-before
 returns-then-block_len-eq1-clause-before g c =

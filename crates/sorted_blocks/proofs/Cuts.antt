@@ -1,0 +1,114 @@
+-- Lists without some items.
+use Rattle.std.proofs.Common.{◌≡◌, ℕ, zero, suc, ◌+◌, ◌-◌, ◌<◌, ◌≤◌, List, [], ◌++◌, length, get_or, take, drop, refl, sym, ap, ap₂, ◌∙◌, arith, length-append, length-drop, append_assoc}
+use lib.Seq.{paste, take-append-add, drop-append-add}
+use Rattle.std.specs.List.{remove}
+use Rattle.std.proofs.lemmas.List.{drop-drop, drop-take, drop_at, take_at, take_all, length-take-le, take-append-drop, take-append-le, take-take, drop-append-le, get_or-append-add, get_or_append_left, get_or-drop, get_or-take}
+use Rattle.sorted_blocks.specs.Shape.{cut}
+
+module _ {A : Type 0} where
+  pub cut_none : (xs : List A) (i : ℕ) → cut xs i 0 ≡ xs
+  unfolding cut
+  cut_none xs i =
+      let same : i + 0 ≡ i = omega arith in
+      ap (λ k. take i xs ++ drop k xs) same ∙ take-append-drop i xs
+
+  pub cut_cut : (xs : List A) (i m n : ℕ) → i ≤ length xs → cut (cut xs i m) i n ≡ cut xs i (m + n)
+  unfolding cut
+  cut_cut xs i m n w =
+      let f = take i xs in
+      let b = drop (i + m) xs in
+      let len : length f ≡ i = length-take-le i xs w in
+      let behind : i + m + n ≡ i + (m + n) = omega arith in
+      ap₂ (λ p q. p ++ q) (take_at f b i len) (sym (drop-drop n i (f ++ b)) ∙ ap (drop n) (drop_at f b i len) ∙ drop-drop n (i + m) xs) ∙ ap (λ k. f ++ drop k xs) behind
+
+  pub length-cut : (xs : List A) (i n : ℕ) → i + n ≤ length xs → length (cut xs i n) + n ≡ length xs
+  unfolding cut
+  length-cut xs i n w =
+      let a = length-take-le i xs (omega (arith, w)) in
+      let b = length-drop (i + n) xs in
+      let c = length-append (take i xs) (drop (i + n) xs) in
+      omega (arith, a, b, c, w)
+
+  pub cut-append_left : (xs ys : List A) (i n : ℕ) → i + n ≤ length xs → cut (xs ++ ys) i n ≡ cut xs i n ++ ys
+  unfolding cut
+  cut-append_left xs ys i n le = ap₂ (λ p q. p ++ q) (take-append-le i xs ys (omega (arith, le))) (drop-append-le (i + n) xs ys le) ∙ sym (append_assoc (take i xs) (drop (i + n) xs) ys)
+
+  pub cut-append_right : (xs ys : List A) (long i n : ℕ) → length xs ≡ long → long ≤ i → cut (xs ++ ys) i n ≡ xs ++ cut ys (i - long) n
+  unfolding cut
+  cut-append_right xs ys long i n is from =
+      let e : i ≡ length xs + (i - long) = omega (arith, is, from) in
+      let next : i + n ≡ length xs + (i - long + n) = omega (arith, is, from) in
+      ap₂ (λ p q. p ++ q) (ap (λ k. take k (xs ++ ys)) e ∙ take-append-add xs ys (i - long)) (ap (λ k. drop k (xs ++ ys)) next ∙ drop-append-add xs ys (i - long + n))
+      ∙ append_assoc xs (take (i - long) ys) (drop (i - long + n) ys)
+
+  -- what stands before and behind what is gone
+  pub cut-below : (xs : List A) (i n k : ℕ) (d : A) → i ≤ length xs → k < i → get_or (cut xs i n) k d ≡ get_or xs k d
+  unfolding cut
+  cut-below xs i n k d w lt =
+      let len = length-take-le i xs w in
+      get_or_append_left (take i xs) (drop (i + n) xs) d k (omega (arith, len, lt)) ∙ get_or-take i xs k d lt
+
+  pub cut-above : (xs : List A) (i n k : ℕ) (d : A) → i ≤ length xs → i ≤ k → get_or (cut xs i n) k d ≡ get_or xs (k + n) d
+  unfolding cut
+  cut-above xs i n k d w le =
+      let f = take i xs in
+      let len = length-take-le i xs w in
+      let here : k ≡ length f + (k - i) = omega (arith, len, le) in
+      let there : i + n + (k - i) ≡ k + n = omega (arith, le) in
+      ap (λ m. get_or (f ++ drop (i + n) xs) m d) here ∙ get_or-append-add f (drop (i + n) xs) (k - i) d ∙ get_or-drop (i + n) xs (k - i) d ∙ ap (λ m. get_or xs m d) there
+
+  pub take-cut : (xs : List A) (i n : ℕ) → i ≤ length xs → take i (cut xs i n) ≡ take i xs
+  unfolding cut
+  take-cut xs i n w = take_at (take i xs) (drop (i + n) xs) i (length-take-le i xs w)
+
+  -- one more at the front
+  pub remove-cut : (xs : List A) (k n : ℕ) → k < length xs → remove (cut xs (suc k) n) k ≡ cut xs k (suc n)
+  unfolding cut
+  remove-cut xs k n w =
+      let len = length-take-le (suc k) xs (omega (arith, w)) in
+      let front : take k (take (suc k) xs ++ drop (suc k + n) xs) ≡ take k xs = take-append-le k (take (suc k) xs) (drop (suc k + n) xs) (omega (arith, len)) ∙ front_of xs k in
+      let back : drop (suc k) (take (suc k) xs ++ drop (suc k + n) xs) ≡ drop (k + suc n) xs = drop_at (take (suc k) xs) (drop (suc k + n) xs) (suc k) len ∙ ap (λ m. drop m xs) (behind k n) in
+      ap₂ (λ p q. p ++ q) front back
+    where
+      behind : (k n : ℕ) → suc k + n ≡ k + suc n
+      behind k n = omega arith
+
+      front_of : (xs : List A) (k : ℕ) → take k (take (suc k) xs) ≡ take k xs
+      front_of xs k = take-take k (suc k) xs (omega arith)
+
+  -- ---- in a block whose first items are left over
+
+  pub cut_moved : (start at count : ℕ) (xs : List A) → start + (at + count) ≤ length xs → drop (start + count) (paste xs (start + count) (drop start xs) (start + at - start)) ≡ cut (drop start xs) at count
+  unfolding cut
+  cut_moved start at count xs within =
+      let len : length (take (start + count) xs) ≡ start + count = length-take-le (start + count) xs (omega (arith, within)) in
+      let moved : start + at - start ≡ at = omega arith in
+      let behind : start + count + (start + at - start) ≡ start + (at + count) = omega arith in
+      ap (drop (start + count)) (append_assoc (take (start + count) xs) _ _) ∙ drop_at (take (start + count) xs) _ (start + count) len ∙ (λ i. take (moved i) (drop start xs) ++ drop (behind i) xs) ∙ ap (λ ys. take at (drop start xs) ++ ys) (sym (drop-drop (at + count) start xs))
+
+  cut_later : (start at count : ℕ) (xs : List A) → start + (at + count) ≤ length xs → drop start (take (start + at) xs ++ drop (start + at + count) xs) ≡ cut (drop start xs) at count
+  unfolding cut
+  cut_later start at count xs within =
+      let len = length-take-le (start + at) xs (omega (arith, within)) in
+      let behind : start + at + count ≡ start + (at + count) = omega arith in
+      drop-append-le start (take (start + at) xs) (drop (start + at + count) xs) (omega (arith, len)) ∙ ap₂ (λ p q. p ++ q) (drop-take start at xs) (ap (λ k. drop k xs) behind ∙ sym (drop-drop (at + count) start xs))
+
+  pub cut_closed : (start at count long : ℕ) (xs : List A) → length xs ≡ long → start + (at + count) ≤ long → drop start (take (long - count) (paste xs (start + at) (drop (start + at + count) xs) (long - (start + at + count)))) ≡ cut (drop start xs) at count
+  cut_closed start at count long xs is within =
+      let f = take (start + at) xs in
+      let b = drop (start + at + count) xs in
+      let m = long - (start + at + count) in
+      let whole : take m b ≡ b = take_all m b (omega (arith, is, length-drop (start + at + count) xs)) in
+      let len : length (f ++ b) ≡ long - count = omega (arith, is, length-append f b, length-take-le (start + at) xs (omega (arith, is, within)), length-drop (start + at + count) xs, within) in
+      ap (λ ys. drop start (take (long - count) ((f ++ ys) ++ drop (start + at + m) xs))) whole ∙ ap (drop start) (take_at (f ++ b) (drop (start + at + m) xs) (long - count) len) ∙ cut_later start at count xs (omega (arith, is, within))
+
+-- ---- blocks that go as a whole
+
+module _ {A : Type 0} where
+  pub some_gone : (bs : List (List A)) (block blocks gone most len : ℕ) → blocks ≤ gone → (blocks ≡ 0 → gone ≡ 0) → len ≡ length (get_or bs (block + blocks) []) → most - gone < len → length (get_or bs block []) ≤ most → 1 ≤ gone
+  some_gone bs block zero gone most len least none is beyond fits =
+      let none_yet = none refl in
+      let here : block + 0 ≡ block = omega arith in
+      let same = ap (λ i. length (get_or bs i [])) here in
+      absurd (omega (arith, none_yet, same, is, beyond, fits))
+  some_gone bs block (suc blocks) gone most len least none is beyond fits = omega (arith, least)
