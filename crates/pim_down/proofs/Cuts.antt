@@ -72,8 +72,8 @@ module _ {X : Type 0} (P : X → Type 0) where
       let few = length-take most xs in
       subst (AllByRecursion P) (take-take n most xs (omega (arith, are.within, few))) are.passed
 
-  pub few_passed : (xs : List X) (most n : ℕ) (left : List X) → ArePassed (take most xs) n left → (n ≤ most) × (n ≤ length xs)
-  few_passed xs most n left are = let few = length-take most xs in (omega (arith, are.within, few), omega (arith, are.within, few))
+  pub few_passed : (xs : List X) (most n : ℕ) (left : List X) → ArePassed (take most xs) n left → n ≤ length xs
+  few_passed xs most n left are = let few = length-take most xs in omega (arith, are.within, few)
 
   -- one that is left can be counted
   pub some_left : (xs : List X) (most n : ℕ) (left rest : List X) (x : X) → left ≡ x ∷ rest → ArePassed (take most xs) n left → n < most
@@ -83,14 +83,21 @@ module _ {X : Type 0} (P : X → Type 0) where
       let long = ap length (sym are.left_is ∙ split) in
       omega (arith, few, behind, long)
 
-  pub first_left : (xs : List X) (most : ℕ) (left rest : List X) (x d : X) → left ≡ x ∷ rest → ArePassed (take most xs) 0 left → get_or xs 0 d ≡ x
+  first_left : (xs : List X) (most : ℕ) (left rest : List X) (x d : X) → left ≡ x ∷ rest → ArePassed (take most xs) 0 left → get_or xs 0 d ≡ x
   first_left [] zero left rest x d split are = absurd (let n = ap length (sym are.left_is ∙ split) in omega (arith, n))
   first_left [] (suc most) left rest x d split are = absurd (let n = ap length (sym are.left_is ∙ split) in omega (arith, n))
   first_left (y ∷ xs) zero left rest x d split are = absurd (let n = ap length (sym are.left_is ∙ split) in omega (arith, n))
   first_left (y ∷ xs) (suc most) left rest x d split are = let e = sym are.left_is ∙ split in let same : y ≡ x = cc in same
 
-  pub not_none : (xs : List X) (most : ℕ) (left : List X) → 0 < length xs → 0 < most → left ≡ [] → ArePassed (take most xs) 0 left → ⊥
-  not_none xs most left some more none are =
+  -- the first one passes, so that there is one where another doesn't
+  pub some_passed : (xs : List X) (most n : ℕ) (left rest : List X) (x : X) → left ≡ x ∷ rest → P (get_or xs 0 x) → (P x → ⊥) → ArePassed (take most xs) n left → 1 ≤ n
+  some_passed xs most zero left rest x split first fails are = absurd (fails (subst P (first_left xs most left rest x x split are) first))
+  some_passed xs most (suc n) left rest x split first fails are = omega arith
+
+  -- and there is one where all pass
+  pub all_passed : (xs : List X) (most n : ℕ) (left : List X) → 0 < length xs → 0 < most → left ≡ [] → ArePassed (take most xs) n left → 1 ≤ n
+  all_passed xs most n left some more none are =
       let few = length-take most xs in
+      let behind = length-drop n (take most xs) in
       let long = ap length (sym are.left_is ∙ none) in
-      omega (arith, few, some, more, long)
+      omega (arith, few, behind, some, more, long)

@@ -139,6 +139,9 @@ module _ {A : Type 0} (bytes_of : A → List ℕ) (port : ℕ) (group : List ℕ
   not_one : (held : Held A) → is_rpt_of port group (record_seen bytes_of held).key ≡ false → over held ≡ false
   not_one held e = ap (λ b. b && is_temporary held.machine.state) e
 
+  pub over_by : (held : Held A) (t : Bool) → is_rpt_of port group (record_seen bytes_of held).key ≡ true → is_temporary held.machine.state ≡ t → over held ≡ t
+  over_by held t e f = ap (λ b. b && is_temporary held.machine.state) e ∙ f
+
   pub ends_none : (items : List (Held A)) (i : ℕ) → IsAscending (records_seen bytes_of items) → ((k : ℕ) (d : Held A) → k < i → k < length items → is_rpt_of port group (record_seen bytes_of (get_or items k d)).key ≡ false) → AreBehind bytes_of port group items i → EndsTo items items i
   ends_none items i a before behind = record {
     kept = refl;

@@ -1,6 +1,6 @@
 //! End of Message: what it does to the (S,G,rpt) machines of a port.
 
-ghost use Rattle.std.specs.Prelude.{◌≡◌, ◌+◌, ◌<◌, ◌≤◌, true, false, length, take, drop, slice_index_or, not};
+ghost use Rattle.std.specs.Prelude.{◌≡◌, ◌+◌, ◌<◌, ◌≤◌, true, length, take, drop, slice_index_or, not};
 ghost use Rattle.std.specs.List.{filter, AllByRecursion};
 ghost use Rattle.sorted_slab.specs.Listed.{at, IsPlace};
 ghost use Rattle.pim_down.specs.declared.held.Held.{Held};
@@ -37,7 +37,8 @@ fn is_over_in<F: Family>(held: &Held<F::Addr>, port: usize, group: F::Addr) -> b
     is_rpt_of::<F>(&held.key, port, group) && is_temporary(held.machine.state)
 }
 
-/// How many machines side by side, from this place on, end with the message, up to so many as are let go of at once.
+/// How many machines side by side, from this one on, end with the message as it does, up to so many as are let go of at
+/// once.
 fn count_over<F: Family>(
     records: &Store<F::Addr, OfFamily<F>>,
     place: Place,
@@ -46,12 +47,13 @@ fn count_over<F: Family>(
 ) -> usize
     requires place { IsPlace records.now place }
     requires within { at records.now place < length records.now.items }
+    requires first { (d : Held F.Addr) → is_over_in port (F.bytes_of group)
+        (record_seen F.bytes_of (slice_index_or records.now.items (at records.now place) d)) ≡ true }
+    ensures some { 1 ≤ result }
     ensures within { at records.now place + result ≤ length records.now.items }
     ensures over { AllByRecursion
         (λ held. is_over_in port (F.bytes_of group) (record_seen F.bytes_of held) ≡ true)
         (take result (drop (at records.now place) records.now.items)) }
-    ensures none { (d : Held F.Addr) → result ≡ 0 → is_over_in port (F.bytes_of group)
-        (record_seen F.bytes_of (slice_index_or records.now.items (at records.now place) d)) ≡ false }
 {
     let mut count = 0;
     for held in records.walk(place, AT_ONCE) {
@@ -75,14 +77,15 @@ pub(crate) fn end_group<F: Family>(
 {
     let mut place = records.first_behind(&RptsOf::<F> { port, group });
     while records.is_item(place) {
-        if !is_rpt_of::<F>(&records.get(place).key, port, group) {
+        let held = records.get(place);
+        if !is_rpt_of::<F>(&held.key, port, group) {
             return;
         }
-        let count = count_over::<F>(records, place, port, group);
-        if count == 0 {
-            place = records.next(place);
-        } else {
+        if is_temporary(held.machine.state) {
+            let count = count_over::<F>(records, place, port, group);
             place = records.remove_run(place, count);
+        } else {
+            place = records.next(place);
         }
     }
 }

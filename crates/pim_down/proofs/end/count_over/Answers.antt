@@ -1,8 +1,9 @@
-use Rattle.std.proofs.Common.{◌≡◌, ◌∙◌, ◌+◌, true, false, refl, sym, ap, subst, length, take, drop, get_or, arith}
+use Rattle.std.proofs.Common.{◌≡◌, ◌∙◌, ◌+◌, refl, sym, ap, subst, take, drop, get_or, arith}
+use Rattle.std.proofs.lemmas.Bool.{false≢true}
 use Rattle.std.proofs.lemmas.List.{length-drop, get_or-drop}
 use Rattle.sorted_slab.specs.Listed.{at}
-use Rattle.pim_down.proofs.Cuts.{ArePassed, passed_none, passed_more, some_left, few_passed, passed_first, first_left, not_none}
-use Rattle.pim_down.proofs.Ending.{over, IsOver}
+use Rattle.pim_down.proofs.Cuts.{passed_none, passed_more, some_left, few_passed, passed_first, some_passed, all_passed}
+use Rattle.pim_down.proofs.Ending.{IsOver}
 use Rattle.pim_down.proofs.end.count_over.Goals as goal
 
 pub loop-held-init : goal.loop-held-init
@@ -33,7 +34,7 @@ returns-then-not-is_over_in-clause-within g c =
     let bytes_of = g.F.Family.bytes_of in
     let list = c.args.records.now in
     let i = at list c.args.place in
-    let few = (few_passed (IsOver bytes_of c.args.port (bytes_of c.args.group)) (drop i list.items) 256 c.loop-held.count c.loop-held.held-iterator c.loop-held.invariant.passed).1 in
+    let few = few_passed (IsOver bytes_of c.args.port (bytes_of c.args.group)) (drop i list.items) 256 c.loop-held.count c.loop-held.held-iterator c.loop-held.invariant.passed in
     let left = length-drop i list.items in
     omega (arith, few, left, c.requires.within)
 
@@ -43,24 +44,23 @@ returns-then-not-is_over_in-clause-over g c =
     let list = c.args.records.now in
     passed_first (IsOver bytes_of c.args.port (bytes_of c.args.group)) (drop (at list c.args.place) list.items) 256 c.loop-held.count c.loop-held.held-iterator c.loop-held.invariant.passed
 
-pub returns-then-not-is_over_in-clause-none : goal.returns-then-not-is_over_in-clause-none
-returns-then-not-is_over_in-clause-none g c d none =
+pub returns-then-not-is_over_in-clause-some : goal.returns-then-not-is_over_in-clause-some
+returns-then-not-is_over_in-clause-some g c =
     let bytes_of = g.F.Family.bytes_of in
     let list = c.args.records.now in
     let P = IsOver bytes_of c.args.port (bytes_of c.args.group) in
     let i = at list c.args.place in
-    let xs = drop i list.items in
-    let here : get_or list.items i d ≡ c.in-Some.held.now =
-    (let n : i ≡ i + 0 = omega arith in ap (λ k. get_or list.items k d) n) ∙ sym (get_or-drop i list.items 0 d)
-    ∙ first_left P xs 256 c.loop-held.held-iterator c.next.new.self c.in-Some.held.now d c.in-Some.ensures.steps (subst (λ n. ArePassed P (take 256 xs) n c.loop-held.held-iterator) none c.loop-held.invariant.passed) in
-    ap (over bytes_of c.args.port (bytes_of c.args.group)) here ∙ sym c.is_over_in.ensures ∙ c.if-not-is_over_in.true
+    let here : get_or list.items i c.in-Some.held.now ≡ get_or (drop i list.items) 0 c.in-Some.held.now =
+    (let n : i ≡ i + 0 = omega arith in ap (λ k. get_or list.items k c.in-Some.held.now) n) ∙ sym (get_or-drop i list.items 0 c.in-Some.held.now) in
+    let first : P (get_or (drop i list.items) 0 c.in-Some.held.now) = subst P here (c.requires.first c.in-Some.held.now) in
+    some_passed P (drop i list.items) 256 c.loop-held.count c.loop-held.held-iterator c.next.new.self c.in-Some.held.now c.in-Some.ensures.steps first (λ is. false≢true (sym c.if-not-is_over_in.true ∙ c.is_over_in.ensures ∙ is)) c.loop-held.invariant.passed
 
 pub returns-clause-within : goal.returns-clause-within
 returns-clause-within g c =
     let bytes_of = g.F.Family.bytes_of in
     let list = c.args.records.now in
     let i = at list c.args.place in
-    let few = (few_passed (IsOver bytes_of c.args.port (bytes_of c.args.group)) (drop i list.items) 256 c.loop-held.count c.loop-held.held-iterator c.loop-held.invariant.passed).1 in
+    let few = few_passed (IsOver bytes_of c.args.port (bytes_of c.args.group)) (drop i list.items) 256 c.loop-held.count c.loop-held.held-iterator c.loop-held.invariant.passed in
     let left = length-drop i list.items in
     omega (arith, few, left, c.requires.within)
 
@@ -70,12 +70,10 @@ returns-clause-over g c =
     let list = c.args.records.now in
     passed_first (IsOver bytes_of c.args.port (bytes_of c.args.group)) (drop (at list c.args.place) list.items) 256 c.loop-held.count c.loop-held.held-iterator c.loop-held.invariant.passed
 
-pub returns-clause-none : goal.returns-clause-none
-returns-clause-none g c d none =
+pub returns-clause-some : goal.returns-clause-some
+returns-clause-some g c =
     let bytes_of = g.F.Family.bytes_of in
     let list = c.args.records.now in
-    let P = IsOver bytes_of c.args.port (bytes_of c.args.group) in
     let i = at list c.args.place in
-    let xs = drop i list.items in
     let left = length-drop i list.items in
-    absurd (not_none P xs 256 c.loop-held.held-iterator (omega (arith, left, c.requires.within)) (omega arith) c.in-None.ensures.steps.0 (subst (λ n. ArePassed P (take 256 xs) n c.loop-held.held-iterator) none c.loop-held.invariant.passed))
+    all_passed (IsOver bytes_of c.args.port (bytes_of c.args.group)) (drop i list.items) 256 c.loop-held.count c.loop-held.held-iterator (omega (arith, left, c.requires.within)) (omega arith) c.in-None.ensures.steps.0 c.loop-held.invariant.passed
