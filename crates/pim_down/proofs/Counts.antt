@@ -1,5 +1,5 @@
 -- How many records each port has, and how many (S,G,rpt) ones, while records come and go.
-use Rattle.std.proofs.Common.{◌≡◌, ℕ, zero, suc, ◌+◌, ◌-◌, ◌<◌, ◌≤◌, Bool, true, false, cond, List, [], ◌∷◌, length, get_or, set, replicate, eqb, ltb, ◌&&◌, refl, sym, ap, subst, ◌∙◌, arith}
+use Rattle.std.proofs.Common.{◌≡◌, ℕ, zero, suc, ◌+◌, ◌-◌, ◌<◌, ◌≤◌, Bool, true, false, cond, List, [], ◌∷◌, length, take, drop, ◌++◌, get_or, set, replicate, eqb, ltb, ◌&&◌, refl, sym, ap, subst, ◌∙◌, arith}
 use Rattle.std.specs.Int.{from_bool}
 use Rattle.std.specs.List.{filter, insert, remove}
 use Rattle.std.proofs.lemmas.Bool.{eqb-true, eqb-false, ltb-true, ltb-false}
@@ -13,7 +13,8 @@ use Rattle.pim_down.specs.declared.machine.Record.{Record}
 use Rattle.pim_down.specs.Hearing.{is_rpt, is_rpt_on, rpt_count_on}
 use Rattle.pim_down.specs.Records.{count_on}
 use Rattle.pim_down.specs.Seen.{what_seen, record_seen, records_seen}
-use Rattle.pim_down.specs.Store.{IsKept}
+use Rattle.pim_down.specs.Store.{IsKept, without_run}
+use Rattle.pim_down.proofs.Cuts.{around, whole, none_left, first_within, first_at, first_gone}
 
 -- what each record adds to the count of its port
 module _ {A : Type 0} (weight : Held A → ℕ) (port : ℕ) where
@@ -214,6 +215,50 @@ module _ {A : Type 0} (counts rpts : List ℕ) (list new : Listed (Held A)) (lon
         ∙ sym (ap (λ xs. rpt_count_on port (records_seen bytes_of xs)) items ∙ rpts_are bytes_of port (set list.items i held));
     fits = omega (arith, kept.fits, capacity, ap length items, length-set list.items i held);
   }
+
+-- ---- a run of records goes
+
+-- the list as it is while some of the run's records are left
+abbrev pub with_left : {A : Type 0} → Listed (Held A) → ℕ → ℕ → List (Held A) → Listed (Held A)
+with_left list i count left = record { index = list.index; items = around list.items i count left; capacity = list.capacity }
+
+module _ {A : Type 0} (counts rpts : List ℕ) (list : Listed (Held A)) (i count : ℕ) where
+  abbrev Left : List (Held A) → Type 0
+  Left left = IsKept counts rpts (with_left list i count left)
+
+  pub all_left : (left : List (Held A)) → left ≡ take count (drop i list.items) → IsKept counts rpts list → Left left
+  all_left left all kept = subst Left (sym all) (subst (λ (items : List (Held A)). IsKept counts rpts (record { index = list.index; items = items; capacity = list.capacity })) (sym (whole list.items i count)) kept)
+
+  pub kept_without : (left : List (Held A)) → left ≡ [] → Left left → IsKept counts rpts (without_run list i count)
+  kept_without left none kept = subst (λ (items : List (Held A)). IsKept counts rpts (record { index = list.index; items = items; capacity = list.capacity })) (none_left list.items i count) (subst Left none kept)
+
+  module _ (long : length counts ≡ 64) (rpts_long : length rpts ≡ 64) (left rest : List (Held A)) (held : Held A) (split : left ≡ held ∷ rest) (kept : Left left) where
+    behind : List (Held A)
+    behind = rest ++ drop (i + count) list.items
+
+    front : List (Held A)
+    front = take i list.items
+
+    abbrev now : Listed (Held A)
+    now = with_left list i count (held ∷ rest)
+
+    abbrev then : Listed (Held A)
+    then = with_left list i count rest
+
+    kept_now : IsKept counts rpts now
+    kept_now = subst Left split kept
+
+    pub left_some_out : held.key.port < 64 → 1 ≤ get_or counts held.key.port 0
+    unfolding front behind
+    left_some_out small = some_out counts rpts now then long rpts_long kept_now (length front) held (first_within front behind held) (sym (first_at front behind held held)) small
+
+    pub left_some_rpt_out : (by : ℕ) → ((bytes_of : A → List ℕ) → by ≡ one_rpt bytes_of held) → held.key.port < 64 → by ≤ get_or rpts held.key.port 0
+    unfolding front behind
+    left_some_rpt_out by is small = some_rpt_out counts rpts now then long rpts_long kept_now (length front) held by (first_within front behind held) (sym (first_at front behind held held)) is small
+
+    pub left_out : (by : ℕ) → ((bytes_of : A → List ℕ) → by ≡ one_rpt bytes_of held) → IsKept (set counts held.key.port (get_or counts held.key.port 0 - 1)) (set rpts held.key.port (get_or rpts held.key.port 0 - by)) then
+    unfolding front behind
+    left_out by is = kept_out counts rpts now then long rpts_long kept_now (length front) held by (first_within front behind held) (sym (first_at front behind held held)) is (sym (first_gone front behind held)) refl
 
 pub kept_as : {A : Type 0} (counts rpts other others : List ℕ) (list : Listed (Held A)) → other ≡ counts → others ≡ rpts → IsKept counts rpts list → IsKept other others list
 kept_as counts rpts other others list one two kept = subst (λ c. IsKept c others list) (sym one) (subst (λ r. IsKept counts r list) (sym two) kept)

@@ -12,6 +12,7 @@ use Rattle.std.proofs.lemmas.List.{length-map, get_or-map, length-set}
 use Rattle.std.proofs.lemmas.List.Edits.{length-remove}
 use Rattle.sorted_slab.specs.Listed.{Listed}
 use Rattle.sorted_blocks.specs.Found.{IsGap, IsEqualAt}
+use Rattle.sorted_blocks.specs.Shape.{cut}
 use Rattle.pim_down.specs.declared.deadline.Deadline.{Deadline}
 use Rattle.pim_down.specs.declared.deadline.TimerKind.{TimerKind}
 use Rattle.pim_down.specs.declared.deadline.TimerKind.TheVariants.{PendingTimer, ExpiryTimer}
@@ -23,6 +24,7 @@ use Rattle.pim_down.specs.Key.{key_cmp}
 use Rattle.pim_down.specs.Schedule.{placed, without, IsInOrder, timer_rank, deadline_cmp, deadline_seen, end_of, with_end, with_timers, timers_of, Scheduled, IsTimed}
 use Rattle.pim_down.specs.Seen.{timed_seen, key_seen, record_seen, records_seen}
 use Rattle.pim_down.proofs.Counts.{one_longer}
+use Rattle.pim_down.proofs.Cuts.{around, whole, none_left, cut_shorter, first_within, first_at, first_gone}
 use Rattle.pim_down.proofs.Lists.{map_remove}
 use Rattle.pim_down.proofs.Order.{key_total, both_equal, equal_keys}
 use Rattle.pim_down.proofs.InOrder.{le_itself, greater_le, in_order_at, placed_swap, order_placed, length_placed, without_placed, length_without, insert_is, remove_is, gap_without}
@@ -193,6 +195,23 @@ module _ {A : Type 0} (bytes_of : A → List ℕ) where
   timers_set (x ∷ items) zero held w = refl
   timers_set (x ∷ items) (suc i) held w = ap (with_timers (record_seen bytes_of x)) (timers_set items i held (omega arith)) ∙ timers_swap (record_seen bytes_of x) (record_seen bytes_of held) (timers (remove items i))
 
+  -- ---- a run of records goes
+
+  module _ (items : List (Held A)) (i count : ℕ) where
+    pub timers_all : (left : List (Held A)) → left ≡ take count (drop i items) → timers items ≡ timers (around items i count left)
+    timers_all left all = ap timers (sym (whole items i count) ∙ ap (around items i count) (sym all))
+
+    pub timers_without : (left : List (Held A)) → left ≡ [] → timers (around items i count left) ≡ timers (cut items i count)
+    timers_without left none = ap timers (ap (around items i count) none ∙ none_left items i count)
+
+    pub timers_left : (left rest : List (Held A)) (held : Held A) → left ≡ held ∷ rest → timers (around items i count left) ≡ with_timers (record_seen bytes_of held) (timers (around items i count rest))
+    timers_left left rest held split =
+        let front = take i items in
+        let behind = rest ++ drop (i + count) items in
+        ap (λ (xs : List (Held A)). timers (around items i count xs)) split
+        ∙ timers_remove (front ++ held ∷ behind) (length front) held (first_within front behind held)
+        ∙ (λ k. with_timers (record_seen bytes_of (first_at front behind held held k)) (timers (first_gone front behind held k)))
+
 -- ---- a timer that is taken out
 
 pub stopped : (timer : TimerKind) (key : Key (List ℕ)) (ends : ℕ) (end : Option ℕ) (old new rest : Timers) → end ≡ Some ends → new ≡ without deadline_cmp (record { ends_at = ends; timer = timer; key = key }) old → old ≡ with_end timer key end rest → new ≡ rest
@@ -232,6 +251,13 @@ module _ {A : Type 0} (bytes_of : A → List ℕ) where
     timed_out i held w here items taken capacity = record {
       timers = taken (timers bytes_of (remove rows.items i)) (timed.timers ∙ timers_remove bytes_of rows.items i held w ∙ ap (λ (h : Held A). with_timers (record_seen bytes_of h) (timers bytes_of (remove rows.items i))) (sym here)) ∙ sym (ap (timers bytes_of) items);
       fits = omega (arith, timed.fits, ap length items, length-remove rows.items i w);
+      room = omega (arith, timed.room, capacity);
+    }
+
+    pub timed_cut : (i count : ℕ) → i + count ≤ length rows.items → new.items ≡ cut rows.items i count → changed.timers ≡ timers bytes_of (cut rows.items i count) → changed.capacity ≡ schedule.capacity → IsTimed bytes_of new changed space
+    timed_cut i count within items taken capacity = record {
+      timers = taken ∙ sym (ap (timers bytes_of) items);
+      fits = omega (arith, timed.fits, ap length items, cut_shorter rows.items i count within);
       room = omega (arith, timed.room, capacity);
     }
 

@@ -1,10 +1,10 @@
 -- End of Message, group by group.
-use Rattle.std.proofs.Common.{◌≡◌, ℕ, zero, suc, ◌+◌, ◌-◌, ◌<◌, ◌≤◌, Bool, true, false, cond, ◌&&◌, ◌||◌, not, List, [], ◌∷◌, ◌++◌, Option, Some, None, length, get_or, set, drop, eqb, ltb, refl, sym, ap, subst, ◌∙◌, arith}
+use Rattle.std.proofs.Common.{◌≡◌, ℕ, zero, suc, ◌+◌, ◌-◌, ◌<◌, ◌≤◌, Bool, true, false, cond, ◌&&◌, ◌||◌, not, List, [], ◌∷◌, ◌++◌, Option, Some, None, length, get_or, set, take, drop, eqb, ltb, refl, sym, ap, subst, ◌∙◌, arith}
 use Rattle.std.specs.declared.cmp.Ordering.TheVariants.{Less, Equal, Greater}
 use Rattle.std.specs.List.{filter, remove, flat_map, list_any, AllByRecursion}
 use Rattle.std.specs.Cmp.Lexicographic.{pointwise, same_text}
 use Rattle.std.proofs.lemmas.Bool.{false≢true, or_right, ltb-true, ltb-false}
-use Rattle.std.proofs.lemmas.List.{get_or-set_other}
+use Rattle.std.proofs.lemmas.List.{get_or-set_other, length-take-le}
 use Rattle.std.proofs.lemmas.Grind.{get_or-set_at}
 use Rattle.pim_jp.specs.declared.entry.Entry.{Entry}
 use Rattle.pim_jp.specs.declared.entry.Entry.TheVariants as entry
@@ -25,6 +25,8 @@ use Rattle.pim_down.specs.Sound.{is_temporary, IsSettled}
 use Rattle.pim_down.specs.After.{is_before_rpts}
 use Rattle.pim_down.specs.Running.{is_over, is_over_in, is_group_of, has_star_join, joined_sets, AreOverIn}
 use Rattle.pim_down.specs.Seen.{record_seen, records_seen}
+use Rattle.sorted_blocks.specs.Shape.{cut}
+use Rattle.pim_down.proofs.Cuts.{around, whole, none_left, cut_shorter, first_within, first_at, first_gone}
 use Rattle.pim_down.proofs.Order.{equal_keys}
 use Rattle.pim_down.proofs.Each.{end_filter, seen_filter}
 use Rattle.pim_down.proofs.Real.{all_append, all_flat}
@@ -121,6 +123,9 @@ module _ {A : Type 0} (bytes_of : A → List ℕ) (port : ℕ) (group : List ℕ
   abbrev pub over : Held A → Bool
   over held = is_over_in port group (record_seen bytes_of held)
 
+  abbrev pub IsOver : Held A → Type 0
+  IsOver held = over held ≡ true
+
   abbrev keep : Held A → Bool
   keep held = not (over held)
 
@@ -134,8 +139,8 @@ module _ {A : Type 0} (bytes_of : A → List ℕ) (port : ℕ) (group : List ℕ
   not_one : (held : Held A) → is_rpt_of port group (record_seen bytes_of held).key ≡ false → over held ≡ false
   not_one held e = ap (λ b. b && is_temporary held.machine.state) e
 
-  one : (held : Held A) (t : Bool) → is_rpt_of port group (record_seen bytes_of held).key ≡ true → is_temporary held.machine.state ≡ t → over held ≡ t
-  one held t e f = ap (λ b. b && is_temporary held.machine.state) e ∙ f
+  pub over_by : (held : Held A) (t : Bool) → is_rpt_of port group (record_seen bytes_of held).key ≡ true → is_temporary held.machine.state ≡ t → over held ≡ t
+  over_by held t e f = ap (λ b. b && is_temporary held.machine.state) e ∙ f
 
   pub ends_none : (items : List (Held A)) (i : ℕ) → IsAscending (records_seen bytes_of items) → ((k : ℕ) (d : Held A) → k < i → k < length items → is_rpt_of port group (record_seen bytes_of (get_or items k d)).key ≡ false) → AreBehind bytes_of port group items i → EndsTo items items i
   ends_none items i a before behind = record {
@@ -145,24 +150,38 @@ module _ {A : Type 0} (bytes_of : A → List ℕ) (port : ℕ) (group : List ℕ
     behind = behind;
   }
 
-  pub ends_more : (old now new : List (Held A)) (i j : ℕ) (held : Held A) → i < length now → held ≡ get_or now i held → is_rpt_of port group (record_seen bytes_of held).key ≡ true → new ≡ cond (is_temporary (get_or now i held).machine.state) (remove now i) now → j ≡ cond (is_temporary (get_or now i held).machine.state) i (i + 1) → EndsTo old now i → EndsTo old new j
-  ends_more old now new i j held w here is items at to = by (is_temporary (get_or now i held).machine.state) (ap (λ (h : Held A). is_temporary h.machine.state) here) items at
-    where
-      by : (t : Bool) → is_temporary held.machine.state ≡ t → new ≡ cond t (remove now i) now → j ≡ cond t i (i + 1) → EndsTo old new j
-      by true e n a =
-          subst (λ (xs : List (Held A)). EndsTo old xs j) (sym n) (subst (λ m. EndsTo old (remove now i) m) (sym a) (record {
-            kept = filter_remove keep now i held w here (ap not (one held true is e)) ∙ to.kept;
-            ended = λ k d lt u. ap over (removed_before now i k d w lt) ∙ to.ended k d lt (omega arith);
-            ascending = ascending_remove bytes_of now i w to.ascending;
-            behind = λ k d le u. let s = shorter now i w in ap (λ (h : Held A). is_before_rpts port group (record_seen bytes_of h).key) (removed_behind now i k d w le) ∙ to.behind (suc k) d (omega arith) (omega (arith, u, s));
-          }))
-      by false e n a =
-          subst (λ (xs : List (Held A)). EndsTo old xs j) (sym n) (record {
-            kept = to.kept;
-            ended = none_more over now i j held a here (one held false is e) to.ended;
-            ascending = to.ascending;
-            behind = λ k d le u. to.behind k d (omega (arith, le, a)) u;
-          })
+  ends_one : (old now : List (Held A)) (i : ℕ) (held : Held A) → i < length now → held ≡ get_or now i held → over held ≡ true → EndsTo old now i → EndsTo old (remove now i) i
+  ends_one old now i held w here is to = record {
+    kept = filter_remove keep now i held w here (ap not is) ∙ to.kept;
+    ended = λ k d lt u. ap over (removed_before now i k d w lt) ∙ to.ended k d lt (omega arith);
+    ascending = ascending_remove bytes_of now i w to.ascending;
+    behind = λ k d le u. let s = shorter now i w in ap (λ (h : Held A). is_before_rpts port group (record_seen bytes_of h).key) (removed_behind now i k d w le) ∙ to.behind (suc k) d (omega arith) (omega (arith, u, s));
+  }
+
+  ends_run : (old front run behind : List (Held A)) → AllByRecursion IsOver run → EndsTo old (front ++ (run ++ behind)) (length front) → EndsTo old (front ++ behind) (length front)
+  ends_run old front [] behind all to = to
+  ends_run old front (held ∷ run) behind all to =
+      let rest = run ++ behind in
+      let fewer = ends_one old (front ++ held ∷ rest) (length front) held (first_within front rest held) (sym (first_at front rest held held)) all.0 to in
+      ends_run old front run behind all.1 (subst (λ (xs : List (Held A)). EndsTo old xs (length front)) (first_gone front rest held) fewer)
+
+  -- a run of them goes
+  pub ends_cut : (old now new : List (Held A)) (i j count : ℕ) → i + count ≤ length now → AllByRecursion IsOver (take count (drop i now)) → new ≡ cut now i count → j ≡ i → EndsTo old now i → EndsTo old new j
+  ends_cut old now new i j count within all items at to =
+      let front : length (take i now) ≡ i = length-take-le i now (omega (arith, within)) in
+      let before : EndsTo old (around now i count (take count (drop i now))) (length (take i now)) =
+      subst (λ (xs : List (Held A)). EndsTo old xs (length (take i now))) (sym (whole now i count)) (subst (EndsTo old now) (sym front) to) in
+      let after = ends_run old (take i now) (take count (drop i now)) (drop (i + count) now) all before in
+      subst (EndsTo old new) (front ∙ sym at) (subst (λ (xs : List (Held A)). EndsTo old xs (length (take i now))) (none_left now i count ∙ sym items) after)
+
+  -- one that stays
+  pub ends_past : (old now : List (Held A)) (i j : ℕ) (held : Held A) → held ≡ get_or now i held → over held ≡ false → j ≡ i + 1 → EndsTo old now i → EndsTo old now j
+  ends_past old now i j held here stays next to = record {
+    kept = to.kept;
+    ended = none_more over now i j held next here stays to.ended;
+    ascending = to.ascending;
+    behind = λ k d le u. to.behind k d (omega (arith, le, next)) u;
+  }
 
   pub ends_all : (old now : List (Held A)) (i : ℕ) → AreOthers bytes_of port group now i → EndsTo old now i → records_seen bytes_of now ≡ filter (λ held. not (is_over_in port group held)) (records_seen bytes_of old)
   ends_all old now i others to =
@@ -174,12 +193,8 @@ module _ {A : Type 0} (bytes_of : A → List ℕ) (port : ℕ) (group : List ℕ
       by k d w false e = not_one (get_or now k d) (others k d (ltb-false k i e) w)
 
 -- fewer records are left to be gone through
-pub ends_nearer : {A : Type 0} (now new : List (Held A)) (i j : ℕ) (d : Held A) → i < length now → new ≡ cond (is_temporary (get_or now i d).machine.state) (remove now i) now → j ≡ cond (is_temporary (get_or now i d).machine.state) i (i + 1) → length new - j < length now - i
-ends_nearer now new i j d w items at = by (is_temporary (get_or now i d).machine.state) items at
-  where
-    by : (t : Bool) → new ≡ cond t (remove now i) now → j ≡ cond t i (i + 1) → length new - j < length now - i
-    by true n a = let s = shorter now i w in omega (arith, w, ap length n, a, s)
-    by false n a = omega (arith, w, ap length n, a)
+pub cut_nearer : {X : Type 0} (now new : List X) (i j count : ℕ) → i + count ≤ length now → 0 < count → new ≡ cut now i count → j ≡ i → length new - j < length now - i
+cut_nearer now new i j count within some items at = let s = cut_shorter now i count within in omega (arith, within, some, ap length items, at, s)
 
 -- ---- all groups of a message
 

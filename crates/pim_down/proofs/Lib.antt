@@ -4,6 +4,7 @@ pub mod Deadlines
 pub mod Searched
 pub mod Map
 pub mod Time
+pub mod Cuts
 pub mod Counts
 pub mod Bounds
 pub mod Sought

@@ -4,6 +4,7 @@ use Rattle.std.specs.Prelude.{Result, Ok, Err}
 use Rattle.std.specs.declared.cmp.Ordering.{Ordering}
 use Rattle.std.specs.declared.cmp.Ordering.TheVariants.{Less, Greater}
 use Rattle.std.specs.List.Sorted.{IsPartitionPoint}
+use Rattle.sorted_blocks.specs.Shape.{cut}
 use Rattle.sorted_blocks.specs.declared.place.Place.{Place}
 use Rattle.sorted_slab.specs.Listed.{Listed, at, IsPlace as IsListPlace, IsItem}
 use Rattle.pim_down.specs.declared.held.Held.{Held}
@@ -22,6 +23,10 @@ pub record IsKept {A : Type 0} (counts rpts : List ℕ) (list : Listed (Held A))
   pub rpts_counted : (bytes_of : A → List ℕ) (port : ℕ) → port < 64 →
       slice_index_or rpts port 0 ≡ rpt_count_on port (records_seen bytes_of list.items)
   pub fits : length list.items ≤ list.capacity
+
+-- the list without so many records from an index on
+abbrev pub without_run : {A : Type 0} → Listed (Held A) → ℕ → ℕ → Listed (Held A)
+without_run list i count = record { index = list.index; items = cut list.items i count; capacity = list.capacity }
 
 -- the record with its machine in another state
 abbrev pub in_state : {A : Type 0} → State → Held A → Held A

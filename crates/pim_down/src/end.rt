@@ -1,23 +1,27 @@
 //! End of Message: what it does to the (S,G,rpt) machines of a port.
 
-ghost use Rattle.std.specs.Prelude.{◌≡◌, ◌+◌, ◌<◌, length, slice_index_or, if◌then◌else◌, not};
-ghost use Rattle.std.specs.List.{filter, remove};
-ghost use Rattle.sorted_slab.specs.Listed.{at, IsPlace, IsItem};
+ghost use Rattle.std.specs.Prelude.{◌≡◌, ◌+◌, ◌<◌, ◌≤◌, true, length, take, drop, slice_index_or, not};
+ghost use Rattle.std.specs.List.{filter, AllByRecursion};
+ghost use Rattle.sorted_slab.specs.Listed.{at, IsPlace};
 ghost use Rattle.pim_down.specs.declared.held.Held.{Held};
 ghost use Rattle.pim_down.specs.Records.{IsAscending, each_changed};
 ghost use Rattle.pim_down.specs.Hearing.{at_end};
 ghost use Rattle.pim_down.specs.Running.{is_over_in, joined_sets, AreOverIn};
-ghost use Rattle.pim_down.specs.Seen.{records_seen};
+ghost use Rattle.pim_down.specs.Seen.{record_seen, records_seen};
 ghost use Rattle.pim_down.specs.Sound.{is_temporary};
 
 use crate::again::is_joined_again;
 use crate::hear::{RptsOf, is_rpt_of};
-use crate::key::{KeyOrder, OfFamily};
+use crate::held::Held;
+use crate::key::OfFamily;
 use crate::machine::State;
 use crate::store::Store;
 use pim_addr::Family;
 use pim_jp::JpView;
 use sorted_blocks::Place;
+
+/// So many machines are let go of at once: they are gone through several times, and are few enough to stay at hand.
+const AT_ONCE: usize = 256;
 
 /// Whether a machine has the state only while a message is heard.
 fn is_temporary(state: State) -> bool
@@ -26,23 +30,39 @@ fn is_temporary(state: State) -> bool
     matches!(state, State::PruneTmp | State::PrunePendingTmp)
 }
 
-/// Lets go of the record at this place, where its state ends with the message. The answer is the place of the next one.
-fn end_at<A: Copy, O: KeyOrder<A>>(records: &mut Store<A, O>, place: Place) -> Place
-    requires { IsItem records.old place }
-    ensures items { (d : Held A) → records.new.items
-        ≡ (if is_temporary (slice_index_or records.old.items (at records.old place) d).machine.state
-        then remove records.old.items (at records.old place) else records.old.items) }
-    ensures at { (d : Held A) → at records.new result
-        ≡ (if is_temporary (slice_index_or records.old.items (at records.old place) d).machine.state
-        then at records.old place else at records.old place + 1) }
-    ensures place { IsPlace records.new result }
-    ensures item { at records.new result < length records.new.items → IsItem records.new result }
+/// Whether it is an (S,G,rpt) machine of this group on this port that ends with the message.
+fn is_over_in<F: Family>(held: &Held<F::Addr>, port: usize, group: F::Addr) -> bool
+    ensures { result ≡ is_over_in port (F.bytes_of group) (record_seen F.bytes_of held.now) }
 {
-    let state = records.get(place).machine.state;
-    if is_temporary(state) {
-        return records.remove(place);
+    is_rpt_of::<F>(&held.key, port, group) && is_temporary(held.machine.state)
+}
+
+/// How many machines side by side, from this one on, end with the message as it does, up to so many as are let go of at
+/// once.
+fn count_over<F: Family>(
+    records: &Store<F::Addr, OfFamily<F>>,
+    place: Place,
+    port: usize,
+    group: F::Addr,
+) -> usize
+    requires place { IsPlace records.now place }
+    requires within { at records.now place < length records.now.items }
+    requires first { (d : Held F.Addr) → is_over_in port (F.bytes_of group)
+        (record_seen F.bytes_of (slice_index_or records.now.items (at records.now place) d)) ≡ true }
+    ensures some { 1 ≤ result }
+    ensures within { at records.now place + result ≤ length records.now.items }
+    ensures over { AllByRecursion
+        (λ held. is_over_in port (F.bytes_of group) (record_seen F.bytes_of held) ≡ true)
+        (take result (drop (at records.now place) records.now.items)) }
+{
+    let mut count = 0;
+    for held in records.walk(place, AT_ONCE) {
+        if !is_over_in::<F>(held, port, group) {
+            return count;
+        }
+        count += 1;
     }
-    records.next(place)
+    count
 }
 
 /// End of Message comes to the (S,G,rpt) machines of a group. It goes through these alone.
@@ -57,10 +77,15 @@ pub(crate) fn end_group<F: Family>(
 {
     let mut place = records.first_behind(&RptsOf::<F> { port, group });
     while records.is_item(place) {
-        if is_rpt_of::<F>(&records.get(place).key, port, group) {
-            place = end_at(records, place);
-        } else {
+        let held = records.get(place);
+        if !is_rpt_of::<F>(&held.key, port, group) {
             return;
+        }
+        if is_temporary(held.machine.state) {
+            let count = count_over::<F>(records, place, port, group);
+            place = records.remove_run(place, count);
+        } else {
+            place = records.next(place);
         }
     }
 }

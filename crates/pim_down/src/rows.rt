@@ -4,12 +4,14 @@ ghost use Rattle.std.specs.Prelude.{◌≡◌, ℕ, List, ◌+◌, ◌-◌, ◌<
 ghost use Rattle.std.specs.Prelude.{slice_index_or, slice_set, OnOk, IsOk, IsTrue, Bool, true, false};
 ghost use Rattle.std.specs.List.{All, insert, remove};
 ghost use Rattle.std.specs.List.Sorted.{IsPartitionedBy, IsPartitionPoint};
+ghost use Rattle.sorted_blocks.specs.Shape.{cut};
 ghost use Rattle.sorted_blocks.specs.declared.place.Place.{Place};
 ghost use Rattle.sorted_slab.specs.Listed.{at, IsPlace, IsItem, IsFound};
 ghost use Rattle.pim_down.specs.declared.held.Held.{Held};
 ghost use Rattle.pim_down.specs.Hearing.{is_rpt, rpt_count_on};
 ghost use Rattle.pim_down.specs.Records.{count_on};
 ghost use Rattle.pim_down.specs.Seen.{what_seen, records_seen};
+ghost use Rattle.pim_down.specs.Store.{IsKept, without_run};
 
 use crate::blocks::HALF_OF_RECORDS;
 use crate::held::{Held, Timed};
@@ -114,6 +116,25 @@ fn is_rpt<A>(what: &What<A>) -> bool
     matches!(what, What::Rpt(_))
 }
 
+/// So many records from this place on count no longer.
+fn count_run_out<A: Copy>(
+    list: &SortedSlab<Held<A>, HALF_OF_RECORDS>,
+    counts: &mut [usize; 64],
+    rpts: &mut [usize; 64],
+    place: Place,
+    count: usize,
+)
+    requires place { IsPlace list.now place }
+    requires kept { IsKept counts.old rpts.old list.now }
+    ensures { IsKept counts.new rpts.new (without_run list.now (at list.now place) count) }
+{
+    for held in list.walk(place, count) {
+        count_out(counts, held.key.port, 1);
+        let of_rpts = usize::from(is_rpt(&held.key.what));
+        count_out(rpts, held.key.port, of_rpts);
+    }
+}
+
 impl<A: Copy> Rows<A> {
     /// No record; it takes no memory.
     pub(crate) fn new(alloc: Global) -> Self
@@ -188,6 +209,21 @@ impl<A: Copy> Rows<A> {
         count_out(&mut self.counts, gone.key.port, 1);
         let rpts = usize::from(is_rpt(&gone.key.what));
         count_out(&mut self.rpts, gone.key.port, rpts);
+        self.list.settled(behind)
+    }
+
+    /// Takes out so many records from this place on. The answer is the place of the one that came behind them.
+    pub(crate) fn remove_run(&mut self, place: Place, count: usize) -> Place
+        requires place { IsPlace self.old place }
+        requires within { at self.old place + count ≤ length self.old.items }
+        ensures items { self.new.items ≡ cut self.old.items (at self.old place) count }
+        ensures capacity { self.new.capacity ≡ self.old.capacity }
+        ensures place { IsPlace self.new result }
+        ensures at { at self.new result ≡ at self.old place }
+        ensures item { at self.new result < length self.new.items → IsItem self.new result }
+    {
+        count_run_out(&self.list, &mut self.counts, &mut self.rpts, place, count);
+        let behind = self.list.remove_run(place, count);
         self.list.settled(behind)
     }
 

@@ -4,6 +4,7 @@ ghost use Rattle.std.specs.Prelude.{◌≡◌, ℕ, List, ◌+◌, ◌*◌, ◌<
 ghost use Rattle.std.specs.Prelude.{slice_index_or, slice_set, OnOk, IsOk, IsTrue, true, false};
 ghost use Rattle.std.specs.List.{All, insert, remove, slice_get};
 ghost use Rattle.std.specs.List.Sorted.{IsPartitionedBy, IsPartitionPoint};
+ghost use Rattle.sorted_blocks.specs.Shape.{cut};
 ghost use Rattle.sorted_blocks.specs.declared.place.Place.{Place};
 ghost use Rattle.sorted_slab.specs.Listed.{at, IsPlace, IsItem, IsFound};
 ghost use Rattle.pim_down.specs.declared.held.Held.{Held};
@@ -47,6 +48,24 @@ impl<A: Copy, O: KeyOrder<A>> Model for Store<A, O> {
     ghost view = { λ s. record { index = s.rows.index; items = s.rows.items; capacity = min s.rows.capacity s.room } };
 
     ghost invariant = { λ s. IsTimed O.bytes_of s.rows s.schedule s.room };
+}
+
+/// Takes out the timers of so many records from this place on.
+fn stop_run<A: Copy, O: KeyOrder<A>>(
+    rows: &Rows<A>,
+    schedule: &mut Schedule<A, O, HALF_OF_TIMERS>,
+    place: Place,
+    count: usize,
+)
+    requires place { IsPlace rows.now place }
+    requires timers { schedule.old.timers ≡ timers_of (records_seen O.bytes_of rows.now.items) }
+    ensures timers { schedule.new.timers
+        ≡ timers_of (records_seen O.bytes_of (cut rows.now.items (at rows.now place) count)) }
+    ensures capacity { schedule.new.capacity ≡ schedule.old.capacity }
+{
+    for held in rows.walk(place, count) {
+        schedule.stop_all(held);
+    }
 }
 
 impl<A: Copy, O: KeyOrder<A>> Store<A, O> {
@@ -132,6 +151,20 @@ impl<A: Copy, O: KeyOrder<A>> Store<A, O> {
         let gone = *self.rows.get(place);
         self.schedule.stop_all(&gone);
         self.rows.remove(place)
+    }
+
+    /// Takes out so many records from this place on. The answer is the place of the one that came behind them.
+    pub(crate) fn remove_run(&mut self, place: Place, count: usize) -> Place
+        requires place { IsPlace self.old place }
+        requires within { at self.old place + count ≤ length self.old.items }
+        ensures items { self.new.items ≡ cut self.old.items (at self.old place) count }
+        ensures capacity { self.new.capacity ≡ self.old.capacity }
+        ensures place { IsPlace self.new result }
+        ensures at { at self.new result ≡ at self.old place }
+        ensures item { at self.new result < length self.new.items → IsItem self.new result }
+    {
+        stop_run::<A, O>(&self.rows, &mut self.schedule, place, count);
+        self.rows.remove_run(place, count)
     }
 
     /// Gives the record at this place another machine; its key stays.

@@ -1,10 +1,10 @@
-use Rattle.std.proofs.Common.{sym, ◌∙◌}
+use Rattle.std.proofs.Common.{true, false, sym, ap, ◌∙◌, arith}
 use Rattle.sorted_slab.specs.Listed.{at}
 use Rattle.pim_down.specs.After.{is_before_rpts}
 use Rattle.pim_down.proofs.Searched.{parted}
 use Rattle.pim_down.proofs.Looking.{past_end}
-use Rattle.pim_down.proofs.Rpts.{rpts_fall, before_parts, behind_parts, none_behind, none_past}
-use Rattle.pim_down.proofs.Ending.{ends_none, ends_more, ends_all, ends_nearer}
+use Rattle.pim_down.proofs.Rpts.{same_default, rpts_fall, before_parts, behind_parts, none_behind, none_past}
+use Rattle.pim_down.proofs.Ending.{over, over_by, ends_none, ends_cut, ends_past, ends_all, cut_nearer}
 use Rattle.pim_down.proofs.end.end_group.Goals as goal
 
 pub first_behind-place-requires : goal.first_behind-place-requires
@@ -22,34 +22,19 @@ loop-group-init g c =
     let parts = c.first_behind-place.ensures.parts in
     record {
       ends = ends_none bytes_of c.args.port group list.items i c.requires (before_parts bytes_of c.args.port group list.items i parts) (behind_parts bytes_of c.args.port group list.items i parts);
+      is_place = c.first_behind-place.ensures.place;
       next = c.first_behind-place.ensures.item;
     }
 
-pub loop-group-smaller : goal.loop-group-smaller
-loop-group-smaller g c =
-    let list = c.loop-group.records in
-    let here = c.is_item.ensures.0 c.loop-group-test.true in
-    ends_nearer list.items c.end_at-place.new.records.items (at list c.loop-group.place) (at c.end_at-place.new.records c.end_at-place.result) c.get.result.now here.1 (c.end_at-place.ensures.items c.get.result.now) (c.end_at-place.ensures.at c.get.result.now)
-
-pub loop-group-preserved : goal.loop-group-preserved
-loop-group-preserved g c =
-    let bytes_of = g.F.Family.bytes_of in
-    let list = c.loop-group.records in
-    let here = c.is_item.ensures.0 c.loop-group-test.true in
-    record {
-      ends = ends_more bytes_of c.args.port (bytes_of c.args.group) c.args.records.now.items list.items c.end_at-place.new.records.items (at list c.loop-group.place) (at c.end_at-place.new.records c.end_at-place.result) c.get.result.now here.1 c.get.ensures (sym c.is_rpt_of.ensures ∙ c.if-is_rpt_of.true) (c.end_at-place.ensures.items c.get.result.now) (c.end_at-place.ensures.at c.get.result.now) c.loop-group.invariant.ends;
-      next = c.end_at-place.ensures.item;
-    }
-
-pub returns-else-is_rpt_of : goal.returns-else-is_rpt_of
-returns-else-is_rpt_of g c =
+pub returns-then-not-is_rpt_of : goal.returns-then-not-is_rpt_of
+returns-then-not-is_rpt_of g c =
     let bytes_of = g.F.Family.bytes_of in
     let group = bytes_of c.args.group in
     let list = c.loop-group.records in
     let i = at list c.loop-group.place in
     let here = c.is_item.ensures.0 c.loop-group-test.true in
     let ends = c.loop-group.invariant.ends in
-    ends_all bytes_of c.args.port group c.args.records.now.items list.items i (none_behind bytes_of c.args.port group list.items ends.ascending i c.get.result.now here.1 c.get.ensures ends.behind (sym c.is_rpt_of.ensures ∙ c.if-is_rpt_of.false)) ends
+    ends_all bytes_of c.args.port group c.args.records.now.items list.items i (none_behind bytes_of c.args.port group list.items ends.ascending i c.get-held.result.now here.1 c.get-held.ensures ends.behind (sym c.is_rpt_of.ensures ∙ c.if-not-is_rpt_of.true)) ends
 
 pub returns : goal.returns
 returns g c =
@@ -59,3 +44,40 @@ returns g c =
     let i = at list c.loop-group.place in
     let past = past_end list c.loop-group.place c.is_item.result c.is_item.ensures c.loop-group-test.false c.loop-group.invariant.next in
     ends_all bytes_of c.args.port group c.args.records.now.items list.items i (none_past bytes_of c.args.port group list.items i past) c.loop-group.invariant.ends
+
+pub count_over-count-requires-clause-first : goal.count_over-count-requires-clause-first
+count_over-count-requires-clause-first g c d =
+    let bytes_of = g.F.Family.bytes_of in
+    let list = c.loop-group.records in
+    let i = at list c.loop-group.place in
+    let here = c.is_item.ensures.0 c.loop-group-test.true in
+    let same = same_default list.items i d c.get-held.result.now here.1 ∙ sym c.get-held.ensures in
+    ap (over bytes_of c.args.port (bytes_of c.args.group)) same ∙ over_by bytes_of c.args.port (bytes_of c.args.group) c.get-held.result.now true (sym c.is_rpt_of.ensures ∙ c.if-not-is_rpt_of.false) (sym c.is_temporary.ensures ∙ c.if-is_temporary.true)
+
+pub loop-group-smaller-then-is_temporary : goal.loop-group-smaller-then-is_temporary
+loop-group-smaller-then-is_temporary g c =
+    let list = c.loop-group.records in
+    let over = c.count_over-count.ensures in
+    cut_nearer list.items c.remove_run-place.new.self.items (at list c.loop-group.place) (at c.remove_run-place.new.self c.remove_run-place.result) c.count_over-count.result over.within over.some c.remove_run-place.ensures.items c.remove_run-place.ensures.at
+
+pub loop-group-preserved-then-is_temporary : goal.loop-group-preserved-then-is_temporary
+loop-group-preserved-then-is_temporary g c =
+    let bytes_of = g.F.Family.bytes_of in
+    let list = c.loop-group.records in
+    let over = c.count_over-count.ensures in
+    record {
+      ends = ends_cut bytes_of c.args.port (bytes_of c.args.group) c.args.records.now.items list.items c.remove_run-place.new.self.items (at list c.loop-group.place) (at c.remove_run-place.new.self c.remove_run-place.result) c.count_over-count.result over.within over.over c.remove_run-place.ensures.items c.remove_run-place.ensures.at c.loop-group.invariant.ends;
+      is_place = c.remove_run-place.ensures.place;
+      next = c.remove_run-place.ensures.item;
+    }
+
+pub loop-group-preserved : goal.loop-group-preserved
+loop-group-preserved g c =
+    let bytes_of = g.F.Family.bytes_of in
+    let list = c.loop-group.records in
+    let i = at list c.loop-group.place in
+    record {
+      ends = ends_past bytes_of c.args.port (bytes_of c.args.group) c.args.records.now.items list.items i (at list c.next-place.result) c.get-held.result.now c.get-held.ensures (over_by bytes_of c.args.port (bytes_of c.args.group) c.get-held.result.now false (sym c.is_rpt_of.ensures ∙ c.if-not-is_rpt_of.false) (sym c.is_temporary.ensures ∙ c.if-is_temporary.false)) c.next-place.ensures.at c.loop-group.invariant.ends;
+      is_place = c.next-place.ensures.place;
+      next = λ lt. c.next-place.ensures.item (omega (arith, lt, c.next-place.ensures.at));
+    }

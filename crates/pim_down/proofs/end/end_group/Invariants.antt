@@ -1,5 +1,5 @@
 use Rattle.std.proofs.Common.{◌-◌, length}
-use Rattle.sorted_slab.specs.Listed.{at}
+use Rattle.sorted_slab.specs.Listed.{at, IsPlace}
 use Rattle.pim_down.proofs.Ending.{EndsTo}
 use Rattle.pim_down.proofs.Looking.{IsNext}
 use Rattle.pim_down.proofs.end.end_group.Given as goal
@@ -7,6 +7,7 @@ use Rattle.pim_down.proofs.end.end_group.Given as goal
 abbrev pub invariant-loop-group : goal.invariant-loop-group
 invariant-loop-group g l = record {
   ends : EndsTo g.F.Family.bytes_of l.port (g.F.Family.bytes_of l.group) l.fn.records.items l.records.items (at l.records l.place);
+  is_place : IsPlace l.records l.place;
   next : IsNext l.records l.place;
 }
 

@@ -1,0 +1,103 @@
+-- A run of items that go from a list one after the other.
+use Rattle.std.proofs.Common.{◌≡◌, ℕ, zero, suc, ◌+◌, ◌<◌, ◌≤◌, List, [], ◌∷◌, ◌++◌, length, take, drop, get_or, refl, sym, ap, subst, ◌∙◌, arith}
+use Rattle.std.specs.List.{remove, AllByRecursion}
+use Rattle.std.proofs.lemmas.List.{length-take, length-take-le, length-append, length-drop, take-append-drop, take-take, drop-drop}
+use Rattle.sorted_blocks.specs.Shape.{cut}
+
+module _ {X : Type 0} where
+  -- those before the run, of which these are left, and those behind it
+  abbrev pub around : List X → ℕ → ℕ → List X → List X
+  around xs i count left = take i xs ++ (left ++ drop (i + count) xs)
+
+  pub whole : (xs : List X) (i count : ℕ) → around xs i count (take count (drop i xs)) ≡ xs
+  whole xs i count =
+      ap (λ (rest : List X). take i xs ++ (take count (drop i xs) ++ rest)) (sym (drop-drop count i xs))
+      ∙ ap (λ (rest : List X). take i xs ++ rest) (take-append-drop count (drop i xs))
+      ∙ take-append-drop i xs
+
+  pub none_left : (xs : List X) (i count : ℕ) → around xs i count [] ≡ cut xs i count
+  unfolding cut
+  none_left xs i count = refl
+
+  -- the first one of those that are left
+  pub first_within : (front rest : List X) (x : X) → length front < length (front ++ x ∷ rest)
+  first_within [] rest x = omega arith
+  first_within (y ∷ front) rest x = let more = first_within front rest x in omega (arith, more)
+
+  pub first_at : (front rest : List X) (x d : X) → get_or (front ++ x ∷ rest) (length front) d ≡ x
+  first_at [] rest x d = refl
+  first_at (y ∷ front) rest x d = first_at front rest x d
+
+  pub first_gone : (front rest : List X) (x : X) → remove (front ++ x ∷ rest) (length front) ≡ front ++ rest
+  first_gone [] rest x = refl
+  first_gone (y ∷ front) rest x = ap (λ (zs : List X). y ∷ zs) (first_gone front rest x)
+
+  pub cut_shorter : (xs : List X) (i count : ℕ) → i + count ≤ length xs → length (cut xs i count) + count ≡ length xs
+  unfolding cut
+  cut_shorter xs i count within =
+      let long = length-append (take i xs) (drop (i + count) xs) in
+      let front = length-take-le i xs (omega (arith, within)) in
+      let behind = length-drop (i + count) xs in
+      omega (arith, within, long, front, behind)
+
+-- a list is gone through, and so many items passed a test so far
+module _ {X : Type 0} (P : X → Type 0) where
+  pub record ArePassed (all : List X) (count : ℕ) (left : List X) : Type 0 where
+    pub left_is : left ≡ drop count all
+    pub within : count ≤ length all
+    pub passed : AllByRecursion P (take count all)
+
+  pub passed_none : (all left : List X) → left ≡ all → ArePassed all 0 left
+  passed_none all left same = record { left_is = same; within = omega arith; passed = tt }
+
+  one_more : (all : List X) (n : ℕ) (x : X) (rest : List X) → drop n all ≡ x ∷ rest → AllByRecursion P (take n all) → P x → ArePassed all (suc n) rest
+  one_more [] zero x rest e passed p = absurd (let n = ap length e in omega (arith, n))
+  one_more [] (suc n) x rest e passed p = absurd (let n = ap length e in omega (arith, n))
+  one_more (y ∷ all) zero x rest e passed p =
+      let same : y ≡ x = cc in
+      let others : all ≡ rest = cc in
+      record { left_is = sym others; within = omega arith; passed = (subst P (sym same) p, tt) }
+  one_more (y ∷ all) (suc n) x rest e passed p =
+      let more = one_more all n x rest e passed.1 p in
+      record { left_is = more.left_is; within = omega (arith, more.within); passed = (passed.0, more.passed) }
+
+  pub passed_more : (all left rest : List X) (n m : ℕ) (x : X) → left ≡ x ∷ rest → m ≡ n + 1 → P x → ArePassed all n left → ArePassed all m rest
+  passed_more all left rest n m x split next p are =
+      let same : suc n ≡ m = omega (arith, next) in
+      subst (λ k. ArePassed all k rest) same (one_more all n x rest (sym are.left_is ∙ split) are.passed p)
+
+  -- of the first items of a list
+  pub passed_first : (xs : List X) (most n : ℕ) (left : List X) → ArePassed (take most xs) n left → AllByRecursion P (take n xs)
+  passed_first xs most n left are =
+      let few = length-take most xs in
+      subst (AllByRecursion P) (take-take n most xs (omega (arith, are.within, few))) are.passed
+
+  pub few_passed : (xs : List X) (most n : ℕ) (left : List X) → ArePassed (take most xs) n left → n ≤ length xs
+  few_passed xs most n left are = let few = length-take most xs in omega (arith, are.within, few)
+
+  -- one that is left can be counted
+  pub some_left : (xs : List X) (most n : ℕ) (left rest : List X) (x : X) → left ≡ x ∷ rest → ArePassed (take most xs) n left → n < most
+  some_left xs most n left rest x split are =
+      let few = length-take most xs in
+      let behind = length-drop n (take most xs) in
+      let long = ap length (sym are.left_is ∙ split) in
+      omega (arith, few, behind, long)
+
+  first_left : (xs : List X) (most : ℕ) (left rest : List X) (x d : X) → left ≡ x ∷ rest → ArePassed (take most xs) 0 left → get_or xs 0 d ≡ x
+  first_left [] zero left rest x d split are = absurd (let n = ap length (sym are.left_is ∙ split) in omega (arith, n))
+  first_left [] (suc most) left rest x d split are = absurd (let n = ap length (sym are.left_is ∙ split) in omega (arith, n))
+  first_left (y ∷ xs) zero left rest x d split are = absurd (let n = ap length (sym are.left_is ∙ split) in omega (arith, n))
+  first_left (y ∷ xs) (suc most) left rest x d split are = let e = sym are.left_is ∙ split in let same : y ≡ x = cc in same
+
+  -- the first one passes, so that there is one where another doesn't
+  pub some_passed : (xs : List X) (most n : ℕ) (left rest : List X) (x : X) → left ≡ x ∷ rest → P (get_or xs 0 x) → (P x → ⊥) → ArePassed (take most xs) n left → 1 ≤ n
+  some_passed xs most zero left rest x split first fails are = absurd (fails (subst P (first_left xs most left rest x x split are) first))
+  some_passed xs most (suc n) left rest x split first fails are = omega arith
+
+  -- and there is one where all pass
+  pub all_passed : (xs : List X) (most n : ℕ) (left : List X) → 0 < length xs → 0 < most → left ≡ [] → ArePassed (take most xs) n left → 1 ≤ n
+  all_passed xs most n left some more none are =
+      let few = length-take most xs in
+      let behind = length-drop n (take most xs) in
+      let long = ap length (sym are.left_is ∙ none) in
+      omega (arith, few, behind, some, more, long)
