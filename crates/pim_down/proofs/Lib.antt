@@ -1,6 +1,7 @@
 pub mod Order
 pub mod InOrder
 pub mod Deadlines
+pub mod Gaps
 pub mod Searched
 pub mod Map
 pub mod Time

@@ -10,6 +10,7 @@ pub mod Ends
 pub mod Places
 pub mod Store
 pub mod Running
+pub mod Gap
 pub mod Schedule
 pub mod Sound
 pub mod Heard

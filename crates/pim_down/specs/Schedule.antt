@@ -1,17 +1,20 @@
 -- The timers that run, in the order in which they fire: by deadline, prune-pending timers before expiry timers, by key.
-use Rattle.std.specs.Prelude.{◌≡◌, ℕ, ◌+◌, ◌-◌, ◌*◌, ◌≤◌, false, if◌then◌else◌}
-use Rattle.std.specs.Prelude.{List, [], ◌∷◌, length, Option, None, Some}
+use Rattle.std.specs.Prelude.{◌≡◌, ℕ, ◌+◌, ◌-◌, ◌*◌, ◌<◌, ◌≤◌, false, if◌then◌else◌}
+use Rattle.std.specs.Prelude.{List, [], ◌∷◌, map, length, Option, None, Some}
 use Rattle.std.specs.declared.cmp.Ordering.{Ordering}
 use Rattle.std.specs.List.{slice_get}
 use Rattle.std.specs.Ordering.{nat_cmp, ordering_then, is_eq, is_gt}
+use Rattle.sorted_blocks.specs.Shape.{Shape}
 use Rattle.sorted_slab.specs.Listed.{Listed}
 use Rattle.pim_down.specs.declared.deadline.Deadline.{Deadline}
 use Rattle.pim_down.specs.declared.deadline.TimerKind.{TimerKind}
 use Rattle.pim_down.specs.declared.deadline.TimerKind.TheVariants.{PendingTimer, ExpiryTimer}
+use Rattle.pim_down.specs.declared.gap.Gap.{Gap}
 use Rattle.pim_down.specs.declared.held.Held.{Held}
 use Rattle.pim_down.specs.declared.key.Key.{Key}
 use Rattle.pim_down.specs.declared.machine.Machine.{Machine}
 use Rattle.pim_down.specs.declared.machine.Record.{Record}
+use Rattle.pim_down.specs.Gap.{remaining, IsGone}
 use Rattle.pim_down.specs.Key.{key_cmp}
 use Rattle.pim_down.specs.Ends.{pending_end, first_end, ends_by}
 use Rattle.pim_down.specs.Seen.{key_seen, records_seen}
@@ -81,6 +84,11 @@ timers_of (held ∷ records) = with_timers held (timers_of records)
 pub record Scheduled : Type 0 where
   pub timers : List (Deadline (List ℕ))
   pub capacity : ℕ
+
+-- The timers that run are in order, and those that were taken out stand side by side where the gap says.
+pub record IsScheduled {A : Type 0} (bytes_of : A → List ℕ) (list : Shape (Deadline A)) (gap : Gap) : Type 0 where
+  pub order : IsInOrder deadline_cmp (map (deadline_seen bytes_of) (remaining list gap))
+  pub gone : 0 < gap.count → IsGone list gap
 
 -- The schedule has the timers of the records, and room for two of each of so many records, and for two more.
 pub record IsTimed {A : Type 0} (bytes_of : A → List ℕ) (rows : Listed (Held A)) (schedule : Scheduled) (space : ℕ) :

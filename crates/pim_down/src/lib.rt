@@ -16,6 +16,7 @@ mod edits;
 mod end;
 mod event;
 mod fault;
+mod gap;
 mod group;
 mod hear;
 mod held;

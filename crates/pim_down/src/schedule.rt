@@ -2,15 +2,17 @@
 
 ghost use Rattle.std.specs.Prelude.{◌≡◌, ℕ, List, ◌+◌, ◌-◌, ◌*◌, ◌<◌, ◌≤◌, [], length, map, option_map, OnOk};
 ghost use Rattle.std.specs.List.{slice_get, insert};
-ghost use Rattle.sorted_blocks.specs.Shape.{items};
+ghost use Rattle.sorted_blocks.specs.Shape.{items, capacity};
 ghost use Rattle.sorted_blocks.specs.Places.{before, IsPlace};
 ghost use Rattle.pim_down.specs.declared.deadline.Deadline.{Deadline};
+ghost use Rattle.pim_down.specs.Gap.{remaining, IsGone};
 ghost use Rattle.pim_down.specs.Schedule.{deadline_cmp, deadline_seen, placed, without, IsInOrder};
 ghost use Rattle.pim_down.specs.Schedule.{with_end, with_timers};
 ghost use Rattle.pim_down.specs.Ends.{pending_end};
 ghost use Rattle.pim_down.specs.Seen.{key_seen, waiting_seen, timed_seen, record_seen};
 
 use crate::deadline::{Deadline, TimerKind, compare_deadlines};
+use crate::gap::{Gap, is_behind};
 use crate::held::{Held, Timed};
 use crate::key::{Key, KeyOrder};
 use sorted_blocks::{Blocks, Place, Probe, item_has_a_place, place_is_within};
@@ -76,7 +78,9 @@ impl Hints {
 /// many fit without memory.
 #[derive(Drop)]
 pub(crate) struct Schedule<A: Copy, O: KeyOrder<A>, const HALF: usize> {
+    /// Those in the gap don't run any more.
     list: Blocks<Deadline<A>, HALF>,
+    gap: Gap,
     /// Where timers were put in last.
     put: Hints,
     /// Where they were taken out last.
@@ -86,17 +90,18 @@ pub(crate) struct Schedule<A: Copy, O: KeyOrder<A>, const HALF: usize> {
 
 impl<A: Copy, O: KeyOrder<A>, const HALF: usize> Model for Schedule<A, O, HALF> {
     ghost use Rattle.std.specs.Prelude.{map};
-    ghost use Rattle.sorted_blocks.specs.Shape.{items, capacity};
-    ghost use Rattle.pim_down.specs.Schedule.{Scheduled, deadline_cmp, deadline_seen, IsInOrder};
+    ghost use Rattle.sorted_blocks.specs.Shape.{capacity};
+    ghost use Rattle.pim_down.specs.Gap.{remaining};
+    ghost use Rattle.pim_down.specs.Schedule.{Scheduled, deadline_seen, IsScheduled};
 
     ghost Value = { Scheduled };
 
     ghost view = { λ s. record {
-      timers = map (deadline_seen O.bytes_of) (items s.list);
+      timers = map (deadline_seen O.bytes_of) (remaining s.list s.gap);
       capacity = capacity HALF s.list;
     } };
 
-    ghost invariant = { λ s. IsInOrder deadline_cmp (map (deadline_seen O.bytes_of) (items s.list)) };
+    ghost invariant = { λ s. IsScheduled O.bytes_of s.list s.gap };
 }
 
 /// Where the timer belongs among these.
@@ -123,6 +128,21 @@ fn slot_of<A: Copy, O: KeyOrder<A>, const HALF: usize>(
     }
 }
 
+/// Takes out what stands in the gap. Timers of that kind are sought there next.
+fn close<T: Copy, const HALF: usize>(list: &mut Blocks<T, HALF>, gap: &mut Gap, taken: &mut Hints)
+    requires { 0 < gap.old.count → IsGone list.old gap.old }
+    ensures items { items list.new ≡ remaining list.old gap.old }
+    ensures capacity { capacity HALF list.new ≡ capacity HALF list.old }
+    ensures none { gap.new.count ≡ 0 }
+{
+    if gap.count == 0 {
+        return;
+    }
+    let behind = list.remove_run(gap.from, gap.count);
+    taken.keep(gap.timer, behind);
+    gap.count = 0;
+}
+
 impl<A: Copy, O: KeyOrder<A>, const HALF: usize> Schedule<A, O, HALF> {
     /// No timer; it takes no memory.
     pub(crate) fn new(alloc: Global) -> Self
@@ -132,6 +152,7 @@ impl<A: Copy, O: KeyOrder<A>, const HALF: usize> Schedule<A, O, HALF> {
     {
         Schedule {
             list: Blocks::new(alloc),
+            gap: Gap::none(),
             put: Hints::new(),
             taken: Hints::new(),
             order: PhantomData,
@@ -166,7 +187,7 @@ impl<A: Copy, O: KeyOrder<A>, const HALF: usize> Schedule<A, O, HALF> {
         ensures { option_map (deadline_seen O.bytes_of) result ≡ slice_get self.now.timers 0 }
     {
         item_has_a_place::<Deadline<A>>();
-        let place = self.list.first();
+        let place = self.gap.first_outside(&self.list);
         if self.list.is_item(place) {
             Some(*self.list.get(place))
         } else {
@@ -180,24 +201,30 @@ impl<A: Copy, O: KeyOrder<A>, const HALF: usize> Schedule<A, O, HALF> {
         ensures timers { self.new.timers ≡ placed deadline_cmp (deadline_seen O.bytes_of deadline) self.old.timers }
         ensures capacity { self.new.capacity ≡ self.old.capacity }
     {
+        close(&mut self.list, &mut self.gap, &mut self.taken);
         let place = slot_of::<A, O, HALF>(&self.list, self.put.of(deadline.timer), deadline);
         let stands = self.list.insert_within(place, deadline);
         self.put.keep(deadline.timer, stands);
     }
 
-    /// Takes a timer out, if it is there.
+    /// Takes a timer out, if it is there. Of those that are taken out one after another, as they stand, only the first is
+    /// looked up.
     fn take(&mut self, deadline: Deadline<A>)
         ensures timers { self.new.timers ≡ without deadline_cmp (deadline_seen O.bytes_of deadline) self.old.timers }
         ensures capacity { self.new.capacity ≡ self.old.capacity }
     {
         place_is_within::<Deadline<A>>();
+        if is_behind::<A, O, HALF>(&self.list, &self.gap, &deadline) {
+            self.gap.grow(&self.list);
+            return;
+        }
+        close(&mut self.list, &mut self.gap, &mut self.taken);
         let wanted: Wanted<A, O> = Wanted {
             deadline,
             order: PhantomData,
         };
         if let Ok(place) = self.list.find_near(self.taken.of(deadline.timer), &wanted) {
-            let (_gone, behind) = self.list.remove(place);
-            self.taken.keep(deadline.timer, behind);
+            self.gap = Gap::at(&self.list, place, deadline.timer);
         }
     }
 

@@ -1,0 +1,188 @@
+-- Timers that were taken out and still stand in their list.
+use Rattle.std.specs.Prelude.{◌↔◌, IsTrue, option_map}
+use Rattle.std.proofs.Common.{◌≡◌, Bool, false, Some, ℕ, zero, suc, ◌+◌, ◌-◌, ◌<◌, ◌≤◌, List, [], ◌∷◌, ◌++◌, map, length, take, drop, get_or, refl, sym, ap, subst, ◌∙◌, arith}
+use Rattle.std.specs.declared.cmp.Ordering.{Ordering}
+use Rattle.std.specs.declared.cmp.Ordering.TheVariants.{Equal}
+use Rattle.std.specs.List.{slice_get, insert, remove}
+use Rattle.std.proofs.lemmas.List.{map-append, take-map, drop-map, drop-drop, take-append-drop, length-take-le, length-drop, length-append, get_or-drop, get_or-append_right}
+use Rattle.std.proofs.lemmas.List.Edits.{remove-append_right}
+use Rattle.std.proofs.lemmas.Bool.{false≢true}
+use Rattle.std.proofs.lemmas.Option.{slice_get_past, slice_get-map, slice_get-get_or}
+use Rattle.sorted_blocks.specs.declared.place.Place.{Place}
+use Rattle.sorted_blocks.specs.Shape.{Shape, items, cut}
+use Rattle.sorted_blocks.specs.Places.{before}
+use Rattle.sorted_blocks.specs.Found.{IsGap, IsEqualAt}
+use Rattle.pim_down.specs.declared.deadline.Deadline.{Deadline}
+use Rattle.pim_down.specs.declared.gap.Gap.{Gap}
+use Rattle.pim_down.specs.Gap.{remaining, IsGone}
+use Rattle.pim_down.specs.Schedule.{placed, without, IsInOrder, deadline_cmp, deadline_seen, IsScheduled}
+use Rattle.pim_down.proofs.Lists.{map_insert}
+use Rattle.pim_down.proofs.InOrder.{order_placed, order_without}
+use Rattle.pim_down.proofs.Deadlines.{deadline_total, same_deadline, seen_remove, gone_at, none_gone}
+
+-- ---- a list without some of its items
+
+module _ {X : Type 0} where
+  pub cut_none : (xs : List X) (i : ℕ) → cut xs i 0 ≡ xs
+  unfolding cut
+  cut_none xs i = let n : i + 0 ≡ i = omega arith in ap (λ m. take i xs ++ drop m xs) n ∙ take-append-drop i xs
+
+  pub cut_one : (xs : List X) (i : ℕ) → cut xs i 1 ≡ remove xs i
+  unfolding cut
+  cut_one xs i = let n : i + 1 ≡ suc i = omega arith in ap (λ m. take i xs ++ drop m xs) n
+
+  pub length_cut : (xs : List X) (i n : ℕ) → i + n ≤ length xs → length (cut xs i n) + n ≡ length xs
+  unfolding cut
+  length_cut xs i n w =
+      omega (arith, length-append (take i xs) (drop (i + n) xs), length-take-le i xs (omega (arith, w)), length-drop (i + n) xs, w)
+
+  pub cut_at : (xs : List X) (i n : ℕ) (d : X) → i + n ≤ length xs → get_or (cut xs i n) i d ≡ get_or xs (i + n) d
+  unfolding cut
+  cut_at xs i n d w =
+      let none : i - i ≡ 0 = omega arith in
+      let same : i + n + 0 ≡ i + n = omega arith in
+      get_or-append_right (take i xs) (drop (i + n) xs) i i d (length-take-le i xs (omega (arith, w))) (omega arith)
+      ∙ ap (λ m. get_or (drop (i + n) xs) m d) none ∙ get_or-drop (i + n) xs 0 d ∙ ap (λ m. get_or xs m d) same
+
+  pub cut_more : (xs : List X) (i n : ℕ) → i + n ≤ length xs → cut xs i (n + 1) ≡ remove (cut xs i n) i
+  unfolding cut
+  cut_more xs i n w =
+      let none : i - i ≡ 0 = omega arith in
+      let same : i + n + 1 ≡ i + (n + 1) = omega arith in
+      sym (remove-append_right (take i xs) (drop (i + n) xs) i i (length-take-le i xs (omega (arith, w))) (omega arith)
+      ∙ ap (λ m. take i xs ++ remove (drop (i + n) xs) m) none
+      ∙ ap (λ ys. take i xs ++ ys) (drop-drop 1 (i + n) xs ∙ ap (λ m. drop m xs) same))
+
+  -- the first item
+  pub first_of_cut : (xs : List X) (i n : ℕ) → 0 < i → slice_get (cut xs i n) 0 ≡ slice_get xs 0
+  unfolding cut
+  first_of_cut xs zero n lt = absurd (omega (arith, lt))
+  first_of_cut [] (suc i) n lt = slice_get_past (drop (suc i + n) []) 0 (omega (arith, length-drop {A = X} (suc i + n) []))
+  first_of_cut (x ∷ xs) (suc i) n lt = refl
+
+  first_of_rest : (xs : List X) (n : ℕ) → slice_get (drop n xs) 0 ≡ slice_get xs n
+  first_of_rest xs zero = refl
+  first_of_rest [] (suc n) = refl
+  first_of_rest (x ∷ xs) (suc n) = first_of_rest xs n
+
+  pub first_behind_cut : (xs : List X) (i n : ℕ) → i ≡ 0 → slice_get (cut xs i n) 0 ≡ slice_get xs n
+  unfolding cut
+  first_behind_cut xs i n is =
+      let same : 0 + n ≡ n = omega arith in
+      ap (λ k. slice_get (take k xs ++ drop (k + n) xs) 0) is ∙ ap (λ m. slice_get (drop m xs) 0) same ∙ first_of_rest xs n
+
+module _ {X Y : Type 0} (f : X → Y) where
+  pub map_cut : (xs : List X) (i n : ℕ) → map f (cut xs i n) ≡ cut (map f xs) i n
+  unfolding cut
+  map_cut xs i n = map-append f (take i xs) (drop (i + n) xs) ∙ (λ k. sym (take-map f i xs) k ++ sym (drop-map f (i + n) xs) k)
+
+-- ---- a gap in a list
+
+pub some_before : (n : ℕ) (test : Bool) → (IsTrue test ↔ (n ≡ 0)) → test ≡ false → 0 < n
+some_before zero test same e = absurd (false≢true (sym e ∙ same.1 refl))
+some_before (suc n) test same e = omega arith
+
+module _ {X : Type 0} where
+  pub whole : (list : Shape X) (gap : Gap) → gap.count ≡ 0 → remaining list gap ≡ items list
+  whole list gap none = ap (cut (items list) (before list gap.from)) none ∙ cut_none (items list) (before list gap.from)
+
+  pub first_whole : (list : Shape X) (gap : Gap) (i : ℕ) → gap.count ≡ 0 → i ≡ 0 → slice_get (remaining list gap) 0 ≡ slice_get (items list) i
+  first_whole list gap i none first = ap (λ xs. slice_get xs 0) (whole list gap none) ∙ ap (slice_get (items list)) (sym first)
+
+  pub first_behind : (list : Shape X) (gap : Gap) (i : ℕ) → IsGone list gap → before list gap.from ≡ 0 → i ≡ before list gap.behind → slice_get (remaining list gap) 0 ≡ slice_get (items list) i
+  first_behind list gap i gone first is =
+      let same : gap.count ≡ i = omega (arith, gone.apart, first, is) in
+      first_behind_cut (items list) (before list gap.from) gap.count first ∙ ap (slice_get (items list)) same
+
+  pub first_before : (list : Shape X) (gap : Gap) (i : ℕ) → 0 < before list gap.from → i ≡ 0 → slice_get (remaining list gap) 0 ≡ slice_get (items list) i
+  first_before list gap i lt first = first_of_cut (items list) (before list gap.from) gap.count lt ∙ ap (slice_get (items list)) (sym first)
+
+-- ---- timers
+
+module _ {A : Type 0} (bytes_of : A → List ℕ) where
+  abbrev seen : List (Deadline A) → List (Deadline (List ℕ))
+  seen xs = map (deadline_seen bytes_of) xs
+
+  -- nothing stands in the gap
+  pub scheduled_whole : (list : Shape (Deadline A)) (gap : Gap) → gap.count ≡ 0 → IsInOrder deadline_cmp (seen (items list)) → IsScheduled bytes_of list gap
+  scheduled_whole list gap none ordered = record {
+    order = subst (λ xs. IsInOrder deadline_cmp (seen xs)) (sym (whole list gap none)) ordered;
+    gone = λ some. absurd (omega (arith, some, none));
+  }
+
+  pub first_timer : (list : Shape (Deadline A)) (gap : Gap) (i : ℕ) (first : Deadline A) → slice_get (remaining list gap) 0 ≡ slice_get (items list) i → i < length (items list) → first ≡ get_or (items list) i first → slice_get (seen (remaining list gap)) 0 ≡ Some (deadline_seen bytes_of first)
+  first_timer list gap i first is within here =
+      slice_get-map (deadline_seen bytes_of) (remaining list gap) 0
+      ∙ ap (option_map (deadline_seen bytes_of)) (is ∙ slice_get-get_or (items list) i first within ∙ ap Some (sym here))
+
+  module _ (list : Shape (Deadline A)) (old : Gap) (scheduled : IsScheduled bytes_of list old) (deadline : Deadline A) where
+    abbrev this : Deadline (List ℕ)
+    this = deadline_seen bytes_of deadline
+
+    abbrev order : Deadline A → Ordering
+    order other = deadline_cmp (deadline_seen bytes_of other) this
+
+    -- the timers that ran, and those that run with or without this one
+    abbrev timers : List (Deadline (List ℕ))
+    timers = seen (remaining list old)
+
+    abbrev IsIn : Shape (Deadline A) → Gap → Type 0
+    IsIn new gap = (seen (remaining new gap) ≡ placed deadline_cmp this timers) × IsScheduled bytes_of new gap
+
+    abbrev IsOut : Shape (Deadline A) → Gap → Type 0
+    IsOut new gap = (seen (remaining new gap) ≡ without deadline_cmp this timers) × IsScheduled bytes_of new gap
+
+    scheduled_out : (new : Shape (Deadline A)) (gap : Gap) → seen (remaining new gap) ≡ without deadline_cmp this timers → (0 < gap.count → IsGone new gap) → IsOut new gap
+    scheduled_out new gap is gone = (
+      is,
+      record {
+        order = subst (IsInOrder deadline_cmp) (sym is) (order_without deadline_cmp deadline_total same_deadline this timers scheduled.order);
+        gone = gone;
+      },
+    )
+
+    -- it stands right behind the gap
+    pub out_behind : (gap : Gap) → 0 < old.count → IsEqualAt order (items list) (before list old.behind) → IsGone list gap → gap.from ≡ old.from → gap.count ≡ old.count + 1 → IsOut list gap
+    out_behind gap some equal gone from count =
+        let i = before list old.from in
+        let apart = (scheduled.gone some).apart in
+        let within : i + old.count < length (items list) = omega (arith, apart, equal.within) in
+        let here : (d : Deadline A) → order (get_or (remaining list old) i d) ≡ Equal = λ d. ap order (cut_at (items list) i old.count d (omega (arith, within)) ∙ ap (λ m. get_or (items list) m d) (sym apart)) ∙ equal.equal d in
+        let there : IsEqualAt order (remaining list old) i = record { within = omega (arith, within, length_cut (items list) i old.count (omega (arith, within))); equal = here } in
+        scheduled_out list gap
+        ((λ k. seen (cut (items list) (before list (from k)) (count k)))
+        ∙ ap seen (cut_more (items list) i old.count (omega (arith, within)))
+        ∙ seen_remove bytes_of deadline (remaining list old) i
+        ∙ gone_at bytes_of deadline (remaining list old) i scheduled.order there)
+        (λ _. gone)
+
+    module _ (closed : Shape (Deadline A)) (is : items closed ≡ remaining list old) where
+      ordered : IsInOrder deadline_cmp (seen (items closed))
+      ordered = subst (λ xs. IsInOrder deadline_cmp (seen xs)) (sym is) scheduled.order
+
+      -- it stands elsewhere
+      pub out_alone : (gap : Gap) (place : Place) → IsEqualAt order (items closed) (before closed place) → IsGone closed gap → gap.from ≡ place → gap.count ≡ 1 → IsOut closed gap
+      out_alone gap place equal gone from count =
+          let i = before closed place in
+          scheduled_out closed gap
+          ((λ k. seen (cut (items closed) (before closed (from k)) (count k)))
+          ∙ ap seen (cut_one (items closed) i)
+          ∙ seen_remove bytes_of deadline (items closed) i
+          ∙ gone_at bytes_of deadline (items closed) i ordered equal
+          ∙ ap (λ xs. without deadline_cmp this (seen xs)) is)
+          (λ _. gone)
+
+      -- it stands nowhere
+      pub out_nowhere : (gap : Gap) (i : ℕ) → i ≤ length (items closed) → IsGap order (items closed) i → gap.count ≡ 0 → IsOut closed gap
+      out_nowhere gap i within apart none =
+          scheduled_out closed gap
+          (ap seen (whole closed gap none) ∙ none_gone bytes_of deadline (items closed) i within ordered apart ∙ ap (λ xs. without deadline_cmp this (seen xs)) is)
+          (λ some. absurd (omega (arith, some, none)))
+
+      -- it is put in
+      pub put_in : (new : Shape (Deadline A)) (gap : Gap) (i : ℕ) → items new ≡ insert (items closed) i deadline → insert (seen (items closed)) i this ≡ placed deadline_cmp this (seen (items closed)) → gap.count ≡ 0 → IsIn new gap
+      put_in new gap i put slot none =
+          let one : seen (items new) ≡ placed deadline_cmp this timers = ap seen put ∙ map_insert (deadline_seen bytes_of) (items closed) i deadline ∙ slot ∙ ap (λ xs. placed deadline_cmp this (seen xs)) is in (
+            ap seen (whole new gap none) ∙ one,
+            scheduled_whole new gap none (subst (IsInOrder deadline_cmp) (sym one) (order_placed deadline_cmp deadline_total same_deadline this timers scheduled.order)),
+          )

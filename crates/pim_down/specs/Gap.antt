@@ -1,0 +1,17 @@
+-- Timers that were taken out and still stand in the list.
+use Rattle.std.specs.Prelude.{◌≡◌, ◌+◌, ◌≤◌, List, length}
+use Rattle.sorted_blocks.specs.Shape.{Shape, items, cut}
+use Rattle.sorted_blocks.specs.Places.{before, IsPlace}
+use Rattle.pim_down.specs.declared.gap.Gap.{Gap}
+
+module _ {A : Type 0} where
+  -- the list without what stands in the gap
+  abbrev pub remaining : Shape A → Gap → List A
+  remaining list gap = cut (items list) (before list gap.from) gap.count
+
+  -- so many items stand from the one place on, up to the other
+  pub record IsGone (list : Shape A) (gap : Gap) : Type 0 where
+    pub from : IsPlace list gap.from
+    pub behind : IsPlace list gap.behind
+    pub apart : before list gap.behind ≡ before list gap.from + gap.count
+    pub within : before list gap.from + gap.count ≤ length (items list)
