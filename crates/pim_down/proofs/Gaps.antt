@@ -86,6 +86,10 @@ module _ {X : Type 0} where
   pub whole : (list : Shape X) (gap : Gap) → gap.count ≡ 0 → remaining list gap ≡ items list
   whole list gap none = ap (cut (items list) (before list gap.from)) none ∙ cut_none (items list) (before list gap.from)
 
+  -- one item alone stands in it
+  pub alone : (list : Shape X) (gap : Gap) (place : Place) → gap.from ≡ place → gap.count ≡ 1 → remaining list gap ≡ remove (items list) (before list place)
+  alone list gap place from count = (λ k. cut (items list) (before list (from k)) (count k)) ∙ cut_one (items list) (before list place)
+
   pub first_whole : (list : Shape X) (gap : Gap) (i : ℕ) → gap.count ≡ 0 → i ≡ 0 → slice_get (remaining list gap) 0 ≡ slice_get (items list) i
   first_whole list gap i none first = ap (λ xs. slice_get xs 0) (whole list gap none) ∙ ap (slice_get (items list)) (sym first)
 
@@ -161,16 +165,12 @@ module _ {A : Type 0} (bytes_of : A → List ℕ) where
       ordered = subst (λ xs. IsInOrder deadline_cmp (seen xs)) (sym is) scheduled.order
 
       -- it stands elsewhere
-      pub out_alone : (gap : Gap) (place : Place) → IsEqualAt order (items closed) (before closed place) → IsGone closed gap → gap.from ≡ place → gap.count ≡ 1 → IsOut closed gap
-      out_alone gap place equal gone from count =
+      pub out_at : (new : Shape (Deadline A)) (gap : Gap) (place : Place) → IsEqualAt order (items closed) (before closed place) → remaining new gap ≡ remove (items closed) (before closed place) → (0 < gap.count → IsGone new gap) → IsOut new gap
+      out_at new gap place equal left gone =
           let i = before closed place in
-          scheduled_out closed gap
-          ((λ k. seen (cut (items closed) (before closed (from k)) (count k)))
-          ∙ ap seen (cut_one (items closed) i)
-          ∙ seen_remove bytes_of deadline (items closed) i
-          ∙ gone_at bytes_of deadline (items closed) i ordered equal
-          ∙ ap (λ xs. without deadline_cmp this (seen xs)) is)
-          (λ _. gone)
+          scheduled_out new gap
+          (ap seen left ∙ seen_remove bytes_of deadline (items closed) i ∙ gone_at bytes_of deadline (items closed) i ordered equal ∙ ap (λ xs. without deadline_cmp this (seen xs)) is)
+          gone
 
       -- it stands nowhere
       pub out_nowhere : (gap : Gap) (i : ℕ) → i ≤ length (items closed) → IsGap order (items closed) i → gap.count ≡ 0 → IsOut closed gap

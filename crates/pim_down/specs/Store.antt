@@ -1,5 +1,5 @@
 -- The records of all ports as they are kept: in a list with places, and with counts of each port's.
-use Rattle.std.specs.Prelude.{◌≡◌, ℕ, ◌<◌, ◌≤◌, Bool, true, false, List, length, slice_index_or}
+use Rattle.std.specs.Prelude.{◌≡◌, ℕ, ◌<◌, ◌≤◌, Bool, true, false, not, nat_eq, List, length, slice_index_or, Option, None, Some}
 use Rattle.std.specs.Prelude.{Result, Ok, Err}
 use Rattle.std.specs.declared.cmp.Ordering.{Ordering}
 use Rattle.std.specs.declared.cmp.Ordering.TheVariants.{Less, Greater}
@@ -34,6 +34,18 @@ in_state state held = record {
   key = held.key;
   machine = record { state = state; expires_at = held.machine.expires_at; pending = held.machine.pending };
 }
+
+-- whether two timers end at one time; `None` is never
+abbrev pub same_end : Option ℕ → Option ℕ → Bool
+same_end None None = true
+same_end None (Some b) = false
+same_end (Some a) None = false
+same_end (Some a) (Some b) = nat_eq a b
+
+-- whether the record's expiry timer ends at this time, or whether at another
+abbrev pub ends_so : {A : Type 0} → Option ℕ → Bool → Held A → Bool
+ends_so end true held = same_end held.machine.expires_at end
+ends_so end false held = not (same_end held.machine.expires_at end)
 
 -- how a record stands to a bound: before it or behind it
 abbrev pub side : Bool → Ordering

@@ -23,7 +23,8 @@ pub(crate) struct Deadline<A> {
     pub(crate) key: Key<A>,
 }
 
-fn compare_kinds(a: TimerKind, b: TimerKind) -> Ordering
+/// Prune-pending timers come first.
+pub(crate) fn compare_kinds(a: TimerKind, b: TimerKind) -> Ordering
     ensures { result ≡ nat_cmp (timer_rank a) (timer_rank b) }
 {
     match (a, b) {

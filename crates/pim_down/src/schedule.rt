@@ -1,9 +1,9 @@
 //! The timers that run, in the order in which they fire.
 
 ghost use Rattle.std.specs.Prelude.{◌≡◌, ℕ, List, ◌+◌, ◌-◌, ◌*◌, ◌<◌, ◌≤◌, [], length, map, option_map, OnOk};
-ghost use Rattle.std.specs.List.{slice_get, insert};
+ghost use Rattle.std.specs.List.{slice_get, insert, remove};
 ghost use Rattle.sorted_blocks.specs.Shape.{items, capacity};
-ghost use Rattle.sorted_blocks.specs.Places.{before, IsPlace};
+ghost use Rattle.sorted_blocks.specs.Places.{before, IsPlace, IsItem};
 ghost use Rattle.pim_down.specs.declared.deadline.Deadline.{Deadline};
 ghost use Rattle.pim_down.specs.Gap.{remaining, IsGone};
 ghost use Rattle.pim_down.specs.Schedule.{deadline_cmp, deadline_seen, placed, without, IsInOrder};
@@ -11,7 +11,7 @@ ghost use Rattle.pim_down.specs.Schedule.{with_end, with_timers};
 ghost use Rattle.pim_down.specs.Ends.{pending_end};
 ghost use Rattle.pim_down.specs.Seen.{key_seen, waiting_seen, timed_seen, record_seen};
 
-use crate::deadline::{Deadline, TimerKind, compare_deadlines};
+use crate::deadline::{Deadline, TimerKind, compare_deadlines, compare_kinds};
 use crate::gap::{Gap, is_behind};
 use crate::held::{Held, Timed};
 use crate::key::{Key, KeyOrder};
@@ -85,6 +85,8 @@ pub(crate) struct Schedule<A: Copy, O: KeyOrder<A>, const HALF: usize> {
     put: Hints,
     /// Where they were taken out last.
     taken: Hints,
+    /// Of which kind the last one was that was taken out, where none was put in since.
+    last: Option<TimerKind>,
     order: PhantomData<O>,
 }
 
@@ -143,6 +145,37 @@ fn close<T: Copy, const HALF: usize>(list: &mut Blocks<T, HALF>, gap: &mut Gap, 
     gap.count = 0;
 }
 
+/// Takes out the timer at this place. Where one of its kind was taken out right before, more may follow: then it stays as a gap.
+fn take_at<T: Copy, const HALF: usize>(
+    list: &mut Blocks<T, HALF>,
+    gap: &mut Gap,
+    taken: &mut Hints,
+    place: Place,
+    timer: TimerKind,
+    is_next: bool,
+)
+    requires item { IsItem list.old place }
+    requires none { gap.old.count ≡ 0 }
+    ensures remaining { remaining list.new gap.new ≡ remove (items list.old) (before list.old place) }
+    ensures gone { 0 < gap.new.count → IsGone list.new gap.new }
+    ensures capacity { capacity HALF list.new ≡ capacity HALF list.old }
+{
+    if is_next {
+        *gap = Gap::at(list, place, timer);
+        return;
+    }
+    let (_gone, behind) = list.remove(place);
+    taken.keep(timer, behind);
+}
+
+/// Whether there is a last timer, of this kind.
+fn is_kind(last: Option<TimerKind>, timer: TimerKind) -> bool {
+    match last {
+        Some(kind) => compare_kinds(kind, timer).is_eq(),
+        None => false,
+    }
+}
+
 impl<A: Copy, O: KeyOrder<A>, const HALF: usize> Schedule<A, O, HALF> {
     /// No timer; it takes no memory.
     pub(crate) fn new(alloc: Global) -> Self
@@ -155,6 +188,7 @@ impl<A: Copy, O: KeyOrder<A>, const HALF: usize> Schedule<A, O, HALF> {
             gap: Gap::none(),
             put: Hints::new(),
             taken: Hints::new(),
+            last: None,
             order: PhantomData,
         }
     }
@@ -205,6 +239,7 @@ impl<A: Copy, O: KeyOrder<A>, const HALF: usize> Schedule<A, O, HALF> {
         let place = slot_of::<A, O, HALF>(&self.list, self.put.of(deadline.timer), deadline);
         let stands = self.list.insert_within(place, deadline);
         self.put.keep(deadline.timer, stands);
+        self.last = None;
     }
 
     /// Takes a timer out, if it is there. Of those that are taken out one after another, as they stand, only the first is
@@ -223,8 +258,17 @@ impl<A: Copy, O: KeyOrder<A>, const HALF: usize> Schedule<A, O, HALF> {
             deadline,
             order: PhantomData,
         };
+        let is_next = is_kind(self.last, deadline.timer);
+        self.last = Some(deadline.timer);
         if let Ok(place) = self.list.find_near(self.taken.of(deadline.timer), &wanted) {
-            self.gap = Gap::at(&self.list, place, deadline.timer);
+            take_at(
+                &mut self.list,
+                &mut self.gap,
+                &mut self.taken,
+                place,
+                deadline.timer,
+                is_next,
+            );
         }
     }
 

@@ -1,8 +1,8 @@
 //! The records of all ports, with a schedule of their timers.
 
-ghost use Rattle.std.specs.Prelude.{◌≡◌, ℕ, List, ◌+◌, ◌*◌, ◌<◌, ◌≤◌, ◌↔◌, [], length, take, drop, option_map};
+ghost use Rattle.std.specs.Prelude.{◌≡◌, ℕ, List, ◌+◌, ◌*◌, ◌<◌, ◌≤◌, ◌↔◌, [], ◌++◌, length, take, drop, option_map};
 ghost use Rattle.std.specs.Prelude.{slice_index_or, slice_set, OnOk, IsOk, IsTrue, true, false};
-ghost use Rattle.std.specs.List.{All, insert, remove, slice_get};
+ghost use Rattle.std.specs.List.{All, filter, insert, remove, slice_get};
 ghost use Rattle.std.specs.List.Sorted.{IsPartitionedBy, IsPartitionPoint};
 ghost use Rattle.sorted_blocks.specs.Shape.{cut};
 ghost use Rattle.sorted_blocks.specs.declared.place.Place.{Place};
@@ -12,7 +12,7 @@ ghost use Rattle.pim_down.specs.Hearing.{rpt_count_on};
 ghost use Rattle.pim_down.specs.Records.{count_on};
 ghost use Rattle.pim_down.specs.Schedule.{deadline_seen, timers_of};
 ghost use Rattle.pim_down.specs.Seen.{records_seen};
-ghost use Rattle.pim_down.specs.Store.{in_state};
+ghost use Rattle.pim_down.specs.Store.{in_state, ends_so};
 
 use crate::blocks::{HALF_OF_RECORDS, HALF_OF_TIMERS};
 use crate::deadline::Deadline;
@@ -50,7 +50,47 @@ impl<A: Copy, O: KeyOrder<A>> Model for Store<A, O> {
     ghost invariant = { λ s. IsTimed O.bytes_of s.rows s.schedule s.room };
 }
 
-/// Takes out the timers of so many records from this place on.
+/// Whether the record's expiry timer ends at this time, or whether at another, as is asked for. `None` is never.
+fn ends_so<A>(held: &Held<A>, end: Option<u64>, same: bool) -> bool
+    ensures { result ≡ ends_so end same held.now }
+{
+    let is_same = match (held.machine.expires_at, end) {
+        (Some(a), Some(b)) => a == b,
+        (None, None) => true,
+        _ => false,
+    };
+    if same {
+        return is_same;
+    }
+    !is_same
+}
+
+/// Takes out the timers of those of so many records from this place on whose expiry timer ends at this time, or of the others.
+fn stop_those<A: Copy, O: KeyOrder<A>>(
+    rows: &Rows<A>,
+    schedule: &mut Schedule<A, O, HALF_OF_TIMERS>,
+    place: Place,
+    count: usize,
+    end: Option<u64>,
+    same: bool,
+)
+    requires place { IsPlace rows.now place }
+    ensures timers { (front behind : List (Held A)) → schedule.old.timers
+        ≡ timers_of (records_seen O.bytes_of
+        (front ++ (filter (ends_so end same) (take count (drop (at rows.now place) rows.now.items)) ++ behind)))
+        → schedule.new.timers ≡ timers_of (records_seen O.bytes_of (front ++ behind)) }
+    ensures capacity { schedule.new.capacity ≡ schedule.old.capacity }
+{
+    for held in rows.walk(place, count) {
+        if ends_so(held, end, same) {
+            schedule.stop_all(held);
+        }
+    }
+}
+
+/// Takes out the timers of so many records from this place on: first of those that expire together with the first one, then
+/// of the others. So timers mostly go in the order in which they stand, also where records that expire at two times take
+/// turns.
 fn stop_run<A: Copy, O: KeyOrder<A>>(
     rows: &Rows<A>,
     schedule: &mut Schedule<A, O, HALF_OF_TIMERS>,
@@ -63,9 +103,13 @@ fn stop_run<A: Copy, O: KeyOrder<A>>(
         ≡ timers_of (records_seen O.bytes_of (cut rows.now.items (at rows.now place) count)) }
     ensures capacity { schedule.new.capacity ≡ schedule.old.capacity }
 {
-    for held in rows.walk(place, count) {
-        schedule.stop_all(held);
-    }
+    let end = if rows.is_item(place) {
+        rows.get(place).machine.expires_at
+    } else {
+        None
+    };
+    stop_those::<A, O>(rows, schedule, place, count, end, true);
+    stop_those::<A, O>(rows, schedule, place, count, end, false);
 }
 
 impl<A: Copy, O: KeyOrder<A>> Store<A, O> {

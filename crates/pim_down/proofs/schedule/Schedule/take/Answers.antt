@@ -2,7 +2,7 @@ use Rattle.std.proofs.Common.{◌≡◌, map, subst}
 use Rattle.sorted_blocks.specs.Places.{before}
 use Rattle.pim_down.specs.Gap.{remaining}
 use Rattle.pim_down.specs.Schedule.{Scheduled, without, deadline_cmp, deadline_seen}
-use Rattle.pim_down.proofs.Gaps.{out_behind, out_alone, out_nowhere}
+use Rattle.pim_down.proofs.Gaps.{out_behind, out_at, out_nowhere}
 use Rattle.pim_down.proofs.schedule.Schedule.take.Goals as goal
 
 pub invariant_of-self : goal.invariant_of-self
@@ -19,14 +19,14 @@ returns-then-is_behind-clause-timers g c =
 
 pub invariant_of-self-in-Ok : goal.invariant_of-self-in-Ok
 invariant_of-self-in-Ok g c =
-    (out_alone g.O.KeyOrder.bytes_of c.self.inside.list c.self.inside.gap c.self.invariant c.args.deadline c.close.new.list c.close.ensures.items c.at-self-inside.result c.in-Ok.place (c.in-Ok.ensures {u = tt}).1 c.at-self-inside.ensures.gone c.at-self-inside.ensures.from c.at-self-inside.ensures.count).1
+    (out_at g.O.KeyOrder.bytes_of c.self.inside.list c.self.inside.gap c.self.invariant c.args.deadline c.close.new.list c.close.ensures.items c.take_at.new.list c.take_at.new.gap c.in-Ok.place (c.in-Ok.ensures {u = tt}).1 c.take_at.ensures.remaining c.take_at.ensures.gone).1
 
 pub returns-in-Ok-clause-timers : goal.returns-in-Ok-clause-timers
 returns-in-Ok-clause-timers g c =
-    let list = c.close.new.list in
-    let gap = c.at-self-inside.result in
+    let list = c.take_at.new.list in
+    let gap = c.take_at.new.gap in
     let seen = deadline_seen g.O.KeyOrder.bytes_of in
-    let is = out_alone g.O.KeyOrder.bytes_of c.self.inside.list c.self.inside.gap c.self.invariant c.args.deadline list c.close.ensures.items gap c.in-Ok.place (c.in-Ok.ensures {u = tt}).1 c.at-self-inside.ensures.gone c.at-self-inside.ensures.from c.at-self-inside.ensures.count in
+    let is = out_at g.O.KeyOrder.bytes_of c.self.inside.list c.self.inside.gap c.self.invariant c.args.deadline c.close.new.list c.close.ensures.items list gap c.in-Ok.place (c.in-Ok.ensures {u = tt}).1 c.take_at.ensures.remaining c.take_at.ensures.gone in
     subst (λ (s : Scheduled). map seen (remaining list gap) ≡ without deadline_cmp (seen c.args.deadline) s.timers) c.self.view_is is.0
 
 pub invariant_of-self-in_default : goal.invariant_of-self-in_default
