@@ -1,7 +1,9 @@
--- A run of items that go from a list one after the other.
-use Rattle.std.proofs.Common.{◌≡◌, ℕ, zero, suc, ◌+◌, ◌<◌, ◌≤◌, List, [], ◌∷◌, ◌++◌, length, take, drop, get_or, refl, sym, ap, subst, ◌∙◌, arith}
-use Rattle.std.specs.List.{remove, AllByRecursion}
-use Rattle.std.proofs.lemmas.List.{length-take, length-take-le, length-append, length-drop, take-append-drop, take-take, drop-drop}
+-- A list without some of its items, and a run of items that go one after the other.
+use Rattle.std.proofs.Common.{◌≡◌, ℕ, zero, suc, ◌+◌, ◌-◌, ◌<◌, ◌≤◌, List, [], ◌∷◌, ◌++◌, length, take, drop, get_or, refl, sym, ap, subst, ◌∙◌, arith}
+use Rattle.std.specs.List.{remove, slice_get, AllByRecursion}
+use Rattle.std.proofs.lemmas.List.{length-take, length-take-le, length-append, length-drop, take-append-drop, take-take, drop-drop, get_or-drop, get_or-append_right}
+use Rattle.std.proofs.lemmas.List.Edits.{remove-append_right}
+use Rattle.std.proofs.lemmas.Option.{slice_get_past}
 use Rattle.sorted_blocks.specs.Shape.{cut}
 
 module _ {X : Type 0} where
@@ -32,13 +34,56 @@ module _ {X : Type 0} where
   first_gone [] rest x = refl
   first_gone (y ∷ front) rest x = ap (λ (zs : List X). y ∷ zs) (first_gone front rest x)
 
-  pub cut_shorter : (xs : List X) (i count : ℕ) → i + count ≤ length xs → length (cut xs i count) + count ≡ length xs
+-- ---- a list without some of its items
+
+module _ {X : Type 0} where
+  pub cut_none : (xs : List X) (i : ℕ) → cut xs i 0 ≡ xs
   unfolding cut
-  cut_shorter xs i count within =
-      let long = length-append (take i xs) (drop (i + count) xs) in
-      let front = length-take-le i xs (omega (arith, within)) in
-      let behind = length-drop (i + count) xs in
-      omega (arith, within, long, front, behind)
+  cut_none xs i = let n : i + 0 ≡ i = omega arith in ap (λ m. take i xs ++ drop m xs) n ∙ take-append-drop i xs
+
+  pub cut_one : (xs : List X) (i : ℕ) → cut xs i 1 ≡ remove xs i
+  unfolding cut
+  cut_one xs i = let n : i + 1 ≡ suc i = omega arith in ap (λ m. take i xs ++ drop m xs) n
+
+  pub length_cut : (xs : List X) (i n : ℕ) → i + n ≤ length xs → length (cut xs i n) + n ≡ length xs
+  unfolding cut
+  length_cut xs i n w =
+      omega (arith, length-append (take i xs) (drop (i + n) xs), length-take-le i xs (omega (arith, w)), length-drop (i + n) xs, w)
+
+  pub cut_at : (xs : List X) (i n : ℕ) (d : X) → i + n ≤ length xs → get_or (cut xs i n) i d ≡ get_or xs (i + n) d
+  unfolding cut
+  cut_at xs i n d w =
+      let none : i - i ≡ 0 = omega arith in
+      let same : i + n + 0 ≡ i + n = omega arith in
+      get_or-append_right (take i xs) (drop (i + n) xs) i i d (length-take-le i xs (omega (arith, w))) (omega arith)
+      ∙ ap (λ m. get_or (drop (i + n) xs) m d) none ∙ get_or-drop (i + n) xs 0 d ∙ ap (λ m. get_or xs m d) same
+
+  pub cut_more : (xs : List X) (i n : ℕ) → i + n ≤ length xs → cut xs i (n + 1) ≡ remove (cut xs i n) i
+  unfolding cut
+  cut_more xs i n w =
+      let none : i - i ≡ 0 = omega arith in
+      let same : i + n + 1 ≡ i + (n + 1) = omega arith in
+      sym (remove-append_right (take i xs) (drop (i + n) xs) i i (length-take-le i xs (omega (arith, w))) (omega arith)
+      ∙ ap (λ m. take i xs ++ remove (drop (i + n) xs) m) none
+      ∙ ap (λ ys. take i xs ++ ys) (drop-drop 1 (i + n) xs ∙ ap (λ m. drop m xs) same))
+
+  -- the first item
+  pub first_of_cut : (xs : List X) (i n : ℕ) → 0 < i → slice_get (cut xs i n) 0 ≡ slice_get xs 0
+  unfolding cut
+  first_of_cut xs zero n lt = absurd (omega (arith, lt))
+  first_of_cut [] (suc i) n lt = slice_get_past (drop (suc i + n) []) 0 (omega (arith, length-drop {A = X} (suc i + n) []))
+  first_of_cut (x ∷ xs) (suc i) n lt = refl
+
+  first_of_rest : (xs : List X) (n : ℕ) → slice_get (drop n xs) 0 ≡ slice_get xs n
+  first_of_rest xs zero = refl
+  first_of_rest [] (suc n) = refl
+  first_of_rest (x ∷ xs) (suc n) = first_of_rest xs n
+
+  pub first_behind_cut : (xs : List X) (i n : ℕ) → i ≡ 0 → slice_get (cut xs i n) 0 ≡ slice_get xs n
+  unfolding cut
+  first_behind_cut xs i n is =
+      let same : 0 + n ≡ n = omega arith in
+      ap (λ k. slice_get (take k xs ++ drop (k + n) xs) 0) is ∙ ap (λ m. slice_get (drop m xs) 0) same ∙ first_of_rest xs n
 
 -- a list is gone through, and so many items passed a test so far
 module _ {X : Type 0} (P : X → Type 0) where

@@ -26,7 +26,7 @@ use Rattle.pim_down.specs.After.{is_before_rpts}
 use Rattle.pim_down.specs.Running.{is_over, is_over_in, is_group_of, has_star_join, joined_sets, AreOverIn}
 use Rattle.pim_down.specs.Seen.{record_seen, records_seen}
 use Rattle.sorted_blocks.specs.Shape.{cut}
-use Rattle.pim_down.proofs.Cuts.{around, whole, none_left, cut_shorter, first_within, first_at, first_gone}
+use Rattle.pim_down.proofs.Cuts.{around, whole, none_left, length_cut, first_within, first_at, first_gone}
 use Rattle.pim_down.proofs.Order.{equal_keys}
 use Rattle.pim_down.proofs.Each.{end_filter, seen_filter}
 use Rattle.pim_down.proofs.Real.{all_append, all_flat}
@@ -194,7 +194,7 @@ module _ {A : Type 0} (bytes_of : A → List ℕ) (port : ℕ) (group : List ℕ
 
 -- fewer records are left to be gone through
 pub cut_nearer : {X : Type 0} (now new : List X) (i j count : ℕ) → i + count ≤ length now → 0 < count → new ≡ cut now i count → j ≡ i → length new - j < length now - i
-cut_nearer now new i j count within some items at = let s = cut_shorter now i count within in omega (arith, within, some, ap length items, at, s)
+cut_nearer now new i j count within some items at = let s = length_cut now i count within in omega (arith, within, some, ap length items, at, s)
 
 -- ---- all groups of a message
 

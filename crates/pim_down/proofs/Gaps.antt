@@ -1,13 +1,11 @@
 -- Timers that were taken out and still stand in their list.
 use Rattle.std.specs.Prelude.{◌↔◌, IsTrue, option_map}
-use Rattle.std.proofs.Common.{◌≡◌, Bool, false, Some, ℕ, zero, suc, ◌+◌, ◌-◌, ◌<◌, ◌≤◌, List, [], ◌∷◌, ◌++◌, map, length, take, drop, get_or, refl, sym, ap, subst, ◌∙◌, arith}
+use Rattle.std.proofs.Common.{◌≡◌, Bool, false, Some, ℕ, zero, suc, ◌+◌, ◌<◌, ◌≤◌, List, map, length, get_or, refl, sym, ap, subst, ◌∙◌, arith}
 use Rattle.std.specs.declared.cmp.Ordering.{Ordering}
 use Rattle.std.specs.declared.cmp.Ordering.TheVariants.{Equal}
 use Rattle.std.specs.List.{slice_get, insert, remove}
-use Rattle.std.proofs.lemmas.List.{map-append, take-map, drop-map, drop-drop, take-append-drop, length-take-le, length-drop, length-append, get_or-drop, get_or-append_right}
-use Rattle.std.proofs.lemmas.List.Edits.{remove-append_right}
 use Rattle.std.proofs.lemmas.Bool.{false≢true}
-use Rattle.std.proofs.lemmas.Option.{slice_get_past, slice_get-map, slice_get-get_or}
+use Rattle.std.proofs.lemmas.Option.{slice_get-map, slice_get-get_or}
 use Rattle.sorted_blocks.specs.declared.place.Place.{Place}
 use Rattle.sorted_blocks.specs.Shape.{Shape, items, cut}
 use Rattle.sorted_blocks.specs.Places.{before}
@@ -16,65 +14,10 @@ use Rattle.pim_down.specs.declared.deadline.Deadline.{Deadline}
 use Rattle.pim_down.specs.declared.gap.Gap.{Gap}
 use Rattle.pim_down.specs.Gap.{remaining, IsGone}
 use Rattle.pim_down.specs.Schedule.{placed, without, IsInOrder, deadline_cmp, deadline_seen, IsScheduled}
+use Rattle.pim_down.proofs.Cuts.{cut_none, cut_one, length_cut, cut_at, cut_more, first_of_cut, first_behind_cut}
 use Rattle.pim_down.proofs.Lists.{map_insert}
 use Rattle.pim_down.proofs.InOrder.{order_placed, order_without}
 use Rattle.pim_down.proofs.Deadlines.{deadline_total, same_deadline, seen_remove, gone_at, none_gone}
-
--- ---- a list without some of its items
-
-module _ {X : Type 0} where
-  pub cut_none : (xs : List X) (i : ℕ) → cut xs i 0 ≡ xs
-  unfolding cut
-  cut_none xs i = let n : i + 0 ≡ i = omega arith in ap (λ m. take i xs ++ drop m xs) n ∙ take-append-drop i xs
-
-  pub cut_one : (xs : List X) (i : ℕ) → cut xs i 1 ≡ remove xs i
-  unfolding cut
-  cut_one xs i = let n : i + 1 ≡ suc i = omega arith in ap (λ m. take i xs ++ drop m xs) n
-
-  pub length_cut : (xs : List X) (i n : ℕ) → i + n ≤ length xs → length (cut xs i n) + n ≡ length xs
-  unfolding cut
-  length_cut xs i n w =
-      omega (arith, length-append (take i xs) (drop (i + n) xs), length-take-le i xs (omega (arith, w)), length-drop (i + n) xs, w)
-
-  pub cut_at : (xs : List X) (i n : ℕ) (d : X) → i + n ≤ length xs → get_or (cut xs i n) i d ≡ get_or xs (i + n) d
-  unfolding cut
-  cut_at xs i n d w =
-      let none : i - i ≡ 0 = omega arith in
-      let same : i + n + 0 ≡ i + n = omega arith in
-      get_or-append_right (take i xs) (drop (i + n) xs) i i d (length-take-le i xs (omega (arith, w))) (omega arith)
-      ∙ ap (λ m. get_or (drop (i + n) xs) m d) none ∙ get_or-drop (i + n) xs 0 d ∙ ap (λ m. get_or xs m d) same
-
-  pub cut_more : (xs : List X) (i n : ℕ) → i + n ≤ length xs → cut xs i (n + 1) ≡ remove (cut xs i n) i
-  unfolding cut
-  cut_more xs i n w =
-      let none : i - i ≡ 0 = omega arith in
-      let same : i + n + 1 ≡ i + (n + 1) = omega arith in
-      sym (remove-append_right (take i xs) (drop (i + n) xs) i i (length-take-le i xs (omega (arith, w))) (omega arith)
-      ∙ ap (λ m. take i xs ++ remove (drop (i + n) xs) m) none
-      ∙ ap (λ ys. take i xs ++ ys) (drop-drop 1 (i + n) xs ∙ ap (λ m. drop m xs) same))
-
-  -- the first item
-  pub first_of_cut : (xs : List X) (i n : ℕ) → 0 < i → slice_get (cut xs i n) 0 ≡ slice_get xs 0
-  unfolding cut
-  first_of_cut xs zero n lt = absurd (omega (arith, lt))
-  first_of_cut [] (suc i) n lt = slice_get_past (drop (suc i + n) []) 0 (omega (arith, length-drop {A = X} (suc i + n) []))
-  first_of_cut (x ∷ xs) (suc i) n lt = refl
-
-  first_of_rest : (xs : List X) (n : ℕ) → slice_get (drop n xs) 0 ≡ slice_get xs n
-  first_of_rest xs zero = refl
-  first_of_rest [] (suc n) = refl
-  first_of_rest (x ∷ xs) (suc n) = first_of_rest xs n
-
-  pub first_behind_cut : (xs : List X) (i n : ℕ) → i ≡ 0 → slice_get (cut xs i n) 0 ≡ slice_get xs n
-  unfolding cut
-  first_behind_cut xs i n is =
-      let same : 0 + n ≡ n = omega arith in
-      ap (λ k. slice_get (take k xs ++ drop (k + n) xs) 0) is ∙ ap (λ m. slice_get (drop m xs) 0) same ∙ first_of_rest xs n
-
-module _ {X Y : Type 0} (f : X → Y) where
-  pub map_cut : (xs : List X) (i n : ℕ) → map f (cut xs i n) ≡ cut (map f xs) i n
-  unfolding cut
-  map_cut xs i n = map-append f (take i xs) (drop (i + n) xs) ∙ (λ k. sym (take-map f i xs) k ++ sym (drop-map f (i + n) xs) k)
 
 -- ---- a gap in a list
 

@@ -57,6 +57,7 @@ impl Gap {
     }
 
     /// Takes in the timer right behind.
+    #[inline(always)]
     pub(crate) fn grow<T: Copy, const HALF: usize>(&mut self, list: &Blocks<T, HALF>)
         requires gone { IsGone list.now self.old }
         requires item { IsItem list.now self.old.behind }
@@ -87,6 +88,7 @@ impl Gap {
 }
 
 /// Whether this timer stands right behind the gap.
+#[inline(always)]
 pub(crate) fn is_behind<A: Copy, O: KeyOrder<A>, const HALF: usize>(
     list: &Blocks<Deadline<A>, HALF>,
     gap: &Gap,

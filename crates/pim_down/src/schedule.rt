@@ -242,17 +242,27 @@ impl<A: Copy, O: KeyOrder<A>, const HALF: usize> Schedule<A, O, HALF> {
         self.last = None;
     }
 
-    /// Takes a timer out, if it is there. Of those that are taken out one after another, as they stand, only the first is
+    /// Takes a timer out, if it is there. Of those that are taken out one after another, as they stand, only the first ones are
     /// looked up.
+    // Inlined, so that timers side by side go without a call.
+    #[inline(always)]
     fn take(&mut self, deadline: Deadline<A>)
         ensures timers { self.new.timers ≡ without deadline_cmp (deadline_seen O.bytes_of deadline) self.old.timers }
         ensures capacity { self.new.capacity ≡ self.old.capacity }
     {
-        place_is_within::<Deadline<A>>();
         if is_behind::<A, O, HALF>(&self.list, &self.gap, &deadline) {
             self.gap.grow(&self.list);
             return;
         }
+        self.take_elsewhere(deadline);
+    }
+
+    /// Takes a timer out, if it is there. It is looked up.
+    fn take_elsewhere(&mut self, deadline: Deadline<A>)
+        ensures timers { self.new.timers ≡ without deadline_cmp (deadline_seen O.bytes_of deadline) self.old.timers }
+        ensures capacity { self.new.capacity ≡ self.old.capacity }
+    {
+        place_is_within::<Deadline<A>>();
         close(&mut self.list, &mut self.gap, &mut self.taken);
         let wanted: Wanted<A, O> = Wanted {
             deadline,
@@ -289,6 +299,7 @@ impl<A: Copy, O: KeyOrder<A>, const HALF: usize> Schedule<A, O, HALF> {
     }
 
     /// Takes a machine's timer out, where it runs.
+    #[inline(always)]
     fn stop(&mut self, key: Key<A>, timer: TimerKind, end: Option<u64>)
         ensures timers { (rest : List (Deadline (List ℕ))) →
             self.old.timers ≡ with_end timer (key_seen O.bytes_of key) end rest → self.new.timers ≡ rest }
@@ -335,6 +346,7 @@ impl<A: Copy, O: KeyOrder<A>, const HALF: usize> Schedule<A, O, HALF> {
     }
 
     /// Takes the timers of a machine out.
+    #[inline(always)]
     pub(crate) fn stop_all(&mut self, held: &Held<A>)
         ensures timers { (rest : List (Deadline (List ℕ))) →
             self.old.timers ≡ with_timers (record_seen O.bytes_of held.now) rest → self.new.timers ≡ rest }

@@ -1,5 +1,5 @@
 -- Lists without some items.
-use Rattle.std.proofs.Common.{◌≡◌, ℕ, zero, suc, ◌+◌, ◌-◌, ◌<◌, ◌≤◌, List, [], ◌++◌, length, get_or, take, drop, refl, sym, ap, ap₂, ◌∙◌, arith, length-append, length-drop, append_assoc}
+use Rattle.std.proofs.Common.{◌≡◌, ℕ, zero, suc, ◌+◌, ◌-◌, ◌<◌, ◌≤◌, List, [], ◌++◌, length, get_or, take, drop, refl, sym, ap, ap₂, ◌∙◌, arith, length-append, length-drop, append_assoc, add-one}
 use lib.Seq.{paste, take-append-add, drop-append-add}
 use Rattle.std.specs.List.{remove}
 use Rattle.std.proofs.lemmas.List.{drop-drop, drop-take, drop_at, take_at, take_all, length-take-le, take-append-drop, take-append-le, take-take, drop-append-le, get_or-append-add, get_or_append_left, get_or-drop, get_or-take}
@@ -11,6 +11,10 @@ module _ {A : Type 0} where
   cut_none xs i =
       let same : i + 0 ≡ i = omega arith in
       ap (λ k. take i xs ++ drop k xs) same ∙ take-append-drop i xs
+
+  pub cut_one : (xs : List A) (i : ℕ) → cut xs i 1 ≡ remove xs i
+  unfolding cut
+  cut_one xs i = ap (λ k. take i xs ++ drop k xs) (add-one i)
 
   pub cut_cut : (xs : List A) (i m n : ℕ) → i ≤ length xs → cut (cut xs i m) i n ≡ cut xs i (m + n)
   unfolding cut

@@ -88,20 +88,14 @@ impl<T: Copy, const HALF: usize> Block<T, HALF> {
     }
 
     /// Takes out the item at this place.
-    #[tactic(auto, using(crate::proofs::LeftOver::remove_beyond))]
     pub(crate) fn take_out(&mut self, at: usize) -> T
         requires { at < length self.old }
         ensures value { result ≡ slice_index_or self.old at result }
         ensures left { self.new ≡ remove self.old at }
     {
-        let start = self.start;
-        if at <= self.len() / FRONT {
-            let item = self.items[start + at];
-            self.items.copy_within(start..start + at, start + 1);
-            self.start += 1;
-            return item;
-        }
-        self.items.remove(start + at)
+        let item = *self.get(at);
+        self.cut_out(at, 1);
+        item
     }
 
     /// Takes out so many items from this place on. Those before it are moved where they are few, else those behind.
