@@ -14,6 +14,7 @@ use crate::edits::{find_place, place_of, replace_at};
 use crate::hear::join_rpts;
 use crate::key::{Key, OfFamily, What};
 use crate::machine::on_star_join;
+use crate::recent::Recent;
 use crate::store::Store;
 use pim_addr::Family;
 use pim_jp::{Entries, Entry, JpView, Sets};
@@ -28,6 +29,8 @@ pub(crate) struct Stars {
     pub(crate) last: [bool; 256],
     /// Whether a group may come again. It is only a hint: where it is wrong, more machines are gone through.
     pub(crate) repeat: bool,
+    /// Where entries of the last set were found.
+    pub(crate) recent: Recent,
 }
 
 impl Stars {
@@ -39,6 +42,7 @@ impl Stars {
             gone: 0,
             last: [false; 256],
             repeat,
+            recent: Recent::new(),
         }
     }
 
@@ -50,6 +54,13 @@ impl Stars {
     {
         self.last[usize::from(self.gone)] = starred;
         self.gone += 1;
+    }
+
+    /// The entry of this index of the set that is heard was found at this place. Those of pruned lists are kept.
+    pub(crate) fn keep_place(&self, joins: bool, index: usize, place: Place) {
+        if !joins {
+            self.recent.keep(self.gone, index, place);
+        }
     }
 
     /// Whether this set had the last Join(*,G) of its group. It has it no longer: another one came.
@@ -143,6 +154,8 @@ fn join_pruned<F: Family>(
     port: usize,
     group: F::Addr,
     pruned: Entries<'_, F>,
+    recent: &Recent,
+    set: u8,
 )
     requires { IsAscending (records_seen F.bytes_of records.old.items) }
     ensures ascending { IsAscending (records_seen F.bytes_of records.new.items) }
@@ -154,7 +167,10 @@ fn join_pruned<F: Family>(
         → StayBut port (F.bytes_of group) but (records_seen F.bytes_of records.new.items) }
     ensures capacity { records.new.capacity ≡ records.old.capacity }
 {
+    let mut index = 0usize;
     for entry in pruned {
+        *near = recent.place_of(set, index, *near);
+        index = index.wrapping_add(1);
         match entry {
             Entry::Rpt(source) => join_rpt::<F>(records, near, port, group, source),
             Entry::Star(_) | Entry::Source(_) => {}
@@ -197,7 +213,7 @@ fn join_since<F: Family>(
         if set.group() == group {
             since |= stars.take(this);
             if since {
-                join_pruned::<F>(records, near, port, group, set.pruned());
+                join_pruned::<F>(records, near, port, group, set.pruned(), &stars.recent, this);
             }
         }
     }

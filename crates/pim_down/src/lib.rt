@@ -26,6 +26,7 @@ mod machine;
 mod message;
 mod near;
 mod ports;
+mod recent;
 mod rows;
 mod run;
 mod schedule;

@@ -7,9 +7,9 @@ ghost use Rattle.sorted_blocks.specs.Shape.{cut};
 use std::alloc::{AllocError, Global};
 use std::marker::Model;
 
-/// An item is at the front where at most one in so many of a block's items stand before it: it is taken out by moving these. They
-/// are moved one by one, and those behind an item all at once, so they must be few.
-const FRONT: usize = 8;
+/// Items are at the front where at most one in so many of a block's items stand before them: they are taken out by moving these,
+/// and others by moving those behind.
+const FRONT: usize = 2;
 
 /// Up to twice `HALF` items, with room for all of them. Taking out the first one moves no other, and nor does putting one where
 /// it stood: lists are emptied from the front, and are used as queues. Taking out one behind a few moves these alone.

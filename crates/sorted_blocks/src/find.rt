@@ -15,8 +15,8 @@ use std::cmp::Ordering;
 /// So many blocks behind a place are looked at before all are.
 const NEAR_BLOCKS: usize = 4;
 
-/// A guess how many items of a row are less than what is sought, where those before `from` are and those behind `count`
-/// more are not: right where the row has the probe's order.
+/// A guess where in a row what is sought stands, at the answer or right behind, where the items before `from` are less and those
+/// behind `count` more are not: right where the row has the probe's order.
 ///
 /// No branch goes by an item, so that a processor has none to guess: what is left is as long as a power of two, and
 /// whether an item is less is shifted into its place.
@@ -30,13 +30,16 @@ fn guess<T: Copy, P: Probe<T>>(probe: &P, row: &[T], from: usize, count: usize) 
     }
     let mut shift = count.ilog2();
     let over = count - (1 << shift);
-    let mut base = from + over * usize::from(probe.compare(&row[from + over]).is_lt());
+    let mut base = from;
+    if over > 0 {
+        base += over * usize::from(probe.compare(&row[from + over]).is_lt());
+    }
     while shift > 0 {
         shift -= 1;
         let is_less = probe.compare(&row[base + (1 << shift)]).is_lt();
         base += usize::from(is_less) << shift;
     }
-    base + usize::from(probe.compare(&row[base]).is_lt())
+    base
 }
 
 /// The same guess for what mostly stands soon behind `low`. It looks twice as far ahead each time, so that it reads few
@@ -96,7 +99,8 @@ fn seek_soon<T: Copy, P: Probe<T>>(probe: &P, row: &[T], low: usize) -> Result<u
     seek_at(probe, row, low, guess_soon(probe, row, low))
 }
 
-/// The same by a guess, which is looked at, so that the answer is right for any probe.
+/// The same by a guess: it mostly stands right behind this place, or there. That is looked at, so that the answer is right
+/// for any probe.
 fn seek_at<T: Copy, P: Probe<T>>(
     probe: &P,
     row: &[T],
@@ -112,9 +116,29 @@ fn seek_at<T: Copy, P: Probe<T>>(
     if at < low {
         return seek_in_any(probe, row, low);
     }
-    if !is_behind_lesser(probe, row, at) {
-        return seek_in_any(probe, row, low);
+    if at < row.len() && is_behind_lesser(probe, row, at + 1) {
+        return seek_behind(probe, row, low, at + 1);
     }
+    if is_behind_lesser(probe, row, at) {
+        return seek_behind(probe, row, low, at);
+    }
+    seek_in_any(probe, row, low)
+}
+
+/// The same, where it mostly stands at this place, before which a lesser item stands, or none.
+fn seek_behind<T: Copy, P: Probe<T>>(
+    probe: &P,
+    row: &[T],
+    low: usize,
+    at: usize,
+) -> Result<usize, usize>
+    requires can { All (P.can_compare probe.now) row.now }
+    requires low { low ≤ at }
+    requires at { at ≤ length row.now }
+    requires before { (d : T) → 0 < at → P.order probe.now (slice_index_or row.now (at - 1) d) ≡ Ordering.Less }
+    requires less { (d : T) → 0 < low → P.order probe.now (slice_index_or row.now (low - 1) d) ≡ Ordering.Less }
+    ensures { IsSought (P.order probe.now) row.now low result }
+{
     if at == row.len() {
         return Err(at);
     }
