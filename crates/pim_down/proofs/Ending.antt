@@ -3,7 +3,7 @@ use Rattle.std.proofs.Common.{◌≡◌, ℕ, zero, suc, ◌+◌, ◌-◌, ◌<�
 use Rattle.std.specs.declared.cmp.Ordering.TheVariants.{Less, Equal, Greater}
 use Rattle.std.specs.List.{filter, remove, flat_map, list_any, AllByRecursion}
 use Rattle.std.specs.Cmp.Lexicographic.{pointwise, same_text}
-use Rattle.std.proofs.lemmas.Bool.{false≢true, or_right, ltb-true, ltb-false}
+use Rattle.std.proofs.lemmas.Bool.{false≢true, or_right, and_parts, and_from, ltb-true, ltb-false}
 use Rattle.std.proofs.lemmas.List.{get_or-set_other, length-take-le}
 use Rattle.std.proofs.lemmas.Grind.{get_or-set_at}
 use Rattle.pim_jp.specs.declared.entry.Entry.{Entry}
@@ -20,11 +20,12 @@ use Rattle.pim_down.specs.declared.machine.Record.{Record}
 use Rattle.pim_down.specs.Key.{key_cmp}
 use Rattle.pim_down.specs.Tables.{Start, greater, on_join, on_prune, on_star_join, rpt_prune_in, on_rpt_prune}
 use Rattle.pim_down.specs.Records.{IsBelow, IsAscending, recorded, at_rank, changed, each_changed}
-use Rattle.pim_down.specs.Hearing.{Event, is_known, entry_events, list_events, set_events, key_of, on_own, is_star_join, is_rpt_on, is_rpt_of, on_rpts, act, act_all, at_end}
+use Rattle.pim_down.specs.Hearing.{Event, is_known, entry_events, list_events, set_events, key_of, on_own, is_star_join, is_rpt, is_rpt_on, is_rpt_of, on_rpts, act, act_all, at_end}
 use Rattle.pim_down.specs.Sound.{is_temporary, IsSettled}
 use Rattle.pim_down.specs.After.{is_before_rpts}
 use Rattle.pim_down.specs.Running.{is_over, is_over_in, is_group_of, has_star_join, joined_sets, AreOverIn}
-use Rattle.pim_down.specs.Seen.{record_seen, records_seen}
+use Rattle.pim_down.specs.Seen.{what_seen, record_seen, records_seen}
+use Rattle.pim_down.specs.Store.{IsRptOn}
 use Rattle.sorted_blocks.specs.Shape.{cut}
 use Rattle.pim_down.proofs.Cuts.{around, whole, none_left, length_cut, first_within, first_at, first_gone}
 use Rattle.pim_down.proofs.Order.{equal_keys}
@@ -141,6 +142,23 @@ module _ {A : Type 0} (bytes_of : A → List ℕ) (port : ℕ) (group : List ℕ
 
   pub over_by : (held : Held A) (t : Bool) → is_rpt_of port group (record_seen bytes_of held).key ≡ true → is_temporary held.machine.state ≡ t → over held ≡ t
   over_by held t e f = ap (λ b. b && is_temporary held.machine.state) e ∙ f
+
+  -- a run of them is one of (S,G,rpt) records of the port
+  over_on : (held : Held A) → IsOver held → IsRptOn port held
+  over_on held is others =
+      let one = and_parts (is_rpt_of port group (record_seen bytes_of held).key) (is_temporary held.machine.state) is in
+      let of_port = and_parts (is_rpt_on port (record_seen bytes_of held).key) (pointwise eqb (bytes_of held.key.group) group) one.0 in
+      let both = and_parts (eqb held.key.port port) (is_rpt (what_seen bytes_of held.key.what)) of_port.0 in
+      and_from (eqb held.key.port port) (is_rpt (what_seen others held.key.what)) both.0 (alike held.key.what both.1)
+    where
+      alike : (what : What A) → is_rpt (what_seen bytes_of what) ≡ true → is_rpt (what_seen others what) ≡ true
+      alike Star e = e
+      alike (Source source) e = e
+      alike (Rpt source) e = e
+
+  pub over_run : (run : List (Held A)) → AllByRecursion IsOver run → AllByRecursion (IsRptOn port) run
+  over_run [] all = tt
+  over_run (held ∷ run) all = (over_on held all.0, over_run run all.1)
 
   pub ends_none : (items : List (Held A)) (i : ℕ) → IsAscending (records_seen bytes_of items) → ((k : ℕ) (d : Held A) → k < i → k < length items → is_rpt_of port group (record_seen bytes_of (get_or items k d)).key ≡ false) → AreBehind bytes_of port group items i → EndsTo items items i
   ends_none items i a before behind = record {

@@ -4,13 +4,12 @@ use Rattle.std.specs.Prelude.{Result, Ok, Err}
 use Rattle.std.specs.declared.cmp.Ordering.{Ordering}
 use Rattle.std.specs.declared.cmp.Ordering.TheVariants.{Less, Greater}
 use Rattle.std.specs.List.Sorted.{IsPartitionPoint}
-use Rattle.sorted_blocks.specs.Shape.{cut}
 use Rattle.sorted_blocks.specs.declared.place.Place.{Place}
 use Rattle.sorted_slab.specs.Listed.{Listed, at, IsPlace as IsListPlace, IsItem}
 use Rattle.pim_down.specs.declared.held.Held.{Held}
 use Rattle.pim_down.specs.declared.key.Key.{Key}
 use Rattle.pim_down.specs.declared.machine.State.{State}
-use Rattle.pim_down.specs.Hearing.{rpt_count_on}
+use Rattle.pim_down.specs.Hearing.{is_rpt_on, rpt_count_on}
 use Rattle.pim_down.specs.Records.{count_on}
 use Rattle.pim_down.specs.Places.{StandsAt, WouldStandAt}
 use Rattle.pim_down.specs.Seen.{records_seen, key_seen}
@@ -24,9 +23,9 @@ pub record IsKept {A : Type 0} (counts rpts : List ℕ) (list : Listed (Held A))
       slice_index_or rpts port 0 ≡ rpt_count_on port (records_seen bytes_of list.items)
   pub fits : length list.items ≤ list.capacity
 
--- the list without so many records from an index on
-abbrev pub without_run : {A : Type 0} → Listed (Held A) → ℕ → ℕ → Listed (Held A)
-without_run list i count = record { index = list.index; items = cut list.items i count; capacity = list.capacity }
+-- the record is an (S,G,rpt) one of this port
+abbrev pub IsRptOn : {A : Type 0} → ℕ → Held A → Type 0
+IsRptOn {A} port held = (bytes_of : A → List ℕ) → is_rpt_on port (key_seen bytes_of held.key) ≡ true
 
 -- the record with its machine in another state
 abbrev pub in_state : {A : Type 0} → State → Held A → Held A

@@ -83,7 +83,7 @@ pub(crate) fn end_group<F: Family>(
         }
         if is_temporary(held.machine.state) {
             let count = count_over::<F>(records, place, port, group);
-            place = records.remove_run(place, count);
+            place = records.remove_run(place, count, port);
         } else {
             place = records.next(place);
         }

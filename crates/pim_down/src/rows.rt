@@ -2,7 +2,7 @@
 
 ghost use Rattle.std.specs.Prelude.{◌≡◌, ℕ, List, ◌+◌, ◌-◌, ◌<◌, ◌≤◌, ◌↔◌, [], length, take, drop};
 ghost use Rattle.std.specs.Prelude.{slice_index_or, slice_set, OnOk, IsOk, IsTrue, Bool, true, false};
-ghost use Rattle.std.specs.List.{All, insert, remove};
+ghost use Rattle.std.specs.List.{All, AllByRecursion, insert, remove};
 ghost use Rattle.std.specs.List.Sorted.{IsPartitionedBy, IsPartitionPoint};
 ghost use Rattle.sorted_blocks.specs.Shape.{cut};
 ghost use Rattle.sorted_blocks.specs.declared.place.Place.{Place};
@@ -11,7 +11,7 @@ ghost use Rattle.pim_down.specs.declared.held.Held.{Held};
 ghost use Rattle.pim_down.specs.Hearing.{is_rpt, rpt_count_on};
 ghost use Rattle.pim_down.specs.Records.{count_on};
 ghost use Rattle.pim_down.specs.Seen.{what_seen, records_seen};
-ghost use Rattle.pim_down.specs.Store.{IsKept, without_run};
+ghost use Rattle.pim_down.specs.Store.{IsRptOn};
 
 use crate::blocks::HALF_OF_RECORDS;
 use crate::held::{Held, Timed};
@@ -116,25 +116,6 @@ fn is_rpt<A>(what: &What<A>) -> bool
     matches!(what, What::Rpt(_))
 }
 
-/// So many records from this place on count no longer.
-fn count_run_out<A: Copy>(
-    list: &SortedSlab<Held<A>, HALF_OF_RECORDS>,
-    counts: &mut [usize; 64],
-    rpts: &mut [usize; 64],
-    place: Place,
-    count: usize,
-)
-    requires place { IsPlace list.now place }
-    requires kept { IsKept counts.old rpts.old list.now }
-    ensures { IsKept counts.new rpts.new (without_run list.now (at list.now place) count) }
-{
-    for held in list.walk(place, count) {
-        count_out(counts, held.key.port, 1);
-        let of_rpts = usize::from(is_rpt(&held.key.what));
-        count_out(rpts, held.key.port, of_rpts);
-    }
-}
-
 impl<A: Copy> Rows<A> {
     /// No record; it takes no memory.
     pub(crate) fn new(alloc: Global) -> Self
@@ -212,17 +193,20 @@ impl<A: Copy> Rows<A> {
         self.list.settled(behind)
     }
 
-    /// Takes out so many records from this place on. The answer is the place of the one that came behind them.
-    pub(crate) fn remove_run(&mut self, place: Place, count: usize) -> Place
+    /// Takes out so many records from this place on, all of them (S,G,rpt) ones of this port: they aren't gone through.
+    /// The answer is the place of the one that came behind them.
+    pub(crate) fn remove_run(&mut self, place: Place, count: usize, port: usize) -> Place
         requires place { IsPlace self.old place }
         requires within { at self.old place + count ≤ length self.old.items }
+        requires own { AllByRecursion (IsRptOn port) (take count (drop (at self.old place) self.old.items)) }
         ensures items { self.new.items ≡ cut self.old.items (at self.old place) count }
         ensures capacity { self.new.capacity ≡ self.old.capacity }
         ensures place { IsPlace self.new result }
         ensures at { at self.new result ≡ at self.old place }
         ensures item { at self.new result < length self.new.items → IsItem self.new result }
     {
-        count_run_out(&self.list, &mut self.counts, &mut self.rpts, place, count);
+        count_out(&mut self.counts, port, count);
+        count_out(&mut self.rpts, port, count);
         let behind = self.list.remove_run(place, count);
         self.list.settled(behind)
     }

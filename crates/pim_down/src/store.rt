@@ -2,7 +2,7 @@
 
 ghost use Rattle.std.specs.Prelude.{◌≡◌, ℕ, List, ◌+◌, ◌*◌, ◌<◌, ◌≤◌, ◌↔◌, [], ◌++◌, length, take, drop, option_map};
 ghost use Rattle.std.specs.Prelude.{slice_index_or, slice_set, OnOk, IsOk, IsTrue, true, false};
-ghost use Rattle.std.specs.List.{All, filter, insert, remove, slice_get};
+ghost use Rattle.std.specs.List.{All, AllByRecursion, filter, insert, remove, slice_get};
 ghost use Rattle.std.specs.List.Sorted.{IsPartitionedBy, IsPartitionPoint};
 ghost use Rattle.sorted_blocks.specs.Shape.{cut};
 ghost use Rattle.sorted_blocks.specs.declared.place.Place.{Place};
@@ -12,7 +12,7 @@ ghost use Rattle.pim_down.specs.Hearing.{rpt_count_on};
 ghost use Rattle.pim_down.specs.Records.{count_on};
 ghost use Rattle.pim_down.specs.Schedule.{deadline_seen, timers_of};
 ghost use Rattle.pim_down.specs.Seen.{records_seen};
-ghost use Rattle.pim_down.specs.Store.{in_state, ends_so};
+ghost use Rattle.pim_down.specs.Store.{IsRptOn, in_state, ends_so};
 
 use crate::blocks::{HALF_OF_RECORDS, HALF_OF_TIMERS};
 use crate::deadline::Deadline;
@@ -197,10 +197,12 @@ impl<A: Copy, O: KeyOrder<A>> Store<A, O> {
         self.rows.remove(place)
     }
 
-    /// Takes out so many records from this place on. The answer is the place of the one that came behind them.
-    pub(crate) fn remove_run(&mut self, place: Place, count: usize) -> Place
+    /// Takes out so many records from this place on, all of them (S,G,rpt) ones of this port. The answer is the place of
+    /// the one that came behind them.
+    pub(crate) fn remove_run(&mut self, place: Place, count: usize, port: usize) -> Place
         requires place { IsPlace self.old place }
         requires within { at self.old place + count ≤ length self.old.items }
+        requires own { AllByRecursion (IsRptOn port) (take count (drop (at self.old place) self.old.items)) }
         ensures items { self.new.items ≡ cut self.old.items (at self.old place) count }
         ensures capacity { self.new.capacity ≡ self.old.capacity }
         ensures place { IsPlace self.new result }
@@ -208,7 +210,7 @@ impl<A: Copy, O: KeyOrder<A>> Store<A, O> {
         ensures item { at self.new result < length self.new.items → IsItem self.new result }
     {
         stop_run::<A, O>(&self.rows, &mut self.schedule, place, count);
-        self.rows.remove_run(place, count)
+        self.rows.remove_run(place, count, port)
     }
 
     /// Gives the record at this place another machine; its key stays.

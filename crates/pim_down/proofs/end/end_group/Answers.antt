@@ -1,10 +1,10 @@
-use Rattle.std.proofs.Common.{true, false, sym, ap, ◌∙◌, arith}
+use Rattle.std.proofs.Common.{true, false, take, drop, sym, ap, ◌∙◌, arith}
 use Rattle.sorted_slab.specs.Listed.{at}
 use Rattle.pim_down.specs.After.{is_before_rpts}
 use Rattle.pim_down.proofs.Searched.{parted}
 use Rattle.pim_down.proofs.Looking.{past_end}
 use Rattle.pim_down.proofs.Rpts.{same_default, rpts_fall, before_parts, behind_parts, none_behind, none_past}
-use Rattle.pim_down.proofs.Ending.{over, over_by, ends_none, ends_cut, ends_past, ends_all, cut_nearer}
+use Rattle.pim_down.proofs.Ending.{over, over_by, over_run, ends_none, ends_cut, ends_past, ends_all, cut_nearer}
 use Rattle.pim_down.proofs.end.end_group.Goals as goal
 
 pub first_behind-place-requires : goal.first_behind-place-requires
@@ -53,6 +53,12 @@ count_over-count-requires-clause-first g c d =
     let here = c.is_item.ensures.0 c.loop-group-test.true in
     let same = same_default list.items i d c.get-held.result.now here.1 ∙ sym c.get-held.ensures in
     ap (over bytes_of c.args.port (bytes_of c.args.group)) same ∙ over_by bytes_of c.args.port (bytes_of c.args.group) c.get-held.result.now true (sym c.is_rpt_of.ensures ∙ c.if-not-is_rpt_of.false) (sym c.is_temporary.ensures ∙ c.if-is_temporary.true)
+
+pub remove_run-place-requires-clause-own : goal.remove_run-place-requires-clause-own
+remove_run-place-requires-clause-own g c =
+    let bytes_of = g.F.Family.bytes_of in
+    let list = c.loop-group.records in
+    over_run bytes_of c.args.port (bytes_of c.args.group) (take c.count_over-count.result (drop (at list c.loop-group.place) list.items)) c.count_over-count.ensures.over
 
 pub loop-group-smaller-then-is_temporary : goal.loop-group-smaller-then-is_temporary
 loop-group-smaller-then-is_temporary g c =
