@@ -316,6 +316,16 @@ impl<A: Copy, O: KeyOrder<A>, const HALF: usize> Schedule<A, O, HALF> {
         }
     }
 
+    /// The same, for a timer that doesn't go with others.
+    fn stop_one(&mut self, key: Key<A>, timer: TimerKind, end: Option<u64>)
+        ensures timers { (rest : List (Deadline (List ℕ))) →
+            self.old.timers ≡ with_end timer (key_seen O.bytes_of key) end rest → self.new.timers ≡ rest }
+        ensures fewer { length self.new.timers ≤ length self.old.timers }
+        ensures capacity { self.new.capacity ≡ self.old.capacity }
+    {
+        self.stop(key, timer, end);
+    }
+
     /// Gives a machine's timer another end.
     fn change(&mut self, key: Key<A>, timer: TimerKind, from: Option<u64>, to: Option<u64>)
         requires { length self.old.timers < self.old.capacity }
@@ -326,7 +336,7 @@ impl<A: Copy, O: KeyOrder<A>, const HALF: usize> Schedule<A, O, HALF> {
         ensures capacity { self.new.capacity ≡ self.old.capacity }
     {
         if from != to {
-            self.stop(key, timer, from);
+            self.stop_one(key, timer, from);
             self.start(key, timer, to);
         }
     }

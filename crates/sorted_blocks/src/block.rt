@@ -99,6 +99,8 @@ impl<T: Copy, const HALF: usize> Block<T, HALF> {
     }
 
     /// Takes out so many items from this place on. Those before it are moved where they are few, else those behind.
+    // Inlined, so that taking one item out costs no more than it has to.
+    #[inline(always)]
     pub(crate) fn cut_out(&mut self, at: usize, count: usize)
         requires { at + count ≤ length self.old }
         ensures { self.new ≡ cut self.old at count }
