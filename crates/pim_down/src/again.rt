@@ -213,7 +213,15 @@ fn join_since<F: Family>(
         if set.group() == group {
             since |= stars.take(this);
             if since {
-                join_pruned::<F>(records, near, port, group, set.pruned(), &stars.recent, this);
+                join_pruned::<F>(
+                    records,
+                    near,
+                    port,
+                    group,
+                    set.pruned(),
+                    &stars.recent,
+                    this,
+                );
             }
         }
     }

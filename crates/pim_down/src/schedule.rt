@@ -131,6 +131,8 @@ fn slot_of<A: Copy, O: KeyOrder<A>, const HALF: usize>(
 }
 
 /// Takes out what stands in the gap. Timers of that kind are sought there next.
+// Inlined, since mostly nothing does.
+#[inline(always)]
 fn close<T: Copy, const HALF: usize>(list: &mut Blocks<T, HALF>, gap: &mut Gap, taken: &mut Hints)
     requires { 0 < gap.old.count → IsGone list.old gap.old }
     ensures items { items list.new ≡ remaining list.old gap.old }
@@ -258,6 +260,8 @@ impl<A: Copy, O: KeyOrder<A>, const HALF: usize> Schedule<A, O, HALF> {
     }
 
     /// Takes a timer out, if it is there. It is looked up.
+    // Inlined, since a deadline that is handed on is copied, and read again before it is written.
+    #[inline(always)]
     fn take_elsewhere(&mut self, deadline: Deadline<A>)
         ensures timers { self.new.timers ≡ without deadline_cmp (deadline_seen O.bytes_of deadline) self.old.timers }
         ensures capacity { self.new.capacity ≡ self.old.capacity }

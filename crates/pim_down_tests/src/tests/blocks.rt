@@ -282,3 +282,43 @@ fn is_emptied_and_filled_at_both_ends_of_longer_blocks(rt: HostRuntime) -> Resul
     }
     Ok(())
 }
+
+/// Takes so many of the first numbers out at once, or those that there are.
+fn take_firsts<const HALF: usize>(
+    list: &mut Blocks<u32, HALF>,
+    plain: &mut Vec<u32>,
+    most: usize,
+) -> bool {
+    let count = most.min(list.len());
+    let first = list.first();
+    let was_first = list.is_first(first);
+    let behind = list.remove_run(first, count);
+    for _gone in 0..count {
+        if !plain.is_empty() {
+            let _number = plain.remove(0);
+        }
+    }
+    was_first && list.is_first(behind)
+}
+
+#[test]
+fn runs_go_at_once(rt: HostRuntime) -> Result<(), Fail> {
+    let mut list: Blocks<u32, 2> = Blocks::new(rt.alloc());
+    let mut plain: Vec<u32> = Vec::new(rt.alloc());
+    if list.reserve_capacity(40).is_err() {
+        assert!(rt; holds(&list, &[]));
+        return Ok(());
+    }
+    for number in 0..40u32 {
+        if !put(&mut list, &mut plain, number) {
+            return Ok(());
+        }
+    }
+    for count in 0..10usize {
+        assert!(rt; take_firsts(&mut list, &mut plain, count));
+        assert!(rt; holds(&list, plain.as_slice()));
+        assert!(rt; has_few_blocks(&list));
+    }
+    assert_eq!(rt; list.len(), 0);
+    Ok(())
+}

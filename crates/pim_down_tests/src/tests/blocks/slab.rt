@@ -110,5 +110,8 @@ fn changes_in_place(rt: HostRuntime) -> Result<(), Fail> {
     };
     assert!(rt; are_left(list.walk(before, 2), &[35, 40]));
     assert!(rt; holds(&list, &[10, 20, 35, 40, 50]));
+    let count = list.len().min(2);
+    let _behind = list.remove_run(list.first(), count);
+    assert!(rt; holds(&list, &[35, 40, 50]));
     Ok(())
 }
