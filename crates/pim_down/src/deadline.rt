@@ -23,8 +23,28 @@ pub(crate) struct Deadline<A> {
     pub(crate) key: Key<A>,
 }
 
+/// Which timers: of a kind, with an end. They stand side by side in the schedule.
+#[derive(Clone, Copy, Debug, Drop)]
+pub(crate) struct Ending {
+    pub(crate) timer: TimerKind,
+    pub(crate) ends_at: u64,
+}
+
+impl Ending {
+    /// Of no timer.
+    pub(crate) const NONE: Ending = Ending {
+        timer: TimerKind::PendingTimer,
+        ends_at: 0,
+    };
+
+    /// Whether these are the same ones.
+    pub(crate) fn is_same(&self, other: Ending) -> bool {
+        self.ends_at == other.ends_at && compare_kinds(self.timer, other.timer).is_eq()
+    }
+}
+
 /// Prune-pending timers come first.
-pub(crate) fn compare_kinds(a: TimerKind, b: TimerKind) -> Ordering
+fn compare_kinds(a: TimerKind, b: TimerKind) -> Ordering
     ensures { result ≡ nat_cmp (timer_rank a) (timer_rank b) }
 {
     match (a, b) {

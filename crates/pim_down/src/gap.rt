@@ -8,7 +8,7 @@ ghost use Rattle.sorted_blocks.specs.Found.{IsEqualAt};
 ghost use Rattle.pim_down.specs.Gap.{remaining, IsGone};
 ghost use Rattle.pim_down.specs.Schedule.{deadline_cmp, deadline_seen};
 
-use crate::deadline::{Deadline, TimerKind, compare_deadlines};
+use crate::deadline::{Deadline, Ending, compare_deadlines};
 use crate::key::KeyOrder;
 use sorted_blocks::{Blocks, Place, item_has_a_place};
 
@@ -19,8 +19,8 @@ pub(crate) struct Gap {
     pub(crate) from: Place,
     pub(crate) behind: Place,
     pub(crate) count: usize,
-    /// Of which kind the first of them is.
-    pub(crate) timer: TimerKind,
+    /// Which timers the first of them is among.
+    pub(crate) ending: Ending,
 }
 
 impl Gap {
@@ -32,7 +32,7 @@ impl Gap {
             from: Place::START,
             behind: Place::START,
             count: 0,
-            timer: TimerKind::PendingTimer,
+            ending: Ending::NONE,
         }
     }
 
@@ -40,7 +40,7 @@ impl Gap {
     pub(crate) fn at<T: Copy, const HALF: usize>(
         list: &Blocks<T, HALF>,
         place: Place,
-        timer: TimerKind,
+        ending: Ending,
     ) -> Self
         requires { IsItem list.now place }
         ensures gone { IsGone list.now result }
@@ -52,7 +52,7 @@ impl Gap {
             from: place,
             behind: list.next(place),
             count: 1,
-            timer,
+            ending,
         }
     }
 

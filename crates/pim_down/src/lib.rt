@@ -20,6 +20,7 @@ mod gap;
 mod group;
 mod hear;
 mod held;
+mod hints;
 mod key;
 mod laws;
 mod machine;

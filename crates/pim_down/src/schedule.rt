@@ -11,9 +11,10 @@ ghost use Rattle.pim_down.specs.Schedule.{with_end, with_timers};
 ghost use Rattle.pim_down.specs.Ends.{pending_end};
 ghost use Rattle.pim_down.specs.Seen.{key_seen, waiting_seen, timed_seen, record_seen};
 
-use crate::deadline::{Deadline, TimerKind, compare_deadlines, compare_kinds};
+use crate::deadline::{Deadline, Ending, TimerKind, compare_deadlines};
 use crate::gap::{Gap, is_behind};
 use crate::held::{Held, Timed};
+use crate::hints::{Hints, Taken};
 use crate::key::{Key, KeyOrder};
 use sorted_blocks::{Blocks, Place, Probe, item_has_a_place, place_is_within};
 use std::alloc::{AllocError, Global};
@@ -40,40 +41,6 @@ impl<A: Copy, O: KeyOrder<A>> Probe<Deadline<A>> for Wanted<A, O> {
     }
 }
 
-/// For each kind of timers a place to begin at: those of one kind mostly come and go side by side, and the two kinds of one machine
-/// stand far apart.
-#[derive(Drop)]
-struct Hints {
-    pending: Place,
-    expiry: Place,
-}
-
-impl Hints {
-    /// The beginning, for either kind.
-    fn new() -> Self {
-        Hints {
-            pending: Place::START,
-            expiry: Place::START,
-        }
-    }
-
-    /// The place for timers of this kind.
-    fn of(&self, timer: TimerKind) -> Place {
-        match timer {
-            TimerKind::PendingTimer => self.pending,
-            TimerKind::ExpiryTimer => self.expiry,
-        }
-    }
-
-    /// Timers of this kind begin at this place from now on.
-    fn keep(&mut self, timer: TimerKind, place: Place) {
-        match timer {
-            TimerKind::PendingTimer => self.pending = place,
-            TimerKind::ExpiryTimer => self.expiry = place,
-        }
-    }
-}
-
 /// The timers that run, in the order in which they fire, in blocks of up to twice `HALF`. Contracts see them, and how
 /// many fit without memory.
 #[derive(Drop)]
@@ -84,9 +51,9 @@ pub(crate) struct Schedule<A: Copy, O: KeyOrder<A>, const HALF: usize> {
     /// Where timers were put in last.
     put: Hints,
     /// Where they were taken out last.
-    taken: Hints,
-    /// Of which kind the last one was that was taken out, where none was put in since.
-    last: Option<TimerKind>,
+    taken: Taken,
+    /// Which one was taken out last, where none was put in since.
+    last: Option<Ending>,
     order: PhantomData<O>,
 }
 
@@ -130,10 +97,10 @@ fn slot_of<A: Copy, O: KeyOrder<A>, const HALF: usize>(
     }
 }
 
-/// Takes out what stands in the gap. Timers of that kind are sought there next.
+/// Takes out what stands in the gap. Such timers are sought there next.
 // Inlined, since mostly nothing does.
 #[inline(always)]
-fn close<T: Copy, const HALF: usize>(list: &mut Blocks<T, HALF>, gap: &mut Gap, taken: &mut Hints)
+fn close<T: Copy, const HALF: usize>(list: &mut Blocks<T, HALF>, gap: &mut Gap, taken: &mut Taken)
     requires { 0 < gap.old.count → IsGone list.old gap.old }
     ensures items { items list.new ≡ remaining list.old gap.old }
     ensures capacity { capacity HALF list.new ≡ capacity HALF list.old }
@@ -143,17 +110,17 @@ fn close<T: Copy, const HALF: usize>(list: &mut Blocks<T, HALF>, gap: &mut Gap, 
         return;
     }
     let behind = list.remove_run(gap.from, gap.count);
-    taken.keep(gap.timer, behind);
+    taken.keep(gap.ending, behind);
     gap.count = 0;
 }
 
-/// Takes out the timer at this place. Where one of its kind was taken out right before, more may follow: then it stays as a gap.
+/// Takes out the timer at this place. Where one with the same end was taken out right before, more may follow: then it stays as a gap.
 fn take_at<T: Copy, const HALF: usize>(
     list: &mut Blocks<T, HALF>,
     gap: &mut Gap,
-    taken: &mut Hints,
+    taken: &mut Taken,
     place: Place,
-    timer: TimerKind,
+    ending: Ending,
     is_next: bool,
 )
     requires item { IsItem list.old place }
@@ -163,17 +130,25 @@ fn take_at<T: Copy, const HALF: usize>(
     ensures capacity { capacity HALF list.new ≡ capacity HALF list.old }
 {
     if is_next {
-        *gap = Gap::at(list, place, timer);
+        *gap = Gap::at(list, place, ending);
         return;
     }
     let (_gone, behind) = list.remove(place);
-    taken.keep(timer, behind);
+    taken.keep(ending, behind);
 }
 
-/// Whether there is a last timer, of this kind.
-fn is_kind(last: Option<TimerKind>, timer: TimerKind) -> bool {
+/// Which timers it is among.
+fn ending_of<A>(deadline: &Deadline<A>) -> Ending {
+    Ending {
+        timer: deadline.timer,
+        ends_at: deadline.ends_at,
+    }
+}
+
+/// Whether there is a last one, of these timers.
+fn is_last(last: Option<Ending>, ending: Ending) -> bool {
     match last {
-        Some(kind) => compare_kinds(kind, timer).is_eq(),
+        Some(other) => other.is_same(ending),
         None => false,
     }
 }
@@ -189,7 +164,7 @@ impl<A: Copy, O: KeyOrder<A>, const HALF: usize> Schedule<A, O, HALF> {
             list: Blocks::new(alloc),
             gap: Gap::none(),
             put: Hints::new(),
-            taken: Hints::new(),
+            taken: Taken::new(),
             last: None,
             order: PhantomData,
         }
@@ -272,15 +247,16 @@ impl<A: Copy, O: KeyOrder<A>, const HALF: usize> Schedule<A, O, HALF> {
             deadline,
             order: PhantomData,
         };
-        let is_next = is_kind(self.last, deadline.timer);
-        self.last = Some(deadline.timer);
-        if let Ok(place) = self.list.find_near(self.taken.of(deadline.timer), &wanted) {
+        let ending = ending_of(&deadline);
+        let is_next = is_last(self.last, ending);
+        self.last = Some(ending);
+        if let Ok(place) = self.list.find_near(self.taken.of(ending), &wanted) {
             take_at(
                 &mut self.list,
                 &mut self.gap,
                 &mut self.taken,
                 place,
-                deadline.timer,
+                ending,
                 is_next,
             );
         }
