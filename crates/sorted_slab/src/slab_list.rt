@@ -111,8 +111,8 @@ impl<T: Copy, const HALF: usize> SortedSlab<T, HALF> {
         (item, behind)
     }
 
-    /// Takes out so many items from this place on. Their numbers go all at once. The answer is the place of the item that came
-    /// behind them.
+    /// Takes out so many items from this place on, a step for each; their numbers go all at once. The answer is the place of
+    /// the item that came behind them.
     pub fn remove_run(&mut self, place: Place, count: usize) -> Place
         requires place { IsPlace self.old place }
         requires within { at self.old place + count ≤ length self.old.items }
