@@ -3,7 +3,8 @@
 prover, whatever the contracts say, and `rt must-fail` calls it a bad edit only once it is tried.
 
 tools/edits_fit.py tells at once those whose old text is gone; this begins a check of each one, and breaks it off when a mistake of types
-would have been told: some ten seconds each. In a crate's folder, where the crates below stand in crates/*/out, as `rt ci` leaves them:
+would have been told, two and a half times as long as one takes at first: some ten seconds each. Where the machine gets much busier
+meanwhile, one may be missed; what can't be read in a text of specs or proofs isn't told. In a crate's folder, where the crates below stand in crates/*/out, as `rt ci` leaves them:
 
     tools/edits_read.py [LANES]
 
