@@ -1,7 +1,7 @@
 //! The list: its public calls, and the bound on its blocks.
 
 ghost use Rattle.std.specs.Prelude.{◌≡◌, ◌+◌, ◌-◌, ◌*◌, ◌<◌, ◌≤◌, [], length, drop, slice_index_or};
-ghost use Rattle.std.specs.Prelude.{OnOk, IsOk, IsTrue, ◌↔◌};
+ghost use Rattle.std.specs.Prelude.{OnOk, IsOk, IsTrue, IfSome, IfNone, ◌↔◌};
 ghost use Rattle.std.specs.List.{All, insert, remove};
 ghost use Rattle.sorted_blocks.specs.Shape.{items, room, capacity, cut, Shape};
 ghost use Rattle.sorted_blocks.specs.Places.{before, IsPlace, IsItem};
@@ -210,6 +210,16 @@ impl<T: Copy, const HALF: usize> Blocks<T, HALF> {
         ensures item { before self.now place < length (items self.now) → IsItem self.now result }
     {
         self.store.settled(place)
+    }
+
+    /// The place of the item so many further on than this place, where there is one. It takes a step for each block between
+    /// them.
+    pub fn onward(&self, place: Place, count: usize) -> Option<Place>
+        requires { IsPlace self.now place }
+        ensures item { IfSome result (λ there. IsItem self.now there × before self.now there ≡ before self.now place + count) }
+        ensures none { IfNone result (length (items self.now) ≤ before self.now place + count) }
+    {
+        self.store.onward(place, count)
     }
 
     /// The items in order, from the first one on. The walk takes no memory; a step reads within a block, and at its end

@@ -1,6 +1,6 @@
 //! Looking at items: at a place, and from one place to the next.
 
-ghost use Rattle.std.specs.Prelude.{◌≡◌, ◌+◌, ◌<◌, ◌≤◌, [], length, slice_index_or, IsTrue, ◌↔◌};
+ghost use Rattle.std.specs.Prelude.{◌≡◌, ◌+◌, ◌<◌, ◌≤◌, [], length, slice_index_or, IsTrue, IfSome, IfNone, ◌↔◌};
 ghost use Rattle.sorted_blocks.specs.Shape.{items};
 ghost use Rattle.sorted_blocks.specs.Places.{before, IsPlace, IsItem};
 
@@ -83,5 +83,31 @@ impl<T: Copy, const HALF: usize> Store<T, HALF> {
             block: place.block + 1,
             at: 0,
         }
+    }
+
+    /// The place of the item so many further on than this place, where there is one. It takes a step for each block between
+    /// them.
+    pub(crate) fn onward(&self, place: Place, count: usize) -> Option<Place>
+        requires { IsPlace self.now place }
+        ensures item { IfSome result (λ there. IsItem self.now there × before self.now there ≡ before self.now place + count) }
+        ensures none { IfNone result (length (items self.now) ≤ before self.now place + count) }
+    {
+        let mut here = self.settled(place);
+        let mut left = count;
+        while self.is_item(here) {
+            let rest = self.block_len(here.block) - here.at;
+            if left < rest {
+                return Some(Place {
+                    block: here.block,
+                    at: here.at + left,
+                });
+            }
+            left -= rest;
+            here = self.settled(Place {
+                block: here.block,
+                at: here.at + rest,
+            });
+        }
+        None
     }
 }
