@@ -80,7 +80,7 @@ module _ {A : Type 0} (bytes_of : A → List ℕ) (deadline : Deadline A) where
   some_at (x ∷ xs) zero w = x
   some_at (x ∷ xs) (suc i) w = some_at xs i (omega arith)
 
-  same_at : (xs : List (Deadline A)) (i : ℕ) → IsEqualAt order xs i → (e : Deadline (List ℕ)) → get_or (seen xs) i e ≡ this
+  pub same_at : (xs : List (Deadline A)) (i : ℕ) → IsEqualAt order xs i → (e : Deadline (List ℕ)) → get_or (seen xs) i e ≡ this
   same_at xs i equal e =
       let d = some_at xs i equal.within in
       seen_at xs i d e equal.within ∙ same_deadline (deadline_seen bytes_of (get_or xs i d)) this (equal.equal d)

@@ -39,3 +39,5 @@ pub mod Passing
 pub mod Runs
 pub mod Silence
 pub mod Echo
+pub mod SideBySide
+pub mod AllAtOnce

@@ -1,7 +1,8 @@
 -- The timers that run, in the order in which they fire: by deadline, prune-pending timers before expiry timers, by key.
 use Rattle.std.specs.Prelude.{◌≡◌, ℕ, ◌+◌, ◌-◌, ◌*◌, ◌<◌, ◌≤◌, false, if◌then◌else◌}
-use Rattle.std.specs.Prelude.{List, [], ◌∷◌, map, length, Option, None, Some}
+use Rattle.std.specs.Prelude.{List, [], ◌∷◌, map, length, slice_index_or, Option, None, Some}
 use Rattle.std.specs.declared.cmp.Ordering.{Ordering}
+use Rattle.std.specs.declared.cmp.Ordering.TheVariants.{Less}
 use Rattle.std.specs.List.{slice_get}
 use Rattle.std.specs.Ordering.{nat_cmp, ordering_then, is_eq, is_gt}
 use Rattle.sorted_blocks.specs.Shape.{Shape}
@@ -31,6 +32,28 @@ module _ {X : Type 0} (cmp : X → X → Ordering) where
   unfoldable pub without : X → List X → List X
   without x [] = []
   without x (y ∷ ys) = if is_eq (cmp x y) then ys else y ∷ without x ys
+
+  -- some items, put among others one by one
+  unfoldable pub all_placed : List X → List X → List X
+  all_placed [] rest = rest
+  all_placed (x ∷ xs) rest = placed x (all_placed xs rest)
+
+  -- it is less than each of these
+  unfoldable pub IsUnder : X → List X → Type 0
+  IsUnder x [] = Unit {0}
+  IsUnder x (y ∷ ys) = (cmp x y ≡ Less) × IsUnder x ys
+
+  unfoldable pub IsRising : List X → Type 0
+  IsRising [] = Unit {0}
+  IsRising (x ∷ xs) = IsUnder x xs × IsRising xs
+
+  -- so many items that rise from the first one to the last
+  pub record IsRun (first last : X) (count : ℕ) (xs : List X) : Type 0 where
+    pub rising : IsRising xs
+    pub long : length xs ≡ count
+    pub some : 1 ≤ count
+    pub begins : (d : X) → slice_index_or xs 0 d ≡ first
+    pub ends : (d : X) → slice_index_or xs (count - 1) d ≡ last
 
   -- it is behind none of these
   unfoldable pub IsLow : X → List X → Type 0

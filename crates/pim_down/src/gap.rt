@@ -1,16 +1,16 @@
 //! Timers that were taken out and still stand in their list.
 
-ghost use Rattle.std.specs.Prelude.{◌≡◌, ◌+◌, ◌<◌, length, IsTrue};
+ghost use Rattle.std.specs.Prelude.{◌≡◌, ◌+◌, ◌<◌, ◌≤◌, length, IsTrue};
 ghost use Rattle.std.specs.List.{slice_get};
-ghost use Rattle.sorted_blocks.specs.Shape.{items};
-ghost use Rattle.sorted_blocks.specs.Places.{before, IsItem};
+ghost use Rattle.sorted_blocks.specs.Shape.{items, cut};
+ghost use Rattle.sorted_blocks.specs.Places.{before, IsPlace, IsItem};
 ghost use Rattle.sorted_blocks.specs.Found.{IsEqualAt};
 ghost use Rattle.pim_down.specs.Gap.{remaining, IsGone};
 ghost use Rattle.pim_down.specs.Schedule.{deadline_cmp, deadline_seen};
 
 use crate::deadline::{Deadline, Ending, compare_deadlines};
 use crate::key::KeyOrder;
-use sorted_blocks::{Blocks, Place, item_has_a_place};
+use sorted_blocks::{Blocks, Place, item_has_a_place, place_is_within};
 
 /// Timers that were taken out and still stand in the list, side by side: so many from one place on, up to another. They go all
 /// at once, when one is taken out elsewhere or put in.
@@ -69,6 +69,37 @@ impl Gap {
         let _most = list.len();
         self.behind = list.next(self.behind);
         self.count += 1;
+    }
+
+    /// Takes in so many timers from this place on, right behind what stands in it, up to the one at the other place.
+    pub(crate) fn take_in<T: Copy, const HALF: usize>(
+        &mut self,
+        list: &Blocks<T, HALF>,
+        from: Place,
+        last: Place,
+        count: usize,
+        ending: Ending,
+    )
+        requires gone { 0 < self.old.count → IsGone list.now self.old }
+        requires behind { 0 < self.old.count → from ≡ self.old.behind }
+        requires from { IsPlace list.now from }
+        requires last { IsItem list.now last }
+        requires apart { before list.now last + 1 ≡ before list.now from + count }
+        requires some { 1 ≤ count }
+        ensures gone { IsGone list.now self.new }
+        ensures same { remaining list.now self.old ≡ cut (items list.now) (before list.now self.new.from) self.old.count }
+        ensures apart { before list.now self.new.from + self.old.count ≡ before list.now from }
+        ensures count { self.new.count ≡ self.old.count + count }
+    {
+        item_has_a_place::<T>();
+        place_is_within::<T>();
+        let _most = list.len();
+        if self.count == 0 {
+            self.from = from;
+            self.ending = ending;
+        }
+        self.behind = list.next(last);
+        self.count += count;
     }
 
     /// The place of the first timer outside, where there is any.
