@@ -1,8 +1,8 @@
 -- Records whose only timers end at one time: their timers stand side by side among all.
-use Rattle.std.proofs.Common.{◌≡◌, ℕ, zero, suc, ◌+◌, ◌-◌, ◌<◌, ◌≤◌, Bool, true, false, not, cond, List, [], ◌∷◌, Option, Some, None, ◌++◌, map, length, take, drop, get_or, refl, sym, ap, subst, ◌∙◌, arith}
+use Rattle.std.proofs.Common.{◌≡◌, ℕ, zero, suc, ◌+◌, ◌-◌, ◌≤◌, Bool, true, false, not, cond, List, [], ◌∷◌, Option, Some, None, ◌++◌, map, length, take, drop, get_or, refl, sym, ap, ◌∙◌, arith}
 use Rattle.std.specs.Prelude.{◌&&◌, nat_eq}
-use Rattle.std.specs.declared.cmp.Ordering.TheVariants.{Less, Equal}
-use Rattle.std.specs.Ordering.{nat_cmp, ordering_then}
+use Rattle.std.specs.declared.cmp.Ordering.TheVariants.{Less}
+use Rattle.std.specs.Ordering.{ordering_then}
 use Rattle.std.specs.List.{filter}
 use Rattle.std.proofs.lemmas.Bool.{false≢true, eqb-true}
 use Rattle.std.proofs.lemmas.Cmp.{nat_cmp_total, tied_itself}
@@ -16,7 +16,7 @@ use Rattle.pim_down.specs.declared.key.Key.{Key}
 use Rattle.pim_down.specs.declared.store.Alike.{Alike}
 use Rattle.pim_down.specs.Key.{key_cmp}
 use Rattle.pim_down.specs.Records.{IsBelow, IsAscending}
-use Rattle.pim_down.specs.Schedule.{placed, all_placed, IsUnder, IsRising, IsRun, deadline_cmp, deadline_seen, with_end, with_timers}
+use Rattle.pim_down.specs.Schedule.{placed, all_placed, IsUnder, IsRising, IsRun, deadline_cmp, with_end, with_timers}
 use Rattle.pim_down.specs.Seen.{key_seen, record_seen, records_seen, waiting_seen}
 use Rattle.pim_down.specs.Ends.{pending_end}
 use Rattle.pim_down.specs.Store.{same_end, waits_not, ends_so, none_alike, first_of, alike_from}

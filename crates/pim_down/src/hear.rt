@@ -152,13 +152,13 @@ pub(crate) fn join_rpts<F: Family>(
 {
     let mut place = records.first_behind(&RptsOf::<F> { port, group });
     while records.is_item(place) {
-        let held = *records.get(place);
-        if is_rpt_of::<F>(&held.key, port, group) {
-            records.set_state(place, star_joined(held.machine.state));
-            place = records.next(place);
-        } else {
+        let held = records.get(place);
+        if !is_rpt_of::<F>(&held.key, port, group) {
             return;
         }
+        let state = star_joined(held.machine.state);
+        records.set_state(place, state);
+        place = records.next(place);
     }
 }
 

@@ -61,6 +61,21 @@ fn guess_soon<T: Copy, P: Probe<T>>(probe: &P, row: &[T], low: usize) -> usize
     guess(probe, row, from, row.len() - from)
 }
 
+/// The same guess, where it may stand about so far behind `low`: nearer, or soon behind.
+fn guess_by<T: Copy, P: Probe<T>>(probe: &P, row: &[T], low: usize, stride: usize) -> usize
+    requires can { All (P.can_compare probe.now) row.now }
+    requires low { low ≤ length row.now }
+    ensures { result ≤ length row.now }
+{
+    if stride >= row.len() - low {
+        return guess_soon(probe, row, low);
+    }
+    if probe.compare(&row[low + stride]).is_lt() {
+        return guess_soon(probe, row, low + stride);
+    }
+    guess(probe, row, low, stride)
+}
+
 /// Whether the item before this place of a row is less than what is sought, or there is none.
 fn is_behind_lesser<T: Copy, P: Probe<T>>(probe: &P, row: &[T], at: usize) -> bool
     requires can { All (P.can_compare probe.now) row.now }
@@ -86,8 +101,13 @@ fn seek<T: Copy, P: Probe<T>>(probe: &P, row: &[T], low: usize) -> Result<usize,
     seek_at(probe, row, low, guess(probe, row, 0, row.len()))
 }
 
-/// The same, where it mostly stands soon behind those before `low`.
-fn seek_soon<T: Copy, P: Probe<T>>(probe: &P, row: &[T], low: usize) -> Result<usize, usize>
+/// The same, where it mostly stands soon behind those before `low`, or so far behind.
+fn seek_soon<T: Copy, P: Probe<T>>(
+    probe: &P,
+    row: &[T],
+    low: usize,
+    stride: usize,
+) -> Result<usize, usize>
     requires can { All (P.can_compare probe.now) row.now }
     requires low { low ≤ length row.now }
     requires less { (d : T) → 0 < low → P.order probe.now (slice_index_or row.now (low - 1) d) ≡ Ordering.Less }
@@ -96,7 +116,12 @@ fn seek_soon<T: Copy, P: Probe<T>>(probe: &P, row: &[T], low: usize) -> Result<u
     if low == row.len() {
         return Err(low);
     }
-    seek_at(probe, row, low, guess_soon(probe, row, low))
+    if stride < row.len() - low {
+        if probe.compare(&row[low + stride]).is_eq() {
+            return Ok(low + stride);
+        }
+    }
+    seek_at(probe, row, low, guess_by(probe, row, low, stride))
 }
 
 /// The same by a guess: it mostly stands right behind this place, or there. That is looked at, so that the answer is right
@@ -254,13 +279,13 @@ impl<T: Copy, const HALF: usize> Store<T, HALF> {
         }
     }
 
-    /// The same, where it mostly stands soon behind the items that are known to be less.
+    /// The same, where it mostly stands soon behind the items that are known to be less, or as far behind as what was sought last.
     fn find_soon<P: Probe<T>>(&self, probe: &P, block: usize, low: usize) -> Result<Place, Place>
         requires can { All (P.can_compare probe.now) (items self.now) }
         requires row { IsRowLeft (P.order probe.now) self.now.blocks block low }
         ensures { IsFound (P.order probe.now) self.now result }
     {
-        match seek_soon(probe, self.row(block), low) {
+        match seek_soon(probe, self.row(block), low, self.stride()) {
             Ok(at) => Ok(Place { block, at }),
             Err(at) => Err(Place { block, at }),
         }
@@ -286,7 +311,9 @@ impl<T: Copy, const HALF: usize> Store<T, HALF> {
                 Ordering::Greater => return Err(place),
             }
         }
-        self.find_rest(near, probe)
+        let found = self.find_rest(near, probe);
+        self.keep_stride(near, found);
+        found
     }
 
     /// The answer behind an item that is less. What is sought next mostly stands in the same block or in one of the next few.

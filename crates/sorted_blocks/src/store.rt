@@ -8,7 +8,9 @@ ghost use Rattle.sorted_blocks.specs.Sound.{AllFilled};
 ghost use Rattle.sorted_blocks.specs.Sought.{IsLead};
 
 use crate::block::Block;
+use crate::place::Place;
 use std::alloc::{AllocError, Global};
+use std::cell::Cell;
 use std::marker::Model;
 
 /// How many blocks there can be; beyond them there is no memory.
@@ -27,6 +29,8 @@ pub(crate) struct Store<T: Copy, const HALF: usize> {
     /// How many items stand beyond their block's first half.
     over: usize,
     count: usize,
+    /// How far on the last look-up found its item: a hint for the next one, of which no contract knows.
+    stride: Cell<usize>,
 }
 
 impl<T: Copy, const HALF: usize> Model for Store<T, HALF> {
@@ -71,6 +75,7 @@ impl<T: Copy, const HALF: usize> Store<T, HALF> {
             spare: Vec::new(alloc),
             over: 0,
             count: 0,
+            stride: Cell::new(1),
         }
     }
 
@@ -135,6 +140,22 @@ impl<T: Copy, const HALF: usize> Store<T, HALF> {
         ensures filled { AllFilled HALF result.now }
     {
         self.used.as_slice()
+    }
+
+    /// How far on what is sought next may stand.
+    pub(crate) fn stride(&self) -> usize {
+        self.stride.get()
+    }
+
+    /// A look-up from behind an item found this. What stands in another block, or right behind, is found without a stride.
+    pub(crate) fn keep_stride(&self, from: Place, found: Result<Place, Place>) {
+        let Ok(place) = found else {
+            return;
+        };
+        let stride = place.at.saturating_sub(from.at);
+        if place.block == from.block && stride > 2 {
+            self.stride.set(stride - 1);
+        }
     }
 
     /// The first items of the blocks in use.

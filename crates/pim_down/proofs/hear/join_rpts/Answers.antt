@@ -33,7 +33,7 @@ loop-group-init g c =
 pub loop-group-smaller : goal.loop-group-smaller
 loop-group-smaller g c =
     let here = c.is_item.ensures.0 c.loop-group-test.true in
-    let same = ap length (c.set_state.ensures.items c.get.result.now) ∙ length-set c.loop-group.records.items (at c.loop-group.records c.loop-group.place) _ in
+    let same = ap length (c.set_state.ensures.items c.get-held.result.now) ∙ length-set c.loop-group.records.items (at c.loop-group.records c.loop-group.place) _ in
     omega (arith, here.1, same, c.next-place.ensures.at, c.set_state.ensures.at c.loop-group.place)
 
 pub loop-group-preserved : goal.loop-group-preserved
@@ -44,24 +44,24 @@ loop-group-preserved g c =
     let list = c.loop-group.records in
     let i = at list c.loop-group.place in
     let here = c.is_item.ensures.0 c.loop-group-test.true in
-    let same = ap length (c.set_state.ensures.items c.get.result.now) ∙ length-set list.items i _ in
+    let same = ap length (c.set_state.ensures.items c.get-held.result.now) ∙ length-set list.items i _ in
     let next = c.next-place.ensures.at ∙ ap (λ n. n + 1) (c.set_state.ensures.at c.loop-group.place) in
-    let now : Timed = record { state = c.star_joined.result; expires_at = c.get.result.now.machine.expires_at; pending = c.get.result.now.machine.pending } in
-    let put = c.set_state.ensures.items c.get.result.now ∙ ap (λ (h : Held g.row.F-Addr.Denot). set list.items i (record { key = (get_or list.items i c.get.result.now).key; machine = record { state = c.star_joined.result; expires_at = h.machine.expires_at; pending = h.machine.pending } })) (sym c.get.ensures) in
+    let now : Timed = record { state = c.star_joined-state.result; expires_at = c.get-held.result.now.machine.expires_at; pending = c.get-held.result.now.machine.pending } in
+    let put = c.set_state.ensures.items c.get-held.result.now ∙ ap (λ (h : Held g.row.F-Addr.Denot). set list.items i (record { key = (get_or list.items i c.get-held.result.now).key; machine = record { state = c.star_joined-state.result; expires_at = h.machine.expires_at; pending = h.machine.pending } })) (sym c.get-held.ensures) in
     record {
-      changed = joins_more bytes_of c.args.port group old list.items c.set_state.new.self.items i (at c.set_state.new.self c.next-place.result) c.get.result.now now c.loop-group.invariant.long here.1 c.get.ensures (sym c.is_rpt_of.ensures ∙ c.if-is_rpt_of.true) (c.star_joined.ensures (timed_seen c.get.result.now.machine) refl) put next c.loop-group.invariant.changed;
+      changed = joins_more bytes_of c.args.port group old list.items c.set_state.new.self.items i (at c.set_state.new.self c.next-place.result) c.get-held.result.now now c.loop-group.invariant.long here.1 c.get-held.ensures (sym c.is_rpt_of.ensures ∙ c.if-not-is_rpt_of.false) (c.star_joined-state.ensures (timed_seen c.get-held.result.now.machine) refl) put next c.loop-group.invariant.changed;
       behind = λ k d le w. c.loop-group.invariant.behind k d (omega (arith, le, next)) w;
       next = λ lt. c.next-place.ensures.item (omega (arith, lt, c.next-place.ensures.at));
       long = same ∙ c.loop-group.invariant.long;
       capacity = c.set_state.ensures.capacity ∙ c.loop-group.invariant.capacity;
     }
 
-pub returns-else-is_rpt_of-clause-records : goal.returns-else-is_rpt_of-clause-records
-returns-else-is_rpt_of-clause-records g c =
+pub returns-then-not-is_rpt_of-clause-records : goal.returns-then-not-is_rpt_of-clause-records
+returns-then-not-is_rpt_of-clause-records g c =
     let bytes_of = g.F.Family.bytes_of in
     let list = c.loop-group.records in
     let here = c.is_item.ensures.0 c.loop-group-test.true in
-    joins_end bytes_of c.args.port (bytes_of c.args.group) c.args.records.now.items list.items (at list c.loop-group.place) c.get.result.now c.requires c.loop-group.invariant.long here.1 c.get.ensures c.loop-group.invariant.behind (sym c.is_rpt_of.ensures ∙ c.if-is_rpt_of.false) c.loop-group.invariant.changed
+    joins_end bytes_of c.args.port (bytes_of c.args.group) c.args.records.now.items list.items (at list c.loop-group.place) c.get-held.result.now c.requires c.loop-group.invariant.long here.1 c.get-held.ensures c.loop-group.invariant.behind (sym c.is_rpt_of.ensures ∙ c.if-not-is_rpt_of.true) c.loop-group.invariant.changed
 
 pub returns-clause-records : goal.returns-clause-records
 returns-clause-records g c =
