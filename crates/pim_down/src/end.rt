@@ -20,8 +20,9 @@ use pim_addr::Family;
 use pim_jp::JpView;
 use sorted_blocks::Place;
 
-/// So many machines are let go of at once: they are gone through several times, and are few enough to stay at hand.
-const AT_ONCE: usize = 256;
+/// So many machines are let go of at once: they are gone through several times, and are few enough to stay at hand, and
+/// what stands behind them moves once for all of them.
+const AT_ONCE: usize = 2048;
 
 /// Whether a machine has the state only while a message is heard.
 fn is_temporary(state: State) -> bool

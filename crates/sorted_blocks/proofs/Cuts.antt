@@ -12,6 +12,12 @@ module _ {A : Type 0} where
       let same : i + 0 ≡ i = omega arith in
       ap (λ k. take i xs ++ drop k xs) same ∙ take-append-drop i xs
 
+  pub cut_first : (xs : List A) (n : ℕ) → cut xs 0 n ≡ drop n xs
+  unfolding cut
+  cut_first xs n =
+      let same : 0 + n ≡ n = omega arith in
+      ap (λ k. drop k xs) same
+
   pub cut_one : (xs : List A) (i : ℕ) → cut xs i 1 ≡ remove xs i
   unfolding cut
   cut_one xs i = ap (λ k. take i xs ++ drop k xs) (add-one i)
@@ -90,21 +96,23 @@ module _ {A : Type 0} where
       let behind : start + count + (start + at - start) ≡ start + (at + count) = omega arith in
       ap (drop (start + count)) (append_assoc (take (start + count) xs) _ _) ∙ drop_at (take (start + count) xs) _ (start + count) len ∙ (λ i. take (moved i) (drop start xs) ++ drop (behind i) xs) ∙ ap (λ ys. take at (drop start xs) ++ ys) (sym (drop-drop (at + count) start xs))
 
-  cut_later : (start at count : ℕ) (xs : List A) → start + (at + count) ≤ length xs → drop start (take (start + at) xs ++ drop (start + at + count) xs) ≡ cut (drop start xs) at count
+  pub cut_later : (start at count : ℕ) (xs : List A) → start + (at + count) ≤ length xs → drop start (cut xs (start + at) count) ≡ cut (drop start xs) at count
   unfolding cut
   cut_later start at count xs within =
       let len = length-take-le (start + at) xs (omega (arith, within)) in
       let behind : start + at + count ≡ start + (at + count) = omega arith in
       drop-append-le start (take (start + at) xs) (drop (start + at + count) xs) (omega (arith, len)) ∙ ap₂ (λ p q. p ++ q) (drop-take start at xs) (ap (λ k. drop k xs) behind ∙ sym (drop-drop (at + count) start xs))
 
-  pub cut_closed : (start at count long : ℕ) (xs : List A) → length xs ≡ long → start + (at + count) ≤ long → drop start (take (long - count) (paste xs (start + at) (drop (start + at + count) xs) (long - (start + at + count)))) ≡ cut (drop start xs) at count
-  cut_closed start at count long xs is within =
-      let f = take (start + at) xs in
-      let b = drop (start + at + count) xs in
-      let m = long - (start + at + count) in
-      let whole : take m b ≡ b = take_all m b (omega (arith, is, length-drop (start + at + count) xs)) in
-      let len : length (f ++ b) ≡ long - count = omega (arith, is, length-append f b, length-take-le (start + at) xs (omega (arith, is, within)), length-drop (start + at + count) xs, within) in
-      ap (λ ys. drop start (take (long - count) ((f ++ ys) ++ drop (start + at + m) xs))) whole ∙ ap (drop start) (take_at (f ++ b) (drop (start + at + m) xs) (long - count) len) ∙ cut_later start at count xs (omega (arith, is, within))
+  -- what stands behind moved up, and the end taken away
+  pub cut_closed : (at count long : ℕ) (xs : List A) → length xs ≡ long → at + count ≤ long → take (long - count) (paste xs at (drop (at + count) xs) (long - (at + count))) ≡ cut xs at count
+  unfolding cut
+  cut_closed at count long xs is within =
+      let f = take at xs in
+      let b = drop (at + count) xs in
+      let m = long - (at + count) in
+      let whole : take m b ≡ b = take_all m b (omega (arith, is, length-drop (at + count) xs)) in
+      let len : length (f ++ b) ≡ long - count = omega (arith, is, length-append f b, length-take-le at xs (omega (arith, is, within)), length-drop (at + count) xs, within) in
+      ap (λ ys. take (long - count) ((f ++ ys) ++ drop (at + m) xs)) whole ∙ take_at (f ++ b) (drop (at + m) xs) (long - count) len
 
 -- ---- blocks that go as a whole
 

@@ -4,6 +4,7 @@ pub mod Cuts
 pub mod Dense
 pub mod Finding
 pub mod Firsts
+pub mod Gone
 pub mod Joined
 pub mod Kept
 pub mod LeftOver

@@ -111,9 +111,7 @@ impl<T: Copy, const HALF: usize> Block<T, HALF> {
             self.start += count;
             return;
         }
-        let len = self.items.len();
-        self.items.copy_within(start + at + count..len, start + at);
-        self.items.truncate(len - count);
+        cut_out(&mut self.items, start + at, count);
     }
 
     /// Lets go of all items.
@@ -172,13 +170,26 @@ fn make_room<T: Copy>(items: &mut Vec<T>, start: usize, most: usize) -> usize
 }
 
 /// Lets go of the first `count` items, and moves the others to the beginning.
+#[tactic(auto, using(crate::proofs::Cuts::cut_first))]
 fn move_down<T: Copy>(items: &mut Vec<T>, count: usize)
     requires { count ≤ vec_len items.old }
     ensures items { items.new.items ≡ drop count items.old.items }
     ensures len { vec_len items.new + count ≡ vec_len items.old }
     ensures capacity { vec_capacity items.new ≡ vec_capacity items.old }
 {
+    cut_out(items, 0, count);
+}
+
+/// Lets go of so many items from this one on, and moves those behind them up.
+// Inlined, as the block's own.
+#[inline(always)]
+pub(crate) fn cut_out<T: Copy>(items: &mut Vec<T>, at: usize, count: usize)
+    requires { at + count ≤ vec_len items.old }
+    ensures items { items.new.items ≡ cut items.old.items at count }
+    ensures len { vec_len items.new + count ≡ vec_len items.old }
+    ensures capacity { vec_capacity items.new ≡ vec_capacity items.old }
+{
     let len = items.len();
-    items.copy_within(count..len, 0);
+    items.copy_within(at + count..len, at);
     items.truncate(len - count);
 }

@@ -1,13 +1,13 @@
 //! The blocks in use and the spare ones, and the edits of them that the list's calls are made of.
 
-ghost use Rattle.std.specs.Prelude.{◌≡◌, ◌+◌, ◌-◌, ◌<◌, ◌≤◌, [], ◌∷◌, length, slice_index_or, OnOk, OnErr};
+ghost use Rattle.std.specs.Prelude.{◌≡◌, ◌+◌, ◌-◌, ◌<◌, ◌≤◌, [], ◌∷◌, ◌++◌, length, take, drop, slice_index_or, vec_len, vec_capacity, OnOk, OnErr};
 ghost use Rattle.std.specs.List.{remove};
 ghost use Rattle.sorted_blocks.specs.Shape.{Shape, joined, room, block_at, together, put_into, taken_out, split};
-ghost use Rattle.sorted_blocks.specs.Shape.{merged, block_total, cut, cut_from};
+ghost use Rattle.sorted_blocks.specs.Shape.{merged, block_total, beyond, cut, cut_from};
 ghost use Rattle.sorted_blocks.specs.Sound.{AllFilled};
 ghost use Rattle.sorted_blocks.specs.Sought.{IsLead};
 
-use crate::block::Block;
+use crate::block::{Block, cut_out};
 use crate::place::Place;
 use std::alloc::{AllocError, Global};
 use std::cell::Cell;
@@ -59,6 +59,32 @@ fn excess<const HALF: usize>(len: usize) -> usize
     ensures { result ≡ len - HALF }
 {
     len.saturating_sub(HALF)
+}
+
+/// Moves so many items from this one on to the end.
+fn turn_to_end<X>(items: &mut [X], at: usize, count: usize)
+    requires { at + count ≤ length items.old }
+    ensures { items.new ≡ take at items.old ++ (drop count (drop at items.old) ++ take count (drop at items.old)) }
+{
+    let (_before, behind) = items.split_at_mut(at);
+    behind.rotate_left(count);
+}
+
+/// Moves so many items from the end of a vector to that of another one, which has memory for them. They come there the
+/// other way round.
+fn move_last<X>(from: &mut Vec<X>, to: &mut Vec<X>, count: usize)
+    requires within { count ≤ length from.old.items }
+    requires memory { vec_len to.old + count ≤ vec_capacity to.old }
+    ensures left { from.new.items ≡ take (length from.old.items - count) from.old.items }
+    ensures moved { vec_len to.new ≡ vec_len to.old + count }
+    ensures capacity { vec_capacity from.new ≡ vec_capacity from.old }
+    ensures memory { vec_capacity to.new ≡ vec_capacity to.old }
+{
+    let mut left = count;
+    while left > 0 {
+        left -= 1;
+        to.push_reserved(from.take_last());
+    }
 }
 
 impl<T: Copy, const HALF: usize> Store<T, HALF> {
@@ -281,33 +307,35 @@ impl<T: Copy, const HALF: usize> Store<T, HALF> {
         self.count -= count;
     }
 
-    /// Lets go of a block with all its items. It is spare from then on.
-    pub(crate) fn let_go(&mut self, block: usize)
-        requires { block < length self.old.blocks }
-        ensures blocks { self.new.blocks ≡ remove self.old.blocks block }
-        ensures spare { self.new.spare ≡ self.old.spare + 1 }
+    /// How many items so many blocks from this one on have, and how many of these stand beyond their block's half.
+    fn weight(&self, block: usize, count: usize) -> (usize, usize)
+        requires { block + count ≤ length self.now.blocks }
+        ensures items { result.0 ≡ length (joined (take count (drop block self.now.blocks))) }
+        ensures over { result.1 ≡ beyond HALF (take count (drop block self.now.blocks)) }
     {
-        let row = self.used.remove(block);
-        let _first = self.firsts.remove(block);
-        let len = row.len();
-        self.over -= excess::<HALF>(len);
-        self.count -= len;
-        self.spare.push_reserved(row);
+        let mut items = 0;
+        let mut over = 0;
+        for row in &self.used[block..block + count] {
+            items += row.len();
+            over += excess::<HALF>(row.len());
+        }
+        (items, over)
     }
 
-    /// Lets go of so many blocks from this one on, from the last one back: each moves the blocks behind it alone.
+    /// Lets go of so many blocks from this one on, with all their items. They are spare from then on, and those behind
+    /// them move once.
     pub(crate) fn let_go_all(&mut self, block: usize, count: usize)
         requires { block + count ≤ length self.old.blocks }
         ensures blocks { self.new.blocks ≡ cut self.old.blocks block count }
         ensures spare { self.new.spare ≡ self.old.spare + count }
         ensures room { room HALF self.old ≤ room HALF self.new }
     {
-        let _most = self.block_count();
-        let mut left = count;
-        while left > 0 {
-            left -= 1;
-            self.let_go(block + left);
-        }
+        let (items, over) = self.weight(block, count);
+        turn_to_end(&mut self.used, block, count);
+        move_last(&mut self.used, &mut self.spare, count);
+        cut_out(&mut self.firsts, block, count);
+        self.over -= over;
+        self.count -= items;
     }
 
     /// Makes one of two neighbours that are half a block together.

@@ -1,46 +1,71 @@
-use Rattle.std.proofs.Common.{◌≡◌, suc, ◌+◌, ◌-◌, ◌<◌, length, sym, ap, ap₂, ◌∙◌, arith, lit<}
-use Rattle.std.specs.List.{remove}
-use Rattle.sorted_blocks.specs.Shape.{cut}
-use Rattle.sorted_blocks.proofs.Cuts.{cut_none, remove-cut, length-cut}
-use Rattle.sorted_blocks.proofs.Rooms.{room_gone}
+use Rattle.std.proofs.Common.{◌≡◌, ◌+◌, ◌-◌, ◌<◌, ◌≤◌, ◌++◌, length, take, drop, sym, ap, ◌∙◌, arith}
+use Rattle.sorted_blocks.specs.Shape.{Shape, cut, beyond, joined}
+use Rattle.sorted_blocks.proofs.Firsts.{led_long}
+use Rattle.sorted_blocks.proofs.Rooms.{room_more}
+use Rattle.sorted_blocks.proofs.Gone.{turned_away, beyond-cut, count-cut, kept_cut, led_cut, room_cut}
 use Rattle.sorted_blocks.proofs.store.Store.let_go_all.Goals as goal
 
-pub loop-left-init : goal.loop-left-init
-loop-left-init g c =
-    let bs = c.args.self.now.blocks in
-    let none : c.args.count - c.args.count ≡ 0 = omega arith in
-    record {
-      few = omega arith;
-      blocks = sym (ap (cut bs (c.args.block + c.args.count)) none ∙ cut_none bs (c.args.block + c.args.count));
-      spare = omega arith;
-      room = omega arith;
-    }
+pub cut_out-requires : goal.cut_out-requires
+cut_out-requires g c =
+    let bs = c.self.inside.used.items in
+    let e : c.args.self.now.blocks ≡ bs = sym (ap (λ (s : Shape g.row.T.Denot). s.blocks) c.self.view_is) in
+    omega (arith, c.requires, ap length e, c.self.inside.firsts.ok.0, led_long _ bs _ _ _ c.self.invariant.0.filled c.self.invariant.1)
 
-pub let_go-requires : goal.let_go-requires
-let_go-requires g c =
-    let kept = c.loop-left.invariant in
-    let long = length-cut c.args.self.now.blocks (c.args.block + c.loop-left.left) (c.args.count - c.loop-left.left) (omega (arith, kept.few, c.requires)) in
-    (lit< tt, omega (arith, long, ap length kept.blocks, kept.few, c.requires, c.loop-left-test.true))
+pub overflow_sub-self : goal.overflow_sub-self
+overflow_sub-self g c =
+    let bs = c.self.inside.used.items in
+    let half = g.row.HALF in
+    let e : c.args.self.now.blocks ≡ bs = sym (ap (λ (s : Shape g.row.T.Denot). s.blocks) c.self.view_is) in
+    omega (arith, c.weight-items.ensures.over, beyond-cut half c.args.self.now.blocks c.args.block c.args.count, ap (beyond half) e, c.self.invariant.0.over_is)
 
-pub loop-left-preserved : goal.loop-left-preserved
-loop-left-preserved g c =
-    let kept = c.loop-left.invariant in
-    let bs = c.args.self.now.blocks in
-    let left = c.loop-left.left - 1 in
-    let k = c.args.block + left in
-    let one : c.args.block + c.loop-left.left ≡ suc k = omega (arith, c.loop-left-test.true) in
-    let more : suc (c.args.count - c.loop-left.left) ≡ c.args.count - left = omega (arith, kept.few, c.loop-left-test.true) in
-    let long = length-cut bs (c.args.block + c.loop-left.left) (c.args.count - c.loop-left.left) (omega (arith, kept.few, c.requires)) in
-    let within : k < length c.loop-left.self.blocks = omega (arith, long, ap length kept.blocks, kept.few, c.requires, c.loop-left-test.true) in
-    record {
-      few = omega (arith, kept.few);
-      blocks = c.let_go.ensures.blocks ∙ ap (λ xs. remove xs k) (kept.blocks ∙ ap (λ n. cut bs n (c.args.count - c.loop-left.left)) one) ∙ remove-cut bs k (c.args.count - c.loop-left.left) (omega (arith, one, kept.few, c.requires)) ∙ ap (cut bs k) more;
-      spare = omega (arith, c.let_go.ensures.spare, kept.spare, more);
-      room = omega (arith, kept.room, room_gone g.row.HALF c.loop-left.self c.let_go.new.self k within c.let_go.ensures.blocks c.let_go.ensures.spare);
-    }
+pub overflow_sub-self-2 : goal.overflow_sub-self-2
+overflow_sub-self-2 g c =
+    let bs = c.self.inside.used.items in
+    let e : c.args.self.now.blocks ≡ bs = sym (ap (λ (s : Shape g.row.T.Denot). s.blocks) c.self.view_is) in
+    omega (arith, c.weight-items.ensures.items, count-cut c.args.self.now.blocks c.args.block c.args.count, ap (λ xs. length (joined xs)) e, c.self.invariant.0.count_is)
+
+pub invariant_of-self : goal.invariant_of-self
+invariant_of-self g c =
+    let bs = c.self.inside.used.items in
+    let i = c.args.block in
+    let n = c.args.count in
+    let e = ap (λ (s : Shape g.row.T.Denot). s.blocks) c.self.view_is in
+    let within : i + n ≤ length bs = rw e c.requires in
+    let long : length bs ≡ c.self.inside.used.len = omega (arith, c.self.inside.used.ok.0) in
+    let turned = c.turn_to_end.ensures ∙ ap (λ xs. take i xs ++ (drop n (drop i xs) ++ take n (drop i xs))) c.deref_mut.ensures.value in
+    let left = turned_away bs c.turn_to_end.new.items c.move_last.new.from.items i n c.self.inside.used.len long (omega (arith, within, long)) turned (drop (length c.turn_to_end.new.items) bs) c.move_last.ensures.left in
+    let half = g.row.HALF in
+    let over = c.weight-items.ensures.over ∙ sym (ap (λ xs. beyond half (take n (drop i xs))) e) in
+    let items = c.weight-items.ensures.items ∙ sym (ap (λ xs. length (joined (take n (drop i xs)))) e) in
+    let whole_over = beyond-cut half bs i n in
+    let whole_items = count-cut bs i n in
+    rw (left, c.cut_out.ensures.items) (kept_cut _ bs _ _ _ _ _ c.self.invariant.0 i n within _ _ _ _ _ c.move_last.ensures.moved (omega (arith, c.move_last.ensures.capacity)) (omega (arith, c.move_last.ensures.memory)) (omega (arith, over, whole_over, c.self.invariant.0.over_is)) (omega (arith, items, whole_items, c.self.invariant.0.count_is)), led_cut _ bs _ _ _ c.self.invariant.0.filled c.self.invariant.1 i n within _ _ c.move_last.ensures.moved (omega (arith, c.cut_out.ensures.capacity)))
 
 pub returns-clause-blocks : goal.returns-clause-blocks
 returns-clause-blocks g c =
-    let left : c.args.block + c.loop-left.left ≡ c.args.block = omega (arith, c.loop-left-test.false) in
-    let all : c.args.count - c.loop-left.left ≡ c.args.count = omega (arith, c.loop-left-test.false) in
-    c.loop-left.invariant.blocks ∙ ap₂ (λ i n. cut c.args.self.now.blocks i n) left all
+    let bs = c.self.inside.used.items in
+    let i = c.args.block in
+    let n = c.args.count in
+    let e = ap (λ (s : Shape g.row.T.Denot). s.blocks) c.self.view_is in
+    let within : i + n ≤ length bs = rw e c.requires in
+    let long : length bs ≡ c.self.inside.used.len = omega (arith, c.self.inside.used.ok.0) in
+    let turned = c.turn_to_end.ensures ∙ ap (λ xs. take i xs ++ (drop n (drop i xs) ++ take n (drop i xs))) c.deref_mut.ensures.value in
+    let left = turned_away bs c.turn_to_end.new.items c.move_last.new.from.items i n c.self.inside.used.len long (omega (arith, within, long)) turned (drop (length c.turn_to_end.new.items) bs) c.move_last.ensures.left in
+    left ∙ ap (λ xs. cut xs i n) e
+
+pub returns-clause-room : goal.returns-clause-room
+returns-clause-room g c =
+    let bs = c.self.inside.used.items in
+    let i = c.args.block in
+    let n = c.args.count in
+    let e = ap (λ (s : Shape g.row.T.Denot). s.blocks) c.self.view_is in
+    let within : i + n ≤ length bs = rw e c.requires in
+    let long : length bs ≡ c.self.inside.used.len = omega (arith, c.self.inside.used.ok.0) in
+    let turned = c.turn_to_end.ensures ∙ ap (λ xs. take i xs ++ (drop n (drop i xs) ++ take n (drop i xs))) c.deref_mut.ensures.value in
+    let left = turned_away bs c.turn_to_end.new.items c.move_last.new.from.items i n c.self.inside.used.len long (omega (arith, within, long)) turned (drop (length c.turn_to_end.new.items) bs) c.move_last.ensures.left in
+    let half = g.row.HALF in
+    let old = c.args.self.now in
+    let t : Shape g.row.T.Denot = record { blocks = c.move_last.new.from.items; spare = c.move_last.new.to.len } in
+    let here = room_cut half old i n c.requires in
+    let same = room_more half (record { blocks = cut old.blocks i n; spare = old.spare + n }) t (left ∙ ap (λ xs. cut xs i n) e) (omega (arith, c.move_last.ensures.moved, ap (λ (s : Shape g.row.T.Denot). s.spare) c.self.view_is)) in
+    omega (arith, here, same)
