@@ -1,90 +1,141 @@
--- Records whose only timers end at one time: their timers stand side by side among all.
-use Rattle.std.proofs.Common.{◌≡◌, ℕ, zero, suc, ◌+◌, ◌-◌, ◌≤◌, Bool, true, false, not, cond, List, [], ◌∷◌, Option, Some, None, ◌++◌, map, length, take, drop, get_or, refl, sym, ap, ◌∙◌, arith}
-use Rattle.std.specs.Prelude.{◌&&◌, nat_eq}
+-- Records whose only timers end at one time: their timers stand side by side among all, and go at once.
+use Rattle.std.proofs.Common.{◌≡◌, ℕ, zero, suc, ◌+◌, ◌-◌, ◌%◌, ◌<◌, ◌≤◌, Bool, true, false, not, cond, List, [], ◌∷◌, Option, Some, None, ◌++◌, map, length, take, drop, get_or, set, replicate, ltb, append-nil, Bor, refl, sym, ap, subst, ◌∙◌, arith}
+use Rattle.std.specs.Prelude.{◌&&◌, nat_eq, IfSome}
 use Rattle.std.specs.declared.cmp.Ordering.TheVariants.{Less}
 use Rattle.std.specs.Ordering.{ordering_then}
 use Rattle.std.specs.List.{filter}
-use Rattle.std.proofs.lemmas.Bool.{false≢true, eqb-true}
+use Rattle.std.proofs.lemmas.Bool.{false≢true, eqb-true, eqb-false, eq-eqb, ltb-true, ltb-false, lt-ltb, le-ltb, ne_eqb}
 use Rattle.std.proofs.lemmas.Cmp.{nat_cmp_total, tied_itself}
-use Rattle.std.proofs.lemmas.List.{length-map, get_or-map, length-take}
+use Rattle.std.proofs.lemmas.List.{length-map, length-append, get_or-map, get_or-set_same, get_or-set_other, get_or-append-add, get_or_append_left, get_or-replicate, length-set, get_or_past}
+use Rattle.std.proofs.lemmas.List.Elements.{filter-append, filter_agree}
 use Rattle.std.proofs.lemmas.List.Filters.{length-filter_both}
+use Rattle.pim_down.specs.declared.alike.Alike.{Alike}
 use Rattle.pim_down.specs.declared.deadline.Deadline.{Deadline}
 use Rattle.pim_down.specs.declared.deadline.TimerKind.TheVariants.{PendingTimer, ExpiryTimer}
 use Rattle.pim_down.specs.declared.held.Held.{Held}
 use Rattle.pim_down.specs.declared.held.Waiting.{Waiting}
 use Rattle.pim_down.specs.declared.key.Key.{Key}
-use Rattle.pim_down.specs.declared.store.Alike.{Alike}
+use Rattle.pim_down.specs.Alike.{only_of, is_time, is_of_slot, only_end, ends_at, in_slot, IsAlike, IsSlot, IsTable, with_one_of, with_one, taken_by, taken_in, tells_of, is_among_by, is_among}
 use Rattle.pim_down.specs.Key.{key_cmp}
 use Rattle.pim_down.specs.Records.{IsBelow, IsAscending}
 use Rattle.pim_down.specs.Schedule.{placed, all_placed, IsUnder, IsRising, IsRun, deadline_cmp, with_end, with_timers}
 use Rattle.pim_down.specs.Seen.{key_seen, record_seen, records_seen, waiting_seen}
 use Rattle.pim_down.specs.Ends.{pending_end}
-use Rattle.pim_down.specs.Store.{same_end, waits_not, ends_so, none_alike, first_of, alike_from}
-use Rattle.pim_down.proofs.Deadlines.{timers, timers_passed, timers_failed}
+use Rattle.pim_down.proofs.Deadlines.{timers, timers_passed, timers_failed, timers_split}
+use Rattle.pim_down.proofs.Ending.{filter_twice}
 
--- ---- what the test says
+-- ---- what the tests say
 
-both_true : (a b : Bool) → a && b ≡ true → (a ≡ true) × (b ≡ true)
-both_true true b e = (refl, e)
-both_true false b e = absurd (false≢true e)
+module _ where
+  -- the time of one that ends at it, and of no other
+  time_is : (end : ℕ) (only : Option ℕ) → is_time end only ≡ true → only ≡ Some end
+  time_is end None e = absurd (false≢true e)
+  time_is end (Some other) e = ap Some (sym (eqb-true end other e))
 
-only_end : (expires : Option ℕ) (pending : Option Waiting) (e : ℕ) → same_end expires (Some e) && waits_not pending ≡ true → (expires ≡ Some e) × (pending ≡ None)
-only_end None pending e is = absurd (false≢true is)
-only_end (Some a) None e is = (ap Some (eqb-true a e (both_true (nat_eq a e) true is).0), refl)
-only_end (Some a) (Some timer) e is = absurd (false≢true (both_true (nat_eq a e) false is).1)
-
--- ---- the records that are alike
-
-module _ {A : Type 0} where
-  -- with one more
-  abbrev one_more : Alike A → Held A → Alike A
-  one_more alike held = record { first = Some (first_of alike.first held.key); last = Some held.key; count = alike.count + 1 }
-
-  pub alike_count : (alike : Alike A) (records : List (Held A)) → (alike_from alike records).count ≡ alike.count + length records
-  unfolding alike_from
-  alike_count alike [] = omega arith
-  alike_count alike (held ∷ records) = let rest = alike_count (one_more alike held) records in omega (arith, rest)
-
-  pub counted : (alike : Alike A) (records : List (Held A)) → alike ≡ alike_from none_alike records → alike.count ≡ length records
-  counted alike records is = let all = alike_count (none_alike {A = A}) records in let same = ap (λ (a : Alike A). a.count) is in omega (arith, all, same)
-
-  kept_first : (key : Key A) (alike : Alike A) (records : List (Held A)) → alike.first ≡ Some key → (alike_from alike records).first ≡ Some key
-  unfolding alike_from
-  kept_first key alike [] e = e
-  kept_first key alike (held ∷ records) e = kept_first key (one_more alike held) records (ap (λ (first : Option (Key A)). Some (first_of first held.key)) e)
-
-  pub alike_first : (alike : Alike A) (held : Held A) (records : List (Held A)) → alike.first ≡ None → (alike_from alike (held ∷ records)).first ≡ Some held.key
-  unfolding alike_from
-  alike_first alike held records e = kept_first held.key (one_more alike held) records (ap (λ (first : Option (Key A)). Some (first_of first held.key)) e)
-
-  pub alike_last : (alike : Alike A) (held d : Held A) (records : List (Held A)) → (alike_from alike (held ∷ records)).last ≡ Some (get_or (held ∷ records) (length records) d).key
-  unfolding alike_from
-  alike_last alike held d [] = refl
-  alike_last alike held d (next ∷ records) = alike_last (one_more alike held) next d records
-
--- one more of those that are left
-module _ {A : Type 0} (test : Held A → Bool) (alike : Alike A) (left rest : List (Held A)) (held : Held A) (split : left ≡ held ∷ rest) where
-  pub alike_more : test held ≡ true → alike_from alike (filter test left) ≡ alike_from (one_more alike held) (filter test rest)
-  unfolding alike_from
-  alike_more is = ap (λ (xs : List (Held A)). alike_from alike (filter test xs)) split ∙ ap (alike_from alike) passes
+  -- one that ends at no time of a slot ends at none of these
+  not_there : (slot end : ℕ) (only : Option ℕ) → end % 16 ≡ slot → is_of_slot slot only ≡ false → is_time end only ≡ false
+  not_there slot end None of out = refl
+  not_there slot end (Some other) of out = by (nat_eq end other) refl
     where
-      passes : filter test (held ∷ rest) ≡ held ∷ filter test rest
-      passes = rw is refl
+      by : (b : Bool) → nat_eq end other ≡ b → nat_eq end other ≡ false
+      by true is = absurd (false≢true (sym out ∙ eq-eqb (other % 16) slot (ap (λ n. n % 16) (sym (eqb-true end other is)) ∙ of)))
+      by false is = is
 
-  pub alike_same : test held ≡ false → alike_from alike (filter test left) ≡ alike_from alike (filter test rest)
-  alike_same is = ap (λ (xs : List (Held A)). alike_from alike (filter test xs)) split ∙ ap (alike_from alike) fails
-    where
-      fails : filter test (held ∷ rest) ≡ filter test rest
-      fails = rw is refl
+  only_timer_is : (end : ℕ) (pending : Option Waiting) (expires : Option ℕ) → is_time end (only_of pending expires) ≡ true → (expires ≡ Some end) × (pending ≡ None)
+  only_timer_is end None expires e = (time_is end expires e, refl)
+  only_timer_is end (Some timer) expires e = absurd (false≢true e)
+
+-- ---- one record more
 
 module _ {X : Type 0} where
-  some_or : X → Option X → X
-  some_or x None = x
-  some_or x (Some y) = y
+  filter_out : (p : X → Bool) (xs : List X) (x : X) → p x ≡ false → filter p (xs ++ x ∷ []) ≡ filter p xs
+  filter_out p xs x e = filter-append p xs (x ∷ []) ∙ ap (λ (b : Bool). filter p xs ++ cond b (x ∷ []) []) e ∙ append-nil (filter p xs)
 
-  some_same : (x y : X) → Some x ≡ Some y → x ≡ y
-  unfolding some_or
-  some_same x y e = ap (some_or x) e
+  filter_in : (p : X → Bool) (xs : List X) (x : X) → p x ≡ true → filter p (xs ++ x ∷ []) ≡ filter p xs ++ x ∷ []
+  filter_in p xs x e = filter-append p xs (x ∷ []) ∙ ap (λ (b : Bool). filter p xs ++ cond b (x ∷ []) []) e
+
+  -- those that pass two tests
+  filter_and : (p q r : X → Bool) → ((x : X) → r x ≡ q x && p x) → (xs : List X) → filter p (filter q xs) ≡ filter r xs
+  filter_and p q r both [] = refl
+  filter_and p q r both (x ∷ xs) = by (filter_and p q r both xs) (q x) refl
+    where
+      by : filter p (filter q xs) ≡ filter r xs → (b : Bool) → q x ≡ b → filter p (cond b (x ∷ filter q xs) (filter q xs)) ≡ cond (r x) (x ∷ filter r xs) (filter r xs)
+      by rest true e = let same : r x ≡ p x = both x ∙ ap (λ (b : Bool). b && p x) e in rw (same, rest) refl
+      by rest false e = let fails : r x ≡ false = both x ∙ ap (λ (b : Bool). b && p x) e in rw (fails, rest) refl
+
+module _ {A : Type 0} where
+  one_alike : (end : ℕ) (held : Bor (Held A)) → IsAlike (record { ends_at = end; first = held; last = held; count = 1 }) (held.now ∷ [])
+  one_alike end held = record { some = omega arith; count = refl; first = λ d. refl; last = λ d. refl }
+
+  more_alike : (alike : Alike A) (records : List (Held A)) (held : Bor (Held A)) → IsAlike alike records → IsAlike (record { ends_at = alike.ends_at; first = alike.first; last = held; count = alike.count + 1 }) (records ++ held.now ∷ [])
+  more_alike alike records held is =
+      let long = length-append records (held.now ∷ []) in
+      let end : length (records ++ held.now ∷ []) - 1 ≡ length records + 0 = omega (arith, long) in
+      record {
+        some = omega arith;
+        count = omega (arith, long, is.count);
+        first = λ d. get_or_append_left records (held.now ∷ []) d 0 (omega (arith, is.some, is.count)) ∙ is.first d;
+        last = λ d. ap (λ (k : ℕ). get_or (records ++ held.now ∷ []) k d) end ∙ get_or-append-add records (held.now ∷ []) 0 d;
+      }
+
+  slot_same : (slot : ℕ) (s : Option (Alike A)) (records : List (Held A)) (held : Held A) → in_slot slot held ≡ false → IsSlot slot s records → IsSlot slot s (records ++ held ∷ [])
+  slot_same slot None records held out is = filter_out (in_slot slot) records held out ∙ is
+  slot_same slot (Some alike) records held out is = (is.0, subst (IsAlike alike) (sym (filter_out (ends_at alike.ends_at) records held (not_there slot alike.ends_at (only_end held) is.0 out))) is.1)
+
+  slot_more : (slot : ℕ) (s : Option (Alike A)) (records : List (Held A)) (held : Bor (Held A)) (end : ℕ) → only_end held.now ≡ Some end → end % 16 ≡ slot → IsSlot slot s records → IsSlot slot (with_one s end held) (records ++ held.now ∷ [])
+  slot_more slot None records held end ends of is =
+      let here : ends_at end held.now ≡ true = ap (is_time end) ends ∙ eq-eqb end end refl in
+      let none : filter (ends_at end) records ≡ [] = sym (filter_twice (ends_at end) (in_slot slot) (λ x. not_there slot end (only_end x) of) records) ∙ ap (filter (ends_at end)) is in
+      (of, subst (IsAlike (record { ends_at = end; first = held; last = held; count = 1 })) (sym (filter_in (ends_at end) records held.now here ∙ ap (λ (xs : List (Held A)). xs ++ held.now ∷ []) none)) (one_alike end held))
+  slot_more slot (Some alike) records held end ends of is = by (nat_eq alike.ends_at end) refl
+    where
+      by : (b : Bool) → nat_eq alike.ends_at end ≡ b → IsSlot slot (with_one_of b alike held) (records ++ held.now ∷ [])
+      by true same = (is.0, subst (IsAlike (record { ends_at = alike.ends_at; first = alike.first; last = held; count = alike.count + 1 })) (sym (filter_in (ends_at alike.ends_at) records held.now (ap (is_time alike.ends_at) ends ∙ same))) (more_alike alike (filter (ends_at alike.ends_at) records) held is.1))
+      by false other = (is.0, subst (IsAlike alike) (sym (filter_out (ends_at alike.ends_at) records held.now (ap (is_time alike.ends_at) ends ∙ other))) is.1)
+
+  pub table_more : (alikes : List (Option (Alike A))) (records : List (Held A)) (held : Bor (Held A)) → length alikes ≡ 16 → IsTable alikes records → IsTable (taken_in alikes held) (records ++ held.now ∷ [])
+  table_more alikes records held long is = by (only_end held.now) refl
+    where
+      by : (only : Option ℕ) → only_end held.now ≡ only → IsTable (taken_by alikes only held) (records ++ held.now ∷ [])
+      by None none slot lt = slot_same slot (get_or alikes slot None) records held.now (ap (is_of_slot slot) none) (is slot lt)
+      by (Some end) some slot lt = which (nat_eq (end % 16) slot) refl
+        where
+          new : Option (Alike A)
+          new = with_one (get_or alikes (end % 16) None) end held
+
+          which : (b : Bool) → nat_eq (end % 16) slot ≡ b → IsSlot slot (get_or (set alikes (end % 16) new) slot None) (records ++ held.now ∷ [])
+          which true here =
+              let same = eqb-true (end % 16) slot here in
+              let gets : get_or (set alikes (end % 16) new) slot None ≡ with_one (get_or alikes slot None) end held = ap (λ (k : ℕ). get_or (set alikes (end % 16) new) k None) (sym same) ∙ get_or-set_same alikes (end % 16) new None (omega (arith, same, lt, long)) ∙ ap (λ (k : ℕ). with_one (get_or alikes k None) end held) same in
+              subst (λ (s : Option (Alike A)). IsSlot slot s (records ++ held.now ∷ [])) (sym gets) (slot_more slot (get_or alikes slot None) records held end some same (is slot lt))
+          which false other =
+              subst (λ (s : Option (Alike A)). IsSlot slot s (records ++ held.now ∷ [])) (sym (get_or-set_other alikes (end % 16) slot new None (λ q. eqb-false (end % 16) slot other (sym q)))) (slot_same slot (get_or alikes slot None) records held.now (ap (is_of_slot slot) some ∙ other) (is slot lt))
+
+  pub table_none : (alikes : List (Option (Alike A))) → alikes ≡ replicate 16 None → IsTable alikes []
+  table_none alikes is slot lt = subst (λ (s : Option (Alike A)). IsSlot slot s []) (sym (ap (λ (xs : List (Option (Alike A))). get_or xs slot None) is ∙ get_or-replicate 16 slot None None lt)) refl
+
+  pub slot_some : (slot : ℕ) (s : Option (Alike A)) (records : List (Held A)) → IsSlot slot s records → IfSome s (λ alike. 1 ≤ alike.count)
+  slot_some slot None records is = tt
+  slot_some slot (Some alike) records is = is.1.some
+
+  pub table_long : (alikes : List (Option (Alike A))) (held : Bor (Held A)) → length (taken_in alikes held) ≡ length alikes
+  table_long alikes held = by (only_end held.now)
+    where
+      by : (only : Option ℕ) → length (taken_by alikes only held) ≡ length alikes
+      by None = refl
+      by (Some end) = length-set alikes (end % 16) (with_one (get_or alikes (end % 16) None) end held)
+
+  -- each slot tells of no more records than there are
+  pub table_few : (alikes : List (Option (Alike A))) (records : List (Held A)) → length alikes ≡ 16 → IsTable alikes records → length records < 2048 → (slot : ℕ) → IfSome (get_or alikes slot None) (λ alike. alike.count < 2048)
+  table_few alikes records long is few slot = which (ltb slot 16) refl
+    where
+      by : (s : Option (Alike A)) → IsSlot slot s records → IfSome s (λ alike. alike.count < 2048)
+      by None slot_is = tt
+      by (Some alike) slot_is = let count = slot_is.1.count in omega (arith, few, count, length-filter_both (ends_at alike.ends_at) (λ held. not (ends_at alike.ends_at held)) (λ x. refl) records)
+
+      which : (b : Bool) → ltb slot 16 ≡ b → IfSome (get_or alikes slot None) (λ alike. alike.count < 2048)
+      which true lt = by (get_or alikes slot None) (is slot (ltb-true slot 16 lt))
+      which false past = subst (λ (s : Option (Alike A)). IfSome s (λ alike. alike.count < 2048)) (sym (get_or_past alikes slot None (omega (arith, long, ltb-false slot 16 past)))) tt
 
 -- ---- a part of the records ascends
 
@@ -114,17 +165,17 @@ module _ {A : Type 0} (bytes_of : A → List ℕ) where
 
 module _ {A : Type 0} (bytes_of : A → List ℕ) (e : ℕ) where
   abbrev test : Held A → Bool
-  test = ends_so (Some e) true
+  test = ends_at e
 
   abbrev pub due : Held A → Deadline (List ℕ)
   due held = record { ends_at = e; timer = ExpiryTimer; key = key_seen bytes_of held.key }
 
   only_timer : (held : Held A) (ds : List (Deadline (List ℕ))) → test held ≡ true → with_timers (record_seen bytes_of held) ds ≡ placed deadline_cmp (due held) ds
   only_timer held ds is =
-      let only = only_end held.machine.expires_at held.machine.pending e is in
+      let only = only_timer_is e held.machine.pending held.machine.expires_at is in
       (λ k. with_end PendingTimer (key_seen bytes_of held.key) (pending_end (waiting_seen (only.1 k))) (with_end ExpiryTimer (key_seen bytes_of held.key) (only.0 k) ds))
 
-  pub all_due : (front run behind : List (Held A)) → timers bytes_of (front ++ (filter test run ++ behind)) ≡ all_placed deadline_cmp (map due (filter test run)) (timers bytes_of (front ++ behind))
+  all_due : (front run behind : List (Held A)) → timers bytes_of (front ++ (filter test run ++ behind)) ≡ all_placed deadline_cmp (map due (filter test run)) (timers bytes_of (front ++ behind))
   unfolding all_placed
   all_due front [] behind = refl
   all_due front (held ∷ run) behind = by (test held) refl (all_due front run behind)
@@ -169,38 +220,166 @@ module _ {A : Type 0} (bytes_of : A → List ℕ) (e : ℕ) where
 
   -- ---- they are a run from the first one to the last
 
-  pub due_run : (alike : Alike A) (run : List (Held A)) (first last : Key A) → IsAscending (records_seen bytes_of run) → alike ≡ alike_from none_alike (filter test run) → alike.first ≡ Some first → alike.last ≡ Some last → 1 ≤ alike.count → IsRun deadline_cmp (record { ends_at = e; timer = ExpiryTimer; key = key_seen bytes_of first }) (record { ends_at = e; timer = ExpiryTimer; key = key_seen bytes_of last }) alike.count (map due (filter test run))
-  due_run alike run first last ascending is begins ends some = by (filter test run) is (all_rising run ascending)
+  due_run : (alike : Alike A) (records : List (Held A)) → IsAlike alike records → IsRising deadline_cmp (map due records) → IsRun deadline_cmp (record { ends_at = e; timer = ExpiryTimer; key = key_seen bytes_of alike.first.now.key }) (record { ends_at = e; timer = ExpiryTimer; key = key_seen bytes_of alike.last.now.key }) alike.count (map due records)
+  due_run alike [] is rising = absurd (let some = is.some in let count = is.count in omega (arith, some, count))
+  due_run alike (held ∷ records) is rising =
+      let far : alike.count - 1 ≡ length (held ∷ records) - 1 = omega (arith, is.count) in
+      record {
+        rising = rising;
+        long = length-map (held ∷ records) due ∙ sym is.count;
+        some = is.some;
+        begins = λ d. ap due (is.first held);
+        ends = λ d. ap (λ k. get_or (map due (held ∷ records)) k d) far ∙ get_or-map due (held ∷ records) (length (held ∷ records) - 1) held d (omega arith) ∙ ap due (is.last held);
+      }
+
+  pub gone_at_once : (alike : Alike A) (front run behind : List (Held A)) (old new : List (Deadline (List ℕ))) → ((timers rest : List (Deadline (List ℕ))) → IsRun deadline_cmp (record { ends_at = e; timer = ExpiryTimer; key = key_seen bytes_of alike.first.now.key }) (record { ends_at = e; timer = ExpiryTimer; key = key_seen bytes_of alike.last.now.key }) alike.count timers → old ≡ all_placed deadline_cmp timers rest → new ≡ rest) → IsAscending (records_seen bytes_of run) → IsAlike alike (filter test run) → old ≡ timers bytes_of (front ++ (filter test run ++ behind)) → new ≡ timers bytes_of (front ++ behind)
+  gone_at_once alike front run behind old new taken ascending is put =
+      taken (map due (filter test run)) (timers bytes_of (front ++ behind)) (due_run alike (filter test run) is (all_rising run ascending)) (put ∙ all_due front run behind)
+
+-- ---- slot by slot
+
+module _ where
+  and_true : (b : Bool) → b && true ≡ b
+  and_true true = refl
+  and_true false = refl
+
+  not_same : (a b : ℕ) → b ≤ a → (a ≡ b → ⊥) → b + 1 ≤ a
+  not_same a b le apart = which (ltb b a) refl
     where
-      by : (records : List (Held A)) → alike ≡ alike_from none_alike records → IsRising deadline_cmp (map due records) → IsRun deadline_cmp (record { ends_at = e; timer = ExpiryTimer; key = key_seen bytes_of first }) (record { ends_at = e; timer = ExpiryTimer; key = key_seen bytes_of last }) alike.count (map due records)
-      by [] is rising = absurd (let none : alike.count ≡ 0 = ap (λ (a : Alike A). a.count) is ∙ alike_count (none_alike {A = A}) [] in omega (arith, some, none))
-      by (held ∷ records) is rising =
-          let long : alike.count ≡ suc (length records) = (let n = alike_count (none_alike {A = A}) (held ∷ records) in let m = ap (λ (a : Alike A). a.count) is in omega (arith, n, m)) in
-          let one : held.key ≡ first = some_same held.key first (sym (ap (λ (a : Alike A). a.first) is ∙ alike_first none_alike held records refl) ∙ begins) in
-          let other : (d : Held A) → (get_or (held ∷ records) (length records) d).key ≡ last = λ d. some_same _ last (sym (ap (λ (a : Alike A). a.last) is ∙ alike_last none_alike held d records) ∙ ends) in
-          let far : alike.count - 1 ≡ length records = omega (arith, long) in
-          record {
-            rising = rising;
-            long = length-map (held ∷ records) due ∙ sym long;
-            some = some;
-            begins = λ d. ap (λ (key : Key A). record { ends_at = e; timer = ExpiryTimer; key = key_seen bytes_of key }) one;
-            ends = λ d. ap (λ k. get_or (map due (held ∷ records)) k d) far ∙ get_or-map due (held ∷ records) (length records) held d (omega arith) ∙ ap (λ (key : Key A). record { ends_at = e; timer = ExpiryTimer; key = key_seen bytes_of key }) (other held);
-          }
+      which : (t : Bool) → ltb b a ≡ t → b + 1 ≤ a
+      which true is = let lt = ltb-true b a is in omega (arith, lt)
+      which false is = absurd (let other = ltb-false b a is in apart (omega (arith, le, other)))
 
-  pub gone_at_once : (end : Option ℕ) (alike : Alike A) (front run behind : List (Held A)) (first last : Key A) (old new : List (Deadline (List ℕ))) → end ≡ Some e → alike.first ≡ Some first → alike.last ≡ Some last → 1 ≤ alike.count → ((timers rest : List (Deadline (List ℕ))) → IsRun deadline_cmp (record { ends_at = e; timer = ExpiryTimer; key = key_seen bytes_of first }) (record { ends_at = e; timer = ExpiryTimer; key = key_seen bytes_of last }) alike.count timers → old ≡ all_placed deadline_cmp timers rest → new ≡ rest) → IsAscending (records_seen bytes_of run) → alike ≡ alike_from none_alike (filter (ends_so end true) run) → old ≡ timers bytes_of (front ++ (filter (ends_so end true) run ++ behind)) → new ≡ timers bytes_of (front ++ behind)
-  gone_at_once end alike front run behind first last old new some_end begins ends some taken ascending is put =
-      let same : alike ≡ alike_from none_alike (filter test run) = is ∙ ap (λ (end : Option ℕ). alike_from none_alike (filter (ends_so end true) run)) some_end in
-      taken (map due (filter test run)) (timers bytes_of (front ++ behind)) (due_run alike run first last ascending same begins ends some)
-      (put ∙ ap (λ (end : Option ℕ). timers bytes_of (front ++ (filter (ends_so end true) run ++ behind))) some_end ∙ all_due front run behind)
+module _ {A : Type 0} where
+  -- whether a record is told of in one of the first slots
+  told : ℕ → List (Option (Alike A)) → Option ℕ → Bool
+  told k alikes None = false
+  told k alikes (Some end) = ltb (end % 16) k && tells_of (get_or alikes (end % 16) None) end
 
--- ---- the others
+  pub untold : ℕ → List (Option (Alike A)) → Held A → Bool
+  untold k alikes held = not (told k alikes (only_end held))
 
--- there are none, where so many are alike as there can be
-module _ {X : Type 0} (is_so : X → Bool) where
-  none : (ys : List X) → length ys ≡ 0 → ys ≡ []
-  none [] e = refl
-  none (y ∷ ys) e = absurd (omega (arith, e))
+  -- where a slot that tells of none is passed
+  same_told : (k : ℕ) (alikes : List (Option (Alike A))) (only : Option ℕ) → k < length alikes → told (k + 1) (set alikes k None) only ≡ told k alikes only
+  unfolding told
+  same_told k alikes None lt = refl
+  same_told k alikes (Some end) lt = by (nat_eq (end % 16) k) refl (ltb (end % 16) k) refl
+    where
+      by : (b : Bool) → nat_eq (end % 16) k ≡ b → (c : Bool) → ltb (end % 16) k ≡ c → ltb (end % 16) (k + 1) && tells_of (get_or (set alikes k None) (end % 16) None) end ≡ ltb (end % 16) k && tells_of (get_or alikes (end % 16) None) end
+      by true here c less =
+          let same = eqb-true (end % 16) k here in
+          let empty : get_or (set alikes k None) (end % 16) None ≡ None = ap (λ (n : ℕ). get_or (set alikes k None) n None) same ∙ get_or-set_same alikes k None None lt in
+          rw (empty, lt-ltb (end % 16) (k + 1) (omega (arith, same)), le-ltb (end % 16) k (omega (arith, same))) refl
+      by false other true less =
+          let below = ltb-true (end % 16) k less in
+          rw (get_or-set_other alikes k (end % 16) None None (eqb-false (end % 16) k other), lt-ltb (end % 16) (k + 1) (omega (arith, below)), less) refl
+      by false other false less =
+          let more = not_same (end % 16) k (ltb-false (end % 16) k less) (eqb-false (end % 16) k other) in
+          rw (le-ltb (end % 16) (k + 1) (omega (arith, more)), less) refl
 
-  pub no_others : (xs : List X) (count : ℕ) → count ≤ length (filter is_so (take count xs)) → filter (λ x. not (is_so x)) (take count xs) ≡ []
-  no_others xs count all =
-      none (filter (λ x. not (is_so x)) (take count xs)) (omega (arith, all, length-filter_both is_so (λ x. not (is_so x)) (λ x. refl) (take count xs), length-take count xs))
+  -- where one that tells of some is passed, these are told of besides
+  more_told : (k : ℕ) (alikes : List (Option (Alike A))) (alike : Alike A) (only : Option ℕ) → k < length alikes → alike.ends_at % 16 ≡ k → not (told (k + 1) (set alikes k (Some alike)) only) ≡ not (told k alikes only) && not (is_time alike.ends_at only)
+  unfolding told
+  more_told k alikes alike None lt of = refl
+  more_told k alikes alike (Some end) lt of = by (nat_eq (end % 16) k) refl (ltb (end % 16) k) refl
+    where
+      elsewhere : nat_eq (end % 16) k ≡ false → nat_eq alike.ends_at end ≡ false
+      elsewhere other = ne_eqb alike.ends_at end (λ same. eqb-false (end % 16) k other (ap (λ n. n % 16) (sym same) ∙ of))
+
+      by : (b : Bool) → nat_eq (end % 16) k ≡ b → (c : Bool) → ltb (end % 16) k ≡ c → not (ltb (end % 16) (k + 1) && tells_of (get_or (set alikes k (Some alike)) (end % 16) None) end) ≡ not (ltb (end % 16) k && tells_of (get_or alikes (end % 16) None) end) && not (nat_eq alike.ends_at end)
+      by true here c less =
+          let same = eqb-true (end % 16) k here in
+          let full : get_or (set alikes k (Some alike)) (end % 16) None ≡ Some alike = ap (λ (n : ℕ). get_or (set alikes k (Some alike)) n None) same ∙ get_or-set_same alikes k (Some alike) None lt in
+          rw (full, lt-ltb (end % 16) (k + 1) (omega (arith, same)), le-ltb (end % 16) k (omega (arith, same))) refl
+      by false other true less =
+          let below = ltb-true (end % 16) k less in
+          rw (elsewhere other, get_or-set_other alikes k (end % 16) (Some alike) None (eqb-false (end % 16) k other), lt-ltb (end % 16) (k + 1) (omega (arith, below)), less) (sym (and_true (not (tells_of (get_or alikes (end % 16) None) end))))
+      by false other false less =
+          let more = not_same (end % 16) k (ltb-false (end % 16) k less) (eqb-false (end % 16) k other) in
+          rw (elsewhere other, le-ltb (end % 16) (k + 1) (omega (arith, more)), less) refl
+
+  -- and none of them was told of before
+  not_yet : (k : ℕ) (alikes : List (Option (Alike A))) (alike : Alike A) (only : Option ℕ) → alike.ends_at % 16 ≡ k → not (told k alikes only) ≡ false → is_time alike.ends_at only ≡ false
+  unfolding told
+  not_yet k alikes alike None of is = refl
+  not_yet k alikes alike (Some end) of is = ne_eqb alike.ends_at end (λ same. less (ltb (end % 16) k) refl (ap (λ n. n % 16) (sym same) ∙ of))
+    where
+      less : (b : Bool) → ltb (end % 16) k ≡ b → end % 16 ≡ k → ⊥
+      less true lt here = let below = ltb-true (end % 16) k lt in absurd (omega (arith, below, here))
+      less false lt here = false≢true (sym (sym (ap (λ (b : Bool). not (b && tells_of (get_or alikes (end % 16) None) end)) lt) ∙ is))
+
+  -- of all slots
+  all_told : (alikes : List (Option (Alike A))) (only : Option ℕ) → told 16 alikes only ≡ is_among_by alikes only
+  unfolding told
+  all_told alikes None = refl
+  all_told alikes (Some end) = rw (lt-ltb (end % 16) 16 (omega arith)) refl
+
+  -- of none
+  none_told : (alikes : List (Option (Alike A))) (only : Option ℕ) → told 0 alikes only ≡ false
+  unfolding told
+  none_told alikes None = refl
+  none_told alikes (Some end) = rw (le-ltb (end % 16) 0 (omega arith)) refl
+
+-- the timers of the records told of in the first slots are gone
+module _ {A : Type 0} (bytes_of : A → List ℕ) (old : List (Option (Alike A))) (front run behind : List (Held A)) where
+  pub record AreGone (now : List (Option (Alike A))) (k : ℕ) (left : List (Deadline (List ℕ))) (gone : ℕ) : Type 0 where
+    pub long : length now ≡ 16
+    pub later : (i : ℕ) → k ≤ i → get_or now i None ≡ get_or old i None
+    pub timers_left : left ≡ timers bytes_of (front ++ (filter (untold k now) run ++ behind))
+    pub count : gone + length (filter (untold k now) run) ≡ length run
+
+  all_untold : (now : List (Option (Alike A))) (records : List (Held A)) → filter (untold 0 now) records ≡ records
+  unfolding untold
+  all_untold now [] = refl
+  all_untold now (held ∷ records) = let one = none_told now (only_end held) in rw (one, all_untold now records) refl
+
+  pub none_gone : (left : List (Deadline (List ℕ))) → length old ≡ 16 → left ≡ timers bytes_of (front ++ (run ++ behind)) → AreGone old 0 left 0
+  none_gone left long is =
+      let all = all_untold old run in
+      record {
+        long = long;
+        later = λ i le. refl;
+        timers_left = is ∙ ap (λ (xs : List (Held A)). timers bytes_of (front ++ (xs ++ behind))) (sym all);
+        count = omega (arith, ap length all);
+      }
+
+  pub slot_gone : (now : List (Option (Alike A))) (k : ℕ) (left left2 : List (Deadline (List ℕ))) (gone result : ℕ) (slot : Option (Alike A)) → k < 16 → IsTable old run → IsAscending (records_seen bytes_of run) → AreGone now k left gone
+      → IfSome slot (λ alike. get_or now k None ≡ Some alike) → IfSome slot (λ alike. result ≡ alike.count)
+      → IfSome slot (λ alike. (front2 run2 behind2 : List (Held A)) → IsAscending (records_seen bytes_of run2) → IsAlike alike (filter (ends_at alike.ends_at) run2) → left ≡ timers bytes_of (front2 ++ (filter (ends_at alike.ends_at) run2 ++ behind2)) → left2 ≡ timers bytes_of (front2 ++ behind2))
+      → (slot ≡ None → left2 ≡ left) → (slot ≡ None → result ≡ 0) → AreGone (set now k slot) (k + 1) left2 (gone + result)
+  unfolding untold
+  slot_gone now k left left2 gone result None lt table ascending is same count taken stays none =
+      let agree = filter_agree (untold (k + 1) (set now k None)) (untold k now) (λ held. ap not (same_told k now (only_end held) (omega (arith, is.long, lt)))) run in
+      let zero = none refl in
+      record {
+        long = length-set now k None ∙ is.long;
+        later = λ i le. get_or-set_other now k i None None (λ e. absurd (omega (arith, e, le))) ∙ is.later i (omega (arith, le));
+        timers_left = stays refl ∙ is.timers_left ∙ ap (λ (xs : List (Held A)). timers bytes_of (front ++ (xs ++ behind))) (sym agree);
+        count = omega (arith, is.count, zero, ap length agree);
+      }
+  slot_gone now k left left2 gone result (Some alike) lt table ascending is same count taken stays none =
+      let here : get_or old k None ≡ Some alike = sym (is.later k (omega arith)) ∙ same in
+      let slot = subst (λ (s : Option (Alike A)). IsSlot k s run) here (table k lt) in
+      let test = ends_at alike.ends_at in
+      let before = filter (untold k now) run in
+      let these : filter test before ≡ filter test run = filter_twice test (untold k now) (λ held. not_yet k now alike (only_end held) slot.0) run in
+      let rest : filter (λ held. not (test held)) before ≡ filter (untold (k + 1) (set now k (Some alike))) run = filter_and (λ held. not (test held)) (untold k now) (untold (k + 1) (set now k (Some alike))) (λ held. more_told k now alike (only_end held) (omega (arith, is.long, lt)) slot.0) run in
+      let parted = is.timers_left ∙ timers_split bytes_of test front before behind ∙ ap (λ (xs : List (Held A)). timers bytes_of (front ++ (xs ++ (filter (λ held. not (test held)) before ++ behind)))) these in
+      record {
+        long = length-set now k (Some alike) ∙ is.long;
+        later = λ i le. get_or-set_other now k i (Some alike) None (λ e. absurd (omega (arith, e, le))) ∙ is.later i (omega (arith, le));
+        timers_left = taken front run (filter (λ held. not (test held)) before ++ behind) ascending slot.1 parted ∙ ap (λ (xs : List (Held A)). timers bytes_of (front ++ (xs ++ behind))) rest;
+        count = omega (arith, is.count, count, slot.1.count, ap length these, ap length rest, length-filter_both test (λ held. not (test held)) (λ x. refl) before);
+      }
+
+  -- at last, those that are left are those that aren't among the records told of
+  pub all_gone : (now : List (Option (Alike A))) (left : List (Deadline (List ℕ))) (gone : ℕ) → AreGone now 16 left gone → (left ≡ timers bytes_of (front ++ (filter (λ held. not (is_among now held)) run ++ behind))) × (gone + length (filter (λ held. not (is_among now held)) run) ≡ length run)
+  unfolding untold
+  all_gone now left gone is =
+      let agree = filter_agree (untold 16 now) (λ held. not (is_among now held)) (λ held. ap not (all_told now (only_end held))) run in
+      (is.timers_left ∙ ap (λ (xs : List (Held A)). timers bytes_of (front ++ (xs ++ behind))) agree, omega (arith, is.count, ap length agree))
+
+-- none is left, where as many are gone as there were
+pub no_rest : {X : Type 0} (xs ys : List X) (gone : ℕ) → gone + length xs ≡ length ys → length ys ≤ gone → xs ≡ []
+no_rest [] ys gone all le = refl
+no_rest (x ∷ xs) ys gone all le = absurd (omega (arith, all, le))

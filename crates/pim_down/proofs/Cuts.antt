@@ -1,7 +1,7 @@
 -- A list without some of its items, and a run of items that go one after the other.
 use Rattle.std.proofs.Common.{◌≡◌, ℕ, zero, suc, ◌+◌, ◌-◌, ◌<◌, ◌≤◌, List, [], ◌∷◌, ◌++◌, length, take, drop, get_or, refl, sym, ap, subst, ◌∙◌, arith}
 use Rattle.std.specs.List.{remove, slice_get, AllByRecursion}
-use Rattle.std.proofs.lemmas.List.{length-take, length-take-le, length-append, length-drop, take-append-drop, take-take, drop-drop, get_or-drop, get_or-append_right}
+use Rattle.std.proofs.lemmas.List.{length-take, length-take-le, length-append, length-drop, take-append-drop, take-take, drop-drop, get_or-drop, get_or-take, get_or-append_right, take_more}
 use Rattle.std.proofs.lemmas.List.Edits.{remove-append_right}
 use Rattle.std.proofs.lemmas.Option.{slice_get_past}
 use Rattle.sorted_blocks.specs.Shape.{cut}
@@ -146,3 +146,13 @@ module _ {X : Type 0} (P : X → Type 0) where
       let behind = length-drop n (take most xs) in
       let long = ap length (sym are.left_is ∙ none) in
       omega (arith, few, behind, some, more, long)
+
+  -- with the next one
+  pub next_taken : (xs : List X) (most n : ℕ) (left rest : List X) (x : X) → left ≡ x ∷ rest → ArePassed (take most xs) n left → take (n + 1) xs ≡ take n xs ++ x ∷ []
+  next_taken xs most n left rest x split are =
+      let few = length-take most xs in
+      let behind = length-drop n (take most xs) in
+      let long = ap length (sym are.left_is ∙ split) in
+      let none : n + 0 ≡ n = omega arith in
+      let here : get_or xs n x ≡ x = sym (get_or-take most xs n x (omega (arith, few, behind, long))) ∙ ap (λ (k : ℕ). get_or (take most xs) k x) (sym none) ∙ sym (get_or-drop n (take most xs) 0 x) ∙ ap (λ (ys : List X). get_or ys 0 x) (sym are.left_is ∙ split) in
+      take_more xs n x (omega (arith, few, behind, long)) ∙ ap (λ (y : X). take n xs ++ y ∷ []) here

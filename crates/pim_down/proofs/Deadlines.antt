@@ -221,8 +221,8 @@ module _ {A : Type 0} (bytes_of : A → List ℕ) where
         by false e rest = rw e (ap (with_timers (record_seen bytes_of held)) rest ∙ sym (timers_in (filter test run) (filter others run ++ behind) held))
 
     -- those of a run that pass a test, then the others, then what stands behind
-    pub timers_parted : (items : List (Held A)) (i count : ℕ) → timers items ≡ timers (take i items ++ (filter test (take count (drop i items)) ++ (filter others (take count (drop i items)) ++ drop (i + count) items)))
-    timers_parted items i count = ap timers (sym (whole items i count)) ∙ timers_front (take i items) _ _ (parted (take count (drop i items)) (drop (i + count) items))
+    pub timers_split : (front run behind : List (Held A)) → timers (front ++ (run ++ behind)) ≡ timers (front ++ (filter test run ++ (filter others run ++ behind)))
+    timers_split front run behind = timers_front front _ _ (parted run behind)
 
     -- one more of those that are left of a run
     pub timers_passed : (front behind left rest : List (Held A)) (held : Held A) → left ≡ held ∷ rest → test held ≡ true → timers (front ++ (filter test left ++ behind)) ≡ with_timers (record_seen bytes_of held) (timers (front ++ (filter test rest ++ behind)))

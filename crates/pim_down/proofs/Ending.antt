@@ -48,7 +48,7 @@ module _ {X : Type 0} where
   filter_whole p [] passes = refl
   filter_whole p (x ∷ xs) passes = let first : p x ≡ true = passes 0 x (omega arith) in rw first (ap (λ (rest : List X). x ∷ rest) (filter_whole p xs (λ k d w. passes (suc k) d (omega arith))))
 
-  filter_twice : (p q : X → Bool) → ((x : X) → q x ≡ false → p x ≡ false) → (xs : List X) → filter p (filter q xs) ≡ filter p xs
+  pub filter_twice : (p q : X → Bool) → ((x : X) → q x ≡ false → p x ≡ false) → (xs : List X) → filter p (filter q xs) ≡ filter p xs
   filter_twice p q less [] = refl
   filter_twice p q less (x ∷ xs) = by (filter_twice p q less xs) (q x) refl
     where
@@ -144,7 +144,7 @@ module _ {A : Type 0} (bytes_of : A → List ℕ) (port : ℕ) (group : List ℕ
   over_by held t e f = ap (λ b. b && is_temporary held.machine.state) e ∙ f
 
   -- a run of them is one of (S,G,rpt) records of the port
-  over_on : (held : Held A) → IsOver held → IsRptOn port held
+  pub over_on : (held : Held A) → IsOver held → IsRptOn port held
   over_on held is others =
       let one = and_parts (is_rpt_of port group (record_seen bytes_of held).key) (is_temporary held.machine.state) is in
       let of_port = and_parts (is_rpt_on port (record_seen bytes_of held).key) (pointwise eqb (bytes_of held.key.group) group) one.0 in
@@ -155,10 +155,6 @@ module _ {A : Type 0} (bytes_of : A → List ℕ) (port : ℕ) (group : List ℕ
       alike Star e = e
       alike (Source source) e = e
       alike (Rpt source) e = e
-
-  pub over_run : (run : List (Held A)) → AllByRecursion IsOver run → AllByRecursion (IsRptOn port) run
-  over_run [] all = tt
-  over_run (held ∷ run) all = (over_on held all.0, over_run run all.1)
 
   pub ends_none : (items : List (Held A)) (i : ℕ) → IsAscending (records_seen bytes_of items) → ((k : ℕ) (d : Held A) → k < i → k < length items → is_rpt_of port group (record_seen bytes_of (get_or items k d)).key ≡ false) → AreBehind bytes_of port group items i → EndsTo items items i
   ends_none items i a before behind = record {

@@ -8,7 +8,6 @@ use Rattle.sorted_blocks.specs.declared.place.Place.{Place}
 use Rattle.sorted_slab.specs.Listed.{Listed, at, IsPlace as IsListPlace, IsItem}
 use Rattle.pim_down.specs.declared.held.Held.{Held}
 use Rattle.pim_down.specs.declared.held.Waiting.{Waiting}
-use Rattle.pim_down.specs.declared.store.Alike.{Alike}
 use Rattle.pim_down.specs.declared.key.Key.{Key}
 use Rattle.pim_down.specs.declared.machine.State.{State}
 use Rattle.pim_down.specs.Hearing.{is_rpt_on, rpt_count_on}
@@ -35,37 +34,6 @@ in_state state held = record {
   key = held.key;
   machine = record { state = state; expires_at = held.machine.expires_at; pending = held.machine.pending };
 }
-
--- whether two timers end at one time; `None` is never
-abbrev pub same_end : Option ℕ → Option ℕ → Bool
-same_end None None = true
-same_end None (Some b) = false
-same_end (Some a) None = false
-same_end (Some a) (Some b) = nat_eq a b
-
--- whether there is none
-abbrev pub waits_not : Option Waiting → Bool
-waits_not None = true
-waits_not (Some timer) = false
-
--- whether the record's expiry timer ends at this time and is its only one, or whether that isn't so
-abbrev pub ends_so : {A : Type 0} → Option ℕ → Bool → Held A → Bool
-ends_so end true held = same_end held.machine.expires_at end && waits_not held.machine.pending
-ends_so end false held = not (same_end held.machine.expires_at end && waits_not held.machine.pending)
-
--- the first of some records, the last, and their number
-module _ {A : Type 0} where
-  abbrev pub none_alike : Alike A
-  none_alike = record { first = None; last = None; count = 0 }
-
-  abbrev pub first_of : Option (Key A) → Key A → Key A
-  first_of None key = key
-  first_of (Some first) key = first
-
-  unfoldable pub alike_from : Alike A → List (Held A) → Alike A
-  alike_from alike [] = alike
-  alike_from alike (held ∷ records) =
-      alike_from (record { first = Some (first_of alike.first held.key); last = Some held.key; count = alike.count + 1 }) records
 
 -- how a record stands to a bound: before it or behind it
 abbrev pub side : Bool → Ordering

@@ -11,6 +11,7 @@ ghost use Rattle.pim_down.specs.Seen.{record_seen, records_seen};
 ghost use Rattle.pim_down.specs.Sound.{is_temporary};
 
 use crate::again::is_joined_again;
+use crate::alike::Test;
 use crate::hear::{RptsOf, is_rpt_of};
 use crate::held::Held;
 use crate::key::OfFamily;
@@ -19,10 +20,6 @@ use crate::store::Store;
 use pim_addr::Family;
 use pim_jp::JpView;
 use sorted_blocks::Place;
-
-/// So many machines are let go of at once: they are gone through several times, and are few enough to stay at hand, and
-/// what stands behind them moves once for all of them.
-const AT_ONCE: usize = 2048;
 
 /// Whether a machine has the state only while a message is heard.
 fn is_temporary(state: State) -> bool
@@ -38,32 +35,22 @@ fn is_over_in<F: Family>(held: &Held<F::Addr>, port: usize, group: F::Addr) -> b
     is_rpt_of::<F>(&held.key, port, group) && is_temporary(held.machine.state)
 }
 
-/// How many machines side by side, from this one on, end with the message as it does, up to so many as are let go of at
-/// once.
-fn count_over<F: Family>(
-    records: &Store<F::Addr, OfFamily<F>>,
-    place: Place,
+/// The (S,G,rpt) machines of a group on a port that end with the message.
+#[derive(Drop)]
+struct OverIn<F: Family> {
     port: usize,
     group: F::Addr,
-) -> usize
-    requires place { IsPlace records.now place }
-    requires within { at records.now place < length records.now.items }
-    requires first { (d : Held F.Addr) → is_over_in port (F.bytes_of group)
-        (record_seen F.bytes_of (slice_index_or records.now.items (at records.now place) d)) ≡ true }
-    ensures some { 1 ≤ result }
-    ensures within { at records.now place + result ≤ length records.now.items }
-    ensures over { AllByRecursion
-        (λ held. is_over_in port (F.bytes_of group) (record_seen F.bytes_of held) ≡ true)
-        (take result (drop (at records.now place) records.now.items)) }
-{
-    let mut count = 0;
-    for held in records.walk(place, AT_ONCE) {
-        if !is_over_in::<F>(held, port, group) {
-            return count;
-        }
-        count += 1;
+}
+
+impl<F: Family> Test<F::Addr> for OverIn<F> {
+    ghost use Rattle.pim_down.specs.Running.{is_over_in};
+    ghost use Rattle.pim_down.specs.Seen.{record_seen};
+
+    ghost passes = { λ over held. is_over_in over.port (F.bytes_of over.group) (record_seen F.bytes_of held) };
+
+    fn passes(&self, held: &Held<F::Addr>) -> bool {
+        is_over_in::<F>(held, self.port, self.group)
     }
-    count
 }
 
 /// End of Message comes to the (S,G,rpt) machines of a group. It goes through these alone.
@@ -76,6 +63,7 @@ pub(crate) fn end_group<F: Family>(
     ensures { records_seen F.bytes_of records.new.items
         ≡ filter (λ held. not (is_over_in port (F.bytes_of group) held)) (records_seen F.bytes_of records.old.items) }
 {
+    let over = OverIn::<F> { port, group };
     let mut place = records.first_behind(&RptsOf::<F> { port, group });
     while records.is_item(place) {
         let held = records.get(place);
@@ -83,8 +71,8 @@ pub(crate) fn end_group<F: Family>(
             return;
         }
         if is_temporary(held.machine.state) {
-            let count = count_over::<F>(records, place, port, group);
-            place = records.remove_run(place, count, port);
+            let (_count, behind) = records.remove_run::<OverIn<F>>(place, port, &over);
+            place = behind;
         } else {
             place = records.next(place);
         }

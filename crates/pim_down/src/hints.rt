@@ -1,6 +1,6 @@
 //! Where to begin to look for a timer. These are hints, of which no contract knows: whatever place one names, what is found is the same.
 
-ghost use Rattle.std.specs.Prelude.{◌<◌};
+ghost use Rattle.std.specs.Prelude.{◌≡◌, ◌%◌};
 
 use crate::deadline::{Ending, TimerKind};
 use sorted_blocks::Place;
@@ -54,9 +54,9 @@ pub(crate) struct Taken {
     ends: [Hint; 16],
 }
 
-/// Which hint is that for timers with this end.
-fn slot_of_end(ends_at: u64) -> usize
-    ensures { result < 16 }
+/// Which of sixteen slots is that of timers with this end.
+pub(crate) fn slot_of_end(ends_at: u64) -> usize
+    ensures { result ≡ ends_at % 16 }
 {
     (ends_at % 16) as usize
 }

@@ -10,6 +10,7 @@
 
 mod after;
 mod again;
+mod alike;
 mod blocks;
 mod deadline;
 mod edits;

@@ -134,6 +134,41 @@ fn hear_list<F: Family>(
     starred
 }
 
+/// Where to begin to look for what a list names: where the list before it ended, or, where sets of one group follow one another, the
+/// same list of the set before.
+#[derive(Drop)]
+struct Begin<F: Family> {
+    group: Option<F::Addr>,
+    joined: Place,
+    pruned: Place,
+}
+
+impl<F: Family> Begin<F> {
+    /// The beginning.
+    fn new() -> Self {
+        Begin {
+            group: None,
+            joined: Place::START,
+            pruned: Place::START,
+        }
+    }
+
+    /// A set of this group comes.
+    fn meet(&mut self, group: F::Addr) {
+        if self.group != Some(group) {
+            self.joined = self.pruned;
+        }
+    }
+
+    /// The joined sources of a set of this group were looked for.
+    fn turn(&mut self, group: F::Addr) {
+        if self.group != Some(group) {
+            self.pruned = self.joined;
+            self.group = Some(group);
+        }
+    }
+}
+
 /// How many entries of these sets make a record that isn't held.
 pub(crate) fn count_sets<F: Family>(
     records: &Store<F::Addr, OfFamily<F>>,
@@ -147,12 +182,14 @@ pub(crate) fn count_sets<F: Family>(
     ensures bound { result ≤ 33422850 }
 {
     let _most = sets.count_left();
-    let mut near = Place::START;
+    let mut near = Begin::<F>::new();
     let mut count = 0;
     for set in sets {
         let group = set.group();
-        let joined = count_list::<F>(records, &mut near, port, routes, true, group, set.joined());
-        let pruned = count_list::<F>(records, &mut near, port, routes, false, group, set.pruned());
+        near.meet(group);
+        let joined = count_list::<F>(records, &mut near.joined, port, routes, true, group, set.joined());
+        near.turn(group);
+        let pruned = count_list::<F>(records, &mut near.pruned, port, routes, false, group, set.pruned());
         count += joined + pruned;
     }
     count
@@ -181,14 +218,15 @@ pub(crate) fn hear_sets<F: Family>(
         ≡ has_star_join (known_in F.family routes.now) (slice_index_or message.now.sets i d) }
 {
     let _most = message.set_count();
-    let mut near = Place::START;
+    let mut near = Begin::<F>::new();
     let mut joined = [false; 256];
     let mut stars = Stars::new(repeat);
     for set in message.sets() {
         let group = set.group();
+        near.meet(group);
         let starred = hear_list::<F>(
             records,
-            &mut near,
+            &mut near.joined,
             port,
             start,
             routes,
@@ -198,9 +236,10 @@ pub(crate) fn hear_sets<F: Family>(
             message,
             &mut stars,
         );
+        near.turn(group);
         let _none = hear_list::<F>(
             records,
-            &mut near,
+            &mut near.pruned,
             port,
             start,
             routes,

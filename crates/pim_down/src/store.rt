@@ -12,12 +12,13 @@ ghost use Rattle.pim_down.specs.Hearing.{rpt_count_on};
 ghost use Rattle.pim_down.specs.Records.{count_on, IsAscending};
 ghost use Rattle.pim_down.specs.Schedule.{deadline_seen, timers_of};
 ghost use Rattle.pim_down.specs.Seen.{records_seen};
-ghost use Rattle.pim_down.specs.Store.{IsRptOn, in_state, ends_so, none_alike, first_of, alike_from};
+ghost use Rattle.pim_down.specs.Store.{IsRptOn, in_state};
 
+use crate::alike::{Test, stop_run};
 use crate::blocks::{HALF_OF_RECORDS, HALF_OF_TIMERS};
-use crate::deadline::{Deadline, TimerKind};
+use crate::deadline::Deadline;
 use crate::held::{Held, Timed};
-use crate::key::{Key, KeyOrder};
+use crate::key::KeyOrder;
 use crate::machine::State;
 use crate::rows::{Bound, Rows};
 use crate::schedule::Schedule;
@@ -48,185 +49,6 @@ impl<A: Copy, O: KeyOrder<A>> Model for Store<A, O> {
     ghost view = { λ s. record { index = s.rows.index; items = s.rows.items; capacity = min s.rows.capacity s.room } };
 
     ghost invariant = { λ s. IsTimed O.bytes_of s.rows s.schedule s.room };
-}
-
-/// Whether the record's expiry timer ends at this time and is its only one, or whether that isn't so, as is asked for. `None` is
-/// never.
-fn ends_so<A>(held: &Held<A>, end: Option<u64>, same: bool) -> bool
-    ensures { result ≡ ends_so end same held.now }
-{
-    let is_same = match (held.machine.expires_at, end) {
-        (Some(a), Some(b)) => a == b,
-        (None, None) => true,
-        _ => false,
-    };
-    let waits = match held.machine.pending {
-        Some(_) => true,
-        None => false,
-    };
-    let is_so = is_same && !waits;
-    if same {
-        return is_so;
-    }
-    !is_so
-}
-
-/// Records whose only timers end at one time: the first of them, the last, and how many they are.
-#[derive(Clone, Copy)]
-struct Alike<A> {
-    first: Option<Key<A>>,
-    last: Option<Key<A>>,
-    count: usize,
-}
-
-/// The first one's key: this one's, where there was none before.
-fn first_of<A: Copy>(first: Option<Key<A>>, key: Key<A>) -> Key<A>
-    ensures { result ≡ first_of first key }
-{
-    match first {
-        Some(first) => first,
-        None => key,
-    }
-}
-
-/// Those of so many records from this place on whose expiry timer ends at this time and is their only one.
-fn alike_of<A: Copy>(rows: &Rows<A>, place: Place, count: usize, end: Option<u64>) -> Alike<A>
-    requires { IsPlace rows.now place }
-    ensures { result ≡ alike_from none_alike
-        (filter (ends_so end true) (take count (drop (at rows.now place) rows.now.items))) }
-{
-    let mut alike = Alike {
-        first: None,
-        last: None,
-        count: 0,
-    };
-    for held in rows.walk(place, count) {
-        if ends_so(held, end, true) {
-            alike = Alike {
-                first: Some(first_of(alike.first, held.key)),
-                last: Some(held.key),
-                count: alike.count + 1,
-            };
-        }
-    }
-    alike
-}
-
-/// Takes out the timers of such records at once, where they stand side by side. The answer is whether they did.
-fn stop_at_once<A: Copy, O: KeyOrder<A>>(
-    schedule: &mut Schedule<A, O, HALF_OF_TIMERS>,
-    end: Option<u64>,
-    alike: Alike<A>,
-) -> bool
-    ensures taken { result ≡ true → (front run behind : List (Held A)) → IsAscending (records_seen O.bytes_of run) →
-        alike ≡ alike_from none_alike (filter (ends_so end true) run) → schedule.old.timers
-        ≡ timers_of (records_seen O.bytes_of (front ++ (filter (ends_so end true) run ++ behind)))
-        → schedule.new.timers ≡ timers_of (records_seen O.bytes_of (front ++ behind)) }
-    ensures left { result ≡ false → schedule.new.timers ≡ schedule.old.timers }
-    ensures capacity { schedule.new.capacity ≡ schedule.old.capacity }
-{
-    let Some(ends_at) = end else {
-        return false;
-    };
-    let (first, last, count) = (alike.first, alike.last, alike.count);
-    let Some(first) = first else {
-        return false;
-    };
-    let Some(last) = last else {
-        return false;
-    };
-    if count == 0 {
-        return false;
-    }
-    let timer = TimerKind::ExpiryTimer;
-    let from = Deadline {
-        ends_at,
-        timer,
-        key: first,
-    };
-    let to = Deadline {
-        ends_at,
-        timer,
-        key: last,
-    };
-    schedule.take_run(&from, &to, count)
-}
-
-/// Takes out the timers of those of so many records from this place on whose expiry timer ends at this time and is their only
-/// one, or of the others.
-fn stop_those<A: Copy, O: KeyOrder<A>>(
-    rows: &Rows<A>,
-    schedule: &mut Schedule<A, O, HALF_OF_TIMERS>,
-    place: Place,
-    count: usize,
-    end: Option<u64>,
-    same: bool,
-)
-    requires place { IsPlace rows.now place }
-    ensures timers { (front behind : List (Held A)) → schedule.old.timers
-        ≡ timers_of (records_seen O.bytes_of
-        (front ++ (filter (ends_so end same) (take count (drop (at rows.now place) rows.now.items)) ++ behind)))
-        → schedule.new.timers ≡ timers_of (records_seen O.bytes_of (front ++ behind)) }
-    ensures capacity { schedule.new.capacity ≡ schedule.old.capacity }
-{
-    for held in rows.walk(place, count) {
-        if ends_so(held, end, same) {
-            schedule.stop_all(held);
-        }
-    }
-}
-
-/// Takes out the timers of those whose expiry timer ends at this time and is their only one: all at once where they stand side
-/// by side, else one by one. The answer is how many these are.
-fn stop_alike<A: Copy, O: KeyOrder<A>>(
-    rows: &Rows<A>,
-    schedule: &mut Schedule<A, O, HALF_OF_TIMERS>,
-    place: Place,
-    count: usize,
-    end: Option<u64>,
-) -> usize
-    requires place { IsPlace rows.now place }
-    requires ascending { IsAscending (records_seen O.bytes_of rows.now.items) }
-    ensures timers { (front behind : List (Held A)) → schedule.old.timers
-        ≡ timers_of (records_seen O.bytes_of
-        (front ++ (filter (ends_so end true) (take count (drop (at rows.now place) rows.now.items)) ++ behind)))
-        → schedule.new.timers ≡ timers_of (records_seen O.bytes_of (front ++ behind)) }
-    ensures capacity { schedule.new.capacity ≡ schedule.old.capacity }
-    ensures count { result
-        ≡ length (filter (ends_so end true) (take count (drop (at rows.now place) rows.now.items))) }
-{
-    let alike = alike_of::<A>(rows, place, count, end);
-    if !stop_at_once::<A, O>(schedule, end, alike) {
-        stop_those::<A, O>(rows, schedule, place, count, end, true);
-    }
-    alike.count
-}
-
-/// Takes out the timers of so many records from this place on: first of those that expire together with the first one and
-/// have no other timer, then of the rest, if there is any. So timers mostly go in the order in which they stand, also where
-/// records that expire at two times take turns.
-fn stop_run<A: Copy, O: KeyOrder<A>>(
-    rows: &Rows<A>,
-    schedule: &mut Schedule<A, O, HALF_OF_TIMERS>,
-    place: Place,
-    count: usize,
-)
-    requires place { IsPlace rows.now place }
-    requires ascending { IsAscending (records_seen O.bytes_of rows.now.items) }
-    requires timers { schedule.old.timers ≡ timers_of (records_seen O.bytes_of rows.now.items) }
-    ensures timers { schedule.new.timers
-        ≡ timers_of (records_seen O.bytes_of (cut rows.now.items (at rows.now place) count)) }
-    ensures capacity { schedule.new.capacity ≡ schedule.old.capacity }
-{
-    let end = if rows.is_item(place) {
-        rows.get(place).machine.expires_at
-    } else {
-        None
-    };
-    let alike = stop_alike::<A, O>(rows, schedule, place, count, end);
-    if alike < count {
-        stop_those::<A, O>(rows, schedule, place, count, end, false);
-    }
 }
 
 impl<A: Copy, O: KeyOrder<A>> Store<A, O> {
@@ -314,21 +136,33 @@ impl<A: Copy, O: KeyOrder<A>> Store<A, O> {
         self.rows.remove(place)
     }
 
-    /// Takes out so many records from this place on, all of them (S,G,rpt) ones of this port. The answer is the place of
-    /// the one that came behind them.
-    pub(crate) fn remove_run(&mut self, place: Place, count: usize, port: usize) -> Place
+    /// Takes out the records from this place on that pass the test, up to the first that doesn't, and up to so many as are
+    /// let go of at once, all of them (S,G,rpt) ones of this port. The answer is how many they are, and the place of the one
+    /// that came behind them.
+    pub(crate) fn remove_run<T: Test<A>>(
+        &mut self,
+        place: Place,
+        port: usize,
+        test: &T,
+    ) -> (usize, Place)
         requires place { IsPlace self.old place }
-        requires within { at self.old place + count ≤ length self.old.items }
-        requires own { AllByRecursion (IsRptOn port) (take count (drop (at self.old place) self.old.items)) }
+        requires within { at self.old place < length self.old.items }
+        requires first { (d : Held A) →
+            T.passes test.now (slice_index_or self.old.items (at self.old place) d) ≡ true }
+        requires own { (held : Held A) → T.passes test.now held ≡ true → IsRptOn port held }
         requires ascending { IsAscending (records_seen O.bytes_of self.old.items) }
-        ensures items { self.new.items ≡ cut self.old.items (at self.old place) count }
+        ensures some { 1 ≤ result.0 }
+        ensures within { at self.old place + result.0 ≤ length self.old.items }
+        ensures passed { AllByRecursion (λ held. T.passes test.now held ≡ true)
+            (take result.0 (drop (at self.old place) self.old.items)) }
+        ensures items { self.new.items ≡ cut self.old.items (at self.old place) result.0 }
         ensures capacity { self.new.capacity ≡ self.old.capacity }
-        ensures place { IsPlace self.new result }
-        ensures at { at self.new result ≡ at self.old place }
-        ensures item { at self.new result < length self.new.items → IsItem self.new result }
+        ensures place { IsPlace self.new result.1 }
+        ensures at { at self.new result.1 ≡ at self.old place }
+        ensures item { at self.new result.1 < length self.new.items → IsItem self.new result.1 }
     {
-        stop_run::<A, O>(&self.rows, &mut self.schedule, place, count);
-        self.rows.remove_run(place, count, port)
+        let count = stop_run::<A, O, T>(&self.rows, &mut self.schedule, place, test);
+        (count, self.rows.remove_run(place, count, port))
     }
 
     /// Gives the record at this place another machine; its key stays.

@@ -1,0 +1,12 @@
+use Rattle.std.proofs.Common.{◌≡◌, true, length, take, drop}
+use Rattle.sorted_slab.specs.Listed.{at}
+use Rattle.pim_down.specs.Alike.{IsTable}
+use Rattle.pim_down.proofs.Cuts.{ArePassed}
+use Rattle.pim_down.proofs.alike.gather.Given as goal
+
+abbrev pub invariant-loop-held : goal.invariant-loop-held
+invariant-loop-held g l = record {
+  passed : ArePassed (λ held. g.T.Test.passes l.test held ≡ true) (take 2048 (drop (at l.rows l.fn.place) l.rows.items)) l.count l.held-iterator;
+  long : length l.alikes ≡ 16;
+  table : IsTable l.alikes (take l.count (drop (at l.rows l.fn.place) l.rows.items));
+}

@@ -1,0 +1,250 @@
+//! The timers of records that stand side by side and go together: of those that end at one time all at once.
+
+ghost use Rattle.std.specs.Prelude.{◌≡◌, ℕ, List, ◌+◌, ◌%◌, ◌<◌, ◌≤◌, [], ◌++◌, true, false, not, length, take, drop};
+ghost use Rattle.std.specs.Prelude.{Option, None, Some, replicate, slice_index_or, slice_set, IfSome};
+ghost use Rattle.std.specs.List.{AllByRecursion, filter};
+ghost use Rattle.sorted_blocks.specs.Shape.{cut};
+ghost use Rattle.sorted_slab.specs.Listed.{at, IsPlace};
+ghost use Rattle.pim_down.specs.declared.held.Held.{Held};
+ghost use Rattle.pim_down.specs.Alike.{only_end, ends_at, with_one, taken_in, is_among, IsAlike, IsTable};
+ghost use Rattle.pim_down.specs.Records.{IsAscending};
+ghost use Rattle.pim_down.specs.Schedule.{timers_of};
+ghost use Rattle.pim_down.specs.Seen.{records_seen};
+
+use crate::blocks::HALF_OF_TIMERS;
+use crate::deadline::{Deadline, TimerKind};
+use crate::held::Held;
+use crate::hints::slot_of_end;
+use crate::key::KeyOrder;
+use crate::rows::Rows;
+use crate::schedule::Schedule;
+use sorted_blocks::Place;
+
+/// So many records are let go of at once: they are gone through twice at most, and are few enough to stay at hand, and what
+/// stands behind them moves once for all of them.
+const AT_ONCE: usize = 2048;
+
+/// A test of records.
+pub(crate) trait Test<A> {
+    ghost use Rattle.std.specs.Prelude.{Bool};
+    ghost use Rattle.pim_down.specs.declared.held.Held.{Held};
+
+    /// Whether a record passes.
+    ghost passes: { Self → Held A → Bool };
+
+    /// Whether a record passes.
+    fn passes(&self, held: &Held<A>) -> bool
+        ensures { result ≡ passes self.now held.now };
+}
+
+/// Records whose only timers end at one time: when that is, the first of them, the last, and how many they are.
+#[derive(Clone, Copy)]
+pub(crate) struct Alike<'a, A> {
+    ends_at: u64,
+    first: &'a Held<A>,
+    last: &'a Held<A>,
+    count: usize,
+}
+
+/// When a record's expiry timer ends, where it is its only timer.
+fn only_end<A>(held: &Held<A>) -> Option<u64>
+    ensures { result ≡ only_end held.now }
+{
+    match held.machine.pending {
+        Some(_) => None,
+        None => held.machine.expires_at,
+    }
+}
+
+/// Takes in one more record that ends at this time, where those of the slot do, or where there is none.
+fn add<'a, A: Copy>(slot: &mut Option<Alike<'a, A>>, ends_at: u64, held: &'a Held<A>)
+    requires { IfSome slot.old (λ alike. alike.count < 2048) }
+    ensures { slot.new ≡ with_one slot.old ends_at held.entry }
+{
+    match slot {
+        Some(alike) => {
+            if alike.ends_at == ends_at {
+                alike.last = held;
+                alike.count += 1;
+            }
+        }
+        None => {
+            *slot = Some(Alike {
+                ends_at,
+                first: held,
+                last: held,
+                count: 1,
+            });
+        }
+    }
+}
+
+/// Takes in one more record, where it has one timer alone and no others have its slot.
+fn take_in<'a, A: Copy>(alikes: &mut [Option<Alike<'a, A>>; 16], held: &'a Held<A>)
+    requires { (slot : ℕ) → IfSome (slice_index_or alikes.old slot None)
+        (λ alike. alike.count < 2048) }
+    ensures { alikes.new ≡ taken_in alikes.old held.entry }
+{
+    match only_end(held) {
+        Some(ends_at) => add(&mut alikes[slot_of_end(ends_at)], ends_at, held),
+        None => {}
+    }
+}
+
+/// Whether the record is among those that are taken in.
+fn is_among<A>(alikes: &[Option<Alike<'_, A>>; 16], held: &Held<A>) -> bool
+    ensures { result ≡ is_among alikes.now held.now }
+{
+    let Some(ends_at) = only_end(held) else {
+        return false;
+    };
+    match &alikes[slot_of_end(ends_at)] {
+        Some(alike) => alike.ends_at == ends_at,
+        None => false,
+    }
+}
+
+/// Takes in the records from this place on that pass the test, up to the first that doesn't, and up to so many as are let
+/// go of at once. The answer is how many pass.
+fn gather<'a, A: Copy, T: Test<A>>(
+    rows: &'a Rows<A>,
+    place: Place,
+    test: &T,
+    alikes: &mut [Option<Alike<'a, A>>; 16],
+) -> usize
+    requires place { IsPlace rows.now place }
+    requires within { at rows.now place < length rows.now.items }
+    requires first { (d : Held A) → T.passes test.now (slice_index_or rows.now.items (at rows.now place) d) ≡ true }
+    requires none { alikes.old ≡ replicate 16 None }
+    ensures some { 1 ≤ result }
+    ensures within { at rows.now place + result ≤ length rows.now.items }
+    ensures passed { AllByRecursion (λ held. T.passes test.now held ≡ true)
+        (take result (drop (at rows.now place) rows.now.items)) }
+    ensures long { length alikes.new ≡ 16 }
+    ensures table { IsTable alikes.new (take result (drop (at rows.now place) rows.now.items)) }
+{
+    let mut count = 0;
+    for held in rows.walk(place, AT_ONCE) {
+        if !test.passes(held) {
+            return count;
+        }
+        count += 1;
+        take_in(alikes, held);
+    }
+    count
+}
+
+/// Takes out the timers of records that are alike, where these stand side by side. The answer is whether they did.
+fn stop_alike<A: Copy, O: KeyOrder<A>>(
+    schedule: &mut Schedule<A, O, HALF_OF_TIMERS>,
+    alike: &Alike<'_, A>,
+) -> bool
+    requires { 1 ≤ alike.now.count }
+    ensures taken { result ≡ true → (front run behind : List (Held A)) → IsAscending (records_seen O.bytes_of run) →
+        IsAlike alike.now (filter (ends_at alike.now.ends_at) run) → schedule.old.timers
+        ≡ timers_of (records_seen O.bytes_of (front ++ (filter (ends_at alike.now.ends_at) run ++ behind)))
+        → schedule.new.timers ≡ timers_of (records_seen O.bytes_of (front ++ behind)) }
+    ensures left { result ≡ false → schedule.new.timers ≡ schedule.old.timers }
+    ensures capacity { schedule.new.capacity ≡ schedule.old.capacity }
+{
+    let timer = TimerKind::ExpiryTimer;
+    let from = Deadline {
+        ends_at: alike.ends_at,
+        timer,
+        key: alike.first.key,
+    };
+    let to = Deadline {
+        ends_at: alike.ends_at,
+        timer,
+        key: alike.last.key,
+    };
+    schedule.take_run(&from, &to, alike.count)
+}
+
+/// Takes out the timers of the records of a slot, where these stand side by side; else the slot has none from then on. The
+/// answer is how many they are.
+fn stop_slot<A: Copy, O: KeyOrder<A>>(
+    schedule: &mut Schedule<A, O, HALF_OF_TIMERS>,
+    alikes: &mut [Option<Alike<'_, A>>; 16],
+    slot: usize,
+) -> usize
+    requires slot { slot < 16 }
+    requires some { IfSome (slice_index_or alikes.old slot None) (λ alike. 1 ≤ alike.count) }
+    ensures others { alikes.new ≡ slice_set alikes.old slot (slice_index_or alikes.new slot None) }
+    ensures same { IfSome (slice_index_or alikes.new slot None)
+        (λ alike. slice_index_or alikes.old slot None ≡ Some alike) }
+    ensures count { IfSome (slice_index_or alikes.new slot None) (λ alike. result ≡ alike.count) }
+    ensures taken { IfSome (slice_index_or alikes.new slot None) (λ alike. (front run behind : List (Held A)) →
+        IsAscending (records_seen O.bytes_of run) → IsAlike alike (filter (ends_at alike.ends_at) run) →
+        schedule.old.timers
+        ≡ timers_of (records_seen O.bytes_of (front ++ (filter (ends_at alike.ends_at) run ++ behind)))
+        → schedule.new.timers ≡ timers_of (records_seen O.bytes_of (front ++ behind))) }
+    ensures left { slice_index_or alikes.new slot None ≡ None → schedule.new.timers ≡ schedule.old.timers }
+    ensures none { slice_index_or alikes.new slot None ≡ None → result ≡ 0 }
+    ensures capacity { schedule.new.capacity ≡ schedule.old.capacity }
+{
+    let Some(alike) = alikes[slot] else {
+        return 0;
+    };
+    if stop_alike::<A, O>(schedule, &alike) {
+        return alike.count;
+    }
+    alikes[slot] = None;
+    0
+}
+
+/// Takes out the timers of those of so many records from this place on that aren't among these.
+fn stop_rest<A: Copy, O: KeyOrder<A>>(
+    rows: &Rows<A>,
+    schedule: &mut Schedule<A, O, HALF_OF_TIMERS>,
+    place: Place,
+    count: usize,
+    alikes: &[Option<Alike<'_, A>>; 16],
+)
+    requires place { IsPlace rows.now place }
+    ensures timers { (front behind : List (Held A)) → schedule.old.timers
+        ≡ timers_of (records_seen O.bytes_of (front
+        ++ (filter (λ held. not (is_among alikes.now held)) (take count (drop (at rows.now place) rows.now.items)) ++ behind)))
+        → schedule.new.timers ≡ timers_of (records_seen O.bytes_of (front ++ behind)) }
+    ensures capacity { schedule.new.capacity ≡ schedule.old.capacity }
+{
+    for held in rows.walk(place, count) {
+        if !is_among(alikes, held) {
+            schedule.stop_all(held);
+        }
+    }
+}
+
+/// Takes out the timers of the records from this place on that pass the test, up to the first that doesn't, and up to so many
+/// as are let go of at once: first of those that end at one time and have no other timer, for up to sixteen times, then of
+/// the rest, if there is any. The answer is how many records they are.
+pub(crate) fn stop_run<A: Copy, O: KeyOrder<A>, T: Test<A>>(
+    rows: &Rows<A>,
+    schedule: &mut Schedule<A, O, HALF_OF_TIMERS>,
+    place: Place,
+    test: &T,
+) -> usize
+    requires place { IsPlace rows.now place }
+    requires within { at rows.now place < length rows.now.items }
+    requires first { (d : Held A) → T.passes test.now (slice_index_or rows.now.items (at rows.now place) d) ≡ true }
+    requires ascending { IsAscending (records_seen O.bytes_of rows.now.items) }
+    requires timers { schedule.old.timers ≡ timers_of (records_seen O.bytes_of rows.now.items) }
+    ensures some { 1 ≤ result }
+    ensures within { at rows.now place + result ≤ length rows.now.items }
+    ensures passed { AllByRecursion (λ held. T.passes test.now held ≡ true)
+        (take result (drop (at rows.now place) rows.now.items)) }
+    ensures timers { schedule.new.timers
+        ≡ timers_of (records_seen O.bytes_of (cut rows.now.items (at rows.now place) result)) }
+    ensures capacity { schedule.new.capacity ≡ schedule.old.capacity }
+{
+    let mut alikes = [None; 16];
+    let count = gather::<A, T>(rows, place, test, &mut alikes);
+    let mut gone = 0;
+    for slot in 0..16 {
+        gone += stop_slot::<A, O>(schedule, &mut alikes, slot);
+    }
+    if gone < count {
+        stop_rest::<A, O>(rows, schedule, place, count, &alikes);
+    }
+    count
+}
