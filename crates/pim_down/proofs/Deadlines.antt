@@ -24,7 +24,7 @@ use Rattle.pim_down.specs.Key.{key_cmp}
 use Rattle.pim_down.specs.Schedule.{placed, without, IsInOrder, timer_rank, deadline_cmp, deadline_seen, end_of, with_end, with_timers, timers_of, Scheduled, IsTimed}
 use Rattle.pim_down.specs.Seen.{timed_seen, key_seen, record_seen, records_seen}
 use Rattle.pim_down.proofs.Counts.{one_longer}
-use Rattle.pim_down.proofs.Cuts.{whole, length_cut, first_within, first_at, first_gone}
+use Rattle.pim_down.proofs.Cuts.{length_cut, first_within, first_at, first_gone}
 use Rattle.pim_down.proofs.Lists.{map_remove}
 use Rattle.pim_down.proofs.Order.{key_total, both_equal, equal_keys}
 use Rattle.pim_down.proofs.InOrder.{le_itself, greater_le, in_order_at, placed_swap, order_placed, length_placed, without_placed, length_without, insert_is, remove_is, gap_without}

@@ -1,5 +1,5 @@
 -- The records of all ports as they are kept: in a list with places, and with counts of each port's.
-use Rattle.std.specs.Prelude.{◌≡◌, ℕ, ◌<◌, ◌≤◌, Bool, true, false, not, ◌&&◌, nat_eq, ◌+◌, List, [], ◌∷◌, length, slice_index_or, Option, None, Some}
+use Rattle.std.specs.Prelude.{◌≡◌, ℕ, ◌<◌, ◌≤◌, Bool, true, false, List, length, slice_index_or}
 use Rattle.std.specs.Prelude.{Result, Ok, Err}
 use Rattle.std.specs.declared.cmp.Ordering.{Ordering}
 use Rattle.std.specs.declared.cmp.Ordering.TheVariants.{Less, Greater}
@@ -7,7 +7,6 @@ use Rattle.std.specs.List.Sorted.{IsPartitionPoint}
 use Rattle.sorted_blocks.specs.declared.place.Place.{Place}
 use Rattle.sorted_slab.specs.Listed.{Listed, at, IsPlace as IsListPlace, IsItem}
 use Rattle.pim_down.specs.declared.held.Held.{Held}
-use Rattle.pim_down.specs.declared.held.Waiting.{Waiting}
 use Rattle.pim_down.specs.declared.key.Key.{Key}
 use Rattle.pim_down.specs.declared.machine.State.{State}
 use Rattle.pim_down.specs.Hearing.{is_rpt_on, rpt_count_on}

@@ -79,7 +79,7 @@ fn add<'a, A: Copy>(slot: &mut Option<Alike<'a, A>>, ends_at: u64, held: &'a Hel
     }
 }
 
-/// Takes in one more record, where it has one timer alone and no others have its slot.
+/// Takes in one more record, where its expiry timer is its only one and its slot has none that end at another time.
 fn take_in<'a, A: Copy>(alikes: &mut [Option<Alike<'a, A>>; 16], held: &'a Held<A>)
     requires { (slot : ℕ) → IfSome (slice_index_or alikes.old slot None)
         (λ alike. alike.count < 2048) }
@@ -91,7 +91,7 @@ fn take_in<'a, A: Copy>(alikes: &mut [Option<Alike<'a, A>>; 16], held: &'a Held<
     }
 }
 
-/// Whether the record is among those that are taken in.
+/// Whether a slot has the records that end with this one, where its expiry timer is its only one.
 fn is_among<A>(alikes: &[Option<Alike<'_, A>>; 16], held: &Held<A>) -> bool
     ensures { result ≡ is_among alikes.now held.now }
 {
@@ -216,8 +216,8 @@ fn stop_rest<A: Copy, O: KeyOrder<A>>(
 }
 
 /// Takes out the timers of the records from this place on that pass the test, up to the first that doesn't, and up to so many
-/// as are let go of at once: first of those that end at one time and have no other timer, for up to sixteen times, then of
-/// the rest, if there is any. The answer is how many records they are.
+/// as are let go of at once: first of those that end at one time and have no other timer, for up to sixteen times with a slot
+/// each, then of the rest, if there is any, one by one. The answer is how many records they are.
 pub(crate) fn stop_run<A: Copy, O: KeyOrder<A>, T: Test<A>>(
     rows: &Rows<A>,
     schedule: &mut Schedule<A, O, HALF_OF_TIMERS>,

@@ -187,9 +187,25 @@ pub(crate) fn count_sets<F: Family>(
     for set in sets {
         let group = set.group();
         near.meet(group);
-        let joined = count_list::<F>(records, &mut near.joined, port, routes, true, group, set.joined());
+        let joined = count_list::<F>(
+            records,
+            &mut near.joined,
+            port,
+            routes,
+            true,
+            group,
+            set.joined(),
+        );
         near.turn(group);
-        let pruned = count_list::<F>(records, &mut near.pruned, port, routes, false, group, set.pruned());
+        let pruned = count_list::<F>(
+            records,
+            &mut near.pruned,
+            port,
+            routes,
+            false,
+            group,
+            set.pruned(),
+        );
         count += joined + pruned;
     }
     count

@@ -1,5 +1,5 @@
 -- No record that is told is longer than a record may be.
-use Rattle.std.proofs.Common.{◌≡◌, ◌≤◌, ◌||◌, ℕ, Bool, true, false, List, Option, None, Some, Result, Ok, Err, nat_lt, if◌then◌else◌, refl, arith, ◌==◌, take, drop, length, ◌⊎◌, inl, inr, sym, is_some, IfSome}
+use Rattle.std.proofs.Common.{◌≡◌, ◌≤◌, ◌||◌, ℕ, Bool, true, false, List, Option, None, Some, Result, Ok, Err, nat_lt, if◌then◌else◌, refl, arith, ◌==◌, take, drop, length, inl, inr, is_some, IfSome}
 use Rattle.std.proofs.lemmas.Bool.Decides.{nat_tests}
 use Rattle.std.specs.Option.{option_map}
 use Rattle.pim_capture.specs.declared.fault.CaptureFault.{CaptureFault}

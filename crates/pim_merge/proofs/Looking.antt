@@ -1,13 +1,9 @@
 -- Reading the heads of captures, one after the other.
-use Rattle.std.proofs.Common.{◌≡◌, ◌<◌, ◌≤◌, ◌+◌, ◌∙◌, ◌∷◌, ◌++◌, [], ℕ, zero, suc, List, Option, None, Some, Ok, Err, length, get_or, set, take, drop, map, is_some, refl, sym, ap, subst, arith, add-one, add-zero}
+use Rattle.std.proofs.Common.{◌≡◌, ◌<◌, ◌≤◌, ◌+◌, ◌∙◌, ◌∷◌, ◌++◌, [], ℕ, zero, suc, List, None, Some, length, get_or, set, take, drop, map, refl, sym, ap, subst, arith}
 use Rattle.std.specs.List.{AllByRecursion}
-use Rattle.std.specs.Option.{option_map}
-use Rattle.std.proofs.lemmas.List.{map-set, set-get_or, get_or-map, length-map, take_more_set, take_all, take-set, drop-set-lt, drop-drop}
-use Rattle.pim_capture.specs.declared.fault.CaptureFault.{CaptureFault}
-use Rattle.pim_capture.specs.Capture.{Told, packet, skipped, ended, Answer}
-use Rattle.pim_capture.specs.Next.{in_front}
-use Rattle.pim_merge.specs.Merge.{head_of, or_fault, fault_from, turn_or, turn, fails}
-use Rattle.pim_merge.specs.Lane.{LaneState, coming_on, IsComing, IsLooked, lane_left, records_to_come, lane_at, no_lane, failures_of, with_head}
+use Rattle.std.proofs.lemmas.List.{map-set, set-get_or, get_or-map, take_more_set, drop-set-lt, drop-drop}
+use Rattle.pim_capture.specs.Capture.{Answer}
+use Rattle.pim_merge.specs.Lane.{LaneState, coming_on, IsComing, IsLooked, lane_left, records_to_come, failures_of}
 use Rattle.pim_merge.specs.Looks.{StillComes}
 
 -- ---- lists of captures

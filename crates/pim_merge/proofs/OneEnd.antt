@@ -3,7 +3,7 @@ use Rattle.std.proofs.Common.{◌≡◌, ◌∙◌, ◌∷◌, [], ℕ, List, Op
 use Rattle.pim_capture.specs.declared.fault.CaptureFault.{CaptureFault}
 use Rattle.pim_capture.specs.Capture.{Told, Answer}
 use Rattle.pim_merge.specs.declared.clock.Clock.{Clock}
-use Rattle.pim_merge.specs.Merge.{Taken, IsMerge, ending, fails, takes, ends, turn, clock_after, moment_of, time_told, after_turn}
+use Rattle.pim_merge.specs.Merge.{Taken, IsMerge, ending, fails, takes, clock_after, moment_of, time_told, after_turn}
 
 takes_capture : (c d : ℕ) (t u : Told) → takes c t ≡ takes d u → c ≡ d
 takes_capture c d t u same = cc

@@ -1,5 +1,5 @@
 -- The first of several heads of least time.
-use Rattle.std.proofs.Common.{◌≡◌, ◌∷◌, ◌<◌, ◌≤◌, ◌+◌, ◌∙◌, ℕ, suc, List, Option, None, Some, length, get_or, drop, map, nat_lt, refl, sym, ap, arith, add-one}
+use Rattle.std.proofs.Common.{◌≡◌, ◌∷◌, ◌<◌, ◌≤◌, ◌+◌, ◌∙◌, ℕ, suc, List, Option, None, Some, length, get_or, drop, map, refl, ap, arith, add-one}
 use Rattle.std.proofs.lemmas.Bool.Decides.{nat_tests}
 use Rattle.std.proofs.lemmas.List.{drop_more, drop_all}
 use Rattle.pim_merge.specs.Merge.{sooner, numbered, earliest_from}

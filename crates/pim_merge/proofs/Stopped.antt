@@ -1,14 +1,14 @@
 -- Where the head of a capture can't be read.
-use Rattle.std.proofs.Common.{◌≡◌, ◌<◌, ◌≤◌, ◌+◌, ◌∙◌, ◌∷◌, [], ℕ, List, Some, Err, length, get_or, set, drop, map, refl, sym, ap, subst, arith, add-zero, ◌⊎◌, inl, inr}
+use Rattle.std.proofs.Common.{◌≡◌, ◌<◌, ◌≤◌, ◌∙◌, ◌∷◌, [], ℕ, List, Err, length, get_or, set, drop, sym, ap, subst, arith, add-zero, inl, inr}
 use Rattle.std.specs.Bool.{⊤}
 use Rattle.std.proofs.lemmas.List.{map-set, set-get_or, get_or-drop, get_or_default, get_or-set_same}
 use Rattle.pim_capture.specs.declared.fault.CaptureFault.{CaptureFault}
 use Rattle.pim_capture.specs.Capture.{Answer}
 use Rattle.pim_capture.specs.Next.{IsRefusal, CountsReads}
 use Rattle.pim_merge.specs.Merge.{turn, fails}
-use Rattle.pim_merge.specs.Lane.{LaneState, coming_on, IsComing, lane_left, records_to_come, lane_at, no_lane, failures_of}
+use Rattle.pim_merge.specs.Lane.{LaneState, IsComing, lane_left, records_to_come, lane_at, no_lane, failures_of}
 use Rattle.pim_merge.specs.Looks.{IsToldOrRefused}
-use Rattle.pim_merge.specs.Next.{with_fault, IsCause, CountsFailures}
+use Rattle.pim_merge.specs.Next.{IsCause, CountsFailures}
 use Rattle.pim_merge.proofs.Looking.{one_comes, total_with, IsLookedUpTo}
 use Rattle.pim_merge.proofs.Turning.{turns_to_fault}
 

@@ -1,5 +1,5 @@
 -- The turn that takes the head that was found.
-use Rattle.std.proofs.Common.{◌≡◌, ◌<◌, ◌≤◌, ◌+◌, ◌∙◌, ◌∷◌, [], ℕ, List, Option, None, Some, Ok, length, get_or, set, map, refl, sym, ap, subst, arith}
+use Rattle.std.proofs.Common.{◌≡◌, ◌<◌, ◌≤◌, ◌∙◌, [], ℕ, List, Option, None, Some, Ok, length, get_or, set, map, refl, sym, ap, subst, arith}
 use Rattle.std.specs.List.{AllByRecursion}
 use Rattle.std.specs.Option.{option_map}
 use Rattle.std.proofs.lemmas.List.{map-set, set-get_or, get_or-map, get_or-set_same, length-set}
@@ -7,8 +7,8 @@ use Rattle.pim_capture.specs.declared.event.Event.{Event}
 use Rattle.pim_capture.specs.declared.event.Event.TheVariants.{Packet, Skipped, End}
 use Rattle.pim_capture.specs.Capture.{Told, packet, skipped, ended, Answer}
 use Rattle.pim_capture.specs.Next.{in_front, event_seen, IsBy}
-use Rattle.pim_merge.specs.Merge.{head_of, behind_head, time_told, earliest_from, turn_at, taken, turn, takes, ends, after_turn}
-use Rattle.pim_merge.specs.Lane.{LaneState, coming_on, with_head, IsComing, IsLooked, time_at, head_time, without_head, counted, lane_left, records_to_come, no_lane, lane_at, failures_of}
+use Rattle.pim_merge.specs.Merge.{behind_head, time_told, earliest_from, taken, turn, takes, ends, after_turn}
+use Rattle.pim_merge.specs.Lane.{LaneState, with_head, IsComing, IsLooked, time_at, head_time, without_head, counted, records_to_come, no_lane, lane_at, failures_of}
 use Rattle.pim_merge.proofs.Looking.{one_comes, set_comes, total_with}
 use Rattle.pim_merge.proofs.Turning.{some_list, told_comes, turns_by_times, Stands, found_stands}
 

@@ -1,13 +1,12 @@
 -- What the turn of a merge is, by what was read of its captures.
-use Rattle.std.proofs.Common.{◌≡◌, ◌<◌, ◌≤◌, ◌+◌, ◌∙◌, ◌∷◌, [], ℕ, zero, suc, List, Option, None, Some, Ok, Err, Bool, true, false, length, get_or, set, take, drop, map, is_some, nat_lt, if◌then◌else◌, refl, sym, ap, subst, arith, ◌⊎◌, inl, inr}
+use Rattle.std.proofs.Common.{◌≡◌, ◌<◌, ◌+◌, ◌∙◌, ◌∷◌, [], ℕ, zero, suc, List, Option, None, Some, Ok, Err, Bool, true, false, length, get_or, set, take, drop, map, is_some, nat_lt, if◌then◌else◌, refl, sym, ap, subst, arith, ◌⊎◌, inl, inr}
 use Rattle.std.specs.List.{AllByRecursion}
 use Rattle.std.specs.Option.{option_map}
 use Rattle.pim_capture.specs.declared.fault.CaptureFault.{CaptureFault}
 use Rattle.pim_capture.specs.Capture.{Told, packet, skipped, ended, Answer}
 use Rattle.pim_capture.specs.Next.{in_front}
-use Rattle.pim_merge.specs.Merge.{head_of, behind_head, time_told, time_of, or_fault, fault_from, sooner, numbered, earliest_from, turn_at, turn_or, turn, fails, takes, ends, after_turn}
-use Rattle.pim_merge.specs.Lane.{LaneState, coming_on, IsComing, IsLooked, time_at, head_time, with_head, without_head}
-use Rattle.pim_merge.proofs.Looking.{one_comes, set_comes}
+use Rattle.pim_merge.specs.Merge.{head_of, time_of, or_fault, fault_from, sooner, numbered, earliest_from, turn_at, turn, fails}
+use Rattle.pim_merge.specs.Lane.{LaneState, coming_on, IsComing, IsLooked, time_at, head_time, with_head}
 
 -- ---- the head that was read is the head of what comes
 

@@ -1,7 +1,6 @@
 -- What a call for the next turn of a merge answers and leaves.
 use Rattle.std.specs.Prelude.{◌≡◌, ◌≤◌, ◌⊎◌, ⊤, ℕ, List, [], ◌∷◌, length, slice_set}
 use Rattle.std.specs.Prelude.{Option, None, Some, Result, Ok, Err}
-use Rattle.pim_capture.specs.declared.fault.CaptureFault.{CaptureFault}
 use Rattle.pim_capture.specs.Capture.{Told, Answer, most_captured}
 use Rattle.pim_capture.specs.Next.{event_seen, PayloadLiesIn, IsRefusal, CountsReads}
 use Rattle.pim_merge.specs.declared.clock.Clock.{Clock}

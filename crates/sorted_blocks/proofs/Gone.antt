@@ -1,6 +1,5 @@
 -- Blocks that go side by side, and what is left of the counts, of the room and of the row of the first items.
-use Rattle.std.proofs.Common.{◌≡◌, ℕ, zero, suc, ◌+◌, ◌-◌, ◌<◌, ◌≤◌, List, [], ◌∷◌, ◌++◌, length, get_or, take, drop, refl, sym, ap, ap₂, subst, ◌∙◌, arith, length-append, length-drop, append_assoc, add-one}
-use Rattle.std.specs.List.{remove}
+use Rattle.std.proofs.Common.{◌≡◌, ℕ, zero, suc, ◌+◌, ◌-◌, ◌<◌, ◌≤◌, List, [], ◌∷◌, ◌++◌, length, get_or, take, drop, refl, sym, ap, ap₂, ◌∙◌, arith, length-append, length-drop, append_assoc}
 use Rattle.std.proofs.lemmas.List.{drop-drop, drop_all, take_at, length-take-le, take-append-drop}
 use Rattle.sorted_blocks.specs.Shape.{Shape, joined, beyond, firsts, room, cut}
 use Rattle.sorted_blocks.specs.Sound.{AllFilled, IsSound, IsLed}

@@ -1,4 +1,4 @@
-use Rattle.std.proofs.Common.{◌≡◌, not, None, Option, List, ◌+◌, ◌≤◌, ◌++◌, length, take, drop, get_or, set, refl, sym, ap, subst, ◌∙◌, arith, lit<}
+use Rattle.std.proofs.Common.{◌≡◌, not, None, Option, List, ◌+◌, ◌≤◌, ◌++◌, take, drop, get_or, refl, sym, ap, subst, ◌∙◌, arith, lit<}
 use Rattle.std.specs.List.{filter}
 use Rattle.std.specs.Prelude.{IfSome}
 use Rattle.std.proofs.lemmas.List.{length-take}

@@ -1,4 +1,4 @@
-use Rattle.std.proofs.Common.{◌≡◌, ◌+◌, ◌≤◌, take, drop}
+use Rattle.std.proofs.Common.{◌≡◌, ◌+◌, take, drop}
 use Rattle.sorted_slab.specs.Listed.{at}
 use Rattle.pim_down.proofs.AllAtOnce.{AreGone}
 use Rattle.pim_down.proofs.alike.stop_run.Given as goal

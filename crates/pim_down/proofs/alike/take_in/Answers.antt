@@ -1,6 +1,5 @@
 use Rattle.std.proofs.Common.{◌<◌, None, subst, arith}
 use Rattle.std.specs.Prelude.{IfSome}
-use Rattle.pim_down.specs.declared.alike.Alike.{Alike}
 use Rattle.pim_down.proofs.Rpts.{same_default}
 use Rattle.pim_down.proofs.alike.take_in.Goals as goal
 

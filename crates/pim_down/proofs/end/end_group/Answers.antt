@@ -1,4 +1,4 @@
-use Rattle.std.proofs.Common.{true, false, take, drop, sym, ap, ◌∙◌, arith}
+use Rattle.std.proofs.Common.{true, false, sym, ap, ◌∙◌, arith}
 use Rattle.sorted_slab.specs.Listed.{at}
 use Rattle.pim_down.specs.After.{is_before_rpts}
 use Rattle.pim_down.proofs.Searched.{parted}

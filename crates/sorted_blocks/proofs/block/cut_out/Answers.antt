@@ -1,4 +1,4 @@
-use Rattle.std.proofs.Common.{◌≡◌, ◌+◌, ◌≤◌, length, arith}
+use Rattle.std.proofs.Common.{◌≡◌, length, arith}
 use Rattle.sorted_blocks.proofs.Cuts.{cut_closed}
 use Rattle.sorted_blocks.proofs.block.cut_out.Goals as goal
 

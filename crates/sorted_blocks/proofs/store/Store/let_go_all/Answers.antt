@@ -1,4 +1,4 @@
-use Rattle.std.proofs.Common.{◌≡◌, ◌+◌, ◌-◌, ◌<◌, ◌≤◌, ◌++◌, length, take, drop, sym, ap, ◌∙◌, arith}
+use Rattle.std.proofs.Common.{◌≡◌, ◌+◌, ◌≤◌, ◌++◌, length, take, drop, sym, ap, ◌∙◌, arith}
 use Rattle.sorted_blocks.specs.Shape.{Shape, cut, beyond, joined}
 use Rattle.sorted_blocks.proofs.Firsts.{led_long}
 use Rattle.sorted_blocks.proofs.Rooms.{room_more}

@@ -1,4 +1,4 @@
-use Rattle.std.proofs.Common.{◌≡◌, suc, ◌+◌, ◌-◌, ◌<◌, ◌≤◌, length, get_or, take, drop, sym, ap, ◌∙◌, arith, add-one}
+use Rattle.std.proofs.Common.{◌≡◌, ◌+◌, ◌-◌, length, take, drop, sym, ap, arith, add-one}
 use Rattle.sorted_blocks.specs.Shape.{Shape, joined, beyond}
 use Rattle.sorted_blocks.proofs.Kept.{over_small, count_small}
 use Rattle.sorted_blocks.proofs.Gone.{beyond-cut, count-cut, beyond-next, count-next, beyond-none}
