@@ -33,12 +33,12 @@ module _ where
   time_is end (Some other) e = ap Some (sym (eqb-true end other e))
 
   -- one that ends at no time of a slot ends at none of these
-  not_there : (slot end : ℕ) (only : Option ℕ) → end % 16 ≡ slot → is_of_slot slot only ≡ false → is_time end only ≡ false
+  not_there : (slot end : ℕ) (only : Option ℕ) → end % 31 ≡ slot → is_of_slot slot only ≡ false → is_time end only ≡ false
   not_there slot end None of out = refl
   not_there slot end (Some other) of out = by (nat_eq end other) refl
     where
       by : (b : Bool) → nat_eq end other ≡ b → nat_eq end other ≡ false
-      by true is = absurd (false≢true (sym out ∙ eq-eqb (other % 16) slot (ap (λ n. n % 16) (sym (eqb-true end other is)) ∙ of)))
+      by true is = absurd (false≢true (sym out ∙ eq-eqb (other % 31) slot (ap (λ n. n % 31) (sym (eqb-true end other is)) ∙ of)))
       by false is = is
 
   only_timer_is : (end : ℕ) (pending : Option Waiting) (expires : Option ℕ) → is_time end (only_of pending expires) ≡ true → (expires ≡ Some end) × (pending ≡ None)
@@ -82,7 +82,7 @@ module _ {A : Type 0} where
   slot_same slot None records held out is = filter_out (in_slot slot) records held out ∙ is
   slot_same slot (Some alike) records held out is = (is.0, subst (IsAlike alike) (sym (filter_out (ends_at alike.ends_at) records held (not_there slot alike.ends_at (only_end held) is.0 out))) is.1)
 
-  slot_more : (slot : ℕ) (s : Option (Alike A)) (records : List (Held A)) (held : Bor (Held A)) (end : ℕ) → only_end held.now ≡ Some end → end % 16 ≡ slot → IsSlot slot s records → IsSlot slot (with_one s end held) (records ++ held.now ∷ [])
+  slot_more : (slot : ℕ) (s : Option (Alike A)) (records : List (Held A)) (held : Bor (Held A)) (end : ℕ) → only_end held.now ≡ Some end → end % 31 ≡ slot → IsSlot slot s records → IsSlot slot (with_one s end held) (records ++ held.now ∷ [])
   slot_more slot None records held end ends of is =
       let here : ends_at end held.now ≡ true = ap (is_time end) ends ∙ eq-eqb end end refl in
       let none : filter (ends_at end) records ≡ [] = sym (filter_twice (ends_at end) (in_slot slot) (λ x. not_there slot end (only_end x) of) records) ∙ ap (filter (ends_at end)) is in
@@ -93,26 +93,26 @@ module _ {A : Type 0} where
       by true same = (is.0, subst (IsAlike (record { ends_at = alike.ends_at; first = alike.first; last = held; count = alike.count + 1 })) (sym (filter_in (ends_at alike.ends_at) records held.now (ap (is_time alike.ends_at) ends ∙ same))) (more_alike alike (filter (ends_at alike.ends_at) records) held is.1))
       by false other = (is.0, subst (IsAlike alike) (sym (filter_out (ends_at alike.ends_at) records held.now (ap (is_time alike.ends_at) ends ∙ other))) is.1)
 
-  pub table_more : (alikes : List (Option (Alike A))) (records : List (Held A)) (held : Bor (Held A)) → length alikes ≡ 16 → IsTable alikes records → IsTable (taken_in alikes held) (records ++ held.now ∷ [])
+  pub table_more : (alikes : List (Option (Alike A))) (records : List (Held A)) (held : Bor (Held A)) → length alikes ≡ 31 → IsTable alikes records → IsTable (taken_in alikes held) (records ++ held.now ∷ [])
   table_more alikes records held long is = by (only_end held.now) refl
     where
       by : (only : Option ℕ) → only_end held.now ≡ only → IsTable (taken_by alikes only held) (records ++ held.now ∷ [])
       by None none slot lt = slot_same slot (get_or alikes slot None) records held.now (ap (is_of_slot slot) none) (is slot lt)
-      by (Some end) some slot lt = which (nat_eq (end % 16) slot) refl
+      by (Some end) some slot lt = which (nat_eq (end % 31) slot) refl
         where
           new : Option (Alike A)
-          new = with_one (get_or alikes (end % 16) None) end held
+          new = with_one (get_or alikes (end % 31) None) end held
 
-          which : (b : Bool) → nat_eq (end % 16) slot ≡ b → IsSlot slot (get_or (set alikes (end % 16) new) slot None) (records ++ held.now ∷ [])
+          which : (b : Bool) → nat_eq (end % 31) slot ≡ b → IsSlot slot (get_or (set alikes (end % 31) new) slot None) (records ++ held.now ∷ [])
           which true here =
-              let same = eqb-true (end % 16) slot here in
-              let gets : get_or (set alikes (end % 16) new) slot None ≡ with_one (get_or alikes slot None) end held = ap (λ (k : ℕ). get_or (set alikes (end % 16) new) k None) (sym same) ∙ get_or-set_same alikes (end % 16) new None (omega (arith, same, lt, long)) ∙ ap (λ (k : ℕ). with_one (get_or alikes k None) end held) same in
+              let same = eqb-true (end % 31) slot here in
+              let gets : get_or (set alikes (end % 31) new) slot None ≡ with_one (get_or alikes slot None) end held = ap (λ (k : ℕ). get_or (set alikes (end % 31) new) k None) (sym same) ∙ get_or-set_same alikes (end % 31) new None (omega (arith, same, lt, long)) ∙ ap (λ (k : ℕ). with_one (get_or alikes k None) end held) same in
               subst (λ (s : Option (Alike A)). IsSlot slot s (records ++ held.now ∷ [])) (sym gets) (slot_more slot (get_or alikes slot None) records held end some same (is slot lt))
           which false other =
-              subst (λ (s : Option (Alike A)). IsSlot slot s (records ++ held.now ∷ [])) (sym (get_or-set_other alikes (end % 16) slot new None (λ q. eqb-false (end % 16) slot other (sym q)))) (slot_same slot (get_or alikes slot None) records held.now (ap (is_of_slot slot) some ∙ other) (is slot lt))
+              subst (λ (s : Option (Alike A)). IsSlot slot s (records ++ held.now ∷ [])) (sym (get_or-set_other alikes (end % 31) slot new None (λ q. eqb-false (end % 31) slot other (sym q)))) (slot_same slot (get_or alikes slot None) records held.now (ap (is_of_slot slot) some ∙ other) (is slot lt))
 
-  pub table_none : (alikes : List (Option (Alike A))) → alikes ≡ replicate 16 None → IsTable alikes []
-  table_none alikes is slot lt = subst (λ (s : Option (Alike A)). IsSlot slot s []) (sym (ap (λ (xs : List (Option (Alike A))). get_or xs slot None) is ∙ get_or-replicate 16 slot None None lt)) refl
+  pub table_none : (alikes : List (Option (Alike A))) → alikes ≡ replicate 31 None → IsTable alikes []
+  table_none alikes is slot lt = subst (λ (s : Option (Alike A)). IsSlot slot s []) (sym (ap (λ (xs : List (Option (Alike A))). get_or xs slot None) is ∙ get_or-replicate 31 slot None None lt)) refl
 
   pub slot_some : (slot : ℕ) (s : Option (Alike A)) (records : List (Held A)) → IsSlot slot s records → IfSome s (λ alike. 1 ≤ alike.count)
   slot_some slot None records is = tt
@@ -123,19 +123,19 @@ module _ {A : Type 0} where
     where
       by : (only : Option ℕ) → length (taken_by alikes only held) ≡ length alikes
       by None = refl
-      by (Some end) = length-set alikes (end % 16) (with_one (get_or alikes (end % 16) None) end held)
+      by (Some end) = length-set alikes (end % 31) (with_one (get_or alikes (end % 31) None) end held)
 
   -- each slot tells of no more records than there are
-  pub table_few : (alikes : List (Option (Alike A))) (records : List (Held A)) → length alikes ≡ 16 → IsTable alikes records → length records < 2048 → (slot : ℕ) → IfSome (get_or alikes slot None) (λ alike. alike.count < 2048)
-  table_few alikes records long is few slot = which (ltb slot 16) refl
+  pub table_few : (alikes : List (Option (Alike A))) (records : List (Held A)) → length alikes ≡ 31 → IsTable alikes records → length records < 2048 → (slot : ℕ) → IfSome (get_or alikes slot None) (λ alike. alike.count < 2048)
+  table_few alikes records long is few slot = which (ltb slot 31) refl
     where
       by : (s : Option (Alike A)) → IsSlot slot s records → IfSome s (λ alike. alike.count < 2048)
       by None slot_is = tt
       by (Some alike) slot_is = let count = slot_is.1.count in omega (arith, few, count, length-filter_both (ends_at alike.ends_at) (λ held. not (ends_at alike.ends_at held)) (λ x. refl) records)
 
-      which : (b : Bool) → ltb slot 16 ≡ b → IfSome (get_or alikes slot None) (λ alike. alike.count < 2048)
-      which true lt = by (get_or alikes slot None) (is slot (ltb-true slot 16 lt))
-      which false past = subst (λ (s : Option (Alike A)). IfSome s (λ alike. alike.count < 2048)) (sym (get_or_past alikes slot None (omega (arith, long, ltb-false slot 16 past)))) tt
+      which : (b : Bool) → ltb slot 31 ≡ b → IfSome (get_or alikes slot None) (λ alike. alike.count < 2048)
+      which true lt = by (get_or alikes slot None) (is slot (ltb-true slot 31 lt))
+      which false past = subst (λ (s : Option (Alike A)). IfSome s (λ alike. alike.count < 2048)) (sym (get_or_past alikes slot None (omega (arith, long, ltb-false slot 31 past)))) tt
 
 -- ---- a part of the records ascends
 
@@ -254,7 +254,7 @@ module _ {A : Type 0} where
   -- whether a record is told of in one of the first slots
   told : ℕ → List (Option (Alike A)) → Option ℕ → Bool
   told k alikes None = false
-  told k alikes (Some end) = ltb (end % 16) k && tells_of (get_or alikes (end % 16) None) end
+  told k alikes (Some end) = ltb (end % 31) k && tells_of (get_or alikes (end % 31) None) end
 
   pub untold : ℕ → List (Option (Alike A)) → Held A → Bool
   untold k alikes held = not (told k alikes (only_end held))
@@ -263,67 +263,67 @@ module _ {A : Type 0} where
   same_told : (k : ℕ) (alikes : List (Option (Alike A))) (only : Option ℕ) → k < length alikes → told (k + 1) (set alikes k None) only ≡ told k alikes only
   unfolding told
   same_told k alikes None lt = refl
-  same_told k alikes (Some end) lt = by (nat_eq (end % 16) k) refl (ltb (end % 16) k) refl
+  same_told k alikes (Some end) lt = by (nat_eq (end % 31) k) refl (ltb (end % 31) k) refl
     where
-      by : (b : Bool) → nat_eq (end % 16) k ≡ b → (c : Bool) → ltb (end % 16) k ≡ c → ltb (end % 16) (k + 1) && tells_of (get_or (set alikes k None) (end % 16) None) end ≡ ltb (end % 16) k && tells_of (get_or alikes (end % 16) None) end
+      by : (b : Bool) → nat_eq (end % 31) k ≡ b → (c : Bool) → ltb (end % 31) k ≡ c → ltb (end % 31) (k + 1) && tells_of (get_or (set alikes k None) (end % 31) None) end ≡ ltb (end % 31) k && tells_of (get_or alikes (end % 31) None) end
       by true here c less =
-          let same = eqb-true (end % 16) k here in
-          let empty : get_or (set alikes k None) (end % 16) None ≡ None = ap (λ (n : ℕ). get_or (set alikes k None) n None) same ∙ get_or-set_same alikes k None None lt in
-          rw (empty, lt-ltb (end % 16) (k + 1) (omega (arith, same)), le-ltb (end % 16) k (omega (arith, same))) refl
+          let same = eqb-true (end % 31) k here in
+          let empty : get_or (set alikes k None) (end % 31) None ≡ None = ap (λ (n : ℕ). get_or (set alikes k None) n None) same ∙ get_or-set_same alikes k None None lt in
+          rw (empty, lt-ltb (end % 31) (k + 1) (omega (arith, same)), le-ltb (end % 31) k (omega (arith, same))) refl
       by false other true less =
-          let below = ltb-true (end % 16) k less in
-          rw (get_or-set_other alikes k (end % 16) None None (eqb-false (end % 16) k other), lt-ltb (end % 16) (k + 1) (omega (arith, below)), less) refl
+          let below = ltb-true (end % 31) k less in
+          rw (get_or-set_other alikes k (end % 31) None None (eqb-false (end % 31) k other), lt-ltb (end % 31) (k + 1) (omega (arith, below)), less) refl
       by false other false less =
-          let more = not_same (end % 16) k (ltb-false (end % 16) k less) (eqb-false (end % 16) k other) in
-          rw (le-ltb (end % 16) (k + 1) (omega (arith, more)), less) refl
+          let more = not_same (end % 31) k (ltb-false (end % 31) k less) (eqb-false (end % 31) k other) in
+          rw (le-ltb (end % 31) (k + 1) (omega (arith, more)), less) refl
 
   -- where one that tells of some is passed, these are told of besides
-  more_told : (k : ℕ) (alikes : List (Option (Alike A))) (alike : Alike A) (only : Option ℕ) → k < length alikes → alike.ends_at % 16 ≡ k → not (told (k + 1) (set alikes k (Some alike)) only) ≡ not (told k alikes only) && not (is_time alike.ends_at only)
+  more_told : (k : ℕ) (alikes : List (Option (Alike A))) (alike : Alike A) (only : Option ℕ) → k < length alikes → alike.ends_at % 31 ≡ k → not (told (k + 1) (set alikes k (Some alike)) only) ≡ not (told k alikes only) && not (is_time alike.ends_at only)
   unfolding told
   more_told k alikes alike None lt of = refl
-  more_told k alikes alike (Some end) lt of = by (nat_eq (end % 16) k) refl (ltb (end % 16) k) refl
+  more_told k alikes alike (Some end) lt of = by (nat_eq (end % 31) k) refl (ltb (end % 31) k) refl
     where
-      elsewhere : nat_eq (end % 16) k ≡ false → nat_eq alike.ends_at end ≡ false
-      elsewhere other = ne_eqb alike.ends_at end (λ same. eqb-false (end % 16) k other (ap (λ n. n % 16) (sym same) ∙ of))
+      elsewhere : nat_eq (end % 31) k ≡ false → nat_eq alike.ends_at end ≡ false
+      elsewhere other = ne_eqb alike.ends_at end (λ same. eqb-false (end % 31) k other (ap (λ n. n % 31) (sym same) ∙ of))
 
-      by : (b : Bool) → nat_eq (end % 16) k ≡ b → (c : Bool) → ltb (end % 16) k ≡ c → not (ltb (end % 16) (k + 1) && tells_of (get_or (set alikes k (Some alike)) (end % 16) None) end) ≡ not (ltb (end % 16) k && tells_of (get_or alikes (end % 16) None) end) && not (nat_eq alike.ends_at end)
+      by : (b : Bool) → nat_eq (end % 31) k ≡ b → (c : Bool) → ltb (end % 31) k ≡ c → not (ltb (end % 31) (k + 1) && tells_of (get_or (set alikes k (Some alike)) (end % 31) None) end) ≡ not (ltb (end % 31) k && tells_of (get_or alikes (end % 31) None) end) && not (nat_eq alike.ends_at end)
       by true here c less =
-          let same = eqb-true (end % 16) k here in
-          let full : get_or (set alikes k (Some alike)) (end % 16) None ≡ Some alike = ap (λ (n : ℕ). get_or (set alikes k (Some alike)) n None) same ∙ get_or-set_same alikes k (Some alike) None lt in
-          rw (full, lt-ltb (end % 16) (k + 1) (omega (arith, same)), le-ltb (end % 16) k (omega (arith, same))) refl
+          let same = eqb-true (end % 31) k here in
+          let full : get_or (set alikes k (Some alike)) (end % 31) None ≡ Some alike = ap (λ (n : ℕ). get_or (set alikes k (Some alike)) n None) same ∙ get_or-set_same alikes k (Some alike) None lt in
+          rw (full, lt-ltb (end % 31) (k + 1) (omega (arith, same)), le-ltb (end % 31) k (omega (arith, same))) refl
       by false other true less =
-          let below = ltb-true (end % 16) k less in
-          rw (elsewhere other, get_or-set_other alikes k (end % 16) (Some alike) None (eqb-false (end % 16) k other), lt-ltb (end % 16) (k + 1) (omega (arith, below)), less) (sym (and_true (not (tells_of (get_or alikes (end % 16) None) end))))
+          let below = ltb-true (end % 31) k less in
+          rw (elsewhere other, get_or-set_other alikes k (end % 31) (Some alike) None (eqb-false (end % 31) k other), lt-ltb (end % 31) (k + 1) (omega (arith, below)), less) (sym (and_true (not (tells_of (get_or alikes (end % 31) None) end))))
       by false other false less =
-          let more = not_same (end % 16) k (ltb-false (end % 16) k less) (eqb-false (end % 16) k other) in
-          rw (elsewhere other, le-ltb (end % 16) (k + 1) (omega (arith, more)), less) refl
+          let more = not_same (end % 31) k (ltb-false (end % 31) k less) (eqb-false (end % 31) k other) in
+          rw (elsewhere other, le-ltb (end % 31) (k + 1) (omega (arith, more)), less) refl
 
   -- and none of them was told of before
-  not_yet : (k : ℕ) (alikes : List (Option (Alike A))) (alike : Alike A) (only : Option ℕ) → alike.ends_at % 16 ≡ k → not (told k alikes only) ≡ false → is_time alike.ends_at only ≡ false
+  not_yet : (k : ℕ) (alikes : List (Option (Alike A))) (alike : Alike A) (only : Option ℕ) → alike.ends_at % 31 ≡ k → not (told k alikes only) ≡ false → is_time alike.ends_at only ≡ false
   unfolding told
   not_yet k alikes alike None of is = refl
-  not_yet k alikes alike (Some end) of is = ne_eqb alike.ends_at end (λ same. less (ltb (end % 16) k) refl (ap (λ n. n % 16) (sym same) ∙ of))
+  not_yet k alikes alike (Some end) of is = ne_eqb alike.ends_at end (λ same. less (ltb (end % 31) k) refl (ap (λ n. n % 31) (sym same) ∙ of))
     where
-      less : (b : Bool) → ltb (end % 16) k ≡ b → end % 16 ≡ k → ⊥
-      less true lt here = let below = ltb-true (end % 16) k lt in absurd (omega (arith, below, here))
-      less false lt here = false≢true (sym (sym (ap (λ (b : Bool). not (b && tells_of (get_or alikes (end % 16) None) end)) lt) ∙ is))
+      less : (b : Bool) → ltb (end % 31) k ≡ b → end % 31 ≡ k → ⊥
+      less true lt here = let below = ltb-true (end % 31) k lt in absurd (omega (arith, below, here))
+      less false lt here = false≢true (sym (sym (ap (λ (b : Bool). not (b && tells_of (get_or alikes (end % 31) None) end)) lt) ∙ is))
 
   -- of all slots
-  all_told : (alikes : List (Option (Alike A))) (only : Option ℕ) → told 16 alikes only ≡ is_among_by alikes only
+  all_told : (alikes : List (Option (Alike A))) (only : Option ℕ) → told 31 alikes only ≡ is_among_by alikes only
   unfolding told
   all_told alikes None = refl
-  all_told alikes (Some end) = rw (lt-ltb (end % 16) 16 (omega arith)) refl
+  all_told alikes (Some end) = rw (lt-ltb (end % 31) 31 (omega arith)) refl
 
   -- of none
   none_told : (alikes : List (Option (Alike A))) (only : Option ℕ) → told 0 alikes only ≡ false
   unfolding told
   none_told alikes None = refl
-  none_told alikes (Some end) = rw (le-ltb (end % 16) 0 (omega arith)) refl
+  none_told alikes (Some end) = rw (le-ltb (end % 31) 0 (omega arith)) refl
 
 -- the timers of the records told of in the first slots are gone
 module _ {A : Type 0} (bytes_of : A → List ℕ) (old : List (Option (Alike A))) (front run behind : List (Held A)) where
   pub record AreGone (now : List (Option (Alike A))) (k : ℕ) (left : List (Deadline (List ℕ))) (gone : ℕ) : Type 0 where
-    pub long : length now ≡ 16
+    pub long : length now ≡ 31
     pub later : (i : ℕ) → k ≤ i → get_or now i None ≡ get_or old i None
     pub timers_left : left ≡ timers bytes_of (front ++ (filter (untold k now) run ++ behind))
     pub count : gone + length (filter (untold k now) run) ≡ length run
@@ -333,7 +333,7 @@ module _ {A : Type 0} (bytes_of : A → List ℕ) (old : List (Option (Alike A))
   all_untold now [] = refl
   all_untold now (held ∷ records) = let one = none_told now (only_end held) in rw (one, all_untold now records) refl
 
-  pub none_gone : (left : List (Deadline (List ℕ))) → length old ≡ 16 → left ≡ timers bytes_of (front ++ (run ++ behind)) → AreGone old 0 left 0
+  pub none_gone : (left : List (Deadline (List ℕ))) → length old ≡ 31 → left ≡ timers bytes_of (front ++ (run ++ behind)) → AreGone old 0 left 0
   none_gone left long is =
       let all = all_untold old run in
       record {
@@ -343,7 +343,7 @@ module _ {A : Type 0} (bytes_of : A → List ℕ) (old : List (Option (Alike A))
         count = omega (arith, ap length all);
       }
 
-  pub slot_gone : (now : List (Option (Alike A))) (k : ℕ) (left left2 : List (Deadline (List ℕ))) (gone result : ℕ) (slot : Option (Alike A)) → k < 16 → IsTable old run → IsAscending (records_seen bytes_of run) → AreGone now k left gone
+  pub slot_gone : (now : List (Option (Alike A))) (k : ℕ) (left left2 : List (Deadline (List ℕ))) (gone result : ℕ) (slot : Option (Alike A)) → k < 31 → IsTable old run → IsAscending (records_seen bytes_of run) → AreGone now k left gone
       → IfSome slot (λ alike. get_or now k None ≡ Some alike) → IfSome slot (λ alike. result ≡ alike.count)
       → IfSome slot (λ alike. (front2 run2 behind2 : List (Held A)) → IsAscending (records_seen bytes_of run2) → IsAlike alike (filter (ends_at alike.ends_at) run2) → left ≡ timers bytes_of (front2 ++ (filter (ends_at alike.ends_at) run2 ++ behind2)) → left2 ≡ timers bytes_of (front2 ++ behind2))
       → (slot ≡ None → left2 ≡ left) → (slot ≡ None → result ≡ 0) → AreGone (set now k slot) (k + 1) left2 (gone + result)
@@ -373,10 +373,10 @@ module _ {A : Type 0} (bytes_of : A → List ℕ) (old : List (Option (Alike A))
       }
 
   -- at last, those that are left are those that aren't among the records told of
-  pub all_gone : (now : List (Option (Alike A))) (left : List (Deadline (List ℕ))) (gone : ℕ) → AreGone now 16 left gone → (left ≡ timers bytes_of (front ++ (filter (λ held. not (is_among now held)) run ++ behind))) × (gone + length (filter (λ held. not (is_among now held)) run) ≡ length run)
+  pub all_gone : (now : List (Option (Alike A))) (left : List (Deadline (List ℕ))) (gone : ℕ) → AreGone now 31 left gone → (left ≡ timers bytes_of (front ++ (filter (λ held. not (is_among now held)) run ++ behind))) × (gone + length (filter (λ held. not (is_among now held)) run) ≡ length run)
   unfolding untold
   all_gone now left gone is =
-      let agree = filter_agree (untold 16 now) (λ held. not (is_among now held)) (λ held. ap not (all_told now (only_end held))) run in
+      let agree = filter_agree (untold 31 now) (λ held. not (is_among now held)) (λ held. ap not (all_told now (only_end held))) run in
       (is.timers_left ∙ ap (λ (xs : List (Held A)). timers bytes_of (front ++ (xs ++ behind))) agree, omega (arith, is.count, ap length agree))
 
 -- none is left, where as many are gone as there were

@@ -19,7 +19,7 @@ is_time end (Some other) = nat_eq end other
 -- whether this is a time of this slot
 abbrev pub is_of_slot : ℕ → Option ℕ → Bool
 is_of_slot slot None = false
-is_of_slot slot (Some end) = nat_eq (end % 16) slot
+is_of_slot slot (Some end) = nat_eq (end % 31) slot
 
 module _ {A : Type 0} where
   -- when a record's expiry timer ends, where it is its only timer
@@ -45,11 +45,11 @@ module _ {A : Type 0} where
   -- A slot tells of all records that end at one of its times, or there is no record of the slot.
   abbrev pub IsSlot : ℕ → Option (Alike A) → List (Held A) → Type 0
   IsSlot slot None records = filter (in_slot slot) records ≡ []
-  IsSlot slot (Some alike) records = (alike.ends_at % 16 ≡ slot) × IsAlike alike (filter (ends_at alike.ends_at) records)
+  IsSlot slot (Some alike) records = (alike.ends_at % 31 ≡ slot) × IsAlike alike (filter (ends_at alike.ends_at) records)
 
-  -- each of the sixteen slots does
+  -- each of the thirty-one slots does
   abbrev pub IsTable : List (Option (Alike A)) → List (Held A) → Type 0
-  IsTable alikes records = (slot : ℕ) → slot < 16 → IsSlot slot (slice_index_or alikes slot None) records
+  IsTable alikes records = (slot : ℕ) → slot < 31 → IsSlot slot (slice_index_or alikes slot None) records
 
   -- a slot with one more record that ends at this time
   abbrev pub with_one_of : Bool → Alike A → Bor (Held A) → Option (Alike A)
@@ -63,7 +63,7 @@ module _ {A : Type 0} where
   -- the slots with one more record
   abbrev pub taken_by : List (Option (Alike A)) → Option ℕ → Bor (Held A) → List (Option (Alike A))
   taken_by alikes None held = alikes
-  taken_by alikes (Some end) held = slice_set alikes (end % 16) (with_one (slice_index_or alikes (end % 16) None) end held)
+  taken_by alikes (Some end) held = slice_set alikes (end % 31) (with_one (slice_index_or alikes (end % 31) None) end held)
 
   abbrev pub taken_in : List (Option (Alike A)) → Bor (Held A) → List (Option (Alike A))
   taken_in alikes held = taken_by alikes (only_end held.now) held
@@ -75,7 +75,7 @@ module _ {A : Type 0} where
 
   abbrev pub is_among_by : List (Option (Alike A)) → Option ℕ → Bool
   is_among_by alikes None = false
-  is_among_by alikes (Some end) = tells_of (slice_index_or alikes (end % 16) None) end
+  is_among_by alikes (Some end) = tells_of (slice_index_or alikes (end % 31) None) end
 
   abbrev pub is_among : List (Option (Alike A)) → Held A → Bool
   is_among alikes held = is_among_by alikes (only_end held)

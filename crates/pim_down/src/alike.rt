@@ -80,7 +80,7 @@ fn add<'a, A: Copy>(slot: &mut Option<Alike<'a, A>>, ends_at: u64, held: &'a Hel
 }
 
 /// Takes in one more record, where its expiry timer is its only one and its slot has none that end at another time.
-fn take_in<'a, A: Copy>(alikes: &mut [Option<Alike<'a, A>>; 16], held: &'a Held<A>)
+fn take_in<'a, A: Copy>(alikes: &mut [Option<Alike<'a, A>>; 31], held: &'a Held<A>)
     requires { (slot : ℕ) → IfSome (slice_index_or alikes.old slot None)
         (λ alike. alike.count < 2048) }
     ensures { alikes.new ≡ taken_in alikes.old held.entry }
@@ -92,7 +92,7 @@ fn take_in<'a, A: Copy>(alikes: &mut [Option<Alike<'a, A>>; 16], held: &'a Held<
 }
 
 /// Whether a slot has the records that end with this one, where its expiry timer is its only one.
-fn is_among<A>(alikes: &[Option<Alike<'_, A>>; 16], held: &Held<A>) -> bool
+fn is_among<A>(alikes: &[Option<Alike<'_, A>>; 31], held: &Held<A>) -> bool
     ensures { result ≡ is_among alikes.now held.now }
 {
     let Some(ends_at) = only_end(held) else {
@@ -110,17 +110,17 @@ fn gather<'a, A: Copy, T: Test<A>>(
     rows: &'a Rows<A>,
     place: Place,
     test: &T,
-    alikes: &mut [Option<Alike<'a, A>>; 16],
+    alikes: &mut [Option<Alike<'a, A>>; 31],
 ) -> usize
     requires place { IsPlace rows.now place }
     requires within { at rows.now place < length rows.now.items }
     requires first { (d : Held A) → T.passes test.now (slice_index_or rows.now.items (at rows.now place) d) ≡ true }
-    requires none { alikes.old ≡ replicate 16 None }
+    requires none { alikes.old ≡ replicate 31 None }
     ensures some { 1 ≤ result }
     ensures within { at rows.now place + result ≤ length rows.now.items }
     ensures passed { AllByRecursion (λ held. T.passes test.now held ≡ true)
         (take result (drop (at rows.now place) rows.now.items)) }
-    ensures long { length alikes.new ≡ 16 }
+    ensures long { length alikes.new ≡ 31 }
     ensures table { IsTable alikes.new (take result (drop (at rows.now place) rows.now.items)) }
 {
     let mut count = 0;
@@ -165,10 +165,10 @@ fn stop_alike<A: Copy, O: KeyOrder<A>>(
 /// answer is how many they are.
 fn stop_slot<A: Copy, O: KeyOrder<A>>(
     schedule: &mut Schedule<A, O, HALF_OF_TIMERS>,
-    alikes: &mut [Option<Alike<'_, A>>; 16],
+    alikes: &mut [Option<Alike<'_, A>>; 31],
     slot: usize,
 ) -> usize
-    requires slot { slot < 16 }
+    requires slot { slot < 31 }
     requires some { IfSome (slice_index_or alikes.old slot None) (λ alike. 1 ≤ alike.count) }
     ensures others { alikes.new ≡ slice_set alikes.old slot (slice_index_or alikes.new slot None) }
     ensures same { IfSome (slice_index_or alikes.new slot None)
@@ -199,7 +199,7 @@ fn stop_rest<A: Copy, O: KeyOrder<A>>(
     schedule: &mut Schedule<A, O, HALF_OF_TIMERS>,
     place: Place,
     count: usize,
-    alikes: &[Option<Alike<'_, A>>; 16],
+    alikes: &[Option<Alike<'_, A>>; 31],
 )
     requires place { IsPlace rows.now place }
     ensures timers { (front behind : List (Held A)) → schedule.old.timers
@@ -216,7 +216,7 @@ fn stop_rest<A: Copy, O: KeyOrder<A>>(
 }
 
 /// Takes out the timers of the records from this place on that pass the test, up to the first that doesn't, and up to so many
-/// as are let go of at once: first of those that end at one time and have no other timer, for up to sixteen times with a slot
+/// as are let go of at once: first of those that end at one time and have no other timer, for up to thirty-one times with a slot
 /// each, then of the rest, if there is any, one by one. The answer is how many records they are.
 pub(crate) fn stop_run<A: Copy, O: KeyOrder<A>, T: Test<A>>(
     rows: &Rows<A>,
@@ -237,10 +237,10 @@ pub(crate) fn stop_run<A: Copy, O: KeyOrder<A>, T: Test<A>>(
         ≡ timers_of (records_seen O.bytes_of (cut rows.now.items (at rows.now place) result)) }
     ensures capacity { schedule.new.capacity ≡ schedule.old.capacity }
 {
-    let mut alikes = [None; 16];
+    let mut alikes = [None; 31];
     let count = gather::<A, T>(rows, place, test, &mut alikes);
     let mut gone = 0;
-    for slot in 0..16 {
+    for slot in 0..31 {
         gone += stop_slot::<A, O>(schedule, &mut alikes, slot);
     }
     if gone < count {

@@ -51,14 +51,15 @@ struct Hint {
 #[derive(Drop)]
 pub(crate) struct Taken {
     kinds: Hints,
-    ends: [Hint; 16],
+    ends: [Hint; 31],
 }
 
-/// Which of sixteen slots is that of timers with this end.
+/// Which of thirty-one slots is that of timers with this end. A prime number, so that ends a second or a minute apart have slots
+/// of their own, too.
 pub(crate) fn slot_of_end(ends_at: u64) -> usize
-    ensures { result ≡ ends_at % 16 }
+    ensures { result ≡ ends_at % 31 }
 {
-    (ends_at % 16) as usize
+    (ends_at % 31) as usize
 }
 
 impl Taken {
@@ -69,7 +70,7 @@ impl Taken {
             ends: [Hint {
                 ends_at: 0,
                 place: Place::START,
-            }; 16],
+            }; 31],
         }
     }
 

@@ -7,6 +7,6 @@ use Rattle.pim_down.proofs.alike.gather.Given as goal
 abbrev pub invariant-loop-held : goal.invariant-loop-held
 invariant-loop-held g l = record {
   passed : ArePassed (λ held. g.T.Test.passes l.test held ≡ true) (take 2048 (drop (at l.rows l.fn.place) l.rows.items)) l.count l.held-iterator;
-  long : length l.alikes ≡ 16;
+  long : length l.alikes ≡ 31;
   table : IsTable l.alikes (take l.count (drop (at l.rows l.fn.place) l.rows.items));
 }

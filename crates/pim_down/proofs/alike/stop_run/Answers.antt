@@ -67,7 +67,7 @@ returns-then-gone-count-clause-timers g c =
     let items = c.args.rows.now.items in
     let i = at c.args.rows.now c.args.place in
     let n = c.gather-count.result in
-    let last : c.loop-slot.slot ≡ 16 = omega (arith, c.loop-slot-test.false, c.loop-slot.auto.slot-end) in
+    let last : c.loop-slot.slot ≡ 31 = omega (arith, c.loop-slot-test.false, c.loop-slot.auto.slot-end) in
     let kept = subst (λ k. AreGone bytes_of c.gather-count.new.alikes (take i items) (take n (drop i items)) (drop (i + n) items) c.loop-slot.alikes k c.loop-slot.schedule.timers c.loop-slot.gone) last c.loop-slot.invariant.gone in
     let all = all_gone bytes_of c.gather-count.new.alikes (take i items) (take n (drop i items)) (drop (i + n) items) c.loop-slot.alikes c.loop-slot.schedule.timers c.loop-slot.gone kept in
     c.stop_rest.ensures.timers (take i items) (drop (i + n) items) all.0 ∙ ap (timers bytes_of) (none_left items i n)
@@ -79,7 +79,7 @@ returns-else-gone-count-clause-timers g c =
     let i = at c.args.rows.now c.args.place in
     let n = c.gather-count.result in
     let run = take n (drop i items) in
-    let last : c.loop-slot.slot ≡ 16 = omega (arith, c.loop-slot-test.false, c.loop-slot.auto.slot-end) in
+    let last : c.loop-slot.slot ≡ 31 = omega (arith, c.loop-slot-test.false, c.loop-slot.auto.slot-end) in
     let kept = subst (λ k. AreGone bytes_of c.gather-count.new.alikes (take i items) run (drop (i + n) items) c.loop-slot.alikes k c.loop-slot.schedule.timers c.loop-slot.gone) last c.loop-slot.invariant.gone in
     let all = all_gone bytes_of c.gather-count.new.alikes (take i items) run (drop (i + n) items) c.loop-slot.alikes c.loop-slot.schedule.timers c.loop-slot.gone kept in
     let none = no_rest (filter (λ held. not (is_among c.loop-slot.alikes held)) run) run c.loop-slot.gone all.1 (omega (arith, length-take n (drop i items), c.if-gone-count.false)) in
