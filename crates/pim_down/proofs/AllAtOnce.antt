@@ -48,14 +48,14 @@ module _ where
 -- ---- one record more
 
 module _ {X : Type 0} where
-  filter_out : (p : X → Bool) (xs : List X) (x : X) → p x ≡ false → filter p (xs ++ x ∷ []) ≡ filter p xs
+  pub filter_out : (p : X → Bool) (xs : List X) (x : X) → p x ≡ false → filter p (xs ++ x ∷ []) ≡ filter p xs
   filter_out p xs x e = filter-append p xs (x ∷ []) ∙ ap (λ (b : Bool). filter p xs ++ cond b (x ∷ []) []) e ∙ append-nil (filter p xs)
 
-  filter_in : (p : X → Bool) (xs : List X) (x : X) → p x ≡ true → filter p (xs ++ x ∷ []) ≡ filter p xs ++ x ∷ []
+  pub filter_in : (p : X → Bool) (xs : List X) (x : X) → p x ≡ true → filter p (xs ++ x ∷ []) ≡ filter p xs ++ x ∷ []
   filter_in p xs x e = filter-append p xs (x ∷ []) ∙ ap (λ (b : Bool). filter p xs ++ cond b (x ∷ []) []) e
 
   -- those that pass two tests
-  filter_and : (p q r : X → Bool) → ((x : X) → r x ≡ q x && p x) → (xs : List X) → filter p (filter q xs) ≡ filter r xs
+  pub filter_and : (p q r : X → Bool) → ((x : X) → r x ≡ q x && p x) → (xs : List X) → filter p (filter q xs) ≡ filter r xs
   filter_and p q r both [] = refl
   filter_and p q r both (x ∷ xs) = by (filter_and p q r both xs) (q x) refl
     where
@@ -137,7 +137,7 @@ module _ {A : Type 0} where
       which true lt = by (get_or alikes slot None) (is slot (ltb-true slot 31 lt))
       which false past = subst (λ (s : Option (Alike A)). IfSome s (λ alike. alike.count < 2048)) (sym (get_or_past alikes slot None (omega (arith, long, ltb-false slot 31 past)))) tt
 
--- ---- a part of the records ascends
+-- ---- some of the records ascend
 
 module _ {A : Type 0} (bytes_of : A → List ℕ) where
   below_front : (key : Key (List ℕ)) (records : List (Held A)) (n : ℕ) → IsBelow key (records_seen bytes_of records) → IsBelow key (records_seen bytes_of (take n records))
@@ -158,8 +158,24 @@ module _ {A : Type 0} (bytes_of : A → List ℕ) where
   ascending_behind [] (suc n) ascending = tt
   ascending_behind (held ∷ records) (suc n) ascending = ascending_behind records n ascending.1
 
-  pub ascending_part : (records : List (Held A)) (i n : ℕ) → IsAscending (records_seen bytes_of records) → IsAscending (records_seen bytes_of (take n (drop i records)))
-  ascending_part records i n ascending = ascending_front (drop i records) n (ascending_behind records i ascending)
+  below_taken : (p : Held A → Bool) (key : Key (List ℕ)) (records : List (Held A)) → IsBelow key (records_seen bytes_of records) → IsBelow key (records_seen bytes_of (filter p records))
+  unfolding IsBelow
+  below_taken p key [] below = tt
+  below_taken p key (held ∷ records) below = elim (p held) as (λ b. IsBelow key (records_seen bytes_of (cond b (held ∷ filter p records) (filter p records)))) [
+    | true ↦ (below.0, below_taken p key records below.1)
+    | false ↦ below_taken p key records below.1
+  ]
+
+  ascending_taken : (p : Held A → Bool) (records : List (Held A)) → IsAscending (records_seen bytes_of records) → IsAscending (records_seen bytes_of (filter p records))
+  unfolding IsAscending
+  ascending_taken p [] ascending = tt
+  ascending_taken p (held ∷ records) ascending = elim (p held) as (λ b. IsAscending (records_seen bytes_of (cond b (held ∷ filter p records) (filter p records)))) [
+    | true ↦ (below_taken p (key_seen bytes_of held.key) records ascending.0, ascending_taken p records ascending.1)
+    | false ↦ ascending_taken p records ascending.1
+  ]
+
+  pub ascending_part : (p : Held A → Bool) (records : List (Held A)) (i n : ℕ) → IsAscending (records_seen bytes_of records) → IsAscending (records_seen bytes_of (filter p (take n (drop i records))))
+  ascending_part p records i n ascending = ascending_taken p (take n (drop i records)) (ascending_front (drop i records) n (ascending_behind records i ascending))
 
 -- ---- their timers
 

@@ -12,7 +12,6 @@ use Rattle.std.proofs.lemmas.List.{length-map, get_or-map, length-set}
 use Rattle.std.proofs.lemmas.List.Edits.{length-remove}
 use Rattle.sorted_slab.specs.Listed.{Listed}
 use Rattle.sorted_blocks.specs.Found.{IsGap, IsEqualAt}
-use Rattle.sorted_blocks.specs.Shape.{cut}
 use Rattle.pim_down.specs.declared.deadline.Deadline.{Deadline}
 use Rattle.pim_down.specs.declared.deadline.TimerKind.{TimerKind}
 use Rattle.pim_down.specs.declared.deadline.TimerKind.TheVariants.{PendingTimer, ExpiryTimer}
@@ -23,10 +22,12 @@ use Rattle.pim_down.specs.declared.machine.Record.{Record}
 use Rattle.pim_down.specs.Key.{key_cmp}
 use Rattle.pim_down.specs.Schedule.{placed, without, IsInOrder, timer_rank, deadline_cmp, deadline_seen, end_of, with_end, with_timers, timers_of, Scheduled, IsTimed}
 use Rattle.pim_down.specs.Seen.{timed_seen, key_seen, record_seen, records_seen}
+use Rattle.pim_down.specs.Sweep.{swept}
 use Rattle.pim_down.proofs.Counts.{one_longer}
-use Rattle.pim_down.proofs.Cuts.{length_cut, first_within, first_at, first_gone}
+use Rattle.pim_down.proofs.Cuts.{first_within, first_at, first_gone}
 use Rattle.pim_down.proofs.Lists.{map_remove}
 use Rattle.pim_down.proofs.Order.{key_total, both_equal, equal_keys}
+use Rattle.pim_down.proofs.Sweeps.{no_longer}
 use Rattle.pim_down.proofs.InOrder.{le_itself, greater_le, in_order_at, placed_swap, order_placed, length_placed, without_placed, length_without, insert_is, remove_is, gap_without}
 
 -- ---- the order
@@ -283,10 +284,10 @@ module _ {A : Type 0} (bytes_of : A → List ℕ) where
       room = omega (arith, timed.room, capacity);
     }
 
-    pub timed_cut : (i count : ℕ) → i + count ≤ length rows.items → new.items ≡ cut rows.items i count → changed.timers ≡ timers bytes_of (cut rows.items i count) → changed.capacity ≡ schedule.capacity → IsTimed bytes_of new changed space
-    timed_cut i count within items taken capacity = record {
+    pub timed_swept : (takes : Held A → Bool) (i count : ℕ) → i + count ≤ length rows.items → new.items ≡ swept takes rows.items i count → changed.timers ≡ timers bytes_of (swept takes rows.items i count) → changed.capacity ≡ schedule.capacity → IsTimed bytes_of new changed space
+    timed_swept takes i count within items taken capacity = record {
       timers = taken ∙ sym (ap (timers bytes_of) items);
-      fits = omega (arith, timed.fits, ap length items, length_cut rows.items i count within);
+      fits = omega (arith, timed.fits, ap length items, no_longer takes rows.items i count within);
       room = omega (arith, timed.room, capacity);
     }
 

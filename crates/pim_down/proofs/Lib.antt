@@ -6,6 +6,7 @@ pub mod Searched
 pub mod Map
 pub mod Time
 pub mod Cuts
+pub mod Sweeps
 pub mod Counts
 pub mod Bounds
 pub mod Sought

@@ -9,6 +9,7 @@ pub mod Seen
 pub mod Ends
 pub mod Places
 pub mod Store
+pub mod Sweep
 pub mod Alike
 pub mod Running
 pub mod Gap

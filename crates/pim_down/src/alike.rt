@@ -1,15 +1,15 @@
-//! The timers of records that stand side by side and go together: of those that end at one time all at once.
+//! The timers of records that go together: of those that end at one time all at once.
 
-ghost use Rattle.std.specs.Prelude.{◌≡◌, ℕ, List, ◌+◌, ◌%◌, ◌<◌, ◌≤◌, [], ◌++◌, true, false, not, length, take, drop};
+ghost use Rattle.std.specs.Prelude.{◌≡◌, ℕ, List, ◌+◌, ◌%◌, ◌<◌, ◌≤◌, [], ◌++◌, ◌&&◌, true, false, not, length, take, drop};
 ghost use Rattle.std.specs.Prelude.{Option, None, Some, replicate, slice_index_or, slice_set, IfSome};
 ghost use Rattle.std.specs.List.{AllByRecursion, filter};
-ghost use Rattle.sorted_blocks.specs.Shape.{cut};
 ghost use Rattle.sorted_slab.specs.Listed.{at, IsPlace};
 ghost use Rattle.pim_down.specs.declared.held.Held.{Held};
 ghost use Rattle.pim_down.specs.Alike.{only_end, ends_at, with_one, taken_in, is_among, IsAlike, IsTable};
 ghost use Rattle.pim_down.specs.Records.{IsAscending};
 ghost use Rattle.pim_down.specs.Schedule.{timers_of};
 ghost use Rattle.pim_down.specs.Seen.{records_seen};
+ghost use Rattle.pim_down.specs.Sweep.{swept};
 
 use crate::blocks::HALF_OF_TIMERS;
 use crate::deadline::{Deadline, TimerKind};
@@ -18,24 +18,12 @@ use crate::hints::slot_of_end;
 use crate::key::KeyOrder;
 use crate::rows::Rows;
 use crate::schedule::Schedule;
+use crate::sweep::Sweep;
 use sorted_blocks::Place;
 
-/// So many records are let go of at once: they are gone through twice at most, and are few enough to stay at hand, and what
-/// stands behind them moves once for all of them.
+/// So many records are gone through at once: they are few enough to stay at hand where they are gone through again, and what
+/// stands behind a run of them moves once for all of it.
 const AT_ONCE: usize = 2048;
-
-/// A test of records.
-pub(crate) trait Test<A> {
-    ghost use Rattle.std.specs.Prelude.{Bool};
-    ghost use Rattle.pim_down.specs.declared.held.Held.{Held};
-
-    /// Whether a record passes.
-    ghost passes: { Self → Held A → Bool };
-
-    /// Whether a record passes.
-    fn passes(&self, held: &Held<A>) -> bool
-        ensures { result ≡ passes self.now held.now };
-}
 
 /// Records whose only timers end at one time: when that is, the first of them, the last, and how many they are.
 #[derive(Clone, Copy)]
@@ -104,34 +92,40 @@ fn is_among<A>(alikes: &[Option<Alike<'_, A>>; 31], held: &Held<A>) -> bool
     }
 }
 
-/// Takes in the records from this place on that pass the test, up to the first that doesn't, and up to so many as are let
-/// go of at once. The answer is how many pass.
-fn gather<'a, A: Copy, T: Test<A>>(
+/// Goes through the records from this place on, up to the first that the sweep doesn't reach, and up to so many as are gone
+/// through at once, and takes in those of them that it takes. The answer is how many it goes through, and how many it takes.
+fn gather<'a, A: Copy, S: Sweep<A>>(
     rows: &'a Rows<A>,
     place: Place,
-    test: &T,
+    sweep: &S,
     alikes: &mut [Option<Alike<'a, A>>; 31],
-) -> usize
+) -> (usize, usize)
     requires place { IsPlace rows.now place }
     requires within { at rows.now place < length rows.now.items }
-    requires first { (d : Held A) → T.passes test.now (slice_index_or rows.now.items (at rows.now place) d) ≡ true }
+    requires first { (d : Held A) → S.reaches sweep.now (slice_index_or rows.now.items (at rows.now place) d) ≡ true }
     requires none { alikes.old ≡ replicate 31 None }
-    ensures some { 1 ≤ result }
-    ensures within { at rows.now place + result ≤ length rows.now.items }
-    ensures passed { AllByRecursion (λ held. T.passes test.now held ≡ true)
-        (take result (drop (at rows.now place) rows.now.items)) }
+    ensures some { 1 ≤ result.0 }
+    ensures within { at rows.now place + result.0 ≤ length rows.now.items }
+    ensures reached { AllByRecursion (λ held. S.reaches sweep.now held ≡ true)
+        (take result.0 (drop (at rows.now place) rows.now.items)) }
+    ensures taken { result.1 ≡ length (filter (S.takes sweep.now) (take result.0 (drop (at rows.now place) rows.now.items))) }
     ensures long { length alikes.new ≡ 31 }
-    ensures table { IsTable alikes.new (take result (drop (at rows.now place) rows.now.items)) }
+    ensures table { IsTable alikes.new
+        (filter (S.takes sweep.now) (take result.0 (drop (at rows.now place) rows.now.items))) }
 {
     let mut count = 0;
+    let mut taken = 0;
     for held in rows.walk(place, AT_ONCE) {
-        if !test.passes(held) {
-            return count;
+        if !sweep.reaches(held) {
+            return (count, taken);
         }
         count += 1;
-        take_in(alikes, held);
+        if sweep.takes(held) {
+            taken += 1;
+            take_in(alikes, held);
+        }
     }
-    count
+    (count, taken)
 }
 
 /// Takes out the timers of records that are alike, where these stand side by side. The answer is whether they did.
@@ -193,58 +187,69 @@ fn stop_slot<A: Copy, O: KeyOrder<A>>(
     0
 }
 
-/// Takes out the timers of those of so many records from this place on that aren't among these.
-fn stop_rest<A: Copy, O: KeyOrder<A>>(
+/// Whether the sweep takes a record that isn't among these.
+fn is_left<A, S: Sweep<A>>(sweep: &S, alikes: &[Option<Alike<'_, A>>; 31], held: &Held<A>) -> bool
+    ensures { result ≡ S.takes sweep.now held.now && not (is_among alikes.now held.now) }
+{
+    sweep.takes(held) && !is_among(alikes, held)
+}
+
+/// Takes out the timers of those of so many records from this place on that the sweep takes and that aren't among these.
+fn stop_rest<A: Copy, O: KeyOrder<A>, S: Sweep<A>>(
     rows: &Rows<A>,
     schedule: &mut Schedule<A, O, HALF_OF_TIMERS>,
     place: Place,
     count: usize,
+    sweep: &S,
     alikes: &[Option<Alike<'_, A>>; 31],
 )
     requires place { IsPlace rows.now place }
     ensures timers { (front behind : List (Held A)) → schedule.old.timers
         ≡ timers_of (records_seen O.bytes_of (front
-        ++ (filter (λ held. not (is_among alikes.now held)) (take count (drop (at rows.now place) rows.now.items)) ++ behind)))
+        ++ (filter (λ held. S.takes sweep.now held && not (is_among alikes.now held))
+        (take count (drop (at rows.now place) rows.now.items)) ++ behind)))
         → schedule.new.timers ≡ timers_of (records_seen O.bytes_of (front ++ behind)) }
     ensures capacity { schedule.new.capacity ≡ schedule.old.capacity }
 {
     for held in rows.walk(place, count) {
-        if !is_among(alikes, held) {
+        if is_left::<A, S>(sweep, alikes, held) {
             schedule.stop_all(held);
         }
     }
 }
 
-/// Takes out the timers of the records from this place on that pass the test, up to the first that doesn't, and up to so many
-/// as are let go of at once: first of those that end at one time and have no other timer, for up to thirty-one times with a slot
-/// each, then of the rest, if there is any, one by one. The answer is how many records they are.
-pub(crate) fn stop_run<A: Copy, O: KeyOrder<A>, T: Test<A>>(
+/// Goes through the records from this place on, up to the first that the sweep doesn't reach, and up to so many as are gone
+/// through at once, and takes out the timers of those that it takes: first of those that end at one time and have no other
+/// timer, for up to thirty-one times with a slot each, then of the rest, if there is any, one by one. The answer is how many
+/// records it goes through, and how many of these it takes.
+pub(crate) fn stop_swept<A: Copy, O: KeyOrder<A>, S: Sweep<A>>(
     rows: &Rows<A>,
     schedule: &mut Schedule<A, O, HALF_OF_TIMERS>,
     place: Place,
-    test: &T,
-) -> usize
+    sweep: &S,
+) -> (usize, usize)
     requires place { IsPlace rows.now place }
     requires within { at rows.now place < length rows.now.items }
-    requires first { (d : Held A) → T.passes test.now (slice_index_or rows.now.items (at rows.now place) d) ≡ true }
+    requires first { (d : Held A) → S.reaches sweep.now (slice_index_or rows.now.items (at rows.now place) d) ≡ true }
     requires ascending { IsAscending (records_seen O.bytes_of rows.now.items) }
     requires timers { schedule.old.timers ≡ timers_of (records_seen O.bytes_of rows.now.items) }
-    ensures some { 1 ≤ result }
-    ensures within { at rows.now place + result ≤ length rows.now.items }
-    ensures passed { AllByRecursion (λ held. T.passes test.now held ≡ true)
-        (take result (drop (at rows.now place) rows.now.items)) }
+    ensures some { 1 ≤ result.0 }
+    ensures within { at rows.now place + result.0 ≤ length rows.now.items }
+    ensures reached { AllByRecursion (λ held. S.reaches sweep.now held ≡ true)
+        (take result.0 (drop (at rows.now place) rows.now.items)) }
+    ensures taken { result.1 ≡ length (filter (S.takes sweep.now) (take result.0 (drop (at rows.now place) rows.now.items))) }
     ensures timers { schedule.new.timers
-        ≡ timers_of (records_seen O.bytes_of (cut rows.now.items (at rows.now place) result)) }
+        ≡ timers_of (records_seen O.bytes_of (swept (S.takes sweep.now) rows.now.items (at rows.now place) result.0)) }
     ensures capacity { schedule.new.capacity ≡ schedule.old.capacity }
 {
     let mut alikes = [None; 31];
-    let count = gather::<A, T>(rows, place, test, &mut alikes);
+    let (count, taken) = gather::<A, S>(rows, place, sweep, &mut alikes);
     let mut gone = 0;
     for slot in 0..31 {
         gone += stop_slot::<A, O>(schedule, &mut alikes, slot);
     }
-    if gone < count {
-        stop_rest::<A, O>(rows, schedule, place, count, &alikes);
+    if gone < taken {
+        stop_rest::<A, O, S>(rows, schedule, place, count, sweep, &alikes);
     }
-    count
+    (count, taken)
 }

@@ -1,25 +1,22 @@
 //! End of Message: what it does to the (S,G,rpt) machines of a port.
 
-ghost use Rattle.std.specs.Prelude.{◌≡◌, ◌+◌, ◌<◌, ◌≤◌, true, length, take, drop, slice_index_or, not};
-ghost use Rattle.std.specs.List.{filter, AllByRecursion};
-ghost use Rattle.sorted_slab.specs.Listed.{at, IsPlace};
-ghost use Rattle.pim_down.specs.declared.held.Held.{Held};
+ghost use Rattle.std.specs.Prelude.{◌≡◌, not};
+ghost use Rattle.std.specs.List.{filter};
 ghost use Rattle.pim_down.specs.Records.{IsAscending, each_changed};
 ghost use Rattle.pim_down.specs.Hearing.{at_end};
 ghost use Rattle.pim_down.specs.Running.{is_over_in, joined_sets, AreOverIn};
-ghost use Rattle.pim_down.specs.Seen.{record_seen, records_seen};
+ghost use Rattle.pim_down.specs.Seen.{records_seen};
 ghost use Rattle.pim_down.specs.Sound.{is_temporary};
 
 use crate::again::is_joined_again;
-use crate::alike::Test;
 use crate::hear::{RptsOf, is_rpt_of};
 use crate::held::Held;
 use crate::key::OfFamily;
 use crate::machine::State;
 use crate::store::Store;
+use crate::sweep::Sweep;
 use pim_addr::Family;
 use pim_jp::JpView;
-use sorted_blocks::Place;
 
 /// Whether a machine has the state only while a message is heard.
 fn is_temporary(state: State) -> bool
@@ -28,28 +25,28 @@ fn is_temporary(state: State) -> bool
     matches!(state, State::PruneTmp | State::PrunePendingTmp)
 }
 
-/// Whether it is an (S,G,rpt) machine of this group on this port that ends with the message.
-fn is_over_in<F: Family>(held: &Held<F::Addr>, port: usize, group: F::Addr) -> bool
-    ensures { result ≡ is_over_in port (F.bytes_of group) (record_seen F.bytes_of held.now) }
-{
-    is_rpt_of::<F>(&held.key, port, group) && is_temporary(held.machine.state)
-}
-
-/// The (S,G,rpt) machines of a group on a port that end with the message.
+/// The (S,G,rpt) machines of a group on a port, of which those go that end with the message.
 #[derive(Drop)]
 struct OverIn<F: Family> {
     port: usize,
     group: F::Addr,
 }
 
-impl<F: Family> Test<F::Addr> for OverIn<F> {
-    ghost use Rattle.pim_down.specs.Running.{is_over_in};
-    ghost use Rattle.pim_down.specs.Seen.{record_seen};
+impl<F: Family> Sweep<F::Addr> for OverIn<F> {
+    ghost use Rattle.pim_down.specs.Hearing.{is_rpt_of};
+    ghost use Rattle.pim_down.specs.Seen.{key_seen};
+    ghost use Rattle.pim_down.specs.Sound.{is_temporary};
 
-    ghost passes = { λ over held. is_over_in over.port (F.bytes_of over.group) (record_seen F.bytes_of held) };
+    ghost reaches = { λ over held. is_rpt_of over.port (F.bytes_of over.group) (key_seen F.bytes_of held.key) };
 
-    fn passes(&self, held: &Held<F::Addr>) -> bool {
-        is_over_in::<F>(held, self.port, self.group)
+    ghost takes = { λ over held. is_temporary held.machine.state };
+
+    fn reaches(&self, held: &Held<F::Addr>) -> bool {
+        is_rpt_of::<F>(&held.key, self.port, self.group)
+    }
+
+    fn takes(&self, held: &Held<F::Addr>) -> bool {
+        is_temporary(held.machine.state)
     }
 }
 
@@ -66,16 +63,11 @@ pub(crate) fn end_group<F: Family>(
     let over = OverIn::<F> { port, group };
     let mut place = records.first_behind(&RptsOf::<F> { port, group });
     while records.is_item(place) {
-        let held = records.get(place);
-        if !is_rpt_of::<F>(&held.key, port, group) {
+        if !over.reaches(records.get(place)) {
             return;
         }
-        if is_temporary(held.machine.state) {
-            let (_count, behind) = records.remove_run::<OverIn<F>>(place, port, &over);
-            place = behind;
-        } else {
-            place = records.next(place);
-        }
+        let (_count, behind) = records.sweep::<OverIn<F>>(place, port, &over);
+        place = behind;
     }
 }
 

@@ -34,6 +34,7 @@ mod run;
 mod schedule;
 mod step;
 mod store;
+mod sweep;
 mod timers;
 mod walk;
 

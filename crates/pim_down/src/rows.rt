@@ -12,10 +12,12 @@ ghost use Rattle.pim_down.specs.Hearing.{is_rpt, rpt_count_on};
 ghost use Rattle.pim_down.specs.Records.{count_on};
 ghost use Rattle.pim_down.specs.Seen.{what_seen, records_seen};
 ghost use Rattle.pim_down.specs.Store.{IsRptOn};
+ghost use Rattle.pim_down.specs.Sweep.{left_of, swept};
 
 use crate::blocks::HALF_OF_RECORDS;
 use crate::held::{Held, Timed};
 use crate::key::{Key, What};
+use crate::sweep::Sweep;
 use sorted_blocks::{Place, Probe};
 use sorted_slab::{SortedSlab, Walk};
 use std::alloc::{AllocError, Global};
@@ -209,6 +211,63 @@ impl<A: Copy> Rows<A> {
         count_out(&mut self.rpts, port, count);
         let behind = self.list.remove_run(place, count);
         self.list.settled(behind)
+    }
+
+    /// How many records from this place on the sweep takes, up to the first that it doesn't, and up to so many.
+    fn run_from<S: Sweep<A>>(&self, place: Place, most: usize, sweep: &S) -> usize
+        requires place { IsPlace self.now place }
+        requires within { at self.now place < length self.now.items }
+        requires some { 0 < most }
+        requires first { (d : Held A) →
+            S.takes sweep.now (slice_index_or self.now.items (at self.now place) d) ≡ true }
+        ensures some { 1 ≤ result }
+        ensures most { result ≤ most }
+        ensures taken { AllByRecursion (λ held. S.takes sweep.now held ≡ true)
+            (take result (drop (at self.now place) self.now.items)) }
+    {
+        let mut count = 0;
+        for held in self.list.walk(place, most) {
+            if !sweep.takes(held) {
+                return count;
+            }
+            count += 1;
+        }
+        count
+    }
+
+    /// Takes out those of so many records from this place on that the sweep takes, run by run. All of them are (S,G,rpt)
+    /// ones of this port. The answer is the place of the one that came behind them.
+    pub(crate) fn sweep<S: Sweep<A>>(
+        &mut self,
+        first: Place,
+        count: usize,
+        port: usize,
+        sweep: &S,
+    ) -> Place
+        requires place { IsPlace self.old first }
+        requires item { at self.old first < length self.old.items → IsItem self.old first }
+        requires within { at self.old first + count ≤ length self.old.items }
+        requires own { AllByRecursion (IsRptOn port) (take count (drop (at self.old first) self.old.items)) }
+        ensures items { self.new.items ≡ swept (S.takes sweep.now) self.old.items (at self.old first) count }
+        ensures capacity { self.new.capacity ≡ self.old.capacity }
+        ensures place { IsPlace self.new result }
+        ensures at { at self.new result ≡ at self.old first
+            + length (left_of (S.takes sweep.now) (take count (drop (at self.old first) self.old.items))) }
+        ensures item { at self.new result < length self.new.items → IsItem self.new result }
+    {
+        let mut place = first;
+        let mut left = count;
+        while 0 < left {
+            if sweep.takes(self.get(place)) {
+                let run = self.run_from::<S>(place, left, sweep);
+                place = self.remove_run(place, run, port);
+                left -= run;
+            } else {
+                place = self.next(place);
+                left -= 1;
+            }
+        }
+        place
     }
 
     /// Gives the record at this place another machine; its key stays.

@@ -4,7 +4,6 @@ ghost use Rattle.std.specs.Prelude.{◌≡◌, ℕ, List, ◌+◌, ◌*◌, ◌<
 ghost use Rattle.std.specs.Prelude.{slice_index_or, slice_set, OnOk, IsOk, IsTrue, true, false};
 ghost use Rattle.std.specs.List.{All, AllByRecursion, filter, insert, remove, slice_get};
 ghost use Rattle.std.specs.List.Sorted.{IsPartitionedBy, IsPartitionPoint};
-ghost use Rattle.sorted_blocks.specs.Shape.{cut};
 ghost use Rattle.sorted_blocks.specs.declared.place.Place.{Place};
 ghost use Rattle.sorted_slab.specs.Listed.{at, IsPlace, IsItem, IsFound};
 ghost use Rattle.pim_down.specs.declared.held.Held.{Held};
@@ -13,8 +12,9 @@ ghost use Rattle.pim_down.specs.Records.{count_on, IsAscending};
 ghost use Rattle.pim_down.specs.Schedule.{deadline_seen, timers_of};
 ghost use Rattle.pim_down.specs.Seen.{records_seen};
 ghost use Rattle.pim_down.specs.Store.{IsRptOn, in_state};
+ghost use Rattle.pim_down.specs.Sweep.{left_of, swept};
 
-use crate::alike::{Test, stop_run};
+use crate::alike::stop_swept;
 use crate::blocks::{HALF_OF_RECORDS, HALF_OF_TIMERS};
 use crate::deadline::Deadline;
 use crate::held::{Held, Timed};
@@ -22,6 +22,7 @@ use crate::key::KeyOrder;
 use crate::machine::State;
 use crate::rows::{Bound, Rows};
 use crate::schedule::Schedule;
+use crate::sweep::Sweep;
 use sorted_blocks::{Place, Probe};
 use sorted_slab::Walk;
 use std::alloc::{AllocError, Global};
@@ -136,33 +137,37 @@ impl<A: Copy, O: KeyOrder<A>> Store<A, O> {
         self.rows.remove(place)
     }
 
-    /// Takes out the records from this place on that pass the test, up to the first that doesn't, and up to so many as are
-    /// let go of at once, all of them (S,G,rpt) ones of this port. The answer is how many they are, and the place of the one
-    /// that came behind them.
-    pub(crate) fn remove_run<T: Test<A>>(
+    /// Goes through the records from this place on, up to the first that the sweep doesn't reach, and up to so many as are
+    /// gone through at once, all of them (S,G,rpt) ones of this port, and takes out those that it takes. The answer is how
+    /// many it goes through, and the place of the one that came behind them.
+    pub(crate) fn sweep<S: Sweep<A>>(
         &mut self,
         place: Place,
         port: usize,
-        test: &T,
+        sweep: &S,
     ) -> (usize, Place)
         requires place { IsPlace self.old place }
-        requires within { at self.old place < length self.old.items }
+        requires item { IsItem self.old place }
         requires first { (d : Held A) →
-            T.passes test.now (slice_index_or self.old.items (at self.old place) d) ≡ true }
-        requires own { (held : Held A) → T.passes test.now held ≡ true → IsRptOn port held }
+            S.reaches sweep.now (slice_index_or self.old.items (at self.old place) d) ≡ true }
+        requires own { (held : Held A) → S.reaches sweep.now held ≡ true → IsRptOn port held }
         requires ascending { IsAscending (records_seen O.bytes_of self.old.items) }
         ensures some { 1 ≤ result.0 }
         ensures within { at self.old place + result.0 ≤ length self.old.items }
-        ensures passed { AllByRecursion (λ held. T.passes test.now held ≡ true)
+        ensures reached { AllByRecursion (λ held. S.reaches sweep.now held ≡ true)
             (take result.0 (drop (at self.old place) self.old.items)) }
-        ensures items { self.new.items ≡ cut self.old.items (at self.old place) result.0 }
+        ensures items { self.new.items ≡ swept (S.takes sweep.now) self.old.items (at self.old place) result.0 }
         ensures capacity { self.new.capacity ≡ self.old.capacity }
         ensures place { IsPlace self.new result.1 }
-        ensures at { at self.new result.1 ≡ at self.old place }
+        ensures at { at self.new result.1 ≡ at self.old place
+            + length (left_of (S.takes sweep.now) (take result.0 (drop (at self.old place) self.old.items))) }
         ensures item { at self.new result.1 < length self.new.items → IsItem self.new result.1 }
     {
-        let count = stop_run::<A, O, T>(&self.rows, &mut self.schedule, place, test);
-        (count, self.rows.remove_run(place, count, port))
+        let (count, taken) = stop_swept::<A, O, S>(&self.rows, &mut self.schedule, place, sweep);
+        if taken == count {
+            return (count, self.rows.remove_run(place, count, port));
+        }
+        (count, self.rows.sweep::<S>(place, count, port, sweep))
     }
 
     /// Gives the record at this place another machine; its key stays.
