@@ -15,7 +15,7 @@ use Rattle.pim_down.specs.declared.deadline.TimerKind.TheVariants.{PendingTimer,
 use Rattle.pim_down.specs.declared.held.Held.{Held}
 use Rattle.pim_down.specs.declared.held.Waiting.{Waiting}
 use Rattle.pim_down.specs.declared.key.Key.{Key}
-use Rattle.pim_down.specs.Alike.{only_of, is_time, is_of_slot, only_end, ends_at, in_slot, IsAlike, IsSlot, IsTable, with_one_of, with_one, taken_by, taken_in, tells_of, is_among_by, is_among}
+use Rattle.pim_down.specs.Alike.{only_of, is_time, is_of_slot, only_end, ends_at, in_slot, IsAlike, IsSlot, IsTable, tells_of, is_among_by, is_among}
 use Rattle.pim_down.specs.Key.{key_cmp}
 use Rattle.pim_down.specs.Records.{IsBelow, IsAscending}
 use Rattle.pim_down.specs.Schedule.{placed, all_placed, IsUnder, IsRising, IsRun, deadline_cmp, with_end, with_timers}
@@ -82,34 +82,37 @@ module _ {A : Type 0} where
   slot_same slot None records held out is = filter_out (in_slot slot) records held out ∙ is
   slot_same slot (Some alike) records held out is = (is.0, subst (IsAlike alike) (sym (filter_out (ends_at alike.ends_at) records held (not_there slot alike.ends_at (only_end held) is.0 out))) is.1)
 
-  slot_more : (slot : ℕ) (s : Option (Alike A)) (records : List (Held A)) (held : Bor (Held A)) (end : ℕ) → only_end held.now ≡ Some end → end % 31 ≡ slot → IsSlot slot s records → IsSlot slot (with_one s end held) (records ++ held.now ∷ [])
-  slot_more slot None records held end ends of is =
+  -- the slot had no record of any of its times, or some of this time, or some of another
+  pub slot_first : (records : List (Held A)) (held : Bor (Held A)) (end : ℕ) → only_end held.now ≡ Some end → IsSlot (end % 31) None records → IsSlot (end % 31) (Some (record { ends_at = end; first = held; last = held; count = 1 })) (records ++ held.now ∷ [])
+  slot_first records held end ends is =
       let here : ends_at end held.now ≡ true = ap (is_time end) ends ∙ eq-eqb end end refl in
-      let none : filter (ends_at end) records ≡ [] = sym (filter_twice (ends_at end) (in_slot slot) (λ x. not_there slot end (only_end x) of) records) ∙ ap (filter (ends_at end)) is in
-      (of, subst (IsAlike (record { ends_at = end; first = held; last = held; count = 1 })) (sym (filter_in (ends_at end) records held.now here ∙ ap (λ (xs : List (Held A)). xs ++ held.now ∷ []) none)) (one_alike end held))
-  slot_more slot (Some alike) records held end ends of is = by (nat_eq alike.ends_at end) refl
-    where
-      by : (b : Bool) → nat_eq alike.ends_at end ≡ b → IsSlot slot (with_one_of b alike held) (records ++ held.now ∷ [])
-      by true same = (is.0, subst (IsAlike (record { ends_at = alike.ends_at; first = alike.first; last = held; count = alike.count + 1 })) (sym (filter_in (ends_at alike.ends_at) records held.now (ap (is_time alike.ends_at) ends ∙ same))) (more_alike alike (filter (ends_at alike.ends_at) records) held is.1))
-      by false other = (is.0, subst (IsAlike alike) (sym (filter_out (ends_at alike.ends_at) records held.now (ap (is_time alike.ends_at) ends ∙ other))) is.1)
+      let none : filter (ends_at end) records ≡ [] = sym (filter_twice (ends_at end) (in_slot (end % 31)) (λ x. not_there (end % 31) end (only_end x) refl) records) ∙ ap (filter (ends_at end)) is in
+      (refl, subst (IsAlike (record { ends_at = end; first = held; last = held; count = 1 })) (sym (filter_in (ends_at end) records held.now here ∙ ap (λ (xs : List (Held A)). xs ++ held.now ∷ []) none)) (one_alike end held))
 
-  pub table_more : (alikes : List (Option (Alike A))) (records : List (Held A)) (held : Bor (Held A)) → length alikes ≡ 31 → IsTable alikes records → IsTable (taken_in alikes held) (records ++ held.now ∷ [])
-  table_more alikes records held long is = by (only_end held.now) refl
-    where
-      by : (only : Option ℕ) → only_end held.now ≡ only → IsTable (taken_by alikes only held) (records ++ held.now ∷ [])
-      by None none slot lt = slot_same slot (get_or alikes slot None) records held.now (ap (is_of_slot slot) none) (is slot lt)
-      by (Some end) some slot lt = which (nat_eq (end % 31) slot) refl
-        where
-          new : Option (Alike A)
-          new = with_one (get_or alikes (end % 31) None) end held
+  pub slot_more : (slot : ℕ) (alike : Alike A) (records : List (Held A)) (held : Bor (Held A)) → only_end held.now ≡ Some alike.ends_at → IsSlot slot (Some alike) records → IsSlot slot (Some (record { ends_at = alike.ends_at; first = alike.first; last = held; count = alike.count + 1 })) (records ++ held.now ∷ [])
+  slot_more slot alike records held ends is =
+      let here : ends_at alike.ends_at held.now ≡ true = ap (is_time alike.ends_at) ends ∙ eq-eqb alike.ends_at alike.ends_at refl in
+      (is.0, subst (IsAlike (record { ends_at = alike.ends_at; first = alike.first; last = held; count = alike.count + 1 })) (sym (filter_in (ends_at alike.ends_at) records held.now here)) (more_alike alike (filter (ends_at alike.ends_at) records) held is.1))
 
-          which : (b : Bool) → nat_eq (end % 31) slot ≡ b → IsSlot slot (get_or (set alikes (end % 31) new) slot None) (records ++ held.now ∷ [])
-          which true here =
-              let same = eqb-true (end % 31) slot here in
-              let gets : get_or (set alikes (end % 31) new) slot None ≡ with_one (get_or alikes slot None) end held = ap (λ (k : ℕ). get_or (set alikes (end % 31) new) k None) (sym same) ∙ get_or-set_same alikes (end % 31) new None (omega (arith, same, lt, long)) ∙ ap (λ (k : ℕ). with_one (get_or alikes k None) end held) same in
-              subst (λ (s : Option (Alike A)). IsSlot slot s (records ++ held.now ∷ [])) (sym gets) (slot_more slot (get_or alikes slot None) records held end some same (is slot lt))
-          which false other =
-              subst (λ (s : Option (Alike A)). IsSlot slot s (records ++ held.now ∷ [])) (sym (get_or-set_other alikes (end % 31) slot new None (λ q. eqb-false (end % 31) slot other (sym q)))) (slot_same slot (get_or alikes slot None) records held.now (ap (is_of_slot slot) some ∙ other) (is slot lt))
+  pub slot_other : (slot : ℕ) (alike : Alike A) (records : List (Held A)) (held : Held A) (end : ℕ) → only_end held ≡ Some end → nat_eq alike.ends_at end ≡ false → IsSlot slot (Some alike) records → IsSlot slot (Some alike) (records ++ held ∷ [])
+  slot_other slot alike records held end ends other is = (is.0, subst (IsAlike alike) (sym (filter_out (ends_at alike.ends_at) records held (ap (is_time alike.ends_at) ends ∙ other))) is.1)
+
+  -- a record that has another timer is in no slot
+  pub table_same : (alikes : List (Option (Alike A))) (records : List (Held A)) (held : Held A) → only_end held ≡ None → IsTable alikes records → IsTable alikes (records ++ held ∷ [])
+  table_same alikes records held none is slot lt = slot_same slot (get_or alikes slot None) records held (ap (is_of_slot slot) none) (is slot lt)
+
+  -- and one that has none is in this slot alone
+  pub table_more : (alikes : List (Option (Alike A))) (records : List (Held A)) (held : Held A) (end : ℕ) (new : Option (Alike A)) → length alikes ≡ 31 → only_end held ≡ Some end → (IsSlot (end % 31) (get_or alikes (end % 31) None) records → IsSlot (end % 31) new (records ++ held ∷ [])) → IsTable alikes records → IsTable (set alikes (end % 31) new) (records ++ held ∷ [])
+  table_more alikes records held end new long some more is slot lt = which (nat_eq (end % 31) slot) refl
+    where
+      which : (b : Bool) → nat_eq (end % 31) slot ≡ b → IsSlot slot (get_or (set alikes (end % 31) new) slot None) (records ++ held ∷ [])
+      which true here =
+          let same = eqb-true (end % 31) slot here in
+          let gets : get_or (set alikes (end % 31) new) (end % 31) None ≡ new = get_or-set_same alikes (end % 31) new None (omega (arith, same, lt, long)) in
+          subst (λ (k : ℕ). IsSlot k (get_or (set alikes (end % 31) new) k None) (records ++ held ∷ [])) same
+          (subst (λ (s : Option (Alike A)). IsSlot (end % 31) s (records ++ held ∷ [])) (sym gets) (more (is (end % 31) (omega (arith, same, lt)))))
+      which false other =
+          subst (λ (s : Option (Alike A)). IsSlot slot s (records ++ held ∷ [])) (sym (get_or-set_other alikes (end % 31) slot new None (λ q. eqb-false (end % 31) slot other (sym q)))) (slot_same slot (get_or alikes slot None) records held (ap (is_of_slot slot) some ∙ other) (is slot lt))
 
   pub table_none : (alikes : List (Option (Alike A))) → alikes ≡ replicate 31 None → IsTable alikes []
   table_none alikes is slot lt = subst (λ (s : Option (Alike A)). IsSlot slot s []) (sym (ap (λ (xs : List (Option (Alike A))). get_or xs slot None) is ∙ get_or-replicate 31 slot None None lt)) refl
@@ -117,13 +120,6 @@ module _ {A : Type 0} where
   pub slot_some : (slot : ℕ) (s : Option (Alike A)) (records : List (Held A)) → IsSlot slot s records → IfSome s (λ alike. 1 ≤ alike.count)
   slot_some slot None records is = tt
   slot_some slot (Some alike) records is = is.1.some
-
-  pub table_long : (alikes : List (Option (Alike A))) (held : Bor (Held A)) → length (taken_in alikes held) ≡ length alikes
-  table_long alikes held = by (only_end held.now)
-    where
-      by : (only : Option ℕ) → length (taken_by alikes only held) ≡ length alikes
-      by None = refl
-      by (Some end) = length-set alikes (end % 31) (with_one (get_or alikes (end % 31) None) end held)
 
   -- each slot tells of no more records than there are
   pub table_few : (alikes : List (Option (Alike A))) (records : List (Held A)) → length alikes ≡ 31 → IsTable alikes records → length records < 2048 → (slot : ℕ) → IfSome (get_or alikes slot None) (λ alike. alike.count < 2048)

@@ -1,6 +1,5 @@
 -- Records side by side whose timers go together: by when they end.
-use Rattle.std.specs.Prelude.{◌≡◌, ℕ, ◌+◌, ◌-◌, ◌%◌, ◌<◌, ◌≤◌, Bool, true, false, nat_eq, List, [], length, Option, None, Some, slice_index_or, slice_set}
-use Rattle.std.specs.Borrow.{Bor}
+use Rattle.std.specs.Prelude.{◌≡◌, ℕ, ◌-◌, ◌%◌, ◌<◌, ◌≤◌, Bool, false, nat_eq, List, [], length, Option, None, Some, slice_index_or}
 use Rattle.std.specs.List.{filter}
 use Rattle.pim_down.specs.declared.alike.Alike.{Alike}
 use Rattle.pim_down.specs.declared.held.Held.{Held}
@@ -50,23 +49,6 @@ module _ {A : Type 0} where
   -- each of the thirty-one slots does
   abbrev pub IsTable : List (Option (Alike A)) → List (Held A) → Type 0
   IsTable alikes records = (slot : ℕ) → slot < 31 → IsSlot slot (slice_index_or alikes slot None) records
-
-  -- a slot with one more record that ends at this time
-  abbrev pub with_one_of : Bool → Alike A → Bor (Held A) → Option (Alike A)
-  with_one_of true alike held = Some (record { ends_at = alike.ends_at; first = alike.first; last = held; count = alike.count + 1 })
-  with_one_of false alike held = Some alike
-
-  abbrev pub with_one : Option (Alike A) → ℕ → Bor (Held A) → Option (Alike A)
-  with_one None end held = Some (record { ends_at = end; first = held; last = held; count = 1 })
-  with_one (Some alike) end held = with_one_of (nat_eq alike.ends_at end) alike held
-
-  -- the slots with one more record
-  abbrev pub taken_by : List (Option (Alike A)) → Option ℕ → Bor (Held A) → List (Option (Alike A))
-  taken_by alikes None held = alikes
-  taken_by alikes (Some end) held = slice_set alikes (end % 31) (with_one (slice_index_or alikes (end % 31) None) end held)
-
-  abbrev pub taken_in : List (Option (Alike A)) → Bor (Held A) → List (Option (Alike A))
-  taken_in alikes held = taken_by alikes (only_end held.now) held
 
   -- whether a slot tells of a record that ends at this time
   abbrev pub tells_of : Option (Alike A) → ℕ → Bool

@@ -1,11 +1,11 @@
 //! The timers of records that go together: of those that end at one time all at once.
 
-ghost use Rattle.std.specs.Prelude.{◌≡◌, ℕ, List, ◌+◌, ◌%◌, ◌<◌, ◌≤◌, [], ◌++◌, ◌&&◌, true, false, not, length, take, drop};
+ghost use Rattle.std.specs.Prelude.{◌≡◌, ℕ, List, ◌+◌, ◌%◌, ◌<◌, ◌≤◌, [], ◌∷◌, ◌++◌, ◌&&◌, true, false, not, length, take, drop};
 ghost use Rattle.std.specs.Prelude.{Option, None, Some, replicate, slice_index_or, slice_set, IfSome};
 ghost use Rattle.std.specs.List.{AllByRecursion, filter};
 ghost use Rattle.sorted_slab.specs.Listed.{at, IsPlace};
 ghost use Rattle.pim_down.specs.declared.held.Held.{Held};
-ghost use Rattle.pim_down.specs.Alike.{only_end, ends_at, with_one, taken_in, is_among, IsAlike, IsTable};
+ghost use Rattle.pim_down.specs.Alike.{only_end, ends_at, is_among, IsAlike, IsSlot, IsTable};
 ghost use Rattle.pim_down.specs.Records.{IsAscending};
 ghost use Rattle.pim_down.specs.Schedule.{timers_of};
 ghost use Rattle.pim_down.specs.Seen.{records_seen};
@@ -44,10 +44,12 @@ fn only_end<A>(held: &Held<A>) -> Option<u64>
     }
 }
 
-/// Takes in one more record that ends at this time, where those of the slot do, or where there is none.
+/// Takes in one more record that ends at this time, where those of its slot do, or where the slot has none.
 fn add<'a, A: Copy>(slot: &mut Option<Alike<'a, A>>, ends_at: u64, held: &'a Held<A>)
-    requires { IfSome slot.old (λ alike. alike.count < 2048) }
-    ensures { slot.new ≡ with_one slot.old ends_at held.entry }
+    requires few { IfSome slot.old (λ alike. alike.count < 2048) }
+    requires end { only_end held.now ≡ Some ends_at }
+    ensures { (records : List (Held A)) → IsSlot (ends_at % 31) slot.old records →
+        IsSlot (ends_at % 31) slot.new (records ++ held.now ∷ []) }
 {
     match slot {
         Some(alike) => {
@@ -71,7 +73,9 @@ fn add<'a, A: Copy>(slot: &mut Option<Alike<'a, A>>, ends_at: u64, held: &'a Hel
 fn take_in<'a, A: Copy>(alikes: &mut [Option<Alike<'a, A>>; 31], held: &'a Held<A>)
     requires { (slot : ℕ) → IfSome (slice_index_or alikes.old slot None)
         (λ alike. alike.count < 2048) }
-    ensures { alikes.new ≡ taken_in alikes.old held.entry }
+    ensures long { length alikes.new ≡ 31 }
+    ensures table { (records : List (Held A)) → IsTable alikes.old records →
+        IsTable alikes.new (records ++ held.now ∷ []) }
 {
     match only_end(held) {
         Some(ends_at) => add(&mut alikes[slot_of_end(ends_at)], ends_at, held),

@@ -4,8 +4,8 @@ use Rattle.std.proofs.lemmas.Bool.{false≢true}
 use Rattle.std.proofs.lemmas.List.{length-append, length-drop, get_or-drop, length-take-le}
 use Rattle.sorted_slab.specs.Listed.{at}
 use Rattle.pim_down.specs.declared.held.Held.{Held}
-use Rattle.pim_down.specs.Alike.{IsTable, taken_in}
-use Rattle.pim_down.proofs.AllAtOnce.{filter_in, filter_out, table_more, table_none, table_long, table_few}
+use Rattle.pim_down.specs.Alike.{IsTable}
+use Rattle.pim_down.proofs.AllAtOnce.{filter_in, filter_out, table_none, table_few}
 use Rattle.pim_down.proofs.Cuts.{passed_none, passed_more, some_left, few_passed, passed_first, some_passed, all_passed, next_taken}
 use Rattle.pim_down.proofs.Sweeps.{few_taken}
 use Rattle.pim_down.proofs.alike.gather.Goals as goal
@@ -63,8 +63,8 @@ loop-held-preserved-then-takes g c =
     record {
       reached = passed_more P (take 2048 xs) c.loop-held.held-iterator c.next.new.self c.loop-held.count (c.loop-held.count + 1) held.now c.in-Some.ensures.steps refl (sym c.reaches.ensures ∙ c.if-not-reaches.false) kept.reached;
       taken = omega (arith, kept.taken, ap length more, length-append (filter takes before) (held.now ∷ []));
-      long = ap length c.take_in.ensures ∙ table_long c.loop-held.alikes held ∙ kept.long;
-      table = (λ slot. subst (λ ys. IsTable ys (filter takes (take (c.loop-held.count + 1) xs))) (sym c.take_in.ensures) (subst (IsTable (taken_in c.loop-held.alikes held)) (sym more) (table_more c.loop-held.alikes (filter takes before) held kept.long kept.table)) slot);
+      long = c.take_in.ensures.long;
+      table = (λ slot. subst (IsTable c.take_in.new.alikes) (sym more) (c.take_in.ensures.table (filter takes before) kept.table) slot);
     }
 
 pub loop-held-preserved : goal.loop-held-preserved
