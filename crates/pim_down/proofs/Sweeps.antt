@@ -47,12 +47,15 @@ module _ {X : Type 0} (takes : X → Bool) where
   none_stays [] all = refl
   none_stays (x ∷ xs) all = let here = all.0 in rw here (none_stays xs all.1)
 
-  pub all_taken : (xs : List X) → length (filter takes xs) ≡ length xs → left_of takes xs ≡ []
+  all_taken : (xs : List X) → length (filter takes xs) ≡ length xs → left_of takes xs ≡ []
   all_taken xs same = by (left_of takes xs) (length-filter_both takes (λ x. not (takes x)) (λ x. refl) xs)
     where
       by : (left : List X) → length (filter takes xs) + length left ≡ length xs → left ≡ []
       by [] both = refl
       by (x ∷ left) both = absurd (omega (arith, both, same))
+
+  pub none_left_within : (xs : List X) (i count : ℕ) → i + count ≤ length xs → length (filter takes (take count (drop i xs))) ≡ count → left_of takes (take count (drop i xs)) ≡ []
+  none_left_within xs i count within all = all_taken (take count (drop i xs)) (all ∙ sym (length-take-le count (drop i xs) (let rest = length-drop i xs in omega (arith, rest, within))))
 
   pub swept_whole : (xs : List X) (i count : ℕ) → left_of takes (take count (drop i xs)) ≡ [] → swept takes xs i count ≡ cut xs i count
   unfolding swept cut

@@ -1,11 +1,10 @@
 use Rattle.std.proofs.Common.{◌≡◌, ◌+◌, true, length, take, drop, sym, ap, subst, ◌∙◌, arith}
-use Rattle.std.proofs.lemmas.List.{length-drop, length-take-le}
 use Rattle.sorted_slab.specs.Listed.{Listed, at}
 use Rattle.pim_down.specs.declared.held.Held.{Held}
 use Rattle.pim_down.specs.Store.{IsRptOn}
 use Rattle.pim_down.specs.Sweep.{left_of, swept}
 use Rattle.pim_down.proofs.Deadlines.{timed_swept}
-use Rattle.pim_down.proofs.Sweeps.{all_so, all_taken, swept_whole}
+use Rattle.pim_down.proofs.Sweeps.{all_so, none_left_within, swept_whole}
 use Rattle.pim_down.proofs.store.Store.sweep.Goals as goal
 
 pub invariant_of-self : goal.invariant_of-self
@@ -15,8 +14,7 @@ invariant_of-self g c =
     let i = at s.rows c.args.place in
     let n = c.stop_swept-count.result.0 in
     let gone = c.stop_swept-count.ensures in
-    let long = length-take-le n (drop i s.rows.items) (let rest = length-drop i s.rows.items in omega (arith, rest, gone.within)) in
-    let none = all_taken takes (take n (drop i s.rows.items)) (omega (arith, gone.taken, c.if-taken-count.true, long)) in
+    let none = none_left_within takes s.rows.items i n gone.within (sym gone.taken ∙ c.if-taken-count.true) in
     timed_swept g.O.KeyOrder.bytes_of s.rows c.remove_run.new.self s.schedule c.stop_swept-count.new.schedule s.room c.self.invariant takes i n gone.within (c.remove_run.ensures.items ∙ sym (swept_whole takes s.rows.items i n none)) gone.timers gone.capacity
 
 pub returns-then-taken-count-clause-items : goal.returns-then-taken-count-clause-items
@@ -26,8 +24,7 @@ returns-then-taken-count-clause-items g c =
     let i = at s.rows c.args.place in
     let n = c.stop_swept-count.result.0 in
     let gone = c.stop_swept-count.ensures in
-    let long = length-take-le n (drop i s.rows.items) (let rest = length-drop i s.rows.items in omega (arith, rest, gone.within)) in
-    let none = all_taken takes (take n (drop i s.rows.items)) (omega (arith, gone.taken, c.if-taken-count.true, long)) in
+    let none = none_left_within takes s.rows.items i n gone.within (sym gone.taken ∙ c.if-taken-count.true) in
     subst (λ (l : Listed (Held g.row.A.Denot)). c.remove_run.new.self.items ≡ swept takes l.items (at l c.args.place) n) c.self.view_is (c.remove_run.ensures.items ∙ sym (swept_whole takes s.rows.items i n none))
 
 pub returns-then-taken-count-clause-at : goal.returns-then-taken-count-clause-at
@@ -37,8 +34,7 @@ returns-then-taken-count-clause-at g c =
     let i = at s.rows c.args.place in
     let n = c.stop_swept-count.result.0 in
     let gone = c.stop_swept-count.ensures in
-    let long = length-take-le n (drop i s.rows.items) (let rest = length-drop i s.rows.items in omega (arith, rest, gone.within)) in
-    let none = all_taken takes (take n (drop i s.rows.items)) (omega (arith, gone.taken, c.if-taken-count.true, long)) in
+    let none = none_left_within takes s.rows.items i n gone.within (sym gone.taken ∙ c.if-taken-count.true) in
     let same : at c.remove_run.new.self c.remove_run.result ≡ i + length (left_of takes (take n (drop i s.rows.items))) = omega (arith, c.remove_run.ensures.at, ap length none) in
     subst (λ (l : Listed (Held g.row.A.Denot)). at c.remove_run.new.self c.remove_run.result ≡ at l c.args.place + length (left_of takes (take n (drop (at l c.args.place) l.items)))) c.self.view_is same
 
