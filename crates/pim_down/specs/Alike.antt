@@ -1,4 +1,4 @@
--- Records side by side whose timers go together: by when they end.
+-- Records whose timers go together: by when they end.
 use Rattle.std.specs.Prelude.{◌≡◌, ℕ, ◌-◌, ◌%◌, ◌<◌, ◌≤◌, Bool, false, nat_eq, List, [], length, Option, None, Some, slice_index_or}
 use Rattle.std.specs.List.{filter}
 use Rattle.pim_down.specs.declared.alike.Alike.{Alike}
