@@ -107,8 +107,9 @@ def told_of_changes(body):
     return counts, digest
 
 
-# the numbers of what is told of a message: no fault of a Hello is 0; of a Join/Prune 19 where its sender is unknown, else
-# 20 where it is for another router than 10.0.0.2 or fe80::2, and 21 where it is for that one
+# the numbers of what is told of a message: no fault of a Hello is 0, and what becomes of its sender's row is told in place of an
+# offset; of a Join/Prune 19 where its sender is unknown, else 20 where it is for another router than 10.0.0.2 or fe80::2, and 21
+# where it is for that one
 FRAME_SHORT, VERSION, CHECKSUM, OTHER_TYPE, HELLO, JOIN_PRUNE, UNKNOWN, NOT_FOR_US, APPLIED = 1, 2, 3, 5, 5, 8, 19, 20, 21
 OWN = bytes([10, 0, 0, 2]), bytes.fromhex("fe800000000000000000000000000002")
 OPTION_LENGTH, ADDRESS = 2, 3
@@ -143,9 +144,62 @@ def hello_faults(body):
     return found
 
 
-def told_of(message, pseudo, is_known):
-    """What is told of a message, with its place, version or type; its pseudo-header sums to this. Its sender is known, or
-    not."""
+NEW, SAME, RESTARTED, GONE = range(4)
+
+
+class Sender:
+    """What a port keeps of the sender of Hellos (RFC 7761, 4.3.1), at one moment."""
+
+    def __init__(self):
+        self.is_known, self.generation = False, None
+
+    def hear(self, body):
+        """Hears a Hello that has no fault, and tells what became of the sender's row."""
+        options, at = {}, 0
+        while at < len(body):
+            option, length = int.from_bytes(body[at:at + 2], "big"), int.from_bytes(body[at + 2:at + 4], "big")
+            options[option] = body[at + 4:at + 4 + length]
+            at += 4 + length
+        was_known, was = self.is_known, self.generation
+        self.is_known, self.generation = options.get(1) != bytes(2), options.get(20)
+        if not self.is_known:
+            return GONE
+        if not was_known:
+            return NEW
+        return SAME if was == self.generation else RESTARTED
+
+
+class Port:
+    """Which machines a port holds at one moment (RFC 7761, 4.5), where no group has an RP, so that no Join(*,G) counts."""
+
+    def __init__(self):
+        self.machines = set()
+
+    def hear(self, body, size):
+        """Hears a Join/Prune that has no fault."""
+        at = 6 + size
+        for _ in range(body[3 + size]):
+            group = bytes(body[at + 4:at + 4 + size])
+            at += 4 + size
+            counts = [int.from_bytes(body[at:at + 2], "big"), int.from_bytes(body[at + 2:at + 4], "big")]
+            at += 4
+            for is_pruned, count in enumerate(counts):
+                for _ in range(count):
+                    self.hear_entry(group, is_pruned, body[at + 2] & 3, bytes(body[at + 4:at + 4 + size]))
+                    at += 4 + size
+
+    def hear_entry(self, group, is_pruned, bits, source):
+        """Hears an entry: without bits it is (S,G), with the R bit alone (S,G,rpt)."""
+        machine = group, bits, source
+        if (bits == 0 and not is_pruned) or (bits == 1 and is_pruned):
+            self.machines.add(machine)
+        elif bits == 1:
+            self.machines.discard(machine)
+
+
+def told_of(message, pseudo, port, sender):
+    """What is told of a message, with its place, version or type; its pseudo-header sums to this. The sender of a Join/Prune
+    is unknown where there is no port; that of a Hello is as the Hellos before left it."""
     if len(message) < 4:
         return FRAME_SHORT, 0
     version, kind = message[0] >> 4, message[0] & 15
@@ -159,14 +213,17 @@ def told_of(message, pseudo, is_known):
     body = message[4:]
     if kind == 0:
         at, number = min(hello_faults(body), default=(0, 0))
-        return (HELLO + number if number else 0), at
+        return (HELLO + number, at) if number else (0, sender.hear(body))
     size = 4 if pseudo is over_ipv4 else 16
     at, number = min(faults(body, size), default=(0, 0))
     if number:
         return JOIN_PRUNE + number, at
-    if not is_known:
+    if port is None:
         return UNKNOWN, 0
-    return (APPLIED if body[2:2 + size] in OWN else NOT_FOR_US), 0
+    if body[2:2 + size] not in OWN:
+        return NOT_FOR_US, 0
+    port.hear(body, size)
+    return APPLIED, 0
 
 
 def words(message):
@@ -192,11 +249,11 @@ def mended(message, pseudo):
     return message[:2] + (-(words(blank) + pseudo(len(message))) % 65535).to_bytes(2, "big") + message[4:]
 
 
-def told_of_all(messages, pseudo, is_known):
-    """How often each number is told of the messages, and the digest of all that is told."""
+def told_of_all(messages, pseudo, port, sender):
+    """How often each number is told of the messages, one after the other, and the digest of all that is told."""
     counts, digest = [0] * 23, 0
     for message in messages:
-        number, place = told_of(message, pseudo, is_known)
+        number, place = told_of(message, pseudo, port, sender)
         counts[number] += 1
         digest = (digest * 31 + place * 32 + number) % 2**32
     return counts, digest
@@ -209,14 +266,18 @@ def changes(message):
             yield message[:at] + bytes([value]) + message[at + 1:]
 
 
-def tell_spoilt(name, message, pseudo, is_known=False):
-    """Prints what is told of a message that is cut and mended, changed, and changed and mended."""
+def tell_spoilt(name, message, pseudo, port=None):
+    """Prints what is told of a message that is cut and mended, changed, and changed and mended, and how many machines the port
+    holds then."""
     message = mended(message, pseudo)
+    sender = Sender()
     fronts = [mended(message[:length], pseudo) for length in range(len(message) + 1)]
-    print(name, "cut:", *told_of_all(fronts, pseudo, is_known))
-    print(name, "changed:", *told_of_all(changes(message), pseudo, is_known))
+    print(name, "cut:", *told_of_all(fronts, pseudo, port, sender))
+    print(name, "changed:", *told_of_all(changes(message), pseudo, port, sender))
     both = (mended(each, pseudo) for each in changes(message))
-    print(name, "changed and mended:", *told_of_all(both, pseudo, is_known))
+    print(name, "changed and mended:", *told_of_all(both, pseudo, port, sender))
+    if port:
+        print(name, "machines:", len(port.machines))
 
 
 HELLO_MESSAGE = bytes.fromhex(
@@ -245,5 +306,6 @@ tell_spoilt("join/prune", LISTS_MESSAGE, over_ipv4)
 tell_spoilt("join/prune over ipv6", LISTS_MESSAGE_V6, over_ipv6)
 tell_spoilt("another type", OTHER_MESSAGE, over_ipv4)
 tell_spoilt("another type over ipv6", OTHER_MESSAGE, over_ipv6)
-tell_spoilt("join/prune of a neighbour", LISTS_MESSAGE, over_ipv4, True)
-tell_spoilt("join/prune of a neighbour over ipv6", LISTS_MESSAGE_V6, over_ipv6, True)
+tell_spoilt("star of a neighbour", bytes.fromhex("23000000") + STAR, over_ipv4, Port())
+tell_spoilt("join/prune of a neighbour", LISTS_MESSAGE, over_ipv4, Port())
+tell_spoilt("join/prune of a neighbour over ipv6", LISTS_MESSAGE_V6, over_ipv6, Port())

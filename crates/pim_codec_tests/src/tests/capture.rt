@@ -350,7 +350,7 @@ fn faults_of_headers(rt: HostRuntime) -> Result<(), Fail> {
     Ok(())
 }
 
-// Run with each allocation refused in turn, it still passes: `rt try --test --fail-alloc N`.
+// `tools/each_growth_refused.sh` runs it with each allocation refused in turn.
 #[test]
 fn refused_growth(rt: HostRuntime) -> Result<(), Fail> {
     let mut buffer = Vec::new(rt.alloc());

@@ -4,10 +4,10 @@ use super::rows::{
     A, B, EXCEPT_A, Heard, LONE_PRUNE, STAR_EXCEPT_A, STAR_EXCEPT_BOTH, are_taken, is_taken,
     is_written,
 };
-use super::{GROUP, State, state4, written};
+use super::{GROUP, RP, STAR, State, state4, written};
 use pim_addr::V4;
 use pim_device::ScriptedDrain;
-use pim_down::{Ports, Step};
+use pim_down::{Ports, Step, What};
 use pim_jp::Entry;
 use std::alloc::Global;
 
@@ -46,14 +46,51 @@ fn message_heard_again_writes_the_same(rt: HostRuntime) {
     assert!(rt; repeat_is_told(rt.alloc()));
 }
 
-/// What is heard for each of two demands, and whether these are equal.
-type Pair = (&'static [Heard], &'static [Heard], bool);
-
 /// A port joins the star alone.
 const STAR_ALONE: Heard = Heard {
     pruned: &[],
     ..STAR_EXCEPT_A
 };
+
+/// A neighbour of several prunes it.
+const PRUNE_STAR: Heard = Heard {
+    joined: &[],
+    pruned: &[Entry::Star(RP)],
+    several: true,
+    ..STAR_ALONE
+};
+
+/// Whether the star is written as long as its prune is pending, and nothing from the moment on at which it is echoed.
+fn is_written_until_pruned(alloc: Global, state: &mut State<V4>) -> bool {
+    let echo = Step::Echo {
+        port: 0,
+        group: GROUP,
+        what: What::Star,
+    };
+    are_taken(alloc, state, GROUP, &[STAR_ALONE, PRUNE_STAR])
+        && state.ports.run_to(2_999) == Step::Reached
+        && is_written(alloc, state, 1, &STAR)
+        && state.ports.run_to(3_000) == echo
+        && is_written(alloc, state, 0, &[])
+        && state.ports.run_to(3_000) == Step::Reached
+        && is_written(alloc, state, 0, &[])
+}
+
+/// The same of a new state.
+fn prune_is_told(alloc: Global) -> bool {
+    match state4(alloc, 1, 1480) {
+        Some(mut state) => is_written_until_pruned(alloc, &mut state),
+        None => false,
+    }
+}
+
+#[test]
+fn star_is_written_until_it_is_pruned(rt: HostRuntime) {
+    assert!(rt; prune_is_told(rt.alloc()));
+}
+
+/// What is heard for each of two demands, and whether these are equal.
+type Pair = (&'static [Heard], &'static [Heard], bool);
 
 /// A port joins the source A.
 const JOIN_A: Heard = Heard {

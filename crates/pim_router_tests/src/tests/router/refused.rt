@@ -1,5 +1,5 @@
 //! Growths that are refused while a router's messages are made: each test is also run with each allocation refused in
-//! turn, by `tools/refuse_memory.sh`.
+//! turn, by `tools/each_growth_refused.sh`.
 
 use super::world::{
     EXCEPT_FIRST, Event, LONE_PRUNE, ONE, ONE_EACH, THREE, TWO, WITHOUT_BOTH, WITHOUT_FIRST, after,

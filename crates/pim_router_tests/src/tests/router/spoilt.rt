@@ -3,11 +3,11 @@
 
 use super::spoilt_rows::{
     HELLO, LISTS, LISTS_V6, OF_ANOTHER_TYPE, OF_ANOTHER_TYPE_V6, OF_HELLO, OF_HELLO_V6, OF_LISTS,
-    OF_LISTS_V6, OF_NEIGHBOUR, OF_NEIGHBOUR_V6, OTHER, Told,
+    OF_LISTS_V6, OF_NEIGHBOUR, OF_NEIGHBOUR_V6, OF_STAR, OTHER, STAR, Told,
 };
 use pim_addr::{Family, Routes, V4, V6};
 use pim_frame::{FrameFault, MessageType, all_routers, seal};
-use pim_hello::HelloKind;
+use pim_hello::{Heard, HelloKind};
 use pim_jp::JpKind;
 use pim_router::{Config, Malformed, PortConfig, Router, Verdict};
 use std::alloc::{AllocError, Global};
@@ -57,10 +57,19 @@ fn of_fault(fault: Malformed) -> (usize, usize) {
     }
 }
 
-/// The number of a verdict, and its fault's place or version, or its type.
+fn number_of_heard(heard: Heard) -> usize {
+    match heard {
+        Heard::New => 0,
+        Heard::Same => 1,
+        Heard::Restarted => 2,
+        Heard::Gone => 3,
+    }
+}
+
+/// The number of a verdict, and its fault's place or version, its type, or what became of a Hello's sender.
 fn of_verdict(verdict: Verdict) -> (usize, usize) {
     match verdict {
-        Verdict::HelloTaken(_) => (0, 0),
+        Verdict::HelloTaken(heard) => (0, number_of_heard(heard)),
         Verdict::Malformed(fault) => of_fault(fault),
         Verdict::OtherType(number) => (5, usize::from(number)),
         Verdict::UnknownNeighbour => (19, 0),
@@ -278,35 +287,27 @@ fn greet<F: Family>(router: &mut Router<'_, F>, from: F::Addr) -> Result<(), All
     tell(router, from, &mut told, &hello)
 }
 
-/// What is told of a message when a Hello of the sender has come.
-fn greeted_and_spoilt<F: Family>(
-    router: &mut Router<'_, F>,
-    from: F::Addr,
-    bytes: &mut [u8],
-) -> Result<[Told; 3], AllocError> {
-    greet(router, from)?;
-    spoilt(router, from, bytes)
-}
-
-/// The same on a new router under this table.
+/// The same on a new router under this table, behind a Hello of the sender.
 fn spoilt_by_neighbour_under<F: Family>(
     alloc: Global,
     ports: &[PortConfig<F::Addr>],
     routes: &Routes<F>,
     from: F::Addr,
     bytes: &mut [u8],
-) -> Option<[Told; 3]> {
+) -> Option<([Told; 3], usize)> {
     let mut router = made(alloc, ports, routes)?;
-    greeted_and_spoilt(&mut router, from, bytes).ok()
+    greet(&mut router, from).ok()?;
+    spoilt_and_kept(&mut router, from, bytes)
 }
 
-/// What is told on a new router of one port, of which the sender is a neighbour; `None` where a growth is refused.
+/// What is told on a new router of one port, of which the sender is a neighbour, and how many records it keeps; `None` where a
+/// growth is refused.
 fn spoilt_by_neighbour<F: Family>(
     alloc: Global,
     ports: &[PortConfig<F::Addr>],
     from: F::Addr,
     bytes: &mut [u8],
-) -> Option<[Told; 3]> {
+) -> Option<([Told; 3], usize)> {
     let routes = Routes::<F>::new(alloc);
     spoilt_by_neighbour_under(alloc, ports, &routes, from, bytes)
 }
@@ -379,10 +380,18 @@ fn spoilt_messages_of_another_type_over_ipv6(rt: HostRuntime) -> Result<(), Fail
 }
 
 #[test]
+fn spoilt_stars_of_a_neighbour(rt: HostRuntime) -> Result<(), Fail> {
+    let mut star = STAR;
+    let told = spoilt_by_neighbour::<V4>(rt.alloc(), &[PORT], SENDER, &mut star);
+    assert_eq!(rt; told, Some((OF_STAR, 1)));
+    Ok(())
+}
+
+#[test]
 fn spoilt_join_prunes_of_a_neighbour(rt: HostRuntime) -> Result<(), Fail> {
     let mut lists = LISTS;
     let told = spoilt_by_neighbour::<V4>(rt.alloc(), &[PORT], SENDER, &mut lists);
-    assert_eq!(rt; told, Some(OF_NEIGHBOUR));
+    assert_eq!(rt; told, Some((OF_NEIGHBOUR, 3538)));
     Ok(())
 }
 
@@ -390,6 +399,6 @@ fn spoilt_join_prunes_of_a_neighbour(rt: HostRuntime) -> Result<(), Fail> {
 fn spoilt_join_prunes_of_a_neighbour_over_ipv6(rt: HostRuntime) -> Result<(), Fail> {
     let mut lists = LISTS_V6;
     let told = spoilt_by_neighbour::<V6>(rt.alloc(), &[PORT_V6], SENDER_V6, &mut lists);
-    assert_eq!(rt; told, Some(OF_NEIGHBOUR_V6));
+    assert_eq!(rt; told, Some((OF_NEIGHBOUR_V6, 15809)));
     Ok(())
 }

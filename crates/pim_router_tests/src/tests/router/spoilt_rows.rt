@@ -7,6 +7,12 @@ pub(super) const HELLO: [u8; 80] = [
     0x80, 0, 0, 0, 0, 0, 0, 0, 0, 0, 0, 0, 0, 0, 7, 0, 20, 0, 4, 0, 0, 0, 2, 0, 24, 0, 0,
 ];
 
+/// The RP 10.9.9.9 of 239.1.1.1 is joined. Upstream is 10.0.0.2.
+pub(super) const STAR: [u8; 34] = [
+    0x23, 0, 0, 0, 1, 0, 10, 0, 0, 2, 0, 1, 0, 210, 1, 0, 0, 32, 239, 1, 1, 1, 0, 1, 0, 0, 1, 0, 7,
+    32, 10, 9, 9, 9,
+];
+
 /// A set of 239.1.1.1 that joins the RP 10.9.9.9, the source 192.0.2.1 and, on the RP's tree, 192.0.2.2, and prunes
 /// 192.0.2.2 and, on the RP's tree, 192.0.2.1; and a set of 239.1.1.2 that prunes the RP. Upstream is 10.0.0.2.
 pub(super) const LISTS: [u8; 86] = [
@@ -36,8 +42,8 @@ pub(super) const OTHER: [u8; 10] = [0x25, 0, 0, 0, 1, 0, 10, 9, 9, 9];
 pub(super) struct Told {
     /// How many were told of each number.
     pub(super) counts: [u32; 23],
-    /// All that was told, in the order of the messages: 31 times what came before, 32 times the place, version or type
-    /// and the number more, modulo 2^32.
+    /// All that was told, in the order of the messages: 31 times what came before, 32 times the place, version, type or what
+    /// became of a Hello's sender, and the number more, modulo 2^32.
     pub(super) digest: u32,
 }
 
@@ -47,19 +53,19 @@ pub(super) const OF_HELLO: [Told; 3] = [
         counts: [
             9, 4, 0, 0, 0, 0, 68, 0, 0, 0, 0, 0, 0, 0, 0, 0, 0, 0, 0, 0, 0, 0, 0,
         ],
-        digest: 3_355_069_840,
+        digest: 2_422_310_608,
     },
     Told {
         counts: [
             80, 0, 240, 20146, 0, 14, 0, 0, 0, 0, 0, 0, 0, 0, 0, 0, 0, 0, 0, 0, 0, 0, 0,
         ],
-        digest: 1_777_508_886,
+        digest: 1_340_932_054,
     },
     Told {
         counts: [
             15108, 0, 240, 0, 0, 14, 3789, 269, 1059, 0, 1, 0, 0, 0, 0, 0, 0, 0, 0, 0, 0, 0, 0,
         ],
-        digest: 744_910_909,
+        digest: 1_687_713_053,
     },
 ];
 
@@ -68,19 +74,19 @@ pub(super) const OF_HELLO_V6: [Told; 3] = [
         counts: [
             9, 4, 0, 0, 0, 0, 68, 0, 0, 0, 0, 0, 0, 0, 0, 0, 0, 0, 0, 0, 0, 0, 0,
         ],
-        digest: 3_355_069_840,
+        digest: 2_422_310_608,
     },
     Told {
         counts: [
             80, 0, 240, 20146, 0, 14, 0, 0, 0, 0, 0, 0, 0, 0, 0, 0, 0, 0, 0, 0, 0, 0, 0,
         ],
-        digest: 1_510_978_044,
+        digest: 3_917_396_860,
     },
     Told {
         counts: [
             15108, 0, 240, 0, 0, 14, 3789, 269, 1059, 0, 1, 0, 0, 0, 0, 0, 0, 0, 0, 0, 0, 0, 0,
         ],
-        digest: 744_910_909,
+        digest: 1_687_713_053,
     },
 ];
 
@@ -170,7 +176,30 @@ pub(super) const OF_ANOTHER_TYPE_V6: [Told; 3] = [
     },
 ];
 
-/// What is told of the lists where their sender is a neighbour.
+/// What is told of the star where its sender is a neighbour.
+pub(super) const OF_STAR: [Told; 3] = [
+    Told {
+        counts: [
+            0, 4, 0, 0, 0, 0, 0, 0, 0, 30, 0, 0, 0, 0, 0, 0, 0, 0, 0, 0, 0, 1, 0,
+        ],
+        digest: 2_915_947_253,
+    },
+    Told {
+        counts: [
+            0, 0, 240, 8416, 0, 14, 0, 0, 0, 0, 0, 0, 0, 0, 0, 0, 0, 0, 0, 0, 0, 34, 0,
+        ],
+        digest: 2_302_917_620,
+    },
+    Told {
+        counts: [
+            0, 0, 240, 0, 0, 14, 1, 0, 0, 1273, 765, 765, 510, 240, 64, 32, 0, 0, 2, 0, 1020, 3778,
+            0,
+        ],
+        digest: 3_297_722_334,
+    },
+];
+
+/// And of the lists.
 pub(super) const OF_NEIGHBOUR: [Told; 3] = [
     Told {
         counts: [
