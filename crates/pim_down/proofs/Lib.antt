@@ -13,6 +13,8 @@ pub mod Sought
 pub mod Rpts
 pub mod Ending
 pub mod Looking
+pub mod Listing
+pub mod Reordered
 pub mod Lists
 pub mod Places
 pub mod Halves

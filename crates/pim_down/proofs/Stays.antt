@@ -1,6 +1,7 @@
 -- A Join(*,G) that comes again within a message: which (S,G,rpt) machines it leaves as they are.
-use Rattle.std.proofs.Common.{◌≡◌, ℕ, zero, suc, ◌+◌, ◌<◌, ◌≤◌, Bool, true, false, cond, ◌&&◌, ◌||◌, not, ◌⊎◌, inl, inr, List, [], ◌∷◌, ◌++◌, Option, Some, None, length, take, drop, get_or, set, eqb, ltb, refl, sym, ap, subst, ◌∙◌, arith}
+use Rattle.std.proofs.Common.{◌≡◌, ℕ, zero, suc, ◌+◌, ◌<◌, ◌≤◌, Bool, true, false, cond, ◌&&◌, ◌||◌, not, ◌⊎◌, inl, inr, List, [], ◌∷◌, ◌++◌, Option, Some, None, length, map, take, drop, get_or, set, eqb, ltb, refl, sym, ap, subst, ◌∙◌, arith}
 use Rattle.std.specs.Cmp.Lexicographic.{pointwise, same_text}
+use Rattle.std.specs.List.{list_any}
 use Rattle.std.proofs.lemmas.Bool.{false≢true, eq-eqb, ltb-true, ltb-false}
 use Rattle.std.proofs.lemmas.List.{take-append-drop, take_more, drop_more, drop_all, drop-append-le, length-take, get_or-take, get_or-set_other}
 use Rattle.pim_jp.specs.declared.entry.Entry.{Entry}
@@ -19,8 +20,10 @@ use Rattle.pim_down.specs.Key.{same_key}
 use Rattle.pim_down.specs.Tables.{Start, on_star_join, star_join_in}
 use Rattle.pim_down.specs.Records.{IsAscending, machine_at, changed, each_changed}
 use Rattle.pim_down.specs.Hearing.{Event, is_known, entry_events, list_events, is_rpt, is_star, is_star_join, is_rpt_on, is_rpt_of, on_own, on_rpts, key_of, effect, effects, act, act_all}
+use Rattle.pim_down.specs.Ordered.{entry_of_what, entry_named, StayButNamed}
 use Rattle.pim_down.specs.Places.{WouldStandAt}
 use Rattle.pim_down.specs.Running.{is_group_of, AreOverIn}
+use Rattle.pim_down.specs.Seen.{what_seen}
 use Rattle.pim_down.specs.Stars.{Stays, StayBut, AllStay, rpt_key, is_prune_of, is_pruned_by, is_pruned_in, AreMarked, AreFewer}
 use Rattle.pim_down.proofs.Order.{same_keys, same_back}
 use Rattle.pim_down.proofs.Map.{IsAscending-changed, IsAscending-each_changed, at_changed, at_other_changed, at_each_changed}
@@ -176,22 +179,72 @@ pruned_stays port start known group key (entry.Rpt s ∷ pruned) held rpt none s
     let others = is_pruned_by port group pruned key in
     pruned_stays port start known group key pruned (effect port start event key held) rpt (right_of this others none) (effect_stays port start event key held rpt (λ j. left_of this others none) stays)
 
+-- ---- an event of a list of its own
+
+-- an event that doesn't name the machine leaves it so
+pub unnamed_stays : (port : ℕ) (start : Start) (group : List ℕ) (event : Event) (key : Key (List ℕ)) (held : Option Machine) → is_rpt_of port group key ≡ true → is_prune_of port group key (entry_named event) ≡ false → Stays held → Stays (effect port start event key held)
+unnamed_stays port start group event key held is out stays =
+    effect_stays port start event key held (rpt_of port group key is) (λ j. by (same_key (key_of port event) key) refl) stays
+  where
+    in_group : key.group ≡ group
+    in_group = same_text key.group group (sym (second_of (is_rpt_on port key) (pointwise eqb key.group group) is))
+
+    named : (what : What (List ℕ)) → event.what ≡ what → is_rpt what ≡ true → same_key (key_of port event) key ≡ true → is_prune_of port group key (entry_of_what what) ≡ true
+    named Star w r e = absurd (false≢true r)
+    named (Source s) w r e = absurd (false≢true r)
+    named (Rpt s) w r e =
+        let groups : event.group ≡ group = ap (λ (k : Key (List ℕ)). k.group) (same_keys (key_of port event) key e) ∙ in_group in
+        let keys : key_of port event ≡ rpt_key port group s = λ i. record { port = port; group = groups i; what = w i } in
+        subst (λ (k : Key (List ℕ)). same_key k key ≡ true) keys e
+
+    by : (b : Bool) → same_key (key_of port event) key ≡ b → same_key (key_of port event) key ≡ false
+    by false e = e
+    by true e =
+        let rpt : is_rpt event.what ≡ true = ap (λ (k : Key (List ℕ)). is_rpt k.what) (same_keys (key_of port event) key e) ∙ rpt_of port group key is in
+        absurd (false≢true (sym out ∙ named event.what refl rpt e))
+
+any_last : (test : Entry (List ℕ) → Bool) (entries : List (Entry (List ℕ))) (this : Entry (List ℕ)) → list_any test (entries ++ this ∷ []) ≡ false → (list_any test entries ≡ false) × (test this ≡ false)
+any_last test [] this e = (refl, left_of (test this) false e)
+any_last test (first ∷ entries) this e =
+    let more = any_last test entries this (right_of (test first) (list_any test (entries ++ this ∷ [])) e) in
+    (none_of (test first) (list_any test entries) (left_of (test first) (list_any test (entries ++ this ∷ [])) e) more.0, more.1)
+
+named_last : (events : List Event) (event : Event) → map entry_named (events ++ event ∷ []) ≡ map entry_named events ++ entry_named event ∷ []
+named_last [] event = refl
+named_last (first ∷ events) event = ap (λ (es : List (Entry (List ℕ))). entry_named first ∷ es) (named_last events event)
+
+module _ (port : ℕ) (start : Start) (event : Event) (records : List (Record (List ℕ))) (ascending : IsAscending records) where
+  -- one more event has acted
+  pub stay_more : (group : List ℕ) (events : List Event) → StayButNamed port group events records → StayButNamed port group (events ++ event ∷ []) (act port start event records)
+  stay_more group events stay key is out =
+      let parts = any_last (is_prune_of port group key) (map entry_named events) (entry_named event) (subst (λ (es : List (Entry (List ℕ))). list_any (is_prune_of port group key) es ≡ false) (named_last events event) out) in
+      subst Stays (sym (at_act port start event records ascending key))
+      (unnamed_stays port start group event key (machine_at key records) is parts.1 (stay key is parts.0))
+
+  -- a Join(*,G) has acted
+  pub stay_none : is_star_join event ≡ true → StayButNamed port event.group [] (act port start event records)
+  stay_none star key is out = met_act port start event records ascending star key is refl
+
 -- ---- a Join(*,G) at its own machine
 
 pub star_joins : (event : Event) → is_star_join event ≡ true → event.joins ≡ true
 star_joins event star = first_of event.joins (is_star event.what) star
 
 -- it leaves the (S,G,rpt) machines
-pub marked_own : (port : ℕ) (sets : List GroupSet) (stars : Stars) (event : Event) (change : Option Machine → Option Machine) (records new : List (Record (List ℕ))) → is_star_join event ≡ true → new ≡ changed (key_of port event) change records → AreMarked port sets stars records → AreMarked port sets stars new
-marked_own port sets stars event change records new star is marked i d lt mark key in_group out =
-    let apart = rpt_apart port event.group event.what key (not_rpt event.what (second_of event.joins (is_star event.what) star)) (rpt_of port (get_or sets i d).group key in_group) in
+pub stay_own : (port : ℕ) (group : List ℕ) (but : Key (List ℕ) → Bool) (event : Event) (change : Option Machine → Option Machine) (records new : List (Record (List ℕ))) → is_star_join event ≡ true → new ≡ changed (key_of port event) change records → StayBut port group but records → StayBut port group but new
+stay_own port group but event change records new star is stay key in_group out =
+    let apart = rpt_apart port event.group event.what key (not_rpt event.what (second_of event.joins (is_star event.what) star)) (rpt_of port group key in_group) in
     subst (λ (rs : List (Record (List ℕ))). Stays (machine_at key rs)) (sym is)
-    (subst Stays (sym (at_other_changed (key_of port event) change key records (same_back (key_of port event) key apart))) (marked i d lt mark key in_group out))
+    (subst Stays (sym (at_other_changed (key_of port event) change key records (same_back (key_of port event) key apart))) (stay key in_group out))
   where
     not_rpt : (what : What (List ℕ)) → is_star what ≡ true → is_rpt what ≡ false
     not_rpt Star e = refl
     not_rpt (Source s) e = refl
     not_rpt (Rpt s) e = absurd (false≢true e)
+
+pub marked_own : (port : ℕ) (sets : List GroupSet) (stars : Stars) (event : Event) (change : Option Machine → Option Machine) (records new : List (Record (List ℕ))) → is_star_join event ≡ true → new ≡ changed (key_of port event) change records → AreMarked port sets stars records → AreMarked port sets stars new
+marked_own port sets stars event change records new star is marked i d lt mark =
+    stay_own port (get_or sets i d).group (is_pruned_in port (drop i (take stars.gone sets))) event change records new star is (marked i d lt mark)
 
 -- ---- the sets that are gone by
 
@@ -408,8 +461,17 @@ module _ (port : ℕ) (group : List ℕ) where
   no_prune bytes_of this (inl star) key = ap (λ e. is_prune_of port group key (entry_seen bytes_of e)) star.1
   no_prune bytes_of this (inr source) key = ap (λ e. is_prune_of port group key (entry_seen bytes_of e)) source.1
 
+  pub no_named_prune : {A : Type 0} (bytes_of : A → List ℕ) (what : What A) → (what ≡ Star) ⊎ ((s : A) × (what ≡ Source s)) → (key : Key (List ℕ)) → is_prune_of port group key (entry_of_what (what_seen bytes_of what)) ≡ false
+  no_named_prune bytes_of what (inl star) key = ap (λ w. is_prune_of port group key (entry_of_what (what_seen bytes_of w))) star
+  no_named_prune bytes_of what (inr source) key = ap (λ w. is_prune_of port group key (entry_of_what (what_seen bytes_of w))) source.1
+
   pub pruned_end : (all left : List (Entry (List ℕ))) (old now : List (Record (List ℕ))) → left ≡ [] → JoinsPruned all old left now → (but : Key (List ℕ) → Bool) → StayBut port group (λ key. is_pruned_by port group all key || but key) old → StayBut port group but now
   pruned_end all left old now none to but stay = subst (λ (es : List (Entry (List ℕ))). StayBut port group (λ k. is_pruned_by port group es k || but k) now) none (to.stay but stay)
+
+  -- all others stayed
+  pub named_end : (all left : List (Entry (List ℕ))) (old now : List (Record (List ℕ))) → left ≡ [] → JoinsPruned all old left now → StayBut port group (λ key. is_pruned_by port group all key) old → now ≡ joined_all old
+  named_end all left old now none to stay =
+      sym (all_stay now to.ascending (pruned_end all left old now none to (λ key. false) (λ key is out. stay key is (left_of (is_pruned_by port group all key) false out)))) ∙ to.same
 
   -- ---- to those pruned since the last one
 

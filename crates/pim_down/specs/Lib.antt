@@ -7,6 +7,7 @@ pub mod After
 pub mod Time
 pub mod Seen
 pub mod Ends
+pub mod Ordered
 pub mod Places
 pub mod Store
 pub mod Sweep

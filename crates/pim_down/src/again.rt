@@ -118,7 +118,7 @@ pub(crate) fn is_joined_again<F: Family>(
 }
 
 /// A Join(*,G) comes to the (S,G,rpt) machine of this source. It begins to look near this place, and leaves one there.
-fn join_rpt<F: Family>(
+pub(crate) fn join_rpt<F: Family>(
     records: &mut Store<F::Addr, OfFamily<F>>,
     near: &mut Place,
     port: usize,

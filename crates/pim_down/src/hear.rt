@@ -2,9 +2,9 @@
 
 ghost use Rattle.std.specs.Prelude.{◌≡◌, ◌≤◌, ◌+◌, ℕ, true, List, length};
 ghost use Rattle.pim_jp.specs.Seen.{entry_seen};
-ghost use Rattle.pim_down.specs.Records.{IsAscending, each_changed};
+ghost use Rattle.pim_down.specs.Records.{IsAscending, changed, each_changed};
 ghost use Rattle.pim_down.specs.Hearing.{is_known, entry_events, start_of, on_own, is_rpt_of, on_rpts, is_star_join};
-ghost use Rattle.pim_down.specs.Hearing.{act, is_rpt};
+ghost use Rattle.pim_down.specs.Hearing.{key_of, act, is_rpt};
 ghost use Rattle.pim_down.specs.After.{beside_rpts};
 ghost use Rattle.pim_down.specs.Ends.{IsLateStart};
 ghost use Rattle.pim_down.specs.Known.{known_in};
@@ -169,6 +169,35 @@ pub(crate) fn is_star_join<A>(event: &Event<A>) -> bool
     event.joins && matches!(event.what, What::Star)
 }
 
+/// Lets an event of a message act on the machine that it names, and on no other. It begins to look near this place, and
+/// leaves one there.
+pub(crate) fn act_on_own<F: Family>(
+    records: &mut Store<F::Addr, OfFamily<F>>,
+    near: &mut Place,
+    port: usize,
+    start: Start,
+    event: Event<F::Addr>,
+)
+    requires ascending { IsAscending (records_seen F.bytes_of records.old.items) }
+    requires room { length (act port (start_seen start) (event_seen F.bytes_of event)
+        (records_seen F.bytes_of records.old.items)) ≤ records.old.capacity }
+    ensures records { records_seen F.bytes_of records.new.items
+        ≡ changed (key_of port (event_seen F.bytes_of event))
+        (on_own event.joins (what_seen F.bytes_of event.what) (start_seen start))
+        (records_seen F.bytes_of records.old.items) }
+    ensures capacity { records.old.capacity ≤ records.new.capacity }
+{
+    let key = Key {
+        port,
+        group: event.group,
+        what: event.what,
+    };
+    let found = find_place::<F>(records, *near, &key);
+    let held = machine_of::<F>(records, &key, found);
+    let place = put_machine::<F>(records, key, found, on_own(&event, start, held));
+    *near = place;
+}
+
 /// Lets an event of a message act on the machines of a port. It begins to look near this place, and leaves one there.
 pub(crate) fn act<F: Family>(
     records: &mut Store<F::Addr, OfFamily<F>>,
@@ -189,15 +218,7 @@ pub(crate) fn act<F: Family>(
     ensures capacity { records.old.capacity ≤ records.new.capacity }
     ensures fewer { AreFewer stars.new stars.old }
 {
-    let key = Key {
-        port,
-        group: event.group,
-        what: event.what,
-    };
-    let found = find_place::<F>(records, *near, &key);
-    let held = machine_of::<F>(records, &key, found);
-    let place = put_machine::<F>(records, key, found, on_own(&event, start, held));
-    *near = place;
+    act_on_own::<F>(records, near, port, start, event);
     if is_star_join(&event) {
         join_group::<F>(records, near, port, event.group, message, stars);
     }

@@ -43,7 +43,7 @@ pub fn compare_addresses<F: Family>(a: F::Addr, b: F::Addr) -> Ordering
 
 /// (*,G) first, then (S,G) by source, then (S,G,rpt) by source.
 #[tactic(auto, unfolding(crate::specs::Key::what_cmp))]
-fn compare_whats<F: Family>(a: &What<F::Addr>, b: &What<F::Addr>) -> Ordering
+pub(crate) fn compare_whats<F: Family>(a: &What<F::Addr>, b: &What<F::Addr>) -> Ordering
     ensures { result ≡ what_cmp (what_seen F.bytes_of a.now) (what_seen F.bytes_of b.now) }
 {
     match (a, b) {

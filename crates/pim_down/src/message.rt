@@ -1,6 +1,6 @@
 //! A message's entries, counted and heard.
 
-ghost use Rattle.std.specs.Prelude.{◌≡◌, ◌≤◌, ◌<◌, ℕ, true, false, List, length, slice_index_or, OnOk, OnErr};
+ghost use Rattle.std.specs.Prelude.{◌≡◌, ◌≤◌, ◌<◌, ◌+◌, ℕ, true, false, List, map, length, slice_index_or, OnOk, OnErr, IfSome};
 ghost use Rattle.std.specs.List.{flat_map, list_any};
 ghost use Rattle.pim_jp.specs.Message.{GroupSet};
 ghost use Rattle.pim_down.specs.Records.{IsAscending, count_on};
@@ -9,6 +9,7 @@ ghost use Rattle.pim_down.specs.Hearing.{creates, is_new, count_new, needed};
 ghost use Rattle.pim_down.specs.Running.{has_star_join};
 ghost use Rattle.pim_down.specs.Heard.{IsWithin, MayWantMemory, OnFull};
 ghost use Rattle.pim_down.specs.Known.{known_in};
+ghost use Rattle.pim_down.specs.Ordered.{AreAlike};
 ghost use Rattle.pim_down.specs.Space.{HasRoom};
 ghost use Rattle.pim_down.specs.Sound.{IsSettled};
 ghost use Rattle.pim_down.specs.Seen.{start_seen, records_seen, event_seen};
@@ -22,11 +23,14 @@ use crate::fault::HearFault;
 use crate::hear::{act, event_of, is_star_join};
 use crate::held::Start;
 use crate::key::{Key, OfFamily, What};
+use crate::listed::{count_events, hear_events, star_joins};
+use crate::ordered::in_key_order;
 use crate::store::Store;
 use crate::walk::count_on;
 use pim_addr::{Family, Routes};
 use pim_jp::{Entries, JpView, Sets};
 use sorted_blocks::Place;
+use std::alloc::Global;
 
 /// Whether the event makes a record where none is held.
 fn creates<A>(event: &Event<A>) -> bool
@@ -39,7 +43,7 @@ fn creates<A>(event: &Event<A>) -> bool
 }
 
 /// Whether the event makes a record that isn't held. It begins to look near this place, and leaves one there.
-fn is_new<F: Family>(
+pub(crate) fn is_new<F: Family>(
     records: &Store<F::Addr, OfFamily<F>>,
     near: &mut Place,
     port: usize,
@@ -271,8 +275,61 @@ pub(crate) fn hear_sets<F: Family>(
     joined
 }
 
+/// How many events of a message, which may stand in a list of their own, make a record that isn't held.
+fn count_fresh<F: Family>(
+    records: &Store<F::Addr, OfFamily<F>>,
+    port: usize,
+    routes: &Routes<F>,
+    message: &JpView<'_, F>,
+    ordered: &Option<Vec<Event<F::Addr>>>,
+) -> usize
+    requires ascending { IsAscending (records_seen F.bytes_of records.now.items) }
+    requires alike { IfSome ordered.now (λ events. AreAlike (map (event_seen F.bytes_of) events.items)
+        (events_of (known_in F.family routes.now) message.now)) }
+    ensures count { result ≡ count_new port (records_seen F.bytes_of records.now.items)
+        (events_of (known_in F.family routes.now) message.now) }
+    ensures bound { result ≤ 9223372036854775807 }
+{
+    match ordered {
+        Some(events) => count_events::<F>(records, port, events),
+        None => count_sets::<F>(records, port, routes, message.sets()),
+    }
+}
+
+/// Hears the events of a message, which may stand in a list of their own. The answer tells of each set, by its number, whether
+/// it had a Join(*,G).
+fn hear_all<F: Family>(
+    records: &mut Store<F::Addr, OfFamily<F>>,
+    port: usize,
+    start: Start,
+    routes: &Routes<F>,
+    message: &JpView<'_, F>,
+    ordered: &Option<Vec<Event<F::Addr>>>,
+    repeat: bool,
+) -> [bool; 256]
+    requires ascending { IsAscending (records_seen F.bytes_of records.old.items) }
+    requires alike { IfSome ordered.now (λ events. AreAlike (map (event_seen F.bytes_of) events.items)
+        (events_of (known_in F.family routes.now) message.now)) }
+    requires room { length records.old.items + count_new port (records_seen F.bytes_of records.old.items)
+        (events_of (known_in F.family routes.now) message.now) ≤ records.old.capacity }
+    ensures records { records_seen F.bytes_of records.new.items ≡ act_all port (start_seen start)
+        (events_of (known_in F.family routes.now) message.now) (records_seen F.bytes_of records.old.items) }
+    ensures joined { (i : ℕ) (d : GroupSet) → i < length message.now.sets →
+        slice_index_or result i false
+        ≡ has_star_join (known_in F.family routes.now) (slice_index_or message.now.sets i d) }
+{
+    match ordered {
+        Some(events) => {
+            hear_events::<F>(records, port, start, events);
+            star_joins::<F>(routes, message)
+        }
+        None => hear_sets::<F>(records, port, start, routes, message, repeat),
+    }
+}
+
 /// Hears a message on a port, or refuses with nothing changed. All growths come before the first change.
 pub(crate) fn hear_message<F: Family>(
+    alloc: Global,
     records: &mut Store<F::Addr, OfFamily<F>>,
     limit: usize,
     port: usize,
@@ -293,7 +350,8 @@ pub(crate) fn hear_message<F: Family>(
     ensures room { IsWithin limit (needed port (records_seen F.bytes_of records.old.items)
         (events_of (known_in F.family routes.now) message.now)) result }
 {
-    let fresh = count_sets::<F>(records, port, routes, message.sets());
+    let ordered = in_key_order::<F>(alloc, routes, message);
+    let fresh = count_fresh::<F>(records, port, routes, message, &ordered);
     let needed = count_on::<F>(records, port) + fresh;
     if needed > limit {
         return Err(HearFault::Full { needed });
@@ -302,7 +360,7 @@ pub(crate) fn hear_message<F: Family>(
         return Err(HearFault::Memory);
     }
     let repeat = may_repeat::<F>(message.sets());
-    let joined = hear_sets::<F>(records, port, start, routes, message, repeat);
+    let joined = hear_all::<F>(records, port, start, routes, message, &ordered, repeat);
     end_message::<F>(records, port, message, &joined, repeat);
     Ok(())
 }

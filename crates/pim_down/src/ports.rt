@@ -40,6 +40,8 @@ pub struct Ports<F: Family> {
     moment: u64,
     /// In key order; no timer of theirs ends before the present moment.
     records: Store<F::Addr, OfFamily<F>>,
+    /// For what is put into key order while a message is heard.
+    alloc: Global,
     family: PhantomData<F>,
 }
 
@@ -73,6 +75,7 @@ impl<F: Family> Ports<F> {
             limit,
             moment: 0,
             records: Store::new(alloc),
+            alloc,
             family: PhantomData,
         }
     }
@@ -282,11 +285,16 @@ impl<F: Family> Ports<F> {
     /// fires, and the machines of other ports stay. A refusal changes nothing. The override interval is at most
     /// 98,302 ms.
     ///
-    /// The table is asked for each Join(*,G) alone: when the records that it needs are counted, and when it acts.
+    /// The table is asked for each Join(*,G) alone, three times at most.
     ///
     /// It looks up each entry twice, and a Prune(S,G,rpt) at most once more. It goes through the (S,G,rpt) machines of
     /// each group at most twice, however often the message names the group: at its first Join(*,G), and at the end.
     /// Where the groups don't ascend, it also takes fewer than 100,000 steps from set to set.
+    ///
+    /// Look-ups are short where each entry stands behind the one before it in key order. So where more than a few don't, the
+    /// entries are put into that order first, those of one machine as they come, in n log n steps for n entries. Where a
+    /// Join(*,G) stands behind another one of its group, or behind an (S,G,rpt) entry of it, those of the group's (S,G)
+    /// machines alone are; and where memory for a list of them is refused, which is no fault, all are heard as they come.
     pub fn hear(
         &mut self,
         port: usize,
@@ -306,7 +314,8 @@ impl<F: Family> Ports<F> {
     {
         message.is_legal();
         let start = start_at(message.holdtime(), timing, self.moment);
-        hear_message::<F>(&mut self.records, self.limit, port, start, routes, message)
+        let (records, limit) = (&mut self.records, self.limit);
+        hear_message::<F>(self.alloc, records, limit, port, start, routes, message)
     }
 
     /// Runs to this moment, in milliseconds, at most 10^15, or to the first echo; an earlier moment counts as now. What

@@ -10,6 +10,7 @@ mod hearing;
 mod limits;
 mod looks;
 mod nexts;
+mod orders;
 mod random;
 mod running;
 mod slow;

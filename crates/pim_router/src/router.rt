@@ -353,8 +353,8 @@ impl<'a, F: Family> Router<'a, F> {
 
     /// Takes a packet that a port received: its IP source and destination, and its PIM message.
     ///
-    /// What it costs goes by the packet's length: n entries are read in n log n steps at worst, and each takes a few
-    /// look-ups then, which are shortest where entries come in key order. There are two exceptions. A Join(*,G) ends the
+    /// What it costs goes by the packet's length: n entries are read, and put in order where they come in none, in n log n
+    /// steps at worst, and each takes a few look-ups then. There are two exceptions. A Join(*,G) ends the
     /// (S,G,rpt) machines of its group that the same message doesn't prune again (RFC 7761, 4.5.3), a step or a look-up for
     /// each: at most as many as the port holds, each of which an entry of an earlier message made. And the first Join/Prune
     /// behind a Hello that lowers a delay, or tells some where there were none, or behind a neighbour that went, looks at

@@ -93,10 +93,11 @@ fn body(alloc: Global, holdtime: u16, message: &[Named]) -> Result<Vec<u8>, Allo
     Ok(body)
 }
 
-/// Up to ten entries.
+/// Up to ten entries, or now and then up to 120, which come in no order.
 fn message(alloc: Global, numbers: &mut Numbers) -> Result<Vec<Named>, AllocError> {
     let mut entries = Vec::new(alloc);
-    for _ in 0..numbers.below(10).saturating_add(1) {
+    let most = if numbers.below(64) == 0 { 120 } else { 10 };
+    for _ in 0..numbers.below(most).saturating_add(1) {
         entries.push(numbers.named())?;
     }
     Ok(entries)

@@ -1,0 +1,23 @@
+use Rattle.std.proofs.Common.{◌≡◌, map, length, arith}
+use Rattle.std.proofs.lemmas.List.{length-map}
+use Rattle.pim_down.specs.Hearing.{events_of}
+use Rattle.pim_down.specs.Known.{known_in}
+use Rattle.pim_down.specs.Seen.{start_seen, records_seen, event_seen}
+use Rattle.pim_down.proofs.Events.{room_for}
+use Rattle.pim_down.proofs.message.hear_all.Goals as goal
+
+pub hear_events-requires-clause-room : goal.hear_events-requires-clause-room
+hear_events-requires-clause-room g c =
+    let bytes_of = g.F.Family.bytes_of in
+    let held = records_seen bytes_of c.args.records.now.items in
+    let alike = rw c.in-Some.is at c.requires.alike in
+    let count = (alike c.args.port held c.requires.ascending).1 in
+    let long : length held ≡ length c.args.records.now.items = simp length-map in
+    rw c.deref.ensures.value (room_for c.args.port (start_seen c.args.start) c.args.records.now.capacity (map (event_seen bytes_of) c.in-Some.events.items) held c.requires.ascending (omega (arith, c.requires.room, long, count)))
+
+pub hear_sets-requires-clause-room : goal.hear_sets-requires-clause-room
+hear_sets-requires-clause-room g c =
+    let bytes_of = g.F.Family.bytes_of in
+    let held = records_seen bytes_of c.args.records.now.items in
+    let long : length held ≡ length c.args.records.now.items = simp length-map in
+    room_for c.args.port (start_seen c.args.start) c.args.records.now.capacity (events_of (known_in g.F.Family.family c.args.routes.now) c.args.message.now) held c.requires.ascending (omega (arith, c.requires.room, long))

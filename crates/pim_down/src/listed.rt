@@ -1,0 +1,195 @@
+//! Events in a list of their own, counted and heard.
+
+ghost use Rattle.std.specs.Prelude.{◌≡◌, ◌≤◌, ◌<◌, ◌+◌, ℕ, true, false, map, length, slice_index_or, Some};
+ghost use Rattle.std.specs.List.{list_any};
+ghost use Rattle.pim_jp.specs.Message.{GroupSet};
+ghost use Rattle.pim_down.specs.Records.{IsAscending, each_changed};
+ghost use Rattle.pim_down.specs.Hearing.{list_events, act, act_all, is_star_join, on_rpts, count_new};
+ghost use Rattle.pim_down.specs.Running.{has_star_join};
+ghost use Rattle.pim_down.specs.Known.{known_in};
+ghost use Rattle.pim_down.specs.Ordered.{StayButNamed, IsLast};
+ghost use Rattle.pim_down.specs.Space.{HasRoom};
+ghost use Rattle.pim_down.specs.Seen.{start_seen, records_seen, event_seen};
+
+use crate::again::join_rpt;
+use crate::event::Event;
+use crate::hear::{act_on_own, event_of, is_star_join, join_rpts};
+use crate::held::Start;
+use crate::key::{OfFamily, What};
+use crate::message::is_new;
+use crate::store::Store;
+use pim_addr::{Family, Routes};
+use pim_jp::{Entries, JpView};
+use sorted_blocks::Place;
+
+/// The last Join(*,G) that was heard of listed events: its group, and where the events behind it begin.
+#[derive(Clone, Copy)]
+pub(crate) struct LastStar<A> {
+    group: Option<A>,
+    behind: usize,
+}
+
+/// How many of these events make a record that isn't held.
+pub(crate) fn count_events<F: Family>(
+    records: &Store<F::Addr, OfFamily<F>>,
+    port: usize,
+    events: &[Event<F::Addr>],
+) -> usize
+    requires { IsAscending (records_seen F.bytes_of records.now.items) }
+    ensures count { result ≡ count_new port (records_seen F.bytes_of records.now.items)
+        (map (event_seen F.bytes_of) events.now) }
+    ensures bound { result ≤ length events.now }
+{
+    let mut near = Place::START;
+    let mut count = 0;
+    for event in events {
+        if is_new::<F>(records, &mut near, port, event) {
+            count += 1;
+        }
+    }
+    count
+}
+
+/// A Join(*,G) comes to the (S,G,rpt) machines of its group, which it changes only where these events name them.
+fn join_named<F: Family>(
+    records: &mut Store<F::Addr, OfFamily<F>>,
+    near: &mut Place,
+    port: usize,
+    group: F::Addr,
+    named: &[Event<F::Addr>],
+)
+    requires ascending { IsAscending (records_seen F.bytes_of records.old.items) }
+    requires stay { StayButNamed port (F.bytes_of group) (map (event_seen F.bytes_of) named.now)
+        (records_seen F.bytes_of records.old.items) }
+    ensures records { records_seen F.bytes_of records.new.items
+        ≡ each_changed (on_rpts port (F.bytes_of group)) (records_seen F.bytes_of records.old.items) }
+    ensures capacity { records.new.capacity ≡ records.old.capacity }
+{
+    for event in named {
+        match event.what {
+            What::Rpt(source) => join_rpt::<F>(records, near, port, group, source),
+            What::Star | What::Source(_) => {}
+        }
+    }
+}
+
+/// A Join(*,G) comes to the (S,G,rpt) machines of its group: where the last one came to the same group, to those that the events
+/// since then name, since the others are as it left them, and else to all.
+fn join_listed<F: Family>(
+    records: &mut Store<F::Addr, OfFamily<F>>,
+    near: &mut Place,
+    port: usize,
+    group: F::Addr,
+    last: Option<F::Addr>,
+    since: &[Event<F::Addr>],
+)
+    requires ascending { IsAscending (records_seen F.bytes_of records.old.items) }
+    requires stay { (other : F.Addr) → last ≡ Some other →
+        StayButNamed port (F.bytes_of other) (map (event_seen F.bytes_of) since.now)
+        (records_seen F.bytes_of records.old.items) }
+    ensures records { records_seen F.bytes_of records.new.items
+        ≡ each_changed (on_rpts port (F.bytes_of group)) (records_seen F.bytes_of records.old.items) }
+    ensures capacity { records.new.capacity ≡ records.old.capacity }
+{
+    match last {
+        Some(other) if other == group => join_named::<F>(records, near, port, group, since),
+        _ => join_rpts::<F>(records, port, group),
+    }
+}
+
+/// Lets the event of this place act, where those before it have acted. The answer is the last Join(*,G) from then on.
+fn act_listed<F: Family>(
+    records: &mut Store<F::Addr, OfFamily<F>>,
+    near: &mut Place,
+    port: usize,
+    start: Start,
+    events: &[Event<F::Addr>],
+    index: usize,
+    event: Event<F::Addr>,
+    last: LastStar<F::Addr>,
+) -> LastStar<F::Addr>
+    requires within { index < length events.now }
+    requires event { event ≡ slice_index_or events.now index event }
+    requires ascending { IsAscending (records_seen F.bytes_of records.old.items) }
+    requires room { length (act port (start_seen start) (event_seen F.bytes_of event)
+        (records_seen F.bytes_of records.old.items)) ≤ records.old.capacity }
+    requires last { IsLast F.bytes_of port events.now index last (records_seen F.bytes_of records.old.items) }
+    ensures records { records_seen F.bytes_of records.new.items
+        ≡ act port (start_seen start) (event_seen F.bytes_of event) (records_seen F.bytes_of records.old.items) }
+    ensures capacity { records.old.capacity ≤ records.new.capacity }
+    ensures last { IsLast F.bytes_of port events.now (index + 1) result (records_seen F.bytes_of records.new.items) }
+{
+    act_on_own::<F>(records, near, port, start, event);
+    if !is_star_join(&event) {
+        return last;
+    }
+    let (before, _) = events.split_at(index);
+    let (_, since) = before.split_at(last.behind);
+    join_listed::<F>(records, near, port, event.group, last.group, since);
+    LastStar {
+        group: Some(event.group),
+        behind: index + 1,
+    }
+}
+
+/// Hears these events, one after another.
+///
+/// It looks up each event once, and one of an (S,G,rpt) machine once more where a Join(*,G) of its group comes behind it. It goes
+/// once through the (S,G,rpt) machines of each group that has a Join(*,G), where the events of each group stand together.
+pub(crate) fn hear_events<F: Family>(
+    records: &mut Store<F::Addr, OfFamily<F>>,
+    port: usize,
+    start: Start,
+    events: &[Event<F::Addr>],
+)
+    requires ascending { IsAscending (records_seen F.bytes_of records.old.items) }
+    requires room { HasRoom port (start_seen start) records.old.capacity (map (event_seen F.bytes_of) events.now)
+        (records_seen F.bytes_of records.old.items) }
+    ensures { records_seen F.bytes_of records.new.items ≡ act_all port (start_seen start)
+        (map (event_seen F.bytes_of) events.now) (records_seen F.bytes_of records.old.items) }
+{
+    let mut near = Place::START;
+    let mut last = LastStar {
+        group: None,
+        behind: 0,
+    };
+    for index in 0..events.len() {
+        let event = events[index];
+        last = act_listed::<F>(records, &mut near, port, start, events, index, event, last);
+    }
+}
+
+/// Whether a joined list of the group has a Join(*,G).
+fn has_star_join<F: Family>(routes: &Routes<F>, group: F::Addr, joined: Entries<'_, F>) -> bool
+    ensures { result ≡ list_any is_star_join
+        (list_events (known_in F.family routes.now) true (F.bytes_of group) joined.entry) }
+{
+    for entry in joined {
+        match event_of::<F>(routes, true, group, entry) {
+            Some(event) => {
+                if is_star_join(&event) {
+                    return true;
+                }
+            }
+            None => {}
+        }
+    }
+    false
+}
+
+/// Of each set of a message, by its number, whether it has a Join(*,G).
+pub(crate) fn star_joins<F: Family>(routes: &Routes<F>, message: &JpView<'_, F>) -> [bool; 256]
+    ensures { (i : ℕ) (d : GroupSet) → i < length message.now.sets →
+        slice_index_or result i false
+        ≡ has_star_join (known_in F.family routes.now) (slice_index_or message.now.sets i d) }
+{
+    let _most = message.set_count();
+    let mut joined = [false; 256];
+    let mut number = 0u8;
+    for set in message.sets() {
+        let this = number;
+        number += 1;
+        joined[usize::from(this)] = has_star_join::<F>(routes, set.group(), set.joined());
+    }
+    joined
+}

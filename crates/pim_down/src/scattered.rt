@@ -1,0 +1,91 @@
+//! Whether the entries of a message stand so far from key order that they are put into it. It is only a hint: what a message does is
+//! the same in either order.
+
+use pim_addr::Family;
+use pim_jp::{Entries, Entry, JpView};
+
+/// So many entries of joined lists, or of pruned ones, may stand behind one that they come before.
+const FEW: usize = 16;
+
+/// The last entry of joined or of pruned lists, and how many stood behind one that they come before.
+#[derive(Drop)]
+struct Falls<F: Family> {
+    group: Option<F::Addr>,
+    rank: u8,
+    address: Option<F::Addr>,
+    count: usize,
+}
+
+/// (*,G) first, then (S,G), then (S,G,rpt), each with its address.
+fn rank_of<A: Copy>(entry: &Entry<A>) -> (u8, A) {
+    match entry {
+        Entry::Star(rp) => (0, *rp),
+        Entry::Source(source) => (1, *source),
+        Entry::Rpt(source) => (2, *source),
+    }
+}
+
+impl<F: Family> Falls<F> {
+    /// No entry.
+    fn new() -> Self {
+        Falls {
+            group: None,
+            rank: 0,
+            address: None,
+            count: 0,
+        }
+    }
+
+    /// Takes in the entries of one list.
+    fn take_in(&mut self, group: F::Addr, entries: Entries<'_, F>) {
+        for entry in entries {
+            let (rank, address) = rank_of(&entry);
+            if self.is_before(group, rank, address) {
+                self.count = self.count.saturating_add(1);
+                if self.count > FEW {
+                    return;
+                }
+            }
+            self.group = Some(group);
+            self.rank = rank;
+            self.address = Some(address);
+        }
+    }
+
+    /// Whether an entry comes before the last one.
+    fn is_before(&self, group: F::Addr, rank: u8, address: F::Addr) -> bool {
+        if self.group != Some(group) {
+            return match self.group {
+                Some(last) => group < last,
+                None => false,
+            };
+        }
+        if self.rank != rank {
+            return rank < self.rank;
+        }
+        match self.address {
+            Some(last) => address < last,
+            None => false,
+        }
+    }
+
+    /// Whether they are more than a few.
+    fn are_many(&self) -> bool {
+        self.count > FEW
+    }
+}
+
+/// Whether more than a few entries stand behind one that they come before.
+pub(crate) fn is_scattered<F: Family>(message: &JpView<'_, F>) -> bool {
+    let mut joined = Falls::<F>::new();
+    let mut pruned = Falls::<F>::new();
+    for set in message.sets() {
+        let group = set.group();
+        joined.take_in(group, set.joined());
+        pruned.take_in(group, set.pruned());
+        if joined.are_many() || pruned.are_many() {
+            return true;
+        }
+    }
+    false
+}
