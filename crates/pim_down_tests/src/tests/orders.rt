@@ -307,11 +307,13 @@ fn goes<F: Family>(
     Ok(heard == Some(Ok(())) && are_left(ports, row))
 }
 
-/// The first row that doesn't go so; `None` too where the test itself is refused memory.
+/// The first row that doesn't go so. An error where the test itself is refused memory.
 fn wrong<F: Family>(alloc: Global) -> Result<Option<&'static str>, AllocError> {
     let mut routes = Routes::<F>::new(alloc);
     let mut ports = Ports::<F>::new(alloc, 1, 1_000);
-    let _row = routes.add_rp(groups::<F>(), 8, address::<F>(RP));
+    if routes.add_rp(groups::<F>(), 8, address::<F>(RP)).is_err() {
+        return Err(AllocError);
+    }
     let mut before = None;
     for row in &ROWS {
         if !goes(alloc, &mut ports, &routes, before, row)? {
