@@ -1,5 +1,5 @@
-//! From the bytes of a message to the state of a port: what a routing daemon does with each Join/Prune that it
-//! receives.
+//! From the bytes of a message to the state of a port: what a routing daemon does with each
+//! Join/Prune that it receives.
 
 ghost use Rattle.std.specs.Prelude.{◌≡◌, ◌↔◌, IsTrue};
 
@@ -26,14 +26,16 @@ const RENDEZVOUS_POINT: [u8; 4] = [10, 9, 9, 9];
 
 const SENDER: [u8; 4] = [10, 0, 0, 9];
 
-/// Whether the message is meant for this router: its upstream neighbour is the port's own address (RFC 7761, 4.5.1).
+/// Whether the message is meant for this router: its upstream neighbour is the port's own address
+/// (RFC 7761, 4.5.1).
 fn is_for(message: &JpView<'_, V4>, own: [u8; 4]) -> bool
     ensures { IsTrue result ↔ (message.now.upstream ≡ own) }
 {
     message.upstream() == own
 }
 
-/// One port, with room for a hundred records, that has one neighbour and hears the message at the moment 0.
+/// One port, with room for a hundred records, that has one neighbour and hears the message at the
+/// moment 0.
 pub fn tell_state(rt: &HostRuntime) -> io::Result<()> {
     let Ok(Body::JoinPrune(body)) = open::<V4>(SENDER, all_routers::<V4>(), &MESSAGE) else {
         return println!(rt; "no sound Join/Prune");

@@ -1,5 +1,5 @@
-//! How the libraries are used from code, in two examples: from the bytes of a message to the state of a port, and a
-//! routing daemon in small, from packets to the messages that it sends.
+//! How the libraries are used from code, in two examples: from the bytes of a message to the state
+//! of a port, and a routing daemon in small, from packets to the messages that it sends.
 #![tactic(auto)]
 
 mod bytes_to_state;

@@ -1,5 +1,6 @@
-//! A routing daemon in small: packets come in, each has a verdict, and what is asked for goes to the upstream
-//! neighbour. Three packets stand for a socket, and a printed line for each thing that a daemon sends.
+//! A routing daemon in small: packets come in, each has a verdict, and what is asked for goes to
+//! the upstream neighbour. Three packets stand for a socket, and a printed line for each thing that
+//! a daemon sends.
 
 ghost use Rattle.std.specs.Prelude.{◌≡◌, ◌≤◌, ◌<◌, ◌^◌, length, max, OnOk};
 ghost use Rattle.pim_router.specs.State.{setup_of};
@@ -20,7 +21,8 @@ const PORTS: [PortConfig<[u8; 4]>; 1] = [PortConfig {
 /// A router on the link of the only port.
 const SENDER: [u8; 4] = [10, 0, 0, 9];
 
-/// The neighbour by which all sources and RPs are reached, and the daemon's own address on that link.
+/// The neighbour by which all sources and RPs are reached, and the daemon's own address on that
+/// link.
 const UPSTREAM: [u8; 4] = [10, 0, 1, 1];
 
 const OWN: [u8; 4] = [10, 0, 1, 2];
@@ -40,7 +42,8 @@ const JOIN_AND_PRUNE: [u8; 42] = [
     0, 7, 32, 10, 9, 9, 9, 1, 0, 5, 32, 192, 0, 2, 1,
 ];
 
-/// Packets of the first port, each with the moment at which it came, in milliseconds since the start.
+/// Packets of the first port, each with the moment at which it came, in milliseconds since the
+/// start.
 const PACKETS: [(u64, &[u8]); 3] = [(0, &HELLO), (5, &JOIN), (61_000, &JOIN_AND_PRUNE)];
 
 /// Writes a message, as a daemon would send it.
@@ -60,7 +63,8 @@ fn send_all(rt: &HostRuntime, messages: &Messages) -> Result<()> {
     Ok(())
 }
 
-/// Writes the messages that ask the upstream neighbour for what the router's ports want: to be sent at each Refresh.
+/// Writes the messages that ask the upstream neighbour for what the router's ports want: to be sent
+/// at each Refresh.
 fn ask_upstream(rt: &HostRuntime, router: &Router<'_, V4>, writer: &Writer<V4>) -> Result<()> {
     let messages = router.canonical(rt.alloc(), writer)?;
     send_all(rt, &messages)
@@ -137,7 +141,8 @@ fn table(rt: &HostRuntime) -> Result<Routes<V4>> {
     Ok(routes)
 }
 
-/// A router that knows the RP of all groups and the way to it, with at most 1,000 records a port, hears the packets.
+/// A router that knows the RP of all groups and the way to it, with at most 1,000 records a port,
+/// hears the packets.
 pub fn tell_messages(rt: &HostRuntime) -> Result<()> {
     let routes = table(rt)?;
     let config = Config {

@@ -1,3 +1,4 @@
+-- The definitions of addresses, encoded addresses, texts and route tables.
 pub mod Address
 pub mod Equality
 pub mod Faults

@@ -1,8 +1,9 @@
--- What a contract sees of a source that was read.
+-- What contracts see of a `SourceAddress`.
 use Rattle.std.specs.Prelude.{ℕ, List}
 use Rattle.pim_addr.specs.Encoded.{SourceValue, wildcard_bit, rpt_bit}
 use Rattle.pim_addr.specs.declared.encoded.SourceAddress.{SourceAddress}
 
+-- The value of a `SourceAddress`: the bytes of its address, and its W and R bits.
 abbrev pub source_seen : {A : Type 0} → (A → List ℕ) → SourceAddress A → SourceValue
 source_seen bytes_of source = record {
   address = bytes_of source.address;
@@ -10,6 +11,6 @@ source_seen bytes_of source = record {
   rpt = rpt_bit source.bits.0;
 }
 
--- the flags that it holds
+-- The flags byte that the `SourceAddress` keeps.
 abbrev pub bits_kept : {A : Type 0} → SourceAddress A → ℕ
 bits_kept source = source.bits.0

@@ -1,19 +1,21 @@
-//! Searching a list that is in order.
+//! Search in a sorted list.
 
 ghost use Rattle.std.specs.Prelude.{◌≡◌, ◌≤◌, true, false, length};
 ghost use Rattle.std.specs.Ordering.{is_lt};
 ghost use Rattle.std.specs.List.Sorted.{IsSorted, IsPartitionPoint};
 
-/// The last levels of a search, each of which halves what is left. They are all that lists of up to 8,191 items have.
+/// The number of search levels in the loop of fixed length; they suffice for lists of up to 8,191
+/// items.
 const LEVELS: u32 = 12;
 
-/// How many items of a list in order are less than this one: they are its first. It takes about log n steps for n
+/// Returns how many items of a sorted list are less than this one. It takes about log n steps for n
 /// items.
 ///
-/// No branch goes by an item, so that a processor has none to guess: what is left is as long as a power of two, and
-/// whether an item is less is shifted into its place. Of a product in place of the shift a compiler makes a branch. The
-/// last levels are a loop of known length, which a compiler unrolls, so that they shift by constants: many processors
-/// take three steps for a shift by a variable.
+/// No branch depends on an item, so that branch prediction cannot fail. The length of the part that
+/// is left is a power of two, and the result of each comparison is shifted into its place. With a
+/// product in place of the shift, a compiler makes a branch. The loop of fixed length can be
+/// unrolled, so that it shifts by constants; on many processors a shift by a variable takes three
+/// steps.
 pub fn count_below<T: Copy + Ord>(sorted: &[T], item: T) -> usize
     requires { IsSorted T.cmp sorted.now }
     ensures bound { result ≤ length sorted.now }

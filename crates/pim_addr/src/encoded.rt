@@ -1,4 +1,5 @@
-//! Encoded addresses, read (RFC 7761, 4.9.1).
+//! Readers of encoded addresses (RFC 7761, 4.9.1). Of the flags of a source only the W and R bits
+//! are kept, so that sources that say the same compare equal.
 
 ghost use Rattle.std.specs.Prelude.{◌≡◌, ◌≤◌, length, take, slice_index, IfOk, Ok, bit_and};
 ghost use Rattle.pim_addr.specs.Faults.{judged, Answers};
@@ -12,25 +13,25 @@ use crate::family::Family;
 use bitflags::{Flag, Flags, bitflag_items};
 use thiserror::Error;
 
-/// What is wrong with an encoded address. Of several faults the first in this order is told.
+/// A fault of an encoded address. Of several faults, a reader returns the first in this order.
 #[derive(Clone, Copy, Debug, PartialEq, Eq, Error)]
 pub enum AddrFault {
-    /// Fewer bytes than the form has.
+    /// The bytes are fewer than the form has.
     #[error("short")]
     Short,
-    /// The family byte isn't that of the message.
+    /// The Addr Family field is not that of the reader's family.
     #[error("family")]
     Family,
-    /// The encoding byte isn't 0.
+    /// The Encoding Type field is not 0.
     #[error("encoding")]
     Encoding,
-    /// The mask length isn't that of one address alone.
+    /// The Mask Len field is not that of one whole address.
     #[error("mask")]
     Mask,
 }
 
-/// The W and R bits of an encoded source address (RFC 7761, 4.9.1). The S bit and the reserved bits are
-/// ignored.
+/// The W and R bits of an Encoded-Source address (RFC 7761, 4.9.1), without the S bit and the
+/// reserved bits.
 #[derive(Clone, Copy, PartialEq, Eq, Debug)]
 pub struct SourceBits(u8);
 
@@ -66,7 +67,7 @@ impl Flags for SourceBits {
 }
 
 impl SourceBits {
-    /// The W and R bits of a flags byte.
+    /// Returns the W and R bits of a flags byte.
     fn from_flags_byte(flags: u8) -> SourceBits
         ensures kept { result.0 ≡ type_bits flags }
         ensures wildcard { wildcard_bit result.0 ≡ wildcard_bit flags }
@@ -75,14 +76,14 @@ impl SourceBits {
         SourceBits(flags & 3)
     }
 
-    /// Whether the W bit is set: the entry is (*,G).
+    /// Returns whether the W (Wildcard) bit is set, as in a (*,G) entry.
     pub fn is_wildcard(self) -> bool
         ensures { result ≡ wildcard_bit (⟦<SourceBits as Flags>⟧.set_of self) }
     {
         self.contains(SourceBits::WILDCARD)
     }
 
-    /// Whether the R bit is set: the entry is on the tree of the RP.
+    /// Returns whether the R (RPT) bit is set: the entry is about the RP tree.
     pub fn is_rpt(self) -> bool
         ensures { result ≡ rpt_bit (⟦<SourceBits as Flags>⟧.set_of self) }
     {
@@ -90,44 +91,45 @@ impl SourceBits {
     }
 }
 
-/// A source as it stands in a message: its address, with its W and R bits.
+/// The source of a Join/Prune entry: its address, with its W and R bits.
 #[derive(Clone, Copy, PartialEq, Eq, Debug)]
 pub struct SourceAddress<A> {
-    /// The address. In a (*,G) entry it is that of the RP.
+    /// The address; in a (*,G) entry that of the RP.
     pub address: A,
-    /// What kind of entry it is.
+    /// The W and R bits, which give the type of the entry.
     pub bits: SourceBits,
 }
 
-/// How many bytes an encoded unicast address has: 6 or 18.
+/// Returns the number of bytes of an Encoded-Unicast address: 6 or 18.
 pub fn unicast_length<F: Family>() -> usize
     ensures { result ≡ unicast_length F.family }
 {
     2 + F::LEN
 }
 
-/// How many bytes a form with a mask length has.
+/// Returns the number of bytes of a form with a Mask Len: 8 or 20.
 fn masked_length<F: Family>() -> usize
     ensures { result ≡ masked_length F.family }
 {
     4 + F::LEN
 }
 
-/// How many bytes an encoded group has: 8 or 20.
+/// Returns the number of bytes of an Encoded-Group address: 8 or 20.
 pub fn group_length<F: Family>() -> usize
     ensures { result ≡ group_length F.family }
 {
     masked_length::<F>()
 }
 
-/// How many bytes an encoded source has: 8 or 20.
+/// Returns the number of bytes of an Encoded-Source address: 8 or 20.
 pub fn source_length<F: Family>() -> usize
     ensures { result ≡ source_length F.family }
 {
     masked_length::<F>()
 }
 
-/// Reads the encoded unicast address at the front.
+/// Reads the Encoded-Unicast address at the front of the bytes, or returns its first fault. Bytes
+/// after it are ignored.
 pub fn read_unicast<F: Family>(bytes: &[u8]) -> Result<F::Addr, AddrFault>
     ensures answer { Answers F.bytes_of result
         (judged (unicast_faults F.family bytes.now) (unicast_address F.family bytes.now)) }
@@ -147,8 +149,8 @@ pub fn read_unicast<F: Family>(bytes: &[u8]) -> Result<F::Addr, AddrFault>
     Ok(F::take(address))
 }
 
-/// Reads the address of the form at the front that has a mask length: of a group or a source. Its third byte is left
-/// to the caller.
+/// Reads the address of the form with a Mask Len at the front. Its third byte is left to the
+/// caller.
 fn read_masked<F: Family>(bytes: &[u8]) -> Result<F::Addr, AddrFault>
     ensures answer { Answers F.bytes_of result
         (judged (masked_faults F.family bytes.now) (masked_address F.family bytes.now)) }
@@ -172,7 +174,8 @@ fn read_masked<F: Family>(bytes: &[u8]) -> Result<F::Addr, AddrFault>
     Ok(F::take(address))
 }
 
-/// Reads the encoded group at the front. Its bits B and Z and the reserved ones are ignored.
+/// Reads the Encoded-Group address at the front of the bytes, or returns its first fault. The B and
+/// Z bits, the reserved bits, and bytes after it are ignored.
 pub fn read_group<F: Family>(bytes: &[u8]) -> Result<F::Addr, AddrFault>
     ensures answer { Answers F.bytes_of result
         (judged (group_faults F.family bytes.now) (masked_address F.family bytes.now)) }
@@ -182,8 +185,8 @@ pub fn read_group<F: Family>(bytes: &[u8]) -> Result<F::Addr, AddrFault>
     read_masked::<F>(bytes)
 }
 
-/// Reads the encoded source at the front, with its W and R bits. Its bit S and the reserved ones are ignored, and
-/// nothing of them is kept: sources whose address and two bits are equal compare equal.
+/// Reads the Encoded-Source address at the front of the bytes, with its W and R bits, or returns
+/// its first fault. The S bit, the reserved bits, and bytes after it are ignored.
 pub fn read_source<F: Family>(bytes: &[u8]) -> Result<SourceAddress<F::Addr>, AddrFault>
     ensures answer { Answers (source_seen F.bytes_of) result
         (judged (source_faults F.family bytes.now) (source_value F.family bytes.now)) }

@@ -1,4 +1,4 @@
-//! The two address families, and what each knows of its addresses.
+//! The two address families, and the functions that each has for its addresses.
 
 ghost use Rattle.std.specs.Prelude.{◌≡◌, ◌≤◌, ◌↔◌, ℕ, true, List, length, take, option_map, IsTrue};
 ghost use Rattle.std.specs.Ordering.{nat_cmp};
@@ -20,13 +20,13 @@ pub enum AddressFamily {
 
 /// An address family, with the type of its addresses.
 ///
-/// Contracts see an address as its list of bytes, `bytes_of`, and no definition above this trait is
-/// generic: it takes the family and lists of bytes.
+/// Contracts see an address as its list of bytes, `bytes_of`, so no definition above this trait is
+/// generic. Definitions take the family and lists of bytes.
 pub trait Family {
     /// An address. Its order is the order of its bytes.
     type Addr: Copy + Ord + Debug;
 
-    /// The number that an address spells: a type of 32 or of 128 bits. Its order is that of numbers.
+    /// The number of an address: a type of 32 or of 128 bits, ordered as numbers.
     type Number: Copy + Ord + Debug;
 
     ghost use Rattle.pim_addr.specs.declared.family.AddressFamily.{AddressFamily};
@@ -45,20 +45,20 @@ pub trait Family {
 
     ghost AFI: { ℕ };
 
-    /// How many bytes an address has: 4 or 16.
+    /// The number of bytes of an address: 4 or 16.
     const LEN: usize;
 
-    /// The mask length of one address alone, in bits: 32 or 128.
+    /// The mask length of one whole address, in bits: 32 or 128.
     const FULL: u8;
 
-    /// The family byte of an encoded address (RFC 7761, 4.9.1): 1 or 2.
+    /// The Addr Family field of an encoded address (RFC 7761, 4.9.1): 1 or 2.
     const AFI: u8;
 
-    /// Which of the two families this is.
+    /// Returns which of the two families this is.
     fn family() -> AddressFamily
         ensures { result ≡ family };
 
-    /// The address that stands in the first `LEN` of these bytes.
+    /// Reads the address in the first `LEN` bytes.
     fn take(bytes: &[u8]) -> Self::Addr
         requires { address_length family ≤ length bytes.now }
         ensures bytes { bytes_of result ≡ take (address_length family) bytes.now }
@@ -69,35 +69,38 @@ pub trait Family {
         requires { length bytes.old ≡ address_length family }
         ensures { bytes.new ≡ bytes_of address };
 
-    /// Whether it is a multicast group: 224.0.0.0/4 (RFC 5771, 3) or ff00::/8 (RFC 4291, 2.7).
+    /// Returns whether it is a multicast group: in 224.0.0.0/4 (RFC 5771, 3) or ff00::/8
+    /// (RFC 4291, 2.7).
     fn is_group(address: Self::Addr) -> bool
         ensures { result ≡ is_group family (bytes_of address) };
 
-    /// Whether it is a valid source: above 0.0.0.0 and below 224.0.0.0, or neither :: nor in ff00::/8.
+    /// Returns whether it is a valid source: above 0.0.0.0 and below 224.0.0.0, or neither :: nor
+    /// in ff00::/8. RFC 7761 gives no range; this is the widest in which a source or an RP makes
+    /// sense.
     fn is_source(address: Self::Addr) -> bool
         ensures { result ≡ is_source family (bytes_of address) };
 
-    /// The number that the address spells, its first byte the highest.
+    /// Returns the number of the address, the first byte the most significant.
     fn number(address: Self::Addr) -> Self::Number
         ensures { value_of result ≡ number_of (bytes_of address) };
 
-    /// Whether no bit past its first `count` is set.
+    /// Returns whether all bits after the first `count` are 0.
     fn ends_within(address: Self::Addr, count: u8) -> bool
         requires { count ≤ mask_length family }
         ensures { result ≡ ends_within family count (bytes_of address) };
 
-    /// The number of the last address of this prefix, whose bits past the first `count` are 0: that of all its bits,
-    /// with each bit past `count` set.
+    /// Returns the number of the last address with this prefix of `count` bits: all later bits are
+    /// 1.
     fn last_number(prefix: Self::Addr, count: u8) -> Self::Number
         requires count { count ≤ mask_length family }
         requires within { ends_within family count (bytes_of prefix) ≡ true }
         ensures { value_of result ≡ last_number family count (bytes_of prefix) };
 
-    /// The number before this one, `None` at 0.
+    /// Returns the number before this one, `None` for 0.
     fn number_before(number: Self::Number) -> Option<Self::Number>
         ensures { number_after (option_map value_of result) ≡ value_of number };
 
-    /// A law: an address has as many bytes as its family says, and they are bytes. It does nothing.
+    /// A law: an address has the number of bytes of its family, each below 256. It has no effect.
     fn address_has_its_bytes(address: Self::Addr)
         ensures { IsAddress family (bytes_of address) };
 
@@ -130,7 +133,8 @@ pub struct V4;
 #[derive(Clone, Copy, Debug, PartialEq, Eq)]
 pub struct V6;
 
-/// A law: addresses of a family are in order as their numbers are. It does nothing.
+/// A law: within a family, the byte order of addresses is the order of their numbers. It has no
+/// effect.
 pub fn numbers_are_in_order()
     ensures { NumbersAreInOrder }
 {}

@@ -1,8 +1,21 @@
-//! Addresses of the two families, their encoded forms and their text, route tables, and the devices of `pim_device`.
+//! Addresses of IPv4 and IPv6, their encoded forms in PIM messages (RFC 7761, 4.9.1), their text,
+//! and route tables. The crate also exports the devices of `pim_device`.
 //!
-//! Proved: an address is its bytes; an encoded form is read as the value that it spells, or its first fault is told,
-//! and written in its one canonical spelling; an address has one text; a route table is two finite maps from prefixes
-//! to addresses, of which the longest that matches answers.
+//! - `Family`: contracts see an address as its list of bytes. Reading and writing addresses are
+//!   inverse; order and equality are those of the bytes. So no definition above is generic.
+//! - Encoded addresses: a `read_` function returns the value of the bytes at the front, or the
+//!   first fault in the order of `AddrFault`. A `put_` function overwrites a slice of the length of
+//!   the form with the one canonical spelling, which is read as the same value.
+//! - Text: `write_text` writes the one text of an address over the front of its buffer and leaves
+//!   the rest. `read_text` returns an address exactly where the text names one. The text that is
+//!   written of an address names it.
+//! - `Routes`: contracts see a table as two maps, from prefixes to RPs and to upstream neighbours.
+//!   `rp_of` and `via` return the longest match. `add_rp` and `add_via` return the first fault of a
+//!   row, or `Memory` where it has none; after an error the table is unchanged. `equals` is
+//!   equality of the maps.
+//! - `first_of_parts_is_least`: the law on the order of faults that readers of message bodies use.
+//!
+//! Of the calls of this crate, only `add_rp` and `add_via` take memory.
 #![tactic(auto)]
 
 mod below;

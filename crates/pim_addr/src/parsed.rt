@@ -1,4 +1,9 @@
-//! The address that a text names.
+//! Readers of the text of an address, over std's parsers, whose contracts give the grammar.
+//!
+//! A text with a zone or a dotted part is not an IPv6 address, since no message can hold either.
+//! Leading zeros are refused in a decimal, since some readers take them for octal. They are allowed
+//! in a group. `::` may replace a single group, as in RFC 4291; RFC 5952 advises only writers
+//! against it.
 
 ghost use Rattle.std.specs.Prelude.{◌≡◌, List, ℕ, IfSome, IfNone, ◌==◌};
 ghost use Rattle.std.specs.List.{list_any};
@@ -8,7 +13,7 @@ ghost use Rattle.pim_addr.specs.declared.family.AddressFamily.TheVariants.{Ipv4,
 use crate::family::{AddressFamily, Family};
 use std::net::{Ipv4Addr, Ipv6Addr};
 
-/// The IPv4 address that a text names.
+/// Returns the IPv4 address that a text names.
 fn read_ipv4(text: &str) -> Option<[u8; 4]>
     ensures named { IfSome result (λ a. IsText Ipv4 text.now a) }
     ensures no_text { IfNone result ((address : List ℕ) → IsText Ipv4 text.now address → ⊥) }
@@ -19,14 +24,15 @@ fn read_ipv4(text: &str) -> Option<[u8; 4]>
     }
 }
 
-/// Whether a dot stands in a text.
+/// Returns whether a text contains a dot.
 fn has_dot(text: &str) -> bool
     ensures { result ≡ list_any (λ byte. byte == 46) text.now }
 {
     text.as_bytes().contains(&b'.')
 }
 
-/// The IPv6 address that a text names. A dotted part, which other readers take, is none of its forms.
+/// Returns the IPv6 address that a text names. Texts with a dotted part, which std's parser takes,
+/// are refused.
 fn read_ipv6(text: &str) -> Option<[u8; 16]>
     ensures named { IfSome result (λ a. IsText Ipv6 text.now a) }
     ensures no_text { IfNone result ((address : List ℕ) → IsText Ipv6 text.now address → ⊥) }
@@ -40,9 +46,10 @@ fn read_ipv6(text: &str) -> Option<[u8; 16]>
     }
 }
 
-/// The address that a text names. IPv4: four decimals of 0 to 255 without leading zeros, joined by dots. IPv6: eight
-/// groups of one to four hexadecimal digits in either case, joined by colons, or fewer with one `::`, which stands for
-/// one zero group or more; no zone and no dotted part (RFC 4291, 2.2).
+/// Returns the address that a text names, or `None` where it names none. IPv4: four decimals of 0
+/// to 255 without leading zeros, joined by dots. IPv6 (RFC 4291, 2.2, forms 1 and 2): eight groups
+/// of one to four hexadecimal digits in either case, joined by colons. One `::` may replace one or
+/// more zero groups.
 pub fn read_text<F: Family>(text: &str) -> Option<F::Addr>
     ensures named { IfSome result (λ a. IsText F.family text.now (F.bytes_of a)) }
     ensures no_text { IfNone result ((address : List ℕ) → IsText F.family text.now address → ⊥) }
@@ -59,12 +66,12 @@ pub fn read_text<F: Family>(text: &str) -> Option<F::Addr>
     }
 }
 
-/// A law: a text names one address at most.
+/// A law: a text names at most one address. It has no effect.
 pub fn text_names_one_address()
     ensures { OneAddress }
 {}
 
-/// A law: what is written of an address is a text that names it.
+/// A law: the text that is written of an address names it. It has no effect.
 pub fn written_text_names()
     ensures { WrittenTextNames }
 {}

@@ -1,4 +1,5 @@
-//! Ranges of addresses, each with the longest row that matches its addresses.
+//! Ranges of addresses, each with the longest row that matches its addresses. They are kept as the
+//! numbers of their last addresses, with the rows in a second list.
 
 ghost use Rattle.std.specs.Prelude.{◌≡◌, ◌<◌, ◌≤◌, ◌+◌, ◌^◌, true, map, length, option_map, vec_len};
 ghost use Rattle.std.specs.Prelude.{vec_capacity, Some};
@@ -11,7 +12,7 @@ use crate::below::count_below;
 use crate::family::Family;
 use crate::route::Route;
 
-/// How many ranges end before this number.
+/// Returns the number of ranges that end before this number.
 fn ranges_before<F: Family>(ends: &[F::Number], number: F::Number) -> usize
     requires { Rises 0 (map F.value_of ends.now) }
     ensures { result ≡ before (F.value_of number) (map F.value_of ends.now) }
@@ -19,7 +20,8 @@ fn ranges_before<F: Family>(ends: &[F::Number], number: F::Number) -> usize
     count_below(ends, number)
 }
 
-/// The row that answers for this number: that of the first range that doesn't end before it.
+/// Returns the row that applies to this number: that of the first range that does not end before
+/// it.
 pub(crate) fn answer_at<F: Family>(
     ends: &[F::Number],
     answers: &[Option<Route<F::Addr>>],
@@ -33,8 +35,8 @@ pub(crate) fn answer_at<F: Family>(
     *answers.get(place)?
 }
 
-/// Lets a range end at this number, where none does: then that in which it lies becomes two. There is room for one
-/// more.
+/// Cuts the range that contains this number, so that one part ends at it. Nothing changes where a
+/// range ends there already. The caller has reserved memory for one range.
 fn end_at<F: Family>(
     ends: &mut Vec<F::Number>,
     answers: &mut Vec<Option<Route<F::Addr>>>,
@@ -65,7 +67,7 @@ fn end_at<F: Family>(
     }
 }
 
-/// Lets a range begin at this number, where none does. There is room for one more.
+/// Cuts the ranges so that one begins at this number. The caller has reserved memory for one range.
 fn start_at<F: Family>(
     ends: &mut Vec<F::Number>,
     answers: &mut Vec<Option<Route<F::Addr>>>,
@@ -89,7 +91,7 @@ fn start_at<F: Family>(
     end_at::<F>(ends, answers, last_before);
 }
 
-/// The longer of a row and an answer: the answer, where its prefix is longer.
+/// Returns the longer of the two rows, `row` where they are equally long.
 fn longer<F: Family>(row: Route<F::Addr>, answer: Option<Route<F::Addr>>) -> Route<F::Addr>
     ensures { row_seen F.bytes_of result ≡
         longer_of (row_seen F.bytes_of row) (option_map (row_seen F.bytes_of) answer) }
@@ -100,7 +102,7 @@ fn longer<F: Family>(row: Route<F::Addr>, answer: Option<Route<F::Addr>>) -> Rou
     }
 }
 
-/// Lets the row answer in each of these ranges, but where a longer one does.
+/// Sets the row for all of these ranges, except those with a longer row.
 fn answer_in_all<F: Family>(answers: &mut [Option<Route<F::Addr>>], row: Route<F::Addr>)
     ensures { answers_seen F.bytes_of answers.new ≡
         map (λ answer. Some (longer_of (row_seen F.bytes_of row) answer)) (answers_seen F.bytes_of answers.old) }
@@ -110,7 +112,8 @@ fn answer_in_all<F: Family>(answers: &mut [Option<Route<F::Addr>>], row: Route<F
     }
 }
 
-/// Lets the row answer in the ranges from the number `first` to the number `last`, but where a longer one does.
+/// Sets the row for the ranges from the number `first` to the number `last`, except those with a
+/// longer row.
 fn answer_between<F: Family>(
     ends: &[F::Number],
     answers: &mut [Option<Route<F::Addr>>],
@@ -135,8 +138,8 @@ fn answer_between<F: Family>(
     answer_in_all::<F>(between, row);
 }
 
-/// Lets the row answer for the addresses that it matches, but where a longer one does. There is room for two more
-/// ranges.
+/// Sets the row for the addresses that it matches, except where a longer row applies. The caller
+/// has reserved memory for two ranges.
 pub(crate) fn answer_for<F: Family>(
     ends: &mut Vec<F::Number>,
     answers: &mut Vec<Option<Route<F::Addr>>>,

@@ -1,26 +1,27 @@
-//! Why a row isn't added to a route table.
+//! The faults of a row that is to be added to a route table.
 
 use thiserror::Error;
 
-/// What is wrong with a row. Of several the first in this order is told.
+/// Why a row is not added. Of several causes, the first in this order is returned.
 #[derive(Clone, Copy, Debug, PartialEq, Eq, Error)]
 pub enum RouteFault {
-    /// The length is above the bits of an address: 32 or 128.
+    /// The length is above the number of bits of an address: 32 or 128.
     #[error("length")]
     Length,
-    /// A bit of the prefix past the length is set.
+    /// A bit of the prefix after the length is set.
     #[error("bits")]
     Bits,
-    /// The address isn't a valid source; or for an RP the prefix isn't one of groups alone: 224.0.0.0/4 or ff00::/8.
+    /// The address is not a valid source; or, for an RP, the prefix is not within 224.0.0.0/4 or
+    /// ff00::/8.
     #[error("kind")]
     Kind,
-    /// A row of this prefix and length is there.
+    /// The map has a row with this prefix and length already.
     #[error("twice")]
     Twice,
-    /// There are 4,096 rows of this kind.
+    /// The map has 4,096 rows already.
     #[error("full")]
     Full,
-    /// No memory was given.
+    /// Memory ran out.
     #[error("memory")]
     Memory,
 }

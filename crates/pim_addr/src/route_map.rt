@@ -1,4 +1,9 @@
 //! One map of a route table, from prefixes to addresses.
+//!
+//! All addresses are cut into ranges, at most two for each row, and each range has the longest row
+//! that matches its addresses. So a lookup is one search and does not depend on the number of
+//! lengths, which in IPv6 can be 129. Adding a row costs more: it moves all later rows and ranges,
+//! and updates the ranges of its prefix.
 
 ghost use Rattle.std.specs.Prelude.{◌≡◌, ◌↔◌, [], option_map, IsTrue, OnOk, OnErr};
 ghost use Rattle.pim_addr.specs.Routes.{led_to, with_row, room_faults, IsRefusedBy, IsRealRow, IsRouteMap};
@@ -13,12 +18,12 @@ use crate::rows::{are_same, find_place, insert_row, reserve};
 use std::alloc::Global;
 use std::marker::Model;
 
-/// How many rows a map has at most.
+/// The greatest number of rows of a map.
 const ROW_LIMIT: usize = 4096;
 
-/// Rows in their order, the longer prefix first; and all addresses cut into ranges, so that a look-up is one search:
-/// the numbers of their last addresses, and for each the longest row that matches its addresses. Behind the last range
-/// none matches.
+/// The rows in order, longer prefixes first. `ends` has the number of the last address of each
+/// range, and `answers` the longest row that matches its addresses. No row matches addresses after
+/// the last range.
 #[derive(Drop)]
 pub(crate) struct RouteMap<F: Family> {
     rows: Vec<Route<F::Addr>>,
@@ -41,7 +46,7 @@ impl<F: Family> Model for RouteMap<F> {
 }
 
 impl<F: Family> RouteMap<F> {
-    /// No rows.
+    /// Returns a map without rows.
     pub(crate) fn new(alloc: Global) -> Self
         ensures { result ≡ [] }
     {
@@ -52,14 +57,14 @@ impl<F: Family> RouteMap<F> {
         }
     }
 
-    /// A law: the rows stand in order, each is real, and there are at most 4,096.
+    /// A law: at most 4,096 rows, in order, each valid. It has no effect.
     pub(crate) fn is_sound(&self)
         ensures { IsRouteMap F.family self.now }
     {
         let _rows = &self.rows;
     }
 
-    /// Where the longest row that matches the address leads.
+    /// Returns the address that the longest matching row leads to.
     #[tactic(auto, unfolding(crate::specs::Routes::led_to))]
     pub(crate) fn led_to(&self, address: F::Addr) -> Option<F::Addr>
         ensures { option_map F.bytes_of result ≡ led_to F.family (F.bytes_of address) self.now }
@@ -69,7 +74,8 @@ impl<F: Family> RouteMap<F> {
         Some(row.to)
     }
 
-    /// Adds a row: `Twice` where one of its prefix and length is there, `Full` where there are 4,096, else `Memory`.
+    /// Adds a row. Errors, in this order: `Twice` where its prefix is there, `Full` at 4,096 rows,
+    /// `Memory`. The map is then unchanged.
     pub(crate) fn add(&mut self, row: Route<F::Addr>) -> Result<(), RouteFault>
         requires { IsRealRow F.family (row_seen F.bytes_of row) }
         ensures ok { OnOk result (self.new ≡
@@ -96,14 +102,14 @@ impl<F: Family> RouteMap<F> {
         Ok(())
     }
 
-    /// Whether the two maps are equal.
+    /// Returns whether the two maps are equal.
     pub(crate) fn equals(&self, other: &RouteMap<F>) -> bool
         ensures { IsTrue result ↔ (self.now ≡ other.now) }
     {
         are_same::<F>(&self.rows, &other.rows)
     }
 
-    /// The rows in their order.
+    /// Returns the rows in order.
     pub(crate) fn rows(&self) -> RouteRows<'_, F>
         ensures { result ≡ self.now }
     {

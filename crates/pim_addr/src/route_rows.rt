@@ -1,4 +1,4 @@
-//! The rows of a map, one after another.
+//! A walk over the rows of a map.
 
 ghost use Rattle.std.specs.Prelude.{◌≡◌};
 ghost use Rattle.std.specs.Iterator.{YieldsFirstBy, item_count};
@@ -8,8 +8,8 @@ use crate::family::Family;
 use crate::route::Route;
 use std::marker::{Model, PhantomData};
 
-/// The rows of a map in their order: the longer prefix first, those of one length by their bytes. Contracts see those
-/// that are left.
+/// The rows of a map in order: longer prefixes first, prefixes of one length by their bytes.
+/// Contracts see the rows that remain.
 #[derive(Drop)]
 pub struct RouteRows<'a, F: Family> {
     left: &'a [Route<F::Addr>],
@@ -27,7 +27,7 @@ impl<'a, F: Family> Model for RouteRows<'a, F> {
 }
 
 impl<'a, F: Family> RouteRows<'a, F> {
-    /// These rows.
+    /// Returns a walk over these rows.
     pub(crate) fn new(left: &'a [Route<F::Addr>]) -> Self
         ensures { result ≡ rows_seen F.bytes_of left.now }
     {

@@ -1,4 +1,8 @@
-//! Route tables: the RP of each group, and the upstream neighbour by which each address is reached.
+//! Route tables: the RP of each group, and the upstream neighbour toward each address.
+//!
+//! Rows are kept in one order, so that a map has one list, and equality of tables is equality of
+//! lists. The definition of a lookup does not depend on that order. A prefix that is there is
+//! refused even with the same address, so that no file states a row twice.
 
 ghost use Rattle.std.specs.Prelude.{◌≡◌, ◌↔◌, ◌&&◌, nat_le, option_map, IsTrue, OnOk, OnErr};
 ghost use Rattle.pim_addr.specs.Address.{is_group};
@@ -14,8 +18,8 @@ use crate::route_rows::RouteRows;
 use std::alloc::Global;
 use std::marker::Model;
 
-/// A route table: two finite maps from a prefix and its length to an address. One leads groups to their RPs, the other
-/// leads addresses to upstream neighbours.
+/// A route table: two finite maps from a prefix and its length to an address. One leads groups to
+/// their RPs, the other leads addresses to upstream neighbours.
 #[derive(Drop)]
 pub struct Routes<F: Family> {
     rps: RouteMap<F>,
@@ -34,7 +38,7 @@ impl<F: Family> Model for Routes<F> {
     ghost invariant = { λ r. AllByRecursion (λ row. is_group_prefix F.family row.0 ≡ true) r.rps };
 }
 
-/// How many bits all groups have in common.
+/// Returns the number of leading bits that all groups share.
 fn group_bits<F: Family>() -> u8
     ensures { result ≡ group_bits F.family }
 {
@@ -44,7 +48,7 @@ fn group_bits<F: Family>() -> u8
     }
 }
 
-/// Whether all addresses of this prefix are groups.
+/// Returns whether all addresses with this prefix are groups.
 fn is_group_prefix<F: Family>(prefix: F::Addr, bits: u8) -> bool
     ensures { result ≡ (is_group F.family (F.bytes_of prefix) && nat_le (group_bits F.family) bits) }
 {
@@ -52,7 +56,7 @@ fn is_group_prefix<F: Family>(prefix: F::Addr, bits: u8) -> bool
 }
 
 impl<F: Family> Routes<F> {
-    /// A table without rows. It takes no memory.
+    /// Returns a table without rows. It takes no memory.
     pub fn new(alloc: Global) -> Self
         ensures { result ≡ no_routes }
     {
@@ -62,9 +66,9 @@ impl<F: Family> Routes<F> {
         }
     }
 
-    /// A law: what is true of each table. The rows of each map stand in order, at most 4,096, no prefix twice; each has
-    /// at most all the bits, none past them, and leads to a valid source; those that lead to RPs are of groups alone.
-    /// It does nothing.
+    /// A law: each map has at most 4,096 rows, in order, no prefix twice. Each prefix has at most
+    /// all bits, with none set after its length, and leads to a valid source. Prefixes that lead to
+    /// RPs have groups alone. It has no effect.
     pub fn is_sound(&self)
         ensures { IsRouteTable F.family self.now }
     {
@@ -72,31 +76,35 @@ impl<F: Family> Routes<F> {
         self.vias.is_sound();
     }
 
-    /// The RP of this group: that of the longest row that matches it, or `None`.
+    /// Returns the RP of this group, from the longest matching row, or `None` where no row matches.
     ///
-    /// It takes no memory. The time is that of one search by halves among at most twice as many numbers as there are
-    /// rows, so it grows with the logarithm of the number of rows, whatever their lengths.
+    /// It takes no memory. The time is that of one binary search among at most two numbers per row;
+    /// it does not depend on the lengths of the rows.
     pub fn rp_of(&self, group: F::Addr) -> Option<F::Addr>
         ensures { option_map F.bytes_of result ≡ rp_of F.family (F.bytes_of group) self.now }
     {
         self.rps.led_to(group)
     }
 
-    /// The upstream neighbour by which this address is reached: that of the longest row that matches it, or `None`. It
-    /// takes the time of `rp_of`, and no memory.
+    /// Returns the upstream neighbour toward this address, from the longest matching row, or
+    /// `None`. It costs as much as `rp_of`.
     pub fn via(&self, address: F::Addr) -> Option<F::Addr>
         ensures { option_map F.bytes_of result ≡ via F.family (F.bytes_of address) self.now }
     {
         self.vias.led_to(address)
     }
 
-    /// Leads the groups that begin with the first `length` bits of the prefix to this RP.
+    /// Adds a row that leads the groups with the first `length` bits of the prefix to this RP.
     ///
     /// # Errors
-    /// The first of these: `Length` for more bits than an address has, `Bits` where a bit of the prefix past the length
-    /// is set, `Kind` where the RP isn't a valid source, the prefix isn't a group, or the length is below 4, or 8 in
-    /// IPv6; `Twice` where that prefix and length are there, whatever they lead to; `Full` where there are 4,096 such
-    /// rows; `Memory`. Then nothing changes.
+    /// The first of these causes, after which the table is unchanged:
+    /// - `Length`: more bits than an address has.
+    /// - `Bits`: a bit of the prefix after the length is set.
+    /// - `Kind`: the RP is not a valid source, the prefix is not a group, or the length is below 4
+    ///   (8 in IPv6).
+    /// - `Twice`: the table has an RP for that prefix and length, the same or another one.
+    /// - `Full`: the table has 4,096 rows to RPs.
+    /// - `Memory`: memory ran out.
     pub fn add_rp(&mut self, prefix: F::Addr, length: u8, rp: F::Addr) -> Result<(), RouteFault>
         ensures ok { OnOk result
             (self.new ≡ with_rp (record { bits = length; address = F.bytes_of prefix }) (F.bytes_of rp) self.old) }
@@ -122,10 +130,12 @@ impl<F: Family> Routes<F> {
         })
     }
 
-    /// Leads the addresses that begin with the first `length` bits of the prefix to this upstream neighbour.
+    /// Adds a row that leads the addresses with the first `length` bits of the prefix to this
+    /// upstream neighbour.
     ///
     /// # Errors
-    /// As `add_rp`, but `Kind` only where the neighbour isn't a valid source: any prefix can lead to a neighbour.
+    /// As for `add_rp`, among the rows to neighbours. `Kind` comes only where the neighbour is not
+    /// a valid source: any prefix can lead to a neighbour.
     pub fn add_via(
         &mut self,
         prefix: F::Addr,
@@ -156,22 +166,22 @@ impl<F: Family> Routes<F> {
         })
     }
 
-    /// Whether the two tables lead all prefixes alike: exactly where their maps are equal, in whatever order their rows
-    /// were added. It takes no memory, and time that grows with the number of rows.
+    /// Returns whether the maps of the two tables are equal; the order in which rows were added
+    /// does not matter. It takes no memory, and time that grows with the number of rows.
     pub fn equals(&self, other: &Routes<F>) -> bool
         ensures { IsTrue result ↔ (self.now ≡ other.now) }
     {
         self.rps.equals(&other.rps) && self.vias.equals(&other.vias)
     }
 
-    /// The rows that lead to RPs, the longer prefix first, those of one length by their bytes.
+    /// Returns the rows to RPs: longer prefixes first, prefixes of one length by their bytes.
     pub fn rps(&self) -> RouteRows<'_, F>
         ensures { result ≡ self.now.rps }
     {
         self.rps.rows()
     }
 
-    /// The rows that lead to upstream neighbours, in the same order.
+    /// Returns the rows to upstream neighbours, in the same order.
     pub fn vias(&self) -> RouteRows<'_, F>
         ensures { result ≡ self.now.vias }
     {

@@ -1,4 +1,4 @@
-//! Rows in order: where one stands, adding one, and whether two lists are the same.
+//! Rows in order: search, insertion and equality.
 
 ghost use Rattle.std.specs.Prelude.{◌≡◌, ◌↔◌, ◌+◌, ◌<◌, ◌≤◌, IsTrue, length, map, OnOk, OnErr, vec_len};
 ghost use Rattle.std.specs.Prelude.{vec_capacity, Err};
@@ -12,7 +12,7 @@ use crate::route::Route;
 use crate::route_fault::RouteFault;
 use std::cmp::Reverse;
 
-/// Where a row of the same prefix and length stands, or else where this one would stand.
+/// Returns the place of the row with the same prefix and length, or else the place for this row.
 pub(crate) fn find_place<F: Family>(
     rows: &[Route<F::Addr>],
     row: &Route<F::Addr>,
@@ -24,7 +24,7 @@ pub(crate) fn find_place<F: Family>(
     rows.binary_search_by_key(&key, |held| (Reverse(held.length), held.prefix))
 }
 
-/// Makes room for so many more.
+/// Takes memory for `more` further items. The items are unchanged, also on an error.
 pub(crate) fn reserve<T>(list: &mut Vec<T>, more: usize) -> Result<(), RouteFault>
     ensures same { list.new.items ≡ list.old.items }
     ensures room { OnOk result (vec_len list.new + more ≤ vec_capacity list.new) }
@@ -36,7 +36,8 @@ pub(crate) fn reserve<T>(list: &mut Vec<T>, more: usize) -> Result<(), RouteFaul
     }
 }
 
-/// Puts the row at its place, and lets it answer in its ranges. There is room for one more row, and two more ranges.
+/// Inserts the row at its place and applies it to its ranges. The caller has reserved memory for
+/// one row and two ranges.
 pub(crate) fn insert_row<F: Family>(
     rows: &mut Vec<Route<F::Addr>>,
     ends: &mut Vec<F::Number>,
@@ -63,7 +64,7 @@ pub(crate) fn insert_row<F: Family>(
     }
 }
 
-/// Whether these are the same rows.
+/// Returns whether the two lists of rows are equal.
 pub(crate) fn are_same<F: Family>(one: &[Route<F::Addr>], other: &[Route<F::Addr>]) -> bool
     ensures { IsTrue result ↔ (rows_seen F.bytes_of one.now ≡ rows_seen F.bytes_of other.now) }
 {

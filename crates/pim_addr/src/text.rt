@@ -1,4 +1,5 @@
-//! The text of an address.
+//! The text in which an address is written. Each private writer returns the place after what it
+//! wrote.
 
 ghost use Rattle.std.specs.Prelude.{◌≡◌, ◌+◌, ◌*◌, ◌<◌, ◌≤◌, List, [], ◌∷◌, ◌++◌, length, take, drop, map, decimal};
 ghost use Rattle.std.specs.List.{join_with_byte};
@@ -16,7 +17,7 @@ fn write_byte(text: &mut [u8], place: usize, byte: u8) -> usize
     place + 1
 }
 
-/// Writes the separator, before each piece but the first.
+/// Writes the separator, but not before the first piece.
 fn write_separator(text: &mut [u8], place: usize, byte: u8, index: usize) -> usize
     requires { place < length text.old }
     ensures { Wrote (separator byte index) place text.old result text.new }
@@ -48,7 +49,7 @@ fn write_decimal(text: &mut [u8], place: usize, byte: u8) -> usize
     write_byte(text, end, ones)
 }
 
-/// The lower-case hexadecimal digit of a number below 16.
+/// Returns the lower-case hexadecimal digit of a number below 16.
 fn hex_digit(number: u8) -> u8
     requires { number < 16 }
     ensures { result ≡ digit_char number }
@@ -82,7 +83,7 @@ fn write_dotted(text: &mut [u8], bytes: &[u8]) -> usize
     end
 }
 
-/// Writes each two bytes in four hexadecimal digits, joined by colons.
+/// Writes the bytes as groups of four hexadecimal digits, joined by colons.
 fn write_groups(text: &mut [u8], bytes: &[u8; 16]) -> usize
     requires { 39 ≤ length text.old }
     ensures { Wrote (join_with_byte 58 (hex_groups bytes.now)) 0 text.old result text.new }
@@ -96,8 +97,9 @@ fn write_groups(text: &mut [u8], bytes: &[u8; 16]) -> usize
     end
 }
 
-/// Writes the one spelling of an address at the front of the text, and answers how many bytes that is: IPv4 as
-/// decimals joined by dots, IPv6 as eight groups of four lower-case hexadecimal digits joined by colons.
+/// Writes the one text of an address at the front of the buffer, and returns its length in bytes.
+/// IPv4: decimals joined by dots. IPv6: eight groups of four lower-case hexadecimal digits, joined
+/// by colons. The rest of the buffer is unchanged.
 pub fn write_text<F: Family>(address: F::Addr, text: &mut [u8; 39]) -> usize
     ensures short { result ≤ 39 }
     ensures length { result ≡ length (address_text F.family (F.bytes_of address)) }

@@ -1,4 +1,5 @@
-//! Encoded addresses, written in their one canonical spelling (RFC 7761, 4.9.1).
+//! Writers of encoded addresses in their one canonical spelling (RFC 7761, 4.9.1). The B, Z and
+//! reserved bits are 0, and the S bit is 1.
 
 ghost use Rattle.std.specs.Prelude.{◌≡◌, ◌+◌, ◌∷◌, length};
 ghost use Rattle.pim_addr.specs.Address.{address_length, mask_length, family_byte};
@@ -12,10 +13,10 @@ use crate::encoded::{SourceAddress, SourceBits};
 use crate::family::Family;
 use bitflags::Flags;
 
-/// The S bit of an encoded source: the sparse mode's, always written (RFC 7761, 4.9.1).
+/// The S (Sparse) bit of an Encoded-Source address, which is always written as 1.
 const SPARSE: u8 = 4;
 
-/// Writes the encoded unicast address into a slice of its length, 2 bytes more than an address has.
+/// Writes the Encoded-Unicast address into a slice of `unicast_length` bytes.
 pub fn put_unicast<F: Family>(address: F::Addr, bytes: &mut [u8])
     requires { length bytes.old ≡ unicast_length F.family }
     ensures written { bytes.new ≡ canonical_unicast F.family (F.bytes_of address) }
@@ -26,7 +27,8 @@ pub fn put_unicast<F: Family>(address: F::Addr, bytes: &mut [u8])
     F::put(address, place);
 }
 
-/// Writes a form that has a mask length: the family, encoding 0, this byte, the mask length, the address.
+/// Writes a form with a Mask Len: Addr Family, Encoding Type 0, the given third byte, Mask Len,
+/// address.
 fn put_masked<F: Family>(third: u8, address: F::Addr, bytes: &mut [u8])
     requires { length bytes.old ≡ 4 + address_length F.family }
     ensures address { length (F.bytes_of address) ≡ address_length F.family }
@@ -37,7 +39,7 @@ fn put_masked<F: Family>(third: u8, address: F::Addr, bytes: &mut [u8])
     F::put(address, place);
 }
 
-/// Writes the encoded group into a slice of its length, 4 bytes more than an address has.
+/// Writes the Encoded-Group address into a slice of `group_length` bytes.
 pub fn put_group<F: Family>(address: F::Addr, bytes: &mut [u8])
     requires { length bytes.old ≡ group_length F.family }
     ensures written { bytes.new ≡ canonical_group F.family (F.bytes_of address) }
@@ -46,7 +48,7 @@ pub fn put_group<F: Family>(address: F::Addr, bytes: &mut [u8])
     put_masked::<F>(0, address, bytes);
 }
 
-/// The flags byte of a source: S, with W and R as they are given.
+/// Returns the flags byte of a source: S is set, W and R are as given.
 fn flags_byte(bits: SourceBits) -> u8
     ensures { result ≡ canonical_flags (wildcard_bit bits.0) (rpt_bit bits.0) }
 {
@@ -63,7 +65,7 @@ fn flags_byte(bits: SourceBits) -> u8
     SPARSE + wildcard + rpt
 }
 
-/// Writes the encoded source, with its W and R bits, into a slice of its length, 4 bytes more than an address has.
+/// Writes the Encoded-Source address, with its W and R bits, into a slice of `source_length` bytes.
 pub fn put_source<F: Family>(source: SourceAddress<F::Addr>, bytes: &mut [u8])
     requires { length bytes.old ≡ source_length F.family }
     ensures written { bytes.new ≡ canonical_source F.family (source_seen F.bytes_of source) }
@@ -72,17 +74,18 @@ pub fn put_source<F: Family>(source: SourceAddress<F::Addr>, bytes: &mut [u8])
     put_masked::<F>(flags_byte(source.bits), source.address, bytes);
 }
 
-/// A law: what is written of a unicast address has no fault, and is read as that address.
+/// A law: what `put_unicast` writes has no fault and is read as that address. It has no effect.
 pub fn unicast_reads_back()
     ensures { UnicastReadsBack }
 {}
 
-/// A law: what is written of a group has no fault, and is read as that group.
+/// A law: what `put_group` writes has no fault and is read as that group. It has no effect.
 pub fn group_reads_back()
     ensures { GroupReadsBack }
 {}
 
-/// A law: what is written of a source has no fault, and is read as that source with its two bits.
+/// A law: what `put_source` writes has no fault and is read as that source with its W and R bits.
+/// It has no effect.
 pub fn source_reads_back()
     ensures { SourceReadsBack }
 {}

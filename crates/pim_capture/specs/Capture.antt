@@ -1,5 +1,5 @@
--- What a capture answers: a function from the bytes of its file to the list of answers, of which the last is End or
--- a fault.
+-- The results of a capture as a function of the bytes of its file: a list whose last item is the
+-- end or a fault. Restates the file header and the packet records of the classic pcap file format.
 use Rattle.std.specs.Prelude.{ℕ, zero, suc, ◌+◌, ◌*◌, ◌/◌, Bool, true, false, List, [], ◌∷◌, ◌++◌, length, take, drop}
 use Rattle.std.specs.Prelude.{nat_lt, Result, Ok, Err, if◌then◌else◌}
 use Rattle.pim_addr.specs.Faults.{fault_if, judged}
@@ -12,71 +12,84 @@ use Rattle.pim_capture.specs.declared.header.Format.{Format}
 use Rattle.pim_capture.specs.Header.{number, judge_header}
 use Rattle.pim_capture.specs.Frame.{Datagram, judge_frame}
 
--- What is told: a packet at so many milliseconds, with its record's bytes and what they carry; a record that is passed
--- over; or that no record is left.
+-- What a capture returns: a PIM packet, with its time in milliseconds since 1970, the bytes of its
+-- record and what they carry; a record without a whole PIM packet, with its time and the reason; or
+-- the end.
 pub data Told : Type 0 where
   packet : ℕ → List ℕ → Datagram → Told
   skipped : ℕ → Why → Told
   ended : Told
 
--- ---- a record: seconds, fraction, captured length and original length (ignored), four bytes each, and so many bytes
+-- ---- a record: seconds, fraction, captured length and original length (ignored), four bytes each;
+-- then its captured bytes
 
--- no record is longer, and no capture has more records
+-- The greatest captured length of a record that is accepted, in bytes.
 abbrev pub most_captured : ℕ
 most_captured = 262144
 
+-- The greatest number of records that are read of a capture.
 abbrev pub most_records : ℕ
 most_records = 4294967295
 
+-- The number of units of a fraction that make one millisecond.
 abbrev pub per_millisecond : Resolution → ℕ
 per_millisecond Microseconds = 1000
 per_millisecond Nanoseconds = 1000000
 
+-- The time in a record's header, in milliseconds since 1970, rounded down.
 abbrev pub millis_of : Format → List ℕ → ℕ
 millis_of format header =
     number format.endianness 4 header * 1000
     + number format.endianness 4 (drop 4 header) / per_millisecond format.resolution
 
+-- The captured length in a record's header, in bytes.
 abbrev pub captured_length : Format → List ℕ → ℕ
 captured_length format header = number format.endianness 4 (drop 8 header)
 
--- the record's bytes, and those behind the record
+-- The captured bytes of the first record.
 abbrev pub frame_of : Format → List ℕ → List ℕ
 frame_of format bytes = take (captured_length format (take 16 bytes)) (drop 16 bytes)
 
+-- The bytes after the first record.
 abbrev pub after_record : Format → List ℕ → List ℕ
 after_record format bytes = drop (captured_length format (take 16 bytes)) (drop 16 bytes)
 
--- A record that isn't whole is told before its length is judged only where its header isn't.
+-- What is wrong with the first record: its header isn't whole; its captured length is above the
+-- limit; or its bytes aren't whole. The first fault counts.
 abbrev pub record_faults : Format → List ℕ → List CaptureFault
 record_faults format bytes =
     if nat_lt (length bytes) 16 then Truncated ∷ [] else
     fault_if (nat_lt most_captured (captured_length format (take 16 bytes))) TooLong
     ++ fault_if (nat_lt (length (drop 16 bytes)) (captured_length format (take 16 bytes))) Truncated
 
+-- What a record of this time and these bytes gives, by the judgment of its frame.
 abbrev pub told_of : ℕ → List ℕ → Result Datagram Why → Told
 told_of millis frame (Ok datagram) = packet millis frame datagram
 told_of millis frame (Err why) = skipped millis why
 
+-- What the first record gives if it has no fault.
 abbrev pub record_told : Format → List ℕ → Told
 record_told format bytes =
     told_of (millis_of format (take 16 bytes)) (frame_of format bytes) (judge_frame format.link (frame_of format bytes))
 
 -- ---- the file
 
+-- One result of a capture.
 abbrev pub Answer : Type 0
 Answer = Result Told CaptureFault
 
--- a fault is the last answer
+-- The results that follow from a value. A fault is the last result.
 abbrev pub unless_fault : {A : Type 0} → Result A CaptureFault → (A → List Answer) → List Answer
 unless_fault (Ok value) answers = answers value
 unless_fault (Err fault) answers = Err fault ∷ []
 
+-- Whether no bytes are left.
 abbrev pub is_empty : List ℕ → Bool
 is_empty [] = true
 is_empty (byte ∷ bytes) = false
 
--- the answers to the bytes behind a header, where so many records may be read
+-- The results for the bytes after the file header, where at most `left` more records may be read. A
+-- record beyond that counts as a failed read.
 unfoldable pub records : ℕ → Format → List ℕ → List Answer
 records zero format bytes = (if is_empty bytes then Ok ended else Err Read) ∷ []
 records (suc left) format bytes =
@@ -84,6 +97,7 @@ records (suc left) format bytes =
     unless_fault (judged (record_faults format bytes) (record_told format bytes))
     (λ told. Ok told ∷ records left format (after_record format bytes))
 
--- the answers to the bytes of a file
+-- The results for the bytes of a file: its records after the file header, or the fault of the
+-- header.
 abbrev pub answers : List ℕ → List Answer
 answers bytes = unless_fault (judge_header (take 24 bytes)) (λ format. records most_records format (drop 24 bytes))

@@ -1,11 +1,12 @@
--- What a contract sees of what a capture tells.
+-- What a packet that `Capture::next` returns means, with the bytes of its record.
 use Rattle.std.specs.Prelude.{◌≤◌, ℕ, List, length, slice_range}
 use Rattle.pim_addr.specs.declared.family.AddressFamily.TheVariants.{Ipv4, Ipv6}
 use Rattle.pim_capture.specs.declared.event.Ip.{Ip}
 use Rattle.pim_capture.specs.declared.event.Ip.TheVariants.{V4, V6}
 use Rattle.pim_capture.specs.Frame.{Datagram}
 
--- a packet in a buffer that holds these bytes
+-- The packet of an event whose record has these bytes: its addresses, and as payload the bytes of
+-- its range.
 abbrev pub ip_seen : List ℕ → Ip → Datagram
 ip_seen bytes (V4 source destination payload) = record {
   family = Ipv4;
@@ -20,7 +21,7 @@ ip_seen bytes (V6 source destination payload) = record {
   payload = slice_range bytes payload.start payload.end;
 }
 
--- its payload lies in them
+-- The range of the payload is in order and ends within these bytes.
 abbrev pub LiesIn : List ℕ → Ip → Type 0
 LiesIn bytes (V4 source destination payload) = (payload.start ≤ payload.end) × (payload.end ≤ length bytes)
 LiesIn bytes (V6 source destination payload) = (payload.start ≤ payload.end) × (payload.end ≤ length bytes)

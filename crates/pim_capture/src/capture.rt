@@ -15,24 +15,24 @@ use crate::header::Format;
 use crate::record::{begin, next_record};
 use pim_addr::Feed;
 
-/// No capture has more records.
+/// The greatest number of records that are read of a capture.
 const MOST_RECORDS: u32 = 4_294_967_295;
 
 /// How far a capture was read.
 #[derive(Clone, Copy, Debug)]
 pub enum State {
-    /// Nothing was read yet.
+    /// Nothing was read.
     Unbegun,
-    /// Its header and some records were read.
+    /// The file header, and none or some records, were read.
     Records {
         /// What its header says.
         format: Format,
-        /// How many records more may be read.
+        /// The number of records that may still be read.
         left: u32,
     },
     /// No record is left.
     Ended,
-    /// A call answered a fault.
+    /// A call returned a fault.
     Failed,
 }
 
@@ -44,7 +44,7 @@ pub struct Capture<R> {
 }
 
 impl<R: Feed> Capture<R> {
-    /// A capture of which nothing was read yet.
+    /// A capture of which nothing was read.
     pub fn new(reader: R) -> Self
         ensures reader { reader_of result ≡ reader }
         ensures state { state_of result ≡ Unbegun }
@@ -56,21 +56,26 @@ impl<R: Feed> Capture<R> {
         }
     }
 
-    /// What the next record holds, with its bytes in the buffer if it is a packet.
+    /// Reads the next record. The buffer then has its length and, after a packet, its bytes.
     ///
-    /// The buffer gets the length of the record, and grows only where its capacity is less, to exactly that. Times are
-    /// at most 4,294,971,589,967 ms. Behind the last record every call answers `End`, and behind a fault `Failed`.
+    /// The buffer grows only if its capacity is less than that length, and then to exactly that
+    /// length. Times are at most 4,294,971,589,967 ms. After the last record every call returns
+    /// `End`.
+    ///
+    /// # Errors
+    /// The first fault of the bytes, a failed read, or refused memory. Later calls return `Failed`.
     pub fn next(&mut self, buffer: &mut Vec<u8>) -> Result<Event, CaptureFault>
-        // Where the reader tells its bytes, the answers are those of the file, one after the other.
+        // Where the bytes of the reader are known, the results are those of the file, in order.
         ensures answer { IsRefusal (R.failures (reader_of self.old)) (R.failures (reader_of self.new)) result
             ⊎ IsNext (coming R.remaining self.old) (seen buffer.new.items result) (coming R.remaining self.new) }
         ensures reads { CountsReads (records_left (state_of self.old) ≡ 0)
             (R.failures (reader_of self.old)) (R.failures (reader_of self.new)) result }
         ensures record { CountsRecord result (records_left (state_of self.old)) (records_left (state_of self.new)) }
-        // A record that is too long is told before its bytes are read.
+        // A record that is too long is refused before its bytes are read.
         ensures taken { ConsumesAtMost (most_taken 40 result)
             (R.remaining (reader_of self.old)) (R.remaining (reader_of self.new)) }
-        // Memory is refused only behind a whole header, and where the buffer has less room than the record needs.
+        // Memory is refused only if the buffer has less room than the next record needs. If the
+        // bytes are known, that record's header is whole.
         ensures memory { OnMemory result (LacksRoom (vec_capacity buffer.old) (named R.remaining self.old)) }
         ensures length { FitsRecord result (vec_len buffer.old) (vec_len buffer.new) (named R.remaining self.old) }
         ensures capacity { vec_capacity buffer.new ≡ max (vec_capacity buffer.old) (vec_len buffer.new) }

@@ -1,11 +1,11 @@
-//! What a capture tells.
+//! The events of a capture.
 
 ghost use Rattle.std.specs.Prelude.{◌≡◌};
 ghost use Rattle.pim_capture.specs.Seen.{ip_seen, LiesIn};
 
 use std::ops::Range;
 
-/// An IP packet that carries PIM, as it lies in the caller's buffer.
+/// An IP packet that carries PIM, with its message in the caller's buffer.
 #[derive(Clone, Debug, PartialEq, Eq, Drop)]
 pub enum Ip {
     /// IPv4 (RFC 791).
@@ -14,7 +14,7 @@ pub enum Ip {
         source: [u8; 4],
         /// The destination address.
         destination: [u8; 4],
-        /// Where the PIM message stands in the buffer.
+        /// The range of the PIM message in the buffer.
         payload: Range<usize>,
     },
     /// IPv6 (RFC 8200).
@@ -23,7 +23,7 @@ pub enum Ip {
         source: [u8; 16],
         /// The destination address.
         destination: [u8; 16],
-        /// Where the PIM message stands in the buffer.
+        /// The range of the PIM message in the buffer.
         payload: Range<usize>,
     },
 }
@@ -42,18 +42,20 @@ impl Ip {
     }
 }
 
-/// Why a record holds no whole PIM packet. Of several reasons the first step of the judging that meets one tells it.
+/// Why a record holds no whole PIM packet. Of several reasons the judgment returns the first one
+/// that it meets.
 #[derive(Clone, Copy, Debug, PartialEq, Eq)]
 pub enum Why {
     /// Fewer bytes were captured than its headers name.
     Cut,
     /// Neither IPv4 nor IPv6.
     NotIp,
-    /// An IP header that contradicts itself, or the link layer.
+    /// An IP header whose lengths contradict each other, or whose version isn't that of the link
+    /// layer's family.
     BadHeader,
     /// Another protocol than PIM.
     NotPim,
-    /// A part of an IPv4 packet.
+    /// A fragment of an IPv4 packet.
     Fragment,
 }
 
@@ -62,16 +64,16 @@ pub enum Why {
 pub enum Event {
     /// A PIM packet. The buffer holds the bytes of its record.
     Packet {
-        /// When it was captured, in milliseconds since 1970.
+        /// The time of capture, in milliseconds since 1970.
         millis: u64,
-        /// Where it came from and went to, and its message.
+        /// Its addresses, and the range of its message.
         ip: Ip,
     },
     /// A record that holds no whole PIM packet.
     Skipped {
-        /// When it was captured, in milliseconds since 1970.
+        /// The time of capture, in milliseconds since 1970.
         millis: u64,
-        /// Why it is passed over.
+        /// Why it is skipped.
         why: Why,
     },
     /// No record is left.

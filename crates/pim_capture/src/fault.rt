@@ -1,4 +1,4 @@
-//! What is wrong with a capture.
+//! The faults of a capture.
 
 ghost use Rattle.std.specs.Prelude.{◌≡◌};
 ghost use Rattle.pim_capture.specs.declared.fault.CaptureFault.TheVariants.{Read, Memory};
@@ -7,28 +7,28 @@ use pim_addr::Failed;
 use std::alloc::AllocError;
 use thiserror::Error;
 
-/// Why a capture can't be read on. Every later call answers `Failed`.
+/// Why a capture can't be read any further. Every later call returns `Failed`.
 #[derive(Clone, Copy, Debug, PartialEq, Eq, Error)]
 pub enum CaptureFault {
-    /// It doesn't begin as a classic pcap file.
+    /// It doesn't begin with the magic of a classic pcap file.
     #[error("magic")]
     Magic,
     /// Its link type is neither Ethernet nor raw IP.
     #[error("link-type")]
     LinkType,
-    /// It ends inside its header or a record.
+    /// It ends inside the file header or inside a record.
     #[error("truncated")]
     Truncated,
     /// A record's captured length is above 262,144 bytes. None of them was read.
     #[error("too-long")]
     TooLong,
-    /// The reader failed, or a record more than 4,294,967,295 begins.
+    /// The reader failed, or a record begins after 4,294,967,295 others.
     #[error("read")]
     Read,
     /// The buffer couldn't grow.
     #[error("memory")]
     Memory,
-    /// An earlier call answered a fault.
+    /// An earlier call returned a fault.
     #[error("failed")]
     Failed,
 }

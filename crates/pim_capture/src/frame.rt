@@ -1,4 +1,8 @@
-//! The judging of a captured frame.
+//! The judgment of a captured frame.
+//!
+//! A second 802.1Q tag and a tag of another type than 0x8100 count as not IP: a wrong guess of
+//! where the packet begins is worse than a skipped record. Extension headers of IPv6 aren't walked,
+//! since routers send PIM without them.
 
 ghost use Rattle.std.specs.Prelude.{◌≡◌, ◌+◌, ◌≤◌, length, take, drop, IfOk};
 ghost use Rattle.byteorder.specs.Endian.{big_number};
@@ -17,7 +21,7 @@ use pim_addr::{Family, V4, V6};
 /// The IP protocol number of PIM (RFC 7761, 4.9).
 const PIM: u8 = 103;
 
-/// The 16-bit number at this place.
+/// The 16-bit number at the index `at`.
 fn number_at(bytes: &[u8], at: usize) -> u16
     requires { at + 2 ≤ length bytes.now }
     ensures { result ≡ big_number 2 (drop at bytes.now) }
@@ -26,7 +30,7 @@ fn number_at(bytes: &[u8], at: usize) -> u16
     BigEndian::read_u16(rest)
 }
 
-/// The address at this place.
+/// The address at the index `at`.
 fn address_at<F: Family>(bytes: &[u8], at: usize) -> F::Addr
     requires { at + F.LEN ≤ length bytes.now }
     ensures { F.bytes_of result ≡ take F.LEN (drop at bytes.now) }
@@ -43,7 +47,7 @@ fn v4_header_length(packet: &[u8]) -> usize
     4 * usize::from(packet[0] & 0x0f)
 }
 
-/// Whether an IPv4 header is of another version, or contradicts itself.
+/// Whether an IPv4 header has another version, or lengths that contradict each other.
 fn is_bad_v4_header(packet: &[u8]) -> bool
     requires { 20 ≤ length packet.now }
     ensures { result ≡ is_bad_header Ipv4 packet.now }
@@ -53,7 +57,7 @@ fn is_bad_v4_header(packet: &[u8]) -> bool
     packet[0] >> 4 != 4 || header_length < 20 || total_length < header_length
 }
 
-/// Whether an IPv4 packet is only a part: more fragments follow, or its offset is above 0.
+/// Whether an IPv4 packet is a fragment: more fragments follow, or its offset is above 0.
 fn is_fragment(packet: &[u8]) -> bool
     requires { 20 ≤ length packet.now }
     ensures { result ≡ is_fragment Ipv4 packet.now }
@@ -62,7 +66,7 @@ fn is_fragment(packet: &[u8]) -> bool
     flags_and_offset & 0x2000 != 0 || flags_and_offset & 0x1fff != 0
 }
 
-/// Judges the IPv4 packet (RFC 791, 3.1) that begins at this place of the frame.
+/// Judges the IPv4 packet (RFC 791, 3.1) at the index `at` of the frame.
 fn judge_v4(frame: &[u8], at: usize) -> Result<Ip, Why>
     requires { at ≤ length frame.now }
     ensures answer { Answers (ip_seen frame.now) result
@@ -94,7 +98,8 @@ fn judge_v4(frame: &[u8], at: usize) -> Result<Ip, Why>
     })
 }
 
-/// Judges the IPv6 packet (RFC 8200, 3) that begins at this place of the frame. Extension headers aren't read.
+/// Judges the IPv6 packet (RFC 8200, 3) at the index `at` of the frame. Extension headers aren't
+/// read.
 #[tactic(auto, using(crate::proofs::Ranges::range_drop))]
 fn judge_v6(frame: &[u8], at: usize) -> Result<Ip, Why>
     requires { at ≤ length frame.now }
@@ -123,7 +128,7 @@ fn judge_v6(frame: &[u8], at: usize) -> Result<Ip, Why>
     })
 }
 
-/// Judges the Ethernet frame, of which one 802.1Q tag is passed over.
+/// Judges an Ethernet frame, with at most one 802.1Q tag.
 fn judge_ethernet(frame: &[u8]) -> Result<Ip, Why>
     ensures answer { Answers (ip_seen frame.now) result (judge_frame Ethernet frame.now) }
     ensures range { IfOk result (LiesIn frame.now) }
@@ -146,7 +151,7 @@ fn judge_ethernet(frame: &[u8]) -> Result<Ip, Why>
     }
 }
 
-/// Judges the frame that begins with an IP header.
+/// Judges a frame that begins with an IP header.
 fn judge_raw(frame: &[u8]) -> Result<Ip, Why>
     ensures answer { Answers (ip_seen frame.now) result (judge_frame Raw frame.now) }
     ensures range { IfOk result (LiesIn frame.now) }
@@ -161,7 +166,7 @@ fn judge_raw(frame: &[u8]) -> Result<Ip, Why>
     }
 }
 
-/// The PIM packet in a record's bytes, or the first reason why they hold none.
+/// The PIM packet in the captured bytes of a record, or the first reason why they hold none.
 pub fn judge(link: Link, frame: &[u8]) -> Result<Ip, Why>
     ensures answer { Answers (ip_seen frame.now) result (judge_frame link frame.now) }
     ensures range { IfOk result (LiesIn frame.now) }

@@ -1,4 +1,4 @@
-//! The header of a capture, and those of its records.
+//! The file header of a capture, and the numbers in all headers.
 
 ghost use Rattle.std.specs.Prelude.{◌≡◌, ◌+◌, ◌≤◌, length, drop, IfErr};
 ghost use Rattle.pim_addr.specs.Faults.{Answers};
@@ -16,16 +16,16 @@ pub enum Endianness {
     Little,
 }
 
-/// What the fraction of a time counts.
+/// The unit of the fraction of a record's time.
 #[derive(Clone, Copy, Debug, PartialEq, Eq)]
 pub enum Resolution {
     /// Millionths of a second.
     Microseconds,
-    /// Thousand-millionths of a second.
+    /// Billionths of a second.
     Nanoseconds,
 }
 
-/// What a record's bytes begin with.
+/// The header with which the captured bytes of a record begin.
 #[derive(Clone, Copy, Debug, PartialEq, Eq)]
 pub enum Link {
     /// An Ethernet header (link type 1).
@@ -37,11 +37,11 @@ pub enum Link {
 /// What the header of a capture says of its records.
 #[derive(Clone, Copy, Debug, PartialEq, Eq)]
 pub struct Format {
-    /// The byte order of all its numbers.
+    /// The byte order of all numbers in the file.
     pub endianness: Endianness,
-    /// What the fractions of its times count.
+    /// The unit of the fractions of its times.
     pub resolution: Resolution,
-    /// What its records begin with.
+    /// The header with which the captured bytes of its records begin.
     pub link: Link,
 }
 
@@ -63,7 +63,7 @@ impl Endianness {
         }
     }
 
-    /// The 32-bit number at this place.
+    /// The 32-bit number at the index `at`.
     pub fn read_u32_at(self, bytes: &[u8], at: usize) -> u32
         requires { at + 4 ≤ length bytes.now }
         ensures { result ≡ number self 4 (drop at bytes.now) }
@@ -82,7 +82,10 @@ impl Endianness {
     }
 }
 
-/// What the header says, of which at most 24 bytes are given.
+/// The format that a file header gives, of which at most 24 bytes are given.
+///
+/// # Errors
+/// `Truncated`, `Magic` or `LinkType`, in this order.
 pub fn read_header(header: &[u8]) -> Result<Format, CaptureFault>
     ensures answer { Answers (λ format. format) result (judge_header header.now) }
     ensures bytes { IfErr result IsOfBytes }

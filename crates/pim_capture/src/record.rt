@@ -1,4 +1,7 @@
 //! The parts of a capture, read one after the other.
+//!
+//! The buffer is filled with zeros in reserved room, since `resize` of the standard library doesn't
+//! promise that the capacity stays.
 
 ghost use Rattle.std.specs.Prelude.{◌≡◌, ◌≢◌, ◌+◌, ◌-◌, ◌<◌, ◌≤◌, ◌⊎◌, ℕ, length, take, drop, min, max, Ok, Err, IfOk};
 ghost use Rattle.std.specs.Prelude.{IfErr, OnOk, OnErr, IsErr, MatchResult, vec_len, vec_capacity};
@@ -18,10 +21,10 @@ use crate::header::{Format, Link, Resolution, read_header};
 use pim_addr::{Feed, read_up_to};
 use std::alloc::AllocError;
 
-/// No record has more bytes.
+/// The greatest captured length of a record that is accepted, in bytes.
 const MOST_CAPTURED: u32 = 262_144;
 
-/// Reads the header of the capture.
+/// Reads the file header of a capture.
 pub fn begin<R: Feed>(reader: &mut R) -> Result<Format, CaptureFault>
     ensures answer { BeginsWith (R.remaining reader.old) (R.remaining reader.new) result }
     ensures reads { CountsReads ⊥ (R.failures reader.old) (R.failures reader.new) result }
@@ -34,7 +37,8 @@ pub fn begin<R: Feed>(reader: &mut R) -> Result<Format, CaptureFault>
     read_header(header)
 }
 
-/// Makes the buffer so long. It grows only where its capacity is less, and then to exactly that.
+/// Sets the length of the buffer. It grows only if its capacity is less, and then to exactly this
+/// length.
 fn fit(buffer: &mut Vec<u8>, length: usize) -> Result<(), AllocError>
     ensures length { OnOk result (vec_len buffer.new ≡ length) }
     ensures capacity { OnOk result (vec_capacity buffer.new ≡ max (vec_capacity buffer.old) length) }
@@ -51,7 +55,7 @@ fn fit(buffer: &mut Vec<u8>, length: usize) -> Result<(), AllocError>
     Ok(())
 }
 
-/// Fills the buffer with the next bytes, exactly so many.
+/// Reads exactly the next `length` bytes into the buffer.
 fn read_frame<R: Feed>(
     reader: &mut R,
     length: usize,
@@ -88,7 +92,7 @@ fn millis(format: Format, header: &[u8]) -> u64
     u64::from(seconds) * 1_000 + u64::from(fraction / per_millisecond)
 }
 
-/// What the record's bytes hold.
+/// The event of a record with these bytes.
 fn event_of(millis: u64, link: Link, frame: &[u8]) -> Event
     ensures event { event_seen frame.now result ≡ told_of millis frame.now (judge_frame link frame.now) }
     ensures payload { PayloadLiesIn frame.now result }
@@ -101,7 +105,7 @@ fn event_of(millis: u64, link: Link, frame: &[u8]) -> Event
     }
 }
 
-/// Reads the next record into the buffer, where so many may be read.
+/// Reads the next record into the buffer, where at most `left` more records may be read.
 pub fn next_record<R: Feed>(
     reader: &mut R,
     format: Format,

@@ -1,5 +1,5 @@
--- What moves a neighbour from one demand to the next: the change from the form that it was last told to the form that
--- is wanted now.
+-- The change between two forms: the one that was last sent to an upstream neighbour, and the one
+-- that is wanted (RFC 7761, 4.5.4, 4.5.5 and 4.5.7).
 use Rattle.std.specs.Prelude.{ℕ, not, List, [], ◌∷◌, ◌++◌, Option, None, Some, map}
 use Rattle.std.specs.List.{filter, flat_map}
 use Rattle.pim_form.specs.NormalForm.{GroupForm, is_listed, groups_of}
@@ -8,19 +8,21 @@ use Rattle.pim_form.specs.Settled.{group_in}
 use Rattle.pim_change.specs.declared.unit.Kind.{Kind}
 use Rattle.pim_change.specs.declared.unit.Kind.TheVariants.{JoinRpt, PruneRpt, JoinSource, PruneSource}
 
--- ---- what is told of a group (RFC 7761, 4.9.5.1)
+-- ---- the change of one group
 
--- Join(*,G) with a Prune(S,G,rpt) for each exception, which stay together; Prune(*,G); a Join or Prune of one source
+-- What a message says of a group and doesn't split: Join(*,G) with a Prune(S,G,rpt) for each
+-- exception (RFC 7761, 4.9.5.2), Prune(*,G), or the Join or Prune of one source.
 pub data Telling : Type 0 where
   star_joined : List (List ℕ) → Telling
   star_pruned : Telling
   told : Kind → List ℕ → Telling
 
--- the addresses of the first list that the other one lacks, in their order
+-- The addresses of the first list that aren't in the other list, in their order.
 abbrev pub lacking : List (List ℕ) → List (List ℕ) → List (List ℕ)
 lacking one other = filter (λ address. not (is_listed address other)) one
 
--- a new star is told with all its exceptions; of one that stays, the exceptions that went, then those that came
+-- A star that comes is Join(*,G) with all its exceptions; one that goes is Prune(*,G). For a star
+-- that stays, each exception that went is Join(S,G,rpt), and then each that came is Prune(S,G,rpt).
 abbrev pub star_change : Option (List (List ℕ)) → Option (List (List ℕ)) → List Telling
 star_change None None = []
 star_change None (Some exceptions) = star_joined exceptions ∷ []
@@ -28,29 +30,33 @@ star_change (Some excepted) None = star_pruned ∷ []
 star_change (Some excepted) (Some exceptions) =
     map (told JoinRpt) (lacking excepted exceptions) ++ map (told PruneRpt) (lacking exceptions excepted)
 
--- the sources that came, then those that went
+-- Each source that came is Join(S,G), and then each that went is Prune(S,G).
 abbrev pub sources_change : List (List ℕ) → List (List ℕ) → List Telling
 sources_change old new = map (told JoinSource) (lacking new old) ++ map (told PruneSource) (lacking old new)
 
+-- The change of one group: of its star and then of its sources.
 abbrev pub group_change : GroupForm → GroupForm → List Telling
 group_change old new = star_change old.star new.star ++ sources_change old.sources new.sources
 
 -- ---- the change between two forms
 
--- what is told together of a group
+-- One unit of a change: a group and what a message says of it.
 pub record ChangeUnit : Type 0 where
   pub group : List ℕ
   pub telling : Telling
 
+-- The unit of a group and what is said of it.
 abbrev pub unit_of : List ℕ → Telling → ChangeUnit
 unit_of group telling = record { group = group; telling = telling }
 
+-- The units of one group.
 abbrev pub about : List ℕ → List Telling → List ChangeUnit
 about group tellings = map (unit_of group) tellings
 
+-- The units for the change of one group between two forms.
 abbrev pub change_at : List GroupForm → List GroupForm → List ℕ → List ChangeUnit
 change_at old new group = about group (group_change (group_in group old) (group_in group new))
 
--- for each group of the two forms, ascending
+-- The change between two forms: the units of each group of either form, in order of groups.
 unfoldable pub change : List GroupForm → List GroupForm → List ChangeUnit
 change old new = flat_map (change_at old new) (united (groups_of old) (groups_of new))

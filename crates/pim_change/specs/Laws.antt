@@ -1,4 +1,4 @@
--- The words of the laws in `src/laws.rt`.
+-- The statements of the laws in `src/laws.rt`.
 use Rattle.std.specs.Prelude.{◌≡◌, ◌≤◌, ℕ, List, [], ◌∷◌, length}
 use Rattle.std.specs.List.{AllByRecursion, flat_map}
 use Rattle.pim_addr.specs.declared.family.AddressFamily.{AddressFamily}
@@ -8,11 +8,11 @@ use Rattle.pim_form.specs.NormalForm.{GroupForm, IsNormal}
 use Rattle.pim_change.specs.Change.{ChangeUnit, change}
 use Rattle.pim_change.specs.Told.{told_message, TellChange}
 
--- Where the demand is as it was told, nothing is told.
+-- The change from a form to itself has no units.
 abbrev pub EqualFormsChangeNothing : Type 0
 EqualFormsChangeNothing = (form : List GroupForm) → change form form ≡ []
 
--- each of these byte lists, sent by the writer, is read as the message of the run beside it
+-- Each byte string, sent by the writer, is read as the message of its run.
 unfoldable pub AreReadAsRuns : AddressFamily → Writing → Rps → List (List ChangeUnit) → List (List ℕ) → Type 0
 AreReadAsRuns family writing rps [] [] = Unit {0}
 AreReadAsRuns family writing rps [] (bytes ∷ messages) = ⊥
@@ -20,22 +20,23 @@ AreReadAsRuns family writing rps (run ∷ runs) [] = ⊥
 AreReadAsRuns family writing rps (run ∷ runs) (bytes ∷ messages) =
     IsReadAs family writing.own bytes (told_message writing rps run) × AreReadAsRuns family writing rps runs messages
 
--- they are read as the messages of runs of the change
+-- The byte strings are read as the messages of runs, and together these runs are the change.
 pub record IsReadAsChange (family : AddressFamily) (writing : Writing) (rps : Rps) (old new : List GroupForm)
     (messages : List (List ℕ)) : Type 0 where
   pub runs : List (List ChangeUnit)
   pub whole : flat_map (λ run. run) runs ≡ change old new
   pub read : AreReadAsRuns family writing rps runs messages
 
--- The messages of the change between two normal forms, whose stars have RPs, are opened and read without a fault as the
--- messages of its runs.
+-- Between two normal forms whose stars have RPs, the messages of the change open without a fault.
+-- They are read as the messages of the change's runs.
 abbrev pub ChangeIsRead : Type 0
 ChangeIsRead = (family : AddressFamily) (writing : Writing) (rps : Rps) (old new : List GroupForm)
     (messages : List (List ℕ)) → IsWriting family writing → IsNormal family old → IsNormal family new →
     HaveRps family rps old → HaveRps family rps new → TellChange family writing rps old new messages →
     IsReadAsChange family writing rps old new messages
 
--- The messages of the change between two normal forms, whose stars have RPs, are within their writer's budget.
+-- The messages of the change between two normal forms, whose stars have RPs, are within their
+-- writer's budget.
 abbrev pub ChangeMessagesAreShort : Type 0
 ChangeMessagesAreShort = (family : AddressFamily) (writing : Writing) (rps : Rps) (old new : List GroupForm)
     (messages : List (List ℕ)) → IsWriting family writing →

@@ -1,3 +1,4 @@
+-- The definitions that the contracts of `pim_change` cite.
 pub mod Change
 pub mod Seen
 pub mod TooBig

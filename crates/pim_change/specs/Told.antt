@@ -1,4 +1,5 @@
--- The messages that tell a change: how its units are packed, and how a message of them is spelled.
+-- The Join/Prune messages of a change (RFC 7761, 4.9.5): how units are packed into runs, and what
+-- the message of a run contains.
 use Rattle.std.specs.Prelude.{◌≡◌, ℕ, ◌<◌, ◌^◌, Bool, true, false, List, [], ◌∷◌, Option, None, Some, length, map}
 use Rattle.std.specs.List.{flat_map}
 use Rattle.pim_addr.specs.declared.family.AddressFamily.{AddressFamily}
@@ -17,79 +18,92 @@ use Rattle.pim_change.specs.declared.unit.Kind.{Kind}
 use Rattle.pim_change.specs.declared.unit.Kind.TheVariants.{JoinRpt, PruneRpt, JoinSource, PruneSource}
 use Rattle.pim_change.specs.Change.{Telling, star_joined, star_pruned, told, ChangeUnit, change}
 
--- ---- packing, as of the units of a form (RFC 7761, 4.9.5)
+-- ---- packing, as for the units of a form
 
--- what a unit weighs in a message: a star with its exceptions as such, any other as one entry of its group
+-- The unit of a form that is as large in a message: Join(*,G) with its exceptions is a star, and
+-- anything else is one entry of its group.
 abbrev pub weight_of : List ℕ → Telling → WantUnit
 weight_of group (star_joined exceptions) = star_unit group exceptions
 weight_of group star_pruned = source_unit group []
 weight_of group (told kind source) = source_unit group source
 
+-- The unit of a form that is as large as this unit.
 abbrev pub weight : ChangeUnit → WantUnit
 weight this = weight_of this.group this.telling
 
+-- The units of a form that are as large as the units of a run.
 abbrev pub weights : List ChangeUnit → List WantUnit
 weights run = map weight run
 
--- the runs joined together are the units; each is nonempty and fits, and would not with the next unit
+-- The runs are a packing of the units: together they are these units in order, and each run holds
+-- as many units as fit.
 pub record IsPacked (family : AddressFamily) (budget : ℕ) (units : List ChangeUnit) (runs : List (List ChangeUnit))
     : Type 0 where
   pub whole : flat_map (λ run. run) runs ≡ units
   pub cut : AreRuns family budget (map weights runs)
 
--- ---- spelling
+-- ---- the contents of a message
 
+-- The (*,G) entry that names the RP of a group; none without an RP.
 abbrev pub rp_entry : Option (List ℕ) → List (Entry (List ℕ))
 rp_entry None = []
 rp_entry (Some rp) = Star rp ∷ []
 
+-- The joined entry of a source, if it is joined.
 abbrev pub kind_joined : Kind → List ℕ → List (Entry (List ℕ))
 kind_joined JoinRpt source = Rpt source ∷ []
 kind_joined JoinSource source = Source source ∷ []
 kind_joined PruneRpt source = []
 kind_joined PruneSource source = []
 
+-- The pruned entry of a source, if it is pruned.
 abbrev pub kind_pruned : Kind → List ℕ → List (Entry (List ℕ))
 kind_pruned JoinRpt source = []
 kind_pruned JoinSource source = []
 kind_pruned PruneRpt source = Rpt source ∷ []
 kind_pruned PruneSource source = Source source ∷ []
 
+-- An (S,G,rpt) entry for each exception.
 abbrev pub excepted_entries : List (List ℕ) → List (Entry (List ℕ))
 excepted_entries exceptions = map (λ source. Rpt source) exceptions
 
+-- The entries that a unit adds to the joined sources of its group set.
 abbrev pub joined_entries : Option (List ℕ) → Telling → List (Entry (List ℕ))
 joined_entries rp (star_joined exceptions) = rp_entry rp
 joined_entries rp star_pruned = []
 joined_entries rp (told kind source) = kind_joined kind source
 
+-- The entries that a unit adds to the pruned sources of its group set.
 abbrev pub pruned_entries : Option (List ℕ) → Telling → List (Entry (List ℕ))
 pruned_entries rp (star_joined exceptions) = excepted_entries exceptions
 pruned_entries rp star_pruned = rp_entry rp
 pruned_entries rp (told kind source) = kind_pruned kind source
 
--- what is told of a group in one message
+-- What one message says of a group.
 pub record GroupTellings : Type 0 where
   pub group : List ℕ
   pub tellings : List Telling
 
+-- A group and what one message says of it.
 abbrev pub tellings_of : List ℕ → List Telling → GroupTellings
 tellings_of group tellings = record { group = group; tellings = tellings }
 
--- a unit in front of sets: told in the first of them, or in a set of its own
+-- Adds a unit in front of the group sets: to the first of them, or as a set of its own.
 abbrev pub set_in_front : Bool → ChangeUnit → GroupTellings → List GroupTellings → List GroupTellings
 set_in_front true this first others = tellings_of this.group (this.telling ∷ first.tellings) ∷ others
 set_in_front false this first others = tellings_of this.group (this.telling ∷ []) ∷ first ∷ others
 
+-- Adds a unit in front of the group sets. It joins the first of them if that is of the same group.
 abbrev pub in_front : ChangeUnit → List GroupTellings → List GroupTellings
 in_front this [] = tellings_of this.group (this.telling ∷ []) ∷ []
 in_front this (first ∷ others) = set_in_front (same_address this.group first.group) this first others
 
--- units of one group that stand together are told in one set
+-- Adjacent units of one group make one group set.
 unfoldable pub grouped : List ChangeUnit → List GroupTellings
 grouped [] = []
 grouped (this ∷ units) = in_front this (grouped units)
 
+-- The group set of what one message says of a group, with entries in the order of the units.
 abbrev pub told_set : Rps → GroupTellings → GroupSet
 told_set rps this = record {
   group = this.group;
@@ -97,17 +111,19 @@ told_set rps this = record {
   pruned = flat_map (pruned_entries (rps this.group)) this.tellings;
 }
 
+-- The group sets of a run.
 abbrev pub told_sets : Rps → List ChangeUnit → List GroupSet
 told_sets rps run = map (told_set rps) (grouped run)
 
--- how many bytes it has
+-- The number of bytes of a group set.
 abbrev pub set_size : AddressFamily → GroupSet → ℕ
 set_size family set = canonical_set_length family (length set.joined) (length set.pruned)
 
--- its counts of entries have 16 bits
+-- The counts of joined and pruned entries fit their fields of 16 bits.
 abbrev pub IsShort : GroupSet → Type 0
 IsShort set = (length set.joined < 2 ^ 16) × (length set.pruned < 2 ^ 16)
 
+-- The Join/Prune message of a run, to the writer's upstream neighbour.
 abbrev pub told_message : Writing → Rps → List ChangeUnit → Message
 told_message writing rps run = record {
   upstream = writing.upstream;
@@ -115,11 +131,12 @@ told_message writing rps run = record {
   sets = told_sets rps run;
 }
 
--- These bytes tell the run: one set a group, spelled canonically and sealed for ALL-PIM-ROUTERS.
+-- The bytes are the message of a run in its canonical form, sealed to ALL-PIM-ROUTERS.
 abbrev pub TellsRun : AddressFamily → Writing → Rps → List ChangeUnit → List ℕ → Type 0
 TellsRun family writing rps run bytes =
     IsSealed family writing.own (all_routers family) JoinPrune (canonical family (told_message writing rps run)) bytes
 
+-- The messages are those of the runs, one for each run, in order.
 abbrev pub TellRuns : AddressFamily → Writing → Rps → List (List ChangeUnit) → List (List ℕ) → Type 0
 TellRuns family writing rps [] [] = Unit {0}
 TellRuns family writing rps [] (bytes ∷ messages) = ⊥
@@ -127,13 +144,13 @@ TellRuns family writing rps (run ∷ runs) [] = ⊥
 TellRuns family writing rps (run ∷ runs) (bytes ∷ messages) =
     TellsRun family writing rps run bytes × TellRuns family writing rps runs messages
 
--- these messages tell the units: one for each run of a packing of them, in order
+-- The messages are those of the runs of a packing of the units.
 pub record TellUnits (family : AddressFamily) (writing : Writing) (rps : Rps) (units : List ChangeUnit)
     (messages : List (List ℕ)) : Type 0 where
   pub runs : List (List ChangeUnit)
   pub packing : IsPacked family writing.budget units runs
   pub told : TellRuns family writing rps runs messages
 
--- the messages of the change between two forms
+-- The messages are those of the change between two forms.
 abbrev pub TellChange : AddressFamily → Writing → Rps → List GroupForm → List GroupForm → List (List ℕ) → Type 0
 TellChange family writing rps old new messages = TellUnits family writing rps (change old new) messages

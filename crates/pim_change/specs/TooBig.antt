@@ -1,4 +1,5 @@
--- Which star that a change tells doesn't fit a message.
+-- Which new star of a change doesn't fit one message. RFC 7761, 4.9.5.2, forbids splitting its
+-- exceptions over messages.
 use Rattle.std.specs.Prelude.{ℕ, Bool, true, ◌||◌, List, [], ◌∷◌, Option, None, Some, if◌then◌else◌}
 use Rattle.std.specs.Option.{is_some}
 use Rattle.pim_addr.specs.declared.family.AddressFamily.{AddressFamily}
@@ -6,18 +7,19 @@ use Rattle.pim_form.specs.NormalForm.{GroupForm}
 use Rattle.pim_form.specs.TooBig.{star_fits}
 use Rattle.pim_change.specs.Change.{Telling, star_joined, star_pruned, told, ChangeUnit}
 
--- alone in a message a star fits with all its exceptions, or not; all else has one entry
+-- A new star with all its exceptions fits a message alone, or the unit is a single entry.
 abbrev pub telling_fits : AddressFamily → ℕ → List ℕ → Telling → Bool
 telling_fits family budget group (star_joined exceptions) = star_fits family budget group (Some exceptions)
 telling_fits family budget group star_pruned = true
 telling_fits family budget group (told kind source) = true
 
--- the first group whose new star doesn't fit, which is the least, since the groups of a change ascend
+-- The first group of a change whose new star doesn't fit. It is the least one, since the groups of
+-- a change between normal forms ascend.
 unfoldable pub too_big : AddressFamily → ℕ → List ChangeUnit → Option (List ℕ)
 too_big family budget [] = None
 too_big family budget (this ∷ units) =
     if telling_fits family budget this.group this.telling then too_big family budget units else Some this.group
 
--- what is told of a group's star fits: it had one before, or the new one does
+-- The group had a star before, or its new star, if it has one, fits a message alone.
 abbrev pub star_change_fits : AddressFamily → ℕ → GroupForm → GroupForm → Bool
 star_change_fits family budget old new = is_some old.star || star_fits family budget new.group new.star

@@ -1,4 +1,7 @@
 //! The change between two forms.
+//!
+//! The definition looks up each group of either form in both. The code walks both forms side by
+//! side, and takes time in proportion to their sizes.
 
 ghost use Rattle.std.specs.Prelude.{◌≡◌, ◌++◌, [], OnOk, IfOk};
 ghost use Rattle.pim_form.specs.NormalForm.{AreAscending, groups_of};
@@ -12,7 +15,7 @@ use pim_form::{Groups, NormalForm};
 use std::alloc::{AllocError, Global};
 use std::cmp::Ordering;
 
-/// Tells that nothing is wanted of these groups any more.
+/// Adds the units of groups that aren't wanted but were sent.
 fn push_gone<'a, F: Family>(
     units: &mut Vec<Unit<'a, F::Addr>>,
     groups: Groups<'_, F>,
@@ -27,7 +30,7 @@ fn push_gone<'a, F: Family>(
     Ok(())
 }
 
-/// Tells these groups, of which nothing was told.
+/// Adds the units of groups that are wanted but weren't sent.
 fn push_came<'a, F: Family>(
     units: &mut Vec<Unit<'a, F::Addr>>,
     groups: Groups<'a, F>,
@@ -42,8 +45,9 @@ fn push_came<'a, F: Family>(
     Ok(())
 }
 
-/// The change from a form that was told to one that is wanted, unit by unit: for each group of the two, ascending, what
-/// became of its star and then of its sources. The only refusal is want of memory.
+/// Returns the units of the change from a form that was sent to the form that is wanted. For each
+/// group of either form, in order, they say what became of its star and then of its sources. The
+/// only refusal is for lack of memory.
 pub fn changed<'a, F: Family>(
     alloc: Global,
     told: &NormalForm<F>,

@@ -1,4 +1,4 @@
-//! The entries by which a group is told.
+//! The entries of the group set of a group.
 
 ghost use Rattle.std.specs.Prelude.{◌≡◌, ◌++◌, map, OnOk};
 ghost use Rattle.std.specs.List.{flat_map};
@@ -13,7 +13,7 @@ use pim_addr::{Family, Routes};
 use pim_jp::Entry;
 use std::alloc::AllocError;
 
-/// Adds the star entry of a group, with the RP to which the table leads it, if there is one.
+/// Adds the (*,G) entry of a group with the RP that the table has for it; nothing without an RP.
 fn push_rp<F: Family>(
     entries: &mut Vec<Entry<F::Addr>>,
     routes: &Routes<F>,
@@ -28,7 +28,7 @@ fn push_rp<F: Family>(
     Ok(())
 }
 
-/// Adds what is joined of one source.
+/// Adds the joined entry of a source, if it is joined.
 fn push_kind_joined<F: Family>(
     entries: &mut Vec<Entry<F::Addr>>,
     kind: Kind,
@@ -46,7 +46,7 @@ fn push_kind_joined<F: Family>(
     Ok(())
 }
 
-/// Adds what is pruned of one source.
+/// Adds the pruned entry of a source, if it is pruned.
 fn push_kind_pruned<F: Family>(
     entries: &mut Vec<Entry<F::Addr>>,
     kind: Kind,
@@ -64,7 +64,7 @@ fn push_kind_pruned<F: Family>(
     Ok(())
 }
 
-/// Adds the exceptions of a star.
+/// Adds an (S,G,rpt) entry for each exception of a star.
 fn push_excepted<F: Family>(
     entries: &mut Vec<Entry<F::Addr>>,
     exceptions: &[F::Addr],
@@ -78,7 +78,7 @@ fn push_excepted<F: Family>(
     Ok(())
 }
 
-/// Adds what a telling joins.
+/// Adds the entries that a unit joins.
 fn push_joined<F: Family>(
     entries: &mut Vec<Entry<F::Addr>>,
     routes: &Routes<F>,
@@ -96,7 +96,7 @@ fn push_joined<F: Family>(
     }
 }
 
-/// Adds what a telling prunes.
+/// Adds the entries that a unit prunes.
 fn push_pruned<F: Family>(
     entries: &mut Vec<Entry<F::Addr>>,
     routes: &Routes<F>,
@@ -114,7 +114,7 @@ fn push_pruned<F: Family>(
     }
 }
 
-/// Adds what these units of a group join.
+/// Adds the entries that these units of a group join.
 pub(crate) fn push_all_joined<F: Family>(
     entries: &mut Vec<Entry<F::Addr>>,
     routes: &Routes<F>,
@@ -132,7 +132,7 @@ pub(crate) fn push_all_joined<F: Family>(
     Ok(())
 }
 
-/// Adds what these units of a group prune.
+/// Adds the entries that these units of a group prune.
 pub(crate) fn push_all_pruned<F: Family>(
     entries: &mut Vec<Entry<F::Addr>>,
     routes: &Routes<F>,

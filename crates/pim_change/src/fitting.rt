@@ -1,4 +1,4 @@
-//! Whether what a change tells fits messages.
+//! Whether the new stars of a change fit one message.
 
 ghost use Rattle.std.specs.Prelude.{◌≡◌, [], option_map};
 ghost use Rattle.pim_form.specs.NormalForm.{AreAscending, groups_of};
@@ -9,7 +9,7 @@ use pim_addr::Family;
 use pim_form::{GroupView, Groups, NormalForm, star_fits};
 use std::cmp::Ordering;
 
-/// Whether what is told of a group's star fits a message alone.
+/// Whether a group had a star before, or its new star, if it has one, fits a message alone.
 fn star_change_fits<F: Family>(
     old: &GroupView<'_, F>,
     new: &GroupView<'_, F>,
@@ -20,7 +20,7 @@ fn star_change_fits<F: Family>(
     old.star() || star_fits::<F>(new, budget)
 }
 
-/// The first of these groups, of which nothing was told, whose star doesn't fit a message alone.
+/// The first of these groups, none of which was sent, whose star doesn't fit a message alone.
 fn too_big_of_new<F: Family>(groups: Groups<'_, F>, budget: usize) -> Option<F::Addr>
     requires { AreAscending (groups_of groups) }
     ensures { option_map F.bytes_of result ≡ too_big F.family budget (change [] groups.entry) }
@@ -33,8 +33,8 @@ fn too_big_of_new<F: Family>(groups: Groups<'_, F>, budget: usize) -> Option<F::
     None
 }
 
-/// The least group with a star that is told anew, with all its exceptions, and doesn't fit a message of this budget
-/// alone; `None` where there is none. It takes no memory.
+/// Returns the least group with a new star that, with all its exceptions, doesn't fit a message of
+/// this budget alone; `None` if there is none. It allocates nothing.
 pub fn too_big<F: Family>(
     told: &NormalForm<F>,
     wanted: &NormalForm<F>,

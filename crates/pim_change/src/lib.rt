@@ -1,9 +1,21 @@
-//! Triggered Join/Prune messages: what moves an upstream neighbour from the demand that it was last told to the one
-//! that is wanted now (RFC 7761, 4.5).
+//! Triggered Join/Prune messages: the change from what an upstream neighbour was last sent to what
+//! is wanted (RFC 7761, 4.5.4, 4.5.5 and 4.5.7).
 //!
-//! Proved: `changed` gives the change between two normal forms, unit by unit; `too_big` tells the least group whose
-//! star is told anew and doesn't fit a message with its exceptions. `triggered` gives the messages of the change: they
-//! are a packing of its units, each run in one message, spelled canonically, or that least group.
+//! - `changed` returns the units of the change between two normal forms, in the order of the
+//!   definition. It refuses only for lack of memory. The exceptions of a new star borrow from the
+//!   form that is wanted.
+//! - `too_big` returns the least group with a new star that, with all its exceptions, exceeds a
+//!   budget. It allocates nothing.
+//! - `triggered` returns the messages of the change: one for each run of a packing of its units, in
+//!   canonical form, sealed to ALL-PIM-ROUTERS. `TooBig` is returned exactly if `too_big` returns a
+//!   group, before anything is allocated. Any other refusal is `Memory`.
+//!
+//! The caller of `triggered` sees to it that both forms want only what is requested from the
+//! writer's upstream neighbour. Otherwise a star may have no RP, and its message lacks the (*,G)
+//! entry.
+//!
+//! By the laws, equal forms have no change. The messages between normal forms whose stars have RPs
+//! are read without a fault, and are within the budget.
 #![tactic(auto)]
 
 mod changes;

@@ -1,4 +1,8 @@
-//! The message that tells a run of units.
+//! The message of a run of units.
+//!
+//! Each step counts how many bytes longer the message becomes, so that it is known to be short
+//! enough to be sealed. The laws on lengths can't show this, since they are about legal messages,
+//! and the forms may have stars without an RP.
 
 ghost use Rattle.std.specs.Prelude.{◌≡◌, ◌≤◌, ◌<◌, ◌^◌, ◌+◌, ◌++◌, ◌∷◌, true, length, map, take, drop, OnOk, IfOk};
 ghost use Rattle.std.specs.List.{AllByRecursion, flat_map};
@@ -22,7 +26,7 @@ use pim_frame::{MessageType, all_routers, seal};
 use pim_jp::{Entry, head_length, put_head, put_set, set_length};
 use std::alloc::{AllocError, Global};
 
-/// Appends the set of a group with these entries. The only refusal is want of memory.
+/// Appends the group set with these entries. The only refusal is for lack of memory.
 fn append_entries<F: Family>(
     alloc: Global,
     group: F::Addr,
@@ -43,7 +47,7 @@ fn append_entries<F: Family>(
     bytes.extend_from_slice(&set)
 }
 
-/// Appends the set that tells these units of a group.
+/// Appends the group set of these units of one group.
 fn append_set<F: Family>(
     alloc: Global,
     routes: &Routes<F>,
@@ -67,7 +71,7 @@ fn append_set<F: Family>(
     append_entries::<F>(alloc, group, &joined, &pruned, bytes)
 }
 
-/// How many units at the front are of this group.
+/// The number of units at the front that are of this group.
 fn front_length<F: Family>(units: &[Unit<'_, F::Addr>], group: F::Addr) -> usize
     ensures within { result ≤ length units.now }
     ensures cut { (telling : Telling) → grouped (unit_of (F.bytes_of group) telling ∷ units_seen F.bytes_of units.now)
@@ -82,7 +86,7 @@ fn front_length<F: Family>(units: &[Unit<'_, F::Addr>], group: F::Addr) -> usize
     units.len()
 }
 
-/// Appends the sets that tell a run of units, and answers how many there are.
+/// Appends the group sets of a run of units, and returns their number.
 fn append_sets<F: Family>(
     alloc: Global,
     routes: &Routes<F>,
@@ -114,7 +118,8 @@ fn append_sets<F: Family>(
     Ok(count)
 }
 
-/// Writes the head of a message in front of its sets, and seals it from the writer's own address to ALL-PIM-ROUTERS.
+/// Writes the head of a message before its sets, and seals it from the writer's own address to
+/// ALL-PIM-ROUTERS.
 fn finish<F: Family>(writer: &Writer<F>, sets: u8, bytes: &mut [u8])
     requires room { 4 + canonical_head_length F.family ≤ length bytes.old }
     requires counted { length bytes.old < 2 ^ 32 }
@@ -133,7 +138,8 @@ fn finish<F: Family>(writer: &Writer<F>, sets: u8, bytes: &mut [u8])
     );
 }
 
-/// The message that tells a run of units, which fits the writer's budget. The only refusal is want of memory.
+/// The message of a run of units, which fits the writer's budget. The only refusal is for lack of
+/// memory.
 pub(crate) fn message<F: Family>(
     alloc: Global,
     writer: &Writer<F>,

@@ -1,4 +1,7 @@
 //! The messages of a change.
+//!
+//! Each message is made in a vector of its own, since a change is small, and is then added to the
+//! list.
 
 ghost use Rattle.std.specs.Prelude.{◌≡◌, ◌≢◌, None, Err, option_map, IfOk};
 ghost use Rattle.pim_down.specs.Known.{known_in};
@@ -17,7 +20,8 @@ use pim_addr::{Family, Routes};
 use pim_form::{FormFault, Messages, NormalForm, Writer};
 use std::alloc::{AllocError, Global};
 
-/// The messages that tell these units, of which each fits a message alone. The only refusal is want of memory.
+/// The messages of these units, each of which fits a message alone. The only refusal is for lack of
+/// memory.
 fn told_units<F: Family>(
     alloc: Global,
     units: &[Unit<'_, F::Addr>],
@@ -42,7 +46,7 @@ fn told_units<F: Family>(
     Ok(messages)
 }
 
-/// The messages of a change whose new stars fit. The only refusal is want of memory.
+/// The messages of a change whose new stars fit. The only refusal is for lack of memory.
 fn told_change<F: Family>(
     alloc: Global,
     told: &NormalForm<F>,
@@ -58,15 +62,17 @@ fn told_change<F: Family>(
     told_units::<F>(alloc, &units, writer, routes)
 }
 
-/// The messages that tell the writer's upstream neighbour what became of the demand since it was last told
-/// (RFC 7761, 4.5): the change from the one form to the other, in as few groups and entries a message as fit, sealed
-/// from the writer's own address to ALL-PIM-ROUTERS. Both forms want only what that neighbour is asked for, as
-/// `is_toward` tells; each star, joined or pruned, names the RP to which the table leads its group. Where the forms are
-/// one, there is no message.
+/// Returns the messages that move the writer's upstream neighbour from the form that was last sent
+/// to the form that is wanted (RFC 7761, 4.5.4, 4.5.5 and 4.5.7). Each holds as many units as fit,
+/// and is sealed from the writer's own address to ALL-PIM-ROUTERS. Each star, joined or pruned,
+/// names the RP that the table has for its group. If the forms are equal, there is no message.
+///
+/// The caller's condition is that `is_toward` holds of both forms and that neighbour. Without an
+/// RP, a star has no (*,G) entry.
 ///
 /// # Errors
-/// `TooBig` of the least group whose star is told anew and, with all its exceptions, is too big for a message of the
-/// writer's budget alone; it is looked for first. `Memory` where a growth is refused.
+/// `TooBig` with the least group whose new star, with all its exceptions, exceeds the budget of a
+/// message; it is looked for first. `Memory` if an allocation is refused.
 pub fn triggered<F: Family>(
     alloc: Global,
     told: &NormalForm<F>,

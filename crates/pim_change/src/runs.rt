@@ -1,4 +1,7 @@
-//! How many units of a change a message holds.
+//! How many units of a change fit one message.
+//!
+//! A unit is weighed as a unit of a form, so that the definitions of pim_form for packing serve
+//! changes, too.
 
 ghost use Rattle.std.specs.Prelude.{◌≡◌, ◌≤◌, ◌<◌, ◌+◌, ◌*◌, true, not, None, List, length, take, drop};
 ghost use Rattle.pim_form.specs.Units.{WantUnit, empty_message_size, empty_set_size, entry_size, unit_entries};
@@ -13,10 +16,10 @@ use crate::unit::{Telling, Unit};
 use pim_addr::{Family, group_length, source_length};
 use pim_jp::head_length;
 
-/// How many groups a message may have.
+/// The most groups of a message.
 const MOST_GROUPS: usize = 255;
 
-/// The bytes of a message with so many groups and entries.
+/// The number of bytes of a message with this number of groups and entries.
 fn message_size<F: Family>(groups: usize, entries: usize) -> usize
     requires groups { groups ≤ 255 }
     requires entries { entries ≤ 200000 }
@@ -27,7 +30,7 @@ fn message_size<F: Family>(groups: usize, entries: usize) -> usize
     head + groups * set + entries * source_length::<F>()
 }
 
-/// Whether a run of so many groups and entries fits a message of this budget.
+/// Whether a run with this number of groups and entries fits a message of this budget.
 fn has_room<F: Family>(groups: usize, entries: usize, budget: usize) -> bool
     requires { entries ≤ 200000 }
     ensures { (run : List WantUnit) → run_groups run ≡ groups → run_entries run ≡ entries →
@@ -39,7 +42,7 @@ fn has_room<F: Family>(groups: usize, entries: usize, budget: usize) -> bool
     message_size::<F>(groups, entries) <= budget
 }
 
-/// How many entries a unit has that fits a message of this budget alone.
+/// The number of entries of a unit that fits a message of this budget alone.
 fn entry_count<F: Family>(unit: &Unit<'_, F::Addr>, budget: usize) -> usize
     requires most { budget ≤ 65000 }
     requires fits { telling_fits F.family budget (F.bytes_of unit.now.group) (telling_seen F.bytes_of unit.now.telling)
@@ -54,7 +57,7 @@ fn entry_count<F: Family>(unit: &Unit<'_, F::Addr>, budget: usize) -> usize
     }
 }
 
-/// Whether a unit of this group begins a set behind those that stand before this place.
+/// Whether a unit of this group begins a group set, after the units before this index.
 fn begins_set<F: Family>(units: &[Unit<'_, F::Addr>], index: usize, group: F::Addr) -> bool
     requires { index < length units.now }
     ensures { result ≡ not (is_of_group (last_group None (weights (units_seen F.bytes_of (take index units.now))))
@@ -66,7 +69,8 @@ fn begins_set<F: Family>(units: &[Unit<'_, F::Addr>], index: usize, group: F::Ad
     units[index - 1].group != group
 }
 
-/// How many of these units, from the first on, the next message holds: as many as fit its budget and 255 groups.
+/// The number of units, from the first on, that the next message holds: as many as fit the budget
+/// and 255 groups.
 pub(crate) fn run_length<F: Family>(units: &[Unit<'_, F::Addr>], budget: usize) -> usize
     requires some { 0 < length units.now }
     requires least { 70 ≤ budget }

@@ -1,4 +1,4 @@
-//! What is told of a group that was told or is wanted.
+//! The units for the change of one group.
 
 ghost use Rattle.std.specs.Prelude.{◌≡◌, ◌++◌, true, None, map, OnOk};
 ghost use Rattle.std.specs.Option.{is_some};
@@ -13,7 +13,7 @@ use pim_form::GroupView;
 use std::alloc::AllocError;
 use std::cmp::Ordering;
 
-/// Tells this of each of the sources.
+/// Adds a unit of this kind for each source.
 fn push_each<'a, F: Family>(
     units: &mut Vec<Unit<'a, F::Addr>>,
     group: F::Addr,
@@ -30,7 +30,7 @@ fn push_each<'a, F: Family>(
     Ok(())
 }
 
-/// Tells this of each of the sources that the other list lacks.
+/// Adds a unit of this kind for each source of the first list that isn't in the other list.
 fn push_lacking<'a, F: Family>(
     units: &mut Vec<Unit<'a, F::Addr>>,
     group: F::Addr,
@@ -64,7 +64,7 @@ fn push_lacking<'a, F: Family>(
     push_each::<F>(units, group, kind, left)
 }
 
-/// Tells the star of a group that had none.
+/// Adds the unit of a group's star, if it has one. The group had none before.
 fn push_star_join<'a, F: Family>(
     units: &mut Vec<Unit<'a, F::Addr>>,
     new: &GroupView<'a, F>,
@@ -82,7 +82,7 @@ fn push_star_join<'a, F: Family>(
     Ok(())
 }
 
-/// Tells that the star of a group, if it had one, has gone.
+/// Adds Prune(*,G) if the group had a star. It has none in the wanted form.
 fn push_star_prune<'a, F: Family>(
     units: &mut Vec<Unit<'a, F::Addr>>,
     old: &GroupView<'_, F>,
@@ -100,7 +100,7 @@ fn push_star_prune<'a, F: Family>(
     Ok(())
 }
 
-/// Tells what became of the exceptions of a star that stays.
+/// Adds the units for the exceptions of a star that stays.
 fn push_exceptions<'a, F: Family>(
     units: &mut Vec<Unit<'a, F::Addr>>,
     old: &GroupView<'_, F>,
@@ -120,7 +120,7 @@ fn push_exceptions<'a, F: Family>(
     push_lacking::<F>(units, group, Kind::PruneRpt, after, before)
 }
 
-/// Tells what became of the star of a group.
+/// Adds the units for the star of a group.
 fn push_star<'a, F: Family>(
     units: &mut Vec<Unit<'a, F::Addr>>,
     old: &GroupView<'_, F>,
@@ -139,7 +139,7 @@ fn push_star<'a, F: Family>(
     push_exceptions::<F>(units, old, new)
 }
 
-/// Tells a group of which nothing was told.
+/// Adds the units of a group that wasn't sent.
 pub(crate) fn push_new<'a, F: Family>(
     units: &mut Vec<Unit<'a, F::Addr>>,
     new: &GroupView<'a, F>,
@@ -151,7 +151,7 @@ pub(crate) fn push_new<'a, F: Family>(
     push_each::<F>(units, new.group(), Kind::JoinSource, new.sources())
 }
 
-/// Tells that nothing is wanted of a group any more.
+/// Adds the units of a group of which nothing is wanted.
 pub(crate) fn push_old<'a, F: Family>(
     units: &mut Vec<Unit<'a, F::Addr>>,
     old: &GroupView<'_, F>,
@@ -163,7 +163,7 @@ pub(crate) fn push_old<'a, F: Family>(
     push_each::<F>(units, old.group(), Kind::PruneSource, old.sources())
 }
 
-/// Tells what became of a group.
+/// Adds the units of a group that is in both forms.
 pub(crate) fn push_both<'a, F: Family>(
     units: &mut Vec<Unit<'a, F::Addr>>,
     old: &GroupView<'_, F>,

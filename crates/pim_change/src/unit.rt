@@ -1,11 +1,11 @@
-//! What is told of one group.
+//! The units of a change.
 
-/// What is told of one source of a group.
+/// What a message says of one source of a group.
 #[derive(Clone, Copy, Debug, PartialEq, Eq)]
 pub enum Kind {
-    /// Join(S,G,rpt): the source is no exception any more.
+    /// Join(S,G,rpt): the source was an exception of a star that stays.
     JoinRpt,
-    /// Prune(S,G,rpt): it is an exception now.
+    /// Prune(S,G,rpt): the source became an exception of a star that stays.
     PruneRpt,
     /// Join(S,G).
     JoinSource,
@@ -13,22 +13,22 @@ pub enum Kind {
     PruneSource,
 }
 
-/// What is told of a group, undivided (RFC 7761, 4.9.5.1).
+/// What a message says of a group and doesn't split.
 #[derive(Clone, Copy, Debug)]
 pub enum Telling<'a, A> {
-    /// Join(*,G) with a Prune(S,G,rpt) for each exception.
+    /// Join(*,G) with a Prune(S,G,rpt) for each exception (RFC 7761, 4.9.5.2).
     JoinStar(&'a [A]),
     /// Prune(*,G).
     PruneStar,
-    /// A Join or Prune of one source.
+    /// The Join or Prune of one source.
     Of(Kind, A),
 }
 
-/// A unit of a change: what is told of a group in one message.
+/// One unit of a change.
 #[derive(Clone, Copy, Debug)]
 pub struct Unit<'a, A> {
     /// The group.
     pub group: A,
-    /// What is told of it.
+    /// What a message says of it.
     pub telling: Telling<'a, A>,
 }

@@ -1,48 +1,48 @@
--- What the devices that bytes come from and go to have done.
+-- What devices have done: how often they have failed, and which bytes were moved.
 use Rattle.std.specs.Prelude.{◌≡◌, ℕ, ◌+◌, ◌-◌, ◌^◌, ◌≤◌, min, List, ◌++◌, length, take, drop, Option, None, Some}
 use Rattle.std.specs.Prelude.{Result, Ok, Err, ⊤, MatchResult}
 use Rattle.std.specs.Io.KnownBytes.{Appends}
 use Rattle.pim_device.specs.declared.counted.Counted.{Counted}
 
--- ---- how often a device has failed
+-- ---- the count of failures
 
--- no count goes beyond this
+-- The greatest count of failures, at which the count stops.
 abbrev pub top_count : ℕ
 top_count = 2 ^ 64 - 1
 
--- the count after a call with this result: a failed call counts, up to the top
+-- The count after a call with this result: one more after a failed call, up to `top_count`.
 abbrev pub failures_after : {A E : Type 0} → ℕ → Result A E → ℕ
 failures_after before (Ok x) = before
 failures_after before (Err e) = min (before + 1) top_count
 
--- the count rose, or stands at the top
+-- The count rose, or it is `top_count`: what a failure in between leaves.
 abbrev pub FailedIn : ℕ → ℕ → Type 0
 FailedIn before after = min (before + 1) top_count ≤ after
 
--- ---- what was moved where a device may have failed on the way
+-- ---- the bytes that were moved where a device may have failed part of the way
 
--- known bytes grow by some front of bs
+-- Known contents grew by some front of `bs`.
 abbrev pub AppendsFront : Option (List ℕ) → Option (List ℕ) → List ℕ → Type 0
 AppendsFront None new bs = ⊤
 AppendsFront (Some xs) None bs = ⊥
 AppendsFront (Some xs) (Some ys) bs = (length xs ≤ length ys) × (ys ≡ take (length ys) (xs ++ bs))
 
--- all of bs was appended at `Ok`, some front of it at `Err`
+-- Known contents grew by all of `bs` at Ok, by some front of it at Err.
 abbrev pub AppendsAll : {A E : Type 0} → Option (List ℕ) → Option (List ℕ) → Result A E → List ℕ → Type 0
 AppendsAll old new r bs = MatchResult r (λ _. Appends old new bs) (λ _. AppendsFront old new bs)
 
--- known bytes lose at most so many from their front
+-- Known remaining bytes lost at most `most` bytes from their front.
 abbrev pub ConsumesAtMost : ℕ → Option (List ℕ) → Option (List ℕ) → Type 0
 ConsumesAtMost most None new = ⊤
 ConsumesAtMost most (Some xs) None = ⊥
 ConsumesAtMost most (Some xs) (Some ys) = (length xs ≤ length ys + most) × (ys ≡ drop (length xs - length ys) xs)
 
--- ---- a device with its count
+-- ---- the values of a `Counted`
 
--- the reader or writer that it stands before
+-- The reader or writer inside.
 abbrev pub counted_inner : {T : Type 0} → Counted T → T
 counted_inner device = device.inner
 
--- how often it has failed
+-- The count of its failures.
 abbrev pub counted_failures : {T : Type 0} → Counted T → ℕ
 counted_failures device = device.failures

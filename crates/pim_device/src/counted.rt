@@ -1,4 +1,4 @@
-//! A reader or a writer as a device that counts its failures.
+//! A device over a reader or a writer of std, with a count of its failures.
 
 ghost use Rattle.std.specs.Prelude.{◌≡◌, ◌+◌, min};
 ghost use Rattle.pim_device.specs.Device.{counted_inner, counted_failures, top_count};
@@ -6,8 +6,8 @@ ghost use Rattle.pim_device.specs.Device.{counted_inner, counted_failures, top_c
 use crate::device::{Drain, Failed, Feed};
 use std::io::{Read, Write};
 
-/// A reader or a writer with the count of its failures. Any error is a failure, and so is a writer that takes
-/// nothing of some bytes.
+/// A reader or a writer with the count of its failures. Any error is a failure, and so is a write
+/// that takes none of some bytes.
 #[derive(Debug, Drop)]
 pub struct Counted<T> {
     inner: T,
@@ -15,7 +15,7 @@ pub struct Counted<T> {
 }
 
 impl<T> Counted<T> {
-    /// One that hasn't failed yet.
+    /// Returns a device that has not failed.
     pub fn new(inner: T) -> Self
         ensures inner { counted_inner result ≡ inner }
         ensures failures { counted_failures result ≡ 0 }
@@ -23,7 +23,7 @@ impl<T> Counted<T> {
         Counted { inner, failures: 0 }
     }
 
-    /// The reader or writer.
+    /// Returns the reader or writer inside.
     pub fn into_inner(self) -> T
         ensures { result ≡ counted_inner self }
     {
@@ -31,14 +31,14 @@ impl<T> Counted<T> {
         inner
     }
 
-    /// The reader or writer, to look at.
+    /// Borrows the reader or writer inside.
     pub fn get_ref(&self) -> &T
         ensures { result.now ≡ counted_inner self.now }
     {
         &self.inner
     }
 
-    /// How often it has failed. The count stops at 2^64 - 1.
+    /// Returns the number of failures, at most 2^64 - 1.
     pub fn failures(&self) -> u64
         ensures { result ≡ counted_failures self.now }
     {

@@ -1,4 +1,4 @@
-//! The devices that bytes come from and go to, and the loops over them.
+//! The traits of devices, and the loops over them.
 
 ghost use Rattle.std.specs.Prelude.{◌≡◌, ℕ, ◌<◌, ◌≤◌, List, Option, length, take, IfOk, OnErr};
 ghost use Rattle.std.specs.Io.KnownBytes.{ReadConsumes, WriteAppends, Consumes, IsAtEnd};
@@ -6,21 +6,21 @@ ghost use Rattle.pim_device.specs.Device.{failures_after, AppendsAll, ConsumesAt
 
 use thiserror::Error;
 
-/// A device failed: it gave nothing, or took nothing, in that call.
+/// A device failed: it moved no bytes in that call.
 #[derive(Clone, Copy, Debug, PartialEq, Eq, Error)]
 #[error("the device failed")]
 pub struct Failed;
 
 /// A device that gives bytes.
 pub trait Feed {
-    // The bytes that it still gives, where it tells them.
+    // The bytes that it has left to give, where they are known.
     ghost remaining: { Self → Option (List ℕ) };
 
-    // How often it has failed, at most 2^64 - 1.
+    // The number of its failures; the count stops at 2^64 - 1.
     ghost failures: { Self → ℕ };
 
-    /// Fills a front of the buffer, and answers how long that is. It is 0 only at the end or where the buffer
-    /// has no room.
+    /// Fills a front of the buffer and returns its length. The length is 0 only at the end of the
+    /// device or for an empty buffer.
     fn read(&mut self, buffer: &mut [u8]) -> Result<usize, Failed>
         ensures bound { IfOk result (λ n. n ≤ length buffer.new) }
         ensures bytes { ReadConsumes (remaining self.old) (remaining self.new) result buffer.new }
@@ -29,14 +29,14 @@ pub trait Feed {
 
 /// A device that takes bytes.
 pub trait Drain {
-    // The bytes that it has taken, where it tells them.
+    // The bytes that it has taken, where they are known.
     ghost contents: { Self → Option (List ℕ) };
 
-    // How often it has failed, at most 2^64 - 1.
+    // The number of its failures; the count stops at 2^64 - 1.
     ghost failures: { Self → ℕ };
 
-    /// Takes a front of the bytes, and answers how long that is. It is 0 only where there are none: a device
-    /// that takes nothing of some bytes has failed.
+    /// Takes a front of the bytes and returns its length. The length is 0 only where there are no
+    /// bytes: a device that takes none of some bytes fails.
     fn write(&mut self, bytes: &[u8]) -> Result<usize, Failed>
         ensures bound { IfOk result (λ n. n ≤ length bytes.now) }
         ensures some { IfOk result (λ n. 0 < length bytes.now → 0 < n) }
@@ -44,7 +44,7 @@ pub trait Drain {
         ensures count { failures self.new ≡ failures_after (failures self.old) result };
 }
 
-/// Writes all the bytes, or some front of them up to the first failure.
+/// Writes all the bytes. After a failure, some front of them is written.
 pub fn write_all<D: Drain>(drain: &mut D, bytes: &[u8]) -> Result<(), Failed>
     ensures bytes { AppendsAll (D.contents drain.old) (D.contents drain.new) result bytes.now }
     ensures count { D.failures drain.new ≡ failures_after (D.failures drain.old) result }
@@ -58,8 +58,8 @@ pub fn write_all<D: Drain>(drain: &mut D, bytes: &[u8]) -> Result<(), Failed>
     Ok(())
 }
 
-/// Fills the buffer until it is full or the device is at its end, and answers how many bytes it got. It stops
-/// at the first failure.
+/// Fills the buffer until it is full or the device is at its end, and returns the number of bytes.
+/// It stops at the first failure; earlier reads have then taken bytes.
 pub fn read_up_to<R: Feed>(feed: &mut R, buffer: &mut [u8]) -> Result<usize, Failed>
     ensures bound { IfOk result (λ n. n ≤ length buffer.new) }
     ensures bytes { IfOk result (λ n. Consumes (R.remaining feed.old) (R.remaining feed.new) (take n buffer.new)) }

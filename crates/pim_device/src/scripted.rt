@@ -1,4 +1,4 @@
-//! Devices for tests, which move few bytes a call and fail where they are told to.
+//! Devices for tests, which move few bytes a call and fail from a given byte on.
 
 ghost use Rattle.std.specs.Prelude.{◌≡◌, ◌+◌, ◌<◌, ◌≤◌, ◌↔◌, min, max, Some, [], length, IfOk, OnErr, IsErr};
 ghost use Rattle.std.specs.Io.KnownBytes.{ReadConsumes, WriteAppends};
@@ -9,7 +9,8 @@ ghost use Rattle.pim_device.specs.Scripted.{drain_failures, drain_most, drain_un
 use crate::device::{Drain, Failed, Feed};
 use std::alloc::Global;
 
-/// A device that gives these bytes, some in each call, and fails in each call once it has given so many.
+/// A device that gives the bytes of a slice, some in each call. After a given number of bytes each
+/// call fails.
 #[derive(Debug, Drop)]
 pub struct ScriptedFeed<'a> {
     rest: &'a [u8],
@@ -19,7 +20,8 @@ pub struct ScriptedFeed<'a> {
 }
 
 impl<'a> ScriptedFeed<'a> {
-    /// Gives at most `most` bytes in a call (1 where that is 0), and fails from byte `fails_from` on.
+    /// Returns a device that gives at most `most` bytes in a call (1 where that is 0) and fails
+    /// from byte `fails_from` on.
     pub fn new(bytes: &'a [u8], most: usize, fails_from: usize) -> Self
         ensures bytes { feed_bytes result ≡ bytes.now }
         ensures failures { feed_failures result ≡ 0 }
@@ -34,7 +36,7 @@ impl<'a> ScriptedFeed<'a> {
         }
     }
 
-    /// How often it has failed. The count stops at 2^64 - 1.
+    /// Returns the number of failures, at most 2^64 - 1.
     pub fn failures(&self) -> u64
         ensures { result ≡ feed_failures self.now }
     {
@@ -74,7 +76,8 @@ impl Feed for ScriptedFeed<'_> {
     }
 }
 
-/// A device that keeps what it takes, some bytes in each call, and fails in each call once it has taken so many.
+/// A device that keeps the bytes that it takes, some in each call. After a given number of bytes
+/// each call fails.
 #[derive(Debug, Drop)]
 pub struct ScriptedDrain {
     written: Vec<u8>,
@@ -84,8 +87,8 @@ pub struct ScriptedDrain {
 }
 
 impl ScriptedDrain {
-    /// Takes at most `most` bytes in a call (1 where that is 0), and fails from byte `fails_from` on. It also
-    /// fails where there is no memory to keep the bytes.
+    /// Returns a device that takes at most `most` bytes in a call (1 where that is 0) and fails
+    /// from byte `fails_from` on. It also fails where memory runs out.
     pub fn new(alloc: Global, most: usize, fails_from: usize) -> Self
         ensures bytes { drain_bytes result ≡ [] }
         ensures failures { drain_failures result ≡ 0 }
@@ -100,14 +103,14 @@ impl ScriptedDrain {
         }
     }
 
-    /// What it has taken.
+    /// Returns the bytes that it has taken.
     pub fn written(&self) -> &[u8]
         ensures { result.now ≡ drain_bytes self.now }
     {
         self.written.as_slice()
     }
 
-    /// How often it has failed. The count stops at 2^64 - 1.
+    /// Returns the number of failures, at most 2^64 - 1.
     pub fn failures(&self) -> u64
         ensures { result ≡ drain_failures self.now }
     {

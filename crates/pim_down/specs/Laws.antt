@@ -1,4 +1,5 @@
--- What the definitions mean together.
+-- Laws of the definitions: what they mean together. Each is proved, as the `ensures` of a function
+-- of `src/laws.rt`.
 use Rattle.std.specs.Prelude.{◌≡◌, ◌≢◌, ◌<◌, ◌≤◌, ◌↔◌, ℕ, ◌-◌, max, true, false, List, map, Option, Some}
 use Rattle.std.specs.declared.cmp.Ordering.TheVariants.{Equal}
 use Rattle.pim_addr.specs.declared.family.AddressFamily.{AddressFamily}
@@ -21,7 +22,7 @@ use Rattle.pim_down.specs.Ends.{weight}
 use Rattle.pim_down.specs.Sound.{IsSound}
 use Rattle.pim_down.specs.Heard.{heard, needed_for}
 
--- A change of one machine makes of it what the change says, and of no other machine anything.
+-- A change of one machine has its effect at the machine's key, and none at other keys.
 abbrev pub ChangeActsAtItsKey : Type 0
 ChangeActsAtItsKey =
     (key : Key (List ℕ)) (change : Option Machine → Option Machine) (records : List (Record (List ℕ))) →
@@ -30,50 +31,53 @@ ChangeActsAtItsKey =
     × ((other : Key (List ℕ)) → same_key other key ≡ false →
     machine_at other (changed key change records) ≡ machine_at other records)
 
--- Two lists in key order that have the same machine at every key are one: the list is a way to write down a map.
+-- Two lists in key order that have the same machine at every key are equal. So a list in key order
+-- is the one form of a map from keys to machines.
 abbrev pub AMapHasOneList : Type 0
 AMapHasOneList = (a b : List (Record (List ℕ))) → IsAscending a → IsAscending b →
     ((key : Key (List ℕ)) → machine_at key a ≡ machine_at key b) → a ≡ b
 
--- A run that reaches a moment, and then a run up to a later one, are one run up to the later moment.
+-- A run that reaches a moment, followed by a run up to a later one, is a run up to the later
+-- moment.
 abbrev pub RunGoesOn : Type 0
 RunGoesOn = (earlier later : ℕ) (state middle after : Downstream) (answer : Step (List ℕ)) →
     earlier ≤ later → Runs earlier state Reached middle → Runs later middle answer after → Runs later state answer after
 
--- A run up to a moment has one end.
+-- All runs from a state up to a moment have the same step and the same state at their end.
 abbrev pub RunHasOneEnd : Type 0
 RunHasOneEnd = (moment : ℕ) (state after other : Downstream) (answer told : Step (List ℕ)) →
     Runs moment state answer after → Runs moment state told other → (answer ≡ told) × (after ≡ other)
 
--- An event makes of each key's machine what the tables say, and of no other machine anything.
+-- An event does to the machine at each key what `effect` says.
 abbrev pub EventActsAtEachKey : Type 0
 EventActsAtEachKey = (port : ℕ) (start : Start) (event : Event) (records : List (Record (List ℕ))) →
     IsAscending records → ChangesAtEach (effect port start event) records (act port start event records)
 
--- An event leaves the records in key order.
+-- An event keeps the records in key order.
 abbrev pub EventKeepsTheOrder : Type 0
 EventKeepsTheOrder = (port : ℕ) (start : Start) (event : Event) (records : List (Record (List ℕ))) →
     IsAscending records → IsAscending (act port start event records)
 
--- A message makes of each key's machine what End of Message makes of the effects of its events, one after the other.
+-- A message does to the machine at each key what `heard_at` says: the effects of its events, then
+-- End of Message.
 abbrev pub HearingActsAtEachKey : Type 0
 HearingActsAtEachKey = (port : ℕ) (start : Start) (events : List Event) (records : List (Record (List ℕ))) →
     IsAscending records → ChangesAtEach (heard_at port start events) records (hearing port start events records)
 
--- A run keeps the ports and the limit, and ends between its start and the moment, or where it reaches at the later of
--- both.
+-- A run keeps the number of ports and the limit. It ends between its start and the later of start
+-- and moment, and exactly at the later one if it ends as `Reached`.
 abbrev pub RunKeepsItsBounds : Type 0
 RunKeepsItsBounds = (moment : ℕ) (state after : Downstream) (answer : Step (List ℕ)) → Runs moment state answer after →
     (after.ports ≡ state.ports) × (after.limit ≡ state.limit) × (state.moment ≤ after.moment)
     × (after.moment ≤ max state.moment moment) × (answer ≡ Reached → after.moment ≡ max state.moment moment)
 
--- A run that reaches a moment leaves at each key what the silence until then makes of its machine.
+-- A run that reaches its moment leaves at each key what `after_silence` makes of the machine.
 abbrev pub SilenceActsAtEachKey : Type 0
 SilenceActsAtEachKey = (moment : ℕ) (state after : Downstream) → IsAscending state.records →
     Runs moment state Reached after →
     ChangesAtEach (after_silence (after.moment - state.moment)) state.records after.records
 
--- A run leaves the records in key order.
+-- A run keeps the records in key order.
 abbrev pub RunKeepsTheOrder : Type 0
 RunKeepsTheOrder = (moment : ℕ) (state after : Downstream) (answer : Step (List ℕ)) → IsAscending state.records →
     Runs moment state answer after → IsAscending after.records
@@ -82,45 +86,47 @@ RunKeepsTheOrder = (moment : ℕ) (state after : Downstream) (answer : Step (Lis
 abbrev pub EveryStateHasARun : Type 0
 EveryStateHasARun = (moment : ℕ) (state : Downstream) → HasRun moment state
 
--- Each timer that fires makes the records lighter, and time that passes leaves their weight: so they run out.
+-- Each timer that fires lowers the weight of the records, and a millisecond that passes keeps it.
+-- So only finitely many timers fire without a message.
 abbrev pub TimersRunOut : Type 0
 TimersRunOut = ((records after : List (Record (List ℕ))) (answer : Step (List ℕ)) →
     fired records ≡ Some (answer, after) → weight after < weight records)
     × ((records : List (Record (List ℕ))) → weight (map (record_after 1) records) ≡ weight records)
 
--- A run keeps the machines sound.
+-- A run up to a moment of at most 10^15 ms keeps the machines sound.
 abbrev pub RunKeepsSound : Type 0
 RunKeepsSound = (family : AddressFamily) (moment : ℕ) (state after : Downstream) (answer : Step (List ℕ)) →
     moment ≤ 1000000000000000 → IsSound family state → Runs moment state answer after → IsSound family after
 
--- A message that can be spelled, heard on a port that is there and has room for it, keeps the machines sound.
+-- A message keeps the machines sound if the port exists, the message can be encoded, and the limit
+-- suffices for it.
 abbrev pub HearingKeepsSound : Type 0
 HearingKeepsSound = (family : AddressFamily) (port : ℕ) (message : Message) (known : List ℕ → Option (List ℕ))
     (timing : Timing) (state : Downstream) → IsSound family state → port < state.ports → IsMessage family message →
     needed_for port message known state ≤ state.limit →
     IsSound family (heard port message known timing state)
 
--- An echo names a machine that was held, whose PPT with the mark "several" ends when it is told.
+-- The PruneEcho at which a run stops names a machine as `IsEchoOf` says.
 abbrev pub EchoNamesAMachine : Type 0
 EchoNamesAMachine = (moment : ℕ) (state after : Downstream) (port : ℕ) (group : List ℕ) (what : What (List ℕ)) →
     IsAscending state.records → Runs moment state (Echo port group what) after →
     IsEchoOf (record { port = port; group = group; what = what }) state after
 
--- Keys compare as equal exactly if they are one.
+-- Two keys compare as equal exactly if they are the same key.
 abbrev pub KeysAreToldApart : Type 0
 KeysAreToldApart = (a b : Key (List ℕ)) → ((key_cmp a b ≡ Equal) ↔ (a ≡ b)) × ((same_key a b ≡ true) ↔ (a ≡ b))
 
--- End of Message makes of each key's machine what the table says.
+-- End of Message does to the machine at each key what `at_end` says.
 abbrev pub EndActsAtEachKey : Type 0
 EndActsAtEachKey = (port : ℕ) (records : List (Record (List ℕ))) →
     IsAscending records → ChangesAtEach (at_end port) records (each_changed (at_end port) records)
 
--- The records stay in key order.
+-- Hearing a message keeps the records in key order.
 abbrev pub HearingKeepsTheOrder : Type 0
 HearingKeepsTheOrder = (port : ℕ) (start : Start) (events : List Event) (records : List (Record (List ℕ))) →
     IsAscending records → IsAscending (hearing port start events records)
 
--- Machines of other ports stay as they are.
+-- Hearing a message on one port leaves the machines of all other ports unchanged.
 abbrev pub HearingLeavesOtherPorts : Type 0
 HearingLeavesOtherPorts =
     (port : ℕ) (start : Start) (events : List Event) (records : List (Record (List ℕ))) (key : Key (List ℕ)) →

@@ -1,3 +1,6 @@
+-- The definitions that contracts of `pim_down` cite. `Key`, `Tables`, `Records`, `Hearing`,
+-- `Known`, `After`, `Time`, `Heard` and `Sound` give the meaning of public calls. The other modules
+-- serve private steps, the view of code values, and laws.
 pub mod Key
 pub mod Tables
 pub mod Records

@@ -1,4 +1,5 @@
--- Events in another order, and what has to be so that they do the same (RFC 7761, 4.5).
+-- Events in another order than that of their message, and conditions under which they have the same
+-- effect (RFC 7761, 4.5). These definitions serve private steps alone.
 use Rattle.std.specs.Prelude.{◌≡◌, ℕ, Bool, true, false, ◌&&◌, ◌||◌, nat_eq, ◌≤◌, List, [], ◌∷◌, ◌++◌, map, take, drop, Some}
 use Rattle.std.specs.List.{list_any}
 use Rattle.std.specs.Cmp.Lexicographic.{pointwise}
@@ -18,57 +19,67 @@ use Rattle.pim_down.specs.Hearing.{Event, key_of, is_star_join, is_rpt, act_all,
 use Rattle.pim_down.specs.Seen.{event_seen}
 use Rattle.pim_down.specs.Stars.{StayBut, is_pruned_by}
 
--- by group and then by machine
+-- One event comes before the other by its group, and within a group by its machine.
 abbrev pub comes_before : Event → Event → Bool
 comes_before one other = is_lt (key_cmp (key_of 0 one) (key_of 0 other))
 
--- The same, but that of one group those of (*,G) and (S,G,rpt) machines aren't told apart, and come before those of (S,G).
+-- An (S,G) machine is kept; (*,G) and (S,G,rpt) machines become one.
 abbrev pub source_or_star : What (List ℕ) → What (List ℕ)
 source_or_star Star = Star
 source_or_star (Source source) = Source source
 source_or_star (Rpt source) = Star
 
+-- The key of an event for a sort that puts only events of (S,G) machines in key order.
 abbrev pub source_key_of : Event → Key (List ℕ)
 source_key_of event = record { port = 0; group = event.group; what = source_or_star event.what }
 
+-- One event comes before the other by its group, and within a group by source if both are of (S,G)
+-- machines. The other events of a group come before these, and none of them before another.
 abbrev pub comes_before_by_source : Event → Event → Bool
 comes_before_by_source one other = is_lt (key_cmp (source_key_of one) (source_key_of other))
 
--- a Join(*,G) of this group, or an event of one of its (S,G,rpt) machines
+-- A Join(*,G) of this group, or an event of one of the group's (S,G,rpt) machines.
 abbrev pub is_of_rpts_of : List ℕ → Event → Bool
 is_of_rpts_of group event = pointwise nat_eq event.group group && (is_star_join event || is_rpt event.what)
 
--- Behind these events, no Join(*,G) stands behind another one of its group, or behind an event of one of its (S,G,rpt) machines.
+-- The second list of events follows the first. In it no Join(*,G) follows another one of its group
+-- or an event of one of the group's (S,G,rpt) machines.
 unfoldable pub ComeFirstBehind : List Event → List Event → Type 0
 ComeFirstBehind before [] = Unit {0}
 ComeFirstBehind before (event ∷ events) =
     (is_star_join event ≡ true → list_any (is_of_rpts_of event.group) before ≡ false)
     × ComeFirstBehind (before ++ event ∷ []) events
 
+-- No Join(*,G) follows another one of its group or an event of one of the group's (S,G,rpt)
+-- machines.
 abbrev pub StarsComeFirst : List Event → Type 0
 StarsComeFirst events = ComeFirstBehind [] events
 
--- These events leave what those leave, and make as many records.
+-- Both lists of events leave the same records and make equally many, on every port and from all
+-- records in key order.
 abbrev pub AreAlike : List Event → List Event → Type 0
 AreAlike these those = (port : ℕ) (records : List (Record (List ℕ))) → IsAscending records →
     ((start : Start) → act_all port start these records ≡ act_all port start those records)
     × (count_new port records these ≡ count_new port records those)
 
+-- An entry that names the machine. Its RP is left empty.
 abbrev pub entry_of_what : What (List ℕ) → Entry (List ℕ)
 entry_of_what Star = entry.Star []
 entry_of_what (Source source) = entry.Source source
 entry_of_what (Rpt source) = entry.Rpt source
 
--- the entry that an event is of, without its RP
+-- An entry that names the event's machine. Its RP is left empty.
 abbrev pub entry_named : Event → Entry (List ℕ)
 entry_named event = entry_of_what event.what
 
--- of these machines of the group none but those that these events name are changed by a Join(*,G)
+-- A Join(*,G) would change no (S,G,rpt) machine of the group on the port, except those that these
+-- events name.
 abbrev pub StayButNamed : ℕ → List ℕ → List Event → List (Record (List ℕ)) → Type 0
 StayButNamed port group events records =
     StayBut port group (λ key. is_pruned_by port group (map entry_named events) key) records
 
--- That many events of these are heard. Where the last Join(*,G) was of a group, its machines stay but for those that events behind it name.
+-- What is noted of the last Join(*,G) among the first `count` events is right. If it notes a group,
+-- another Join(*,G) of this group would change only machines that the events since then name.
 abbrev pub IsLast : {A : Type 0} → (A → List ℕ) → ℕ → List (EventOf A) → ℕ → LastStar A → List (Record (List ℕ)) → Type 0
 IsLast {A} bytes_of port events count last records =
     (last.behind ≤ count)

@@ -1,4 +1,5 @@
--- The timers that run, in the order in which they fire: by deadline, prune-pending timers before expiry timers, by key.
+-- The schedule: the timers that run, in the order in which they fire. They fire by end, at one end
+-- Prune-Pending Timers before Expiry Timers, then by key. This order is a choice of this project.
 use Rattle.std.specs.Prelude.{◌≡◌, ℕ, ◌+◌, ◌-◌, ◌*◌, ◌<◌, ◌≤◌, false, if◌then◌else◌}
 use Rattle.std.specs.Prelude.{List, [], ◌∷◌, map, length, slice_index_or, Option, None, Some}
 use Rattle.std.specs.declared.cmp.Ordering.{Ordering}
@@ -23,31 +24,32 @@ use Rattle.pim_down.specs.Seen.{key_seen, records_seen}
 -- ---- lists in an order
 
 module _ {X : Type 0} (cmp : X → X → Ordering) where
-  -- the item before the first one that it isn't behind
+  -- The list with the item put before the first one that the item isn't greater than.
   unfoldable pub placed : X → List X → List X
   placed x [] = x ∷ []
   placed x (y ∷ ys) = if is_gt (cmp x y) then y ∷ placed x ys else x ∷ y ∷ ys
 
-  -- the list without the first item that compares equal
+  -- The list without the first item that compares as equal.
   unfoldable pub without : X → List X → List X
   without x [] = []
   without x (y ∷ ys) = if is_eq (cmp x y) then ys else y ∷ without x ys
 
-  -- some items, put among others one by one
+  -- The list with several items put in, one by one.
   unfoldable pub all_placed : List X → List X → List X
   all_placed [] rest = rest
   all_placed (x ∷ xs) rest = placed x (all_placed xs rest)
 
-  -- it is less than each of these
+  -- The item is less than each of these.
   unfoldable pub IsUnder : X → List X → Type 0
   IsUnder x [] = Unit {0}
   IsUnder x (y ∷ ys) = (cmp x y ≡ Less) × IsUnder x ys
 
+  -- The items ascend strictly.
   unfoldable pub IsRising : List X → Type 0
   IsRising [] = Unit {0}
   IsRising (x ∷ xs) = IsUnder x xs × IsRising xs
 
-  -- so many items that rise from the first one to the last
+  -- The list has `count` items, at least one, that ascend strictly from `first` to `last`.
   pub record IsRun (first last : X) (count : ℕ) (xs : List X) : Type 0 where
     pub rising : IsRising xs
     pub long : length xs ≡ count
@@ -55,78 +57,86 @@ module _ {X : Type 0} (cmp : X → X → Ordering) where
     pub begins : (d : X) → slice_index_or xs 0 d ≡ first
     pub ends : (d : X) → slice_index_or xs (count - 1) d ≡ last
 
-  -- it is behind none of these
+  -- The item is greater than none of these.
   unfoldable pub IsLow : X → List X → Type 0
   IsLow x [] = Unit {0}
   IsLow x (y ∷ ys) = (is_gt (cmp x y) ≡ false) × IsLow x ys
 
+  -- The items ascend; items that compare as equal may follow one another.
   unfoldable pub IsInOrder : List X → Type 0
   IsInOrder [] = Unit {0}
   IsInOrder (x ∷ xs) = IsLow x xs × IsInOrder xs
 
 -- ---- timers
 
+-- The order of the timers that end at one time: Prune-Pending Timers come first.
 abbrev pub timer_rank : TimerKind → ℕ
 timer_rank PendingTimer = 0
 timer_rank ExpiryTimer = 1
 
+-- The order in which timers fire: by end, by kind, by key.
 unfoldable pub deadline_cmp : Deadline (List ℕ) → Deadline (List ℕ) → Ordering
 deadline_cmp a b =
     ordering_then (ordering_then (nat_cmp a.ends_at b.ends_at) (nat_cmp (timer_rank a.timer) (timer_rank b.timer)))
     (key_cmp a.key b.key)
 
+-- A timer, with its addresses as lists of bytes.
 abbrev pub deadline_seen : {A : Type 0} → (A → List ℕ) → Deadline A → Deadline (List ℕ)
 deadline_seen bytes_of deadline =
     record { ends_at = deadline.ends_at; timer = deadline.timer; key = key_seen bytes_of deadline.key }
 
--- when the machine's timer of this kind ends
+-- When the machine's timer of this kind ends, if it runs.
 abbrev pub end_of : TimerKind → Machine → Option ℕ
 end_of PendingTimer machine = pending_end machine.pending
 end_of ExpiryTimer machine = machine.expires_in
 
--- a timer, if it runs, put among others
+-- The timers with one more, if it runs.
 abbrev pub with_end : TimerKind → Key (List ℕ) → Option ℕ → List (Deadline (List ℕ)) → List (Deadline (List ℕ))
 with_end timer key None deadlines = deadlines
 with_end timer key (Some ends) deadlines =
     placed deadline_cmp (record { ends_at = ends; timer = timer; key = key }) deadlines
 
--- a record's timers put among others
+-- The timers with those of one more record.
 abbrev pub with_timers : Record (List ℕ) → List (Deadline (List ℕ)) → List (Deadline (List ℕ))
 with_timers held deadlines =
     with_end PendingTimer held.key (end_of PendingTimer held.machine)
     (with_end ExpiryTimer held.key (end_of ExpiryTimer held.machine) deadlines)
 
--- the timers of some records
+-- The timers of the records, in the order in which they fire.
 unfoldable pub timers_of : List (Record (List ℕ)) → List (Deadline (List ℕ))
 timers_of [] = []
 timers_of (held ∷ records) = with_timers held (timers_of records)
 
 -- ---- the schedule
 
--- the timers, and how many fit without memory
+-- A schedule as a contract sees it: the timers in their order, and how many timers fit without
+-- memory.
 pub record Scheduled : Type 0 where
   pub timers : List (Deadline (List ℕ))
   pub capacity : ℕ
 
--- The timers that run are in order, and those that were taken out stand side by side where the gap says.
+-- The invariant of a schedule: the timers that run are in order, and those taken out are side by
+-- side in the gap.
 pub record IsScheduled {A : Type 0} (bytes_of : A → List ℕ) (list : Shape (Deadline A)) (gap : Gap) : Type 0 where
   pub order : IsInOrder deadline_cmp (map (deadline_seen bytes_of) (remaining list gap))
   pub gone : 0 < gap.count → IsGone list gap
 
--- The schedule has the timers of the records, and room for two of each of so many records, and for two more.
+-- The invariant of a store: the schedule has exactly the timers of the records, of which there are
+-- at most `space`. If `space` isn't 0, there is room for two timers of each of `space` records, and
+-- for two more.
 pub record IsTimed {A : Type 0} (bytes_of : A → List ℕ) (rows : Listed (Held A)) (schedule : Scheduled) (space : ℕ) :
     Type 0 where
   pub timers : schedule.timers ≡ timers_of (records_seen bytes_of rows.items)
   pub fits : length rows.items ≤ space
   pub room : 2 * space ≤ schedule.capacity - 2
 
--- the first of these timers, where it ends no later than this moment
+-- The first of the records' timers, if it ends no later than this moment; `None` if none does.
 abbrev pub IsFirstBy : {A : Type 0} → (A → List ℕ) → ℕ → List (Record (List ℕ)) → Option (Deadline A) → Type 0
 IsFirstBy bytes_of last records None = ends_by last (first_end records) ≡ false
 IsFirstBy bytes_of last records (Some deadline) =
     (slice_get (timers_of records) 0 ≡ Some (deadline_seen bytes_of deadline)) × (deadline.ends_at ≤ last)
 
--- how many looks there were before, and are now: one more where a timer was found
+-- How a count of looks at timers grows: by one if a timer is found, by one at most if none is.
 abbrev pub IsLookedAt : {A : Type 0} → ℕ → ℕ → Option (Deadline A) → Type 0
 IsLookedAt before now None = (before ≤ now) × (now ≤ before + 1)
 IsLookedAt before now (Some deadline) = now ≡ before + 1

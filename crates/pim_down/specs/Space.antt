@@ -5,7 +5,7 @@ use Rattle.pim_down.specs.declared.machine.Record.{Record}
 use Rattle.pim_down.specs.Hearing.{Event}
 use Rattle.pim_down.specs.Hearing.{act}
 
--- after each event there are no more records than this
+-- After each of the events there are at most `room` records.
 unfoldable pub HasRoom : ℕ → Start → ℕ → List Event → List (Record (List ℕ)) → Type 0
 HasRoom port start room [] records = Unit {0}
 HasRoom port start room (event ∷ events) records =

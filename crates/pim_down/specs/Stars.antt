@@ -1,4 +1,5 @@
--- A Join(*,G) that comes again within a message: which (S,G,rpt) machines it leaves as they are.
+-- A Join(*,G) that comes again within a message, and the (S,G,rpt) machines that it leaves
+-- unchanged (RFC 7761, 4.5.3). These definitions serve private steps alone.
 use Rattle.std.specs.Prelude.{◌≡◌, ℕ, ◌<◌, Bool, true, false, ◌||◌, List, [], ◌∷◌, Option, take, drop, slice_index_or}
 use Rattle.std.specs.List.{list_any}
 use Rattle.pim_jp.specs.declared.entry.Entry.{Entry}
@@ -14,44 +15,47 @@ use Rattle.pim_down.specs.Tables.{on_star_join}
 use Rattle.pim_down.specs.Records.{machine_at}
 use Rattle.pim_down.specs.Hearing.{is_rpt_of}
 
--- a Join(*,G) leaves the machine as it is
+-- A Join(*,G) leaves the (S,G,rpt) machine unchanged.
 abbrev pub Stays : Option Machine → Type 0
 Stays held = on_star_join held ≡ held
 
--- the (S,G,rpt) machines of the group on the port stay, but for those of these keys
+-- A Join(*,G) leaves the (S,G,rpt) machines of the group on the port unchanged, except at the keys
+-- of the test `but`.
 abbrev pub StayBut : ℕ → List ℕ → (Key (List ℕ) → Bool) → List (Record (List ℕ)) → Type 0
 StayBut port group but records =
     (key : Key (List ℕ)) → is_rpt_of port group key ≡ true → but key ≡ false → Stays (machine_at key records)
 
+-- A Join(*,G) leaves all (S,G,rpt) machines of the group on the port unchanged.
 abbrev pub AllStay : ℕ → List ℕ → List (Record (List ℕ)) → Type 0
 AllStay port group records = StayBut port group (λ key. false) records
 
--- the (S,G,rpt) machine of a source
+-- The key of the (S,G,rpt) machine of a source.
 abbrev pub rpt_key : ℕ → List ℕ → List ℕ → Key (List ℕ)
 rpt_key port group source = record { port = port; group = group; what = Rpt source }
 
--- this entry of a pruned list of the group is a Prune(S,G,rpt) of the machine
+-- In a pruned list of the group, this entry is a Prune(S,G,rpt) of the key's machine.
 abbrev pub is_prune_of : ℕ → List ℕ → Key (List ℕ) → Entry (List ℕ) → Bool
 is_prune_of port group key (entry.Star rp) = false
 is_prune_of port group key (entry.Source source) = false
 is_prune_of port group key (entry.Rpt source) = same_key (rpt_key port group source) key
 
--- a pruned list has one
+-- A pruned list of the group has a Prune(S,G,rpt) of the key's machine.
 abbrev pub is_pruned_by : ℕ → List ℕ → List (Entry (List ℕ)) → Key (List ℕ) → Bool
 is_pruned_by port group entries key = list_any (is_prune_of port group key) entries
 
--- a pruned list of these sets has one
+-- The pruned list of one of these sets has a Prune(S,G,rpt) of the key's machine.
 unfoldable pub is_pruned_in : ℕ → List GroupSet → Key (List ℕ) → Bool
 is_pruned_in port [] key = false
 is_pruned_in port (set ∷ sets) key = is_pruned_by port set.group set.pruned key || is_pruned_in port sets key
 
--- Of these sets so many are gone by. Where one of them is marked, the machines of its group stay, but for those that
--- were pruned since: by it, or by a set behind it.
+-- The flags of the first `gone` sets are right. If a set has its flag, a Join(*,G) of its group
+-- changes only machines that were pruned since: by the set, or by a later one among the `gone`
+-- sets.
 abbrev pub AreMarked : ℕ → List GroupSet → Stars → List (Record (List ℕ)) → Type 0
 AreMarked port sets stars records = (i : ℕ) (d : GroupSet) → i < stars.gone → slice_index_or stars.last i false ≡ true →
     StayBut port (slice_index_or sets i d).group (is_pruned_in port (drop i (take stars.gone sets))) records
 
--- as many are gone by, and no other one is marked
+-- Equally many sets are past, and no other set has its flag.
 abbrev pub AreFewer : Stars → Stars → Type 0
 AreFewer new old = (new.gone ≡ old.gone)
     × ((i : ℕ) → slice_index_or new.last i false ≡ true → slice_index_or old.last i false ≡ true)

@@ -1,12 +1,12 @@
--- A list that is gone through from an index on, and of which some items are taken out.
+-- Some items of a stretch of a list are removed.
 use Rattle.std.specs.Prelude.{ℕ, ◌+◌, Bool, not, List, ◌++◌, take, drop}
 use Rattle.std.specs.List.{filter}
 
 module _ {X : Type 0} (takes : X → Bool) where
-  -- those that stay
+  -- The items that aren't taken.
   abbrev pub left_of : List X → List X
   left_of xs = filter (λ x. not (takes x)) xs
 
-  -- the list without those that are taken, of so many items from this index on
+  -- The list without the taken items among the `count` items from index `i` on.
   unfoldable pub swept : List X → ℕ → ℕ → List X
   swept xs i count = take i xs ++ (left_of (take count (drop i xs)) ++ drop (i + count) xs)

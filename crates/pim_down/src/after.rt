@@ -1,4 +1,5 @@
-//! What comes next on a port, looked for near a place or by halves.
+//! What follows in key order on a port: the next group, and the next machine of a group. A search
+//! begins near a place or is a binary search.
 
 ghost use Rattle.std.specs.Prelude.{◌≡◌, option_map};
 ghost use Rattle.std.specs.List.{find};
@@ -35,8 +36,9 @@ impl<F: Family> Bound<F::Addr> for GroupsAbove<F> {
     }
 }
 
-/// The first record of a group of the port above the bound, or of any of its groups, and where it stands, or would
-/// stand. It is looked for from near a place; whatever place that is, the answer is right.
+/// The first record of a group of the port above the bound, or of any of its groups. Also returns
+/// the place of this record, or where it would be. The search begins near a place, which doesn't
+/// affect the record that it finds.
 pub(crate) fn first_of_groups_after<F: Family>(
     records: &Store<F::Addr, OfFamily<F>>,
     near: Near,
@@ -59,7 +61,7 @@ pub(crate) fn first_of_groups_after<F: Family>(
     }
 }
 
-/// The bound behind a key.
+/// The bound after a key.
 #[derive(Drop)]
 pub(crate) struct Behind<F: Family> {
     pub(crate) key: Key<F::Addr>,
@@ -76,15 +78,16 @@ impl<F: Family> Bound<F::Addr> for Behind<F> {
     }
 }
 
-/// Whether the key is of the port and the group of the other one.
+/// Whether the key has the port and the group of the other one.
 pub(crate) fn is_of_group<F: Family>(key: &Key<F::Addr>, bound: &Key<F::Addr>) -> bool
     ensures { result ≡ is_of_group (key_seen F.bytes_of bound.now) (key_seen F.bytes_of key.now) }
 {
     key.port == bound.port && compare_addresses::<F>(key.group, bound.group).is_eq()
 }
 
-/// The first record of the key's port and group whose machine comes after the key's, and where it stands, or would
-/// stand. It is looked for from near a place; whatever place that is, the answer is right.
+/// The first record of the key's port and group whose machine comes after the key's. Also returns
+/// the place of this record, or where it would be. The search begins near a place, which doesn't
+/// affect the record that it finds.
 pub(crate) fn first_machine_after<F: Family>(
     records: &Store<F::Addr, OfFamily<F>>,
     near: Near,

@@ -1,5 +1,6 @@
-//! A group that comes again within a message. A second Join(*,G) leaves the (S,G,rpt) machines as the one before left
-//! them (RFC 7761, 4.5.3), but for those that were pruned in between: so it goes to these alone.
+//! A Join(*,G) whose group comes again within a message. A second Join(*,G) leaves the (S,G,rpt)
+//! machines as the first one left them (RFC 7761, 4.5.3), except those pruned in between. So it
+//! visits only these, and many Joins(*,G) of a large group cost one walk through the group.
 
 ghost use Rattle.std.specs.Prelude.{◌≡◌, ◌<◌, ◌+◌, ℕ, Bool, ◌||◌, true, false, slice_index_or, slice_set, drop, List};
 ghost use Rattle.pim_down.specs.declared.key.Key.{Key};
@@ -20,21 +21,22 @@ use pim_addr::Family;
 use pim_jp::{Entries, Entry, JpView, Sets};
 use sorted_blocks::Place;
 
-/// The sets of a message that are gone by, and for each group which of them had the last Join(*,G).
+/// The sets of a message that are past, and which of them had the last Join(*,G) of its group.
 #[derive(Drop)]
 pub(crate) struct Stars {
-    /// So many sets, from the first one on.
+    /// How many sets are past, from the first one on.
     pub(crate) gone: u8,
-    /// The sets, by their number, that had the last Join(*,G) of their group.
+    /// By set number, whether the set had the last Join(*,G) of its group.
     pub(crate) last: [bool; 256],
-    /// Whether a group may come again. It is only a hint: where it is wrong, more machines are gone through.
+    /// Whether a group may come again. It is only a hint: a wrong one makes Joins(*,G) visit more
+    /// machines.
     pub(crate) repeat: bool,
-    /// Where entries of the last set were found.
+    /// Where entries of the last pruned list were found.
     pub(crate) recent: Recent,
 }
 
 impl Stars {
-    /// No set is gone by.
+    /// No set is past.
     pub(crate) fn new(repeat: bool) -> Self
         ensures { result.gone ≡ 0 }
     {
@@ -46,7 +48,7 @@ impl Stars {
         }
     }
 
-    /// One more set is gone by, which had a Join(*,G) or had none.
+    /// One more set is past. `starred` is whether it had a Join(*,G).
     pub(crate) fn pass(&mut self, starred: bool)
         requires { self.old.gone < 255 }
         ensures gone { self.new.gone ≡ self.old.gone + 1 }
@@ -56,14 +58,15 @@ impl Stars {
         self.gone += 1;
     }
 
-    /// The entry of this index of the set that is heard was found at this place. Those of pruned lists are kept.
+    /// Keeps the place where the entry of this index in the current set was found, if it is of a
+    /// pruned list.
     pub(crate) fn keep_place(&self, joins: bool, index: usize, place: Place) {
         if !joins {
             self.recent.keep(self.gone, index, place);
         }
     }
 
-    /// Whether this set had the last Join(*,G) of its group. It has it no longer: another one came.
+    /// Returns whether this set had the last Join(*,G) of its group, and clears its flag.
     fn take(&mut self, set: u8) -> bool
         ensures was { result ≡ slice_index_or self.old.last set false }
         ensures gone { self.new.gone ≡ self.old.gone }
@@ -75,7 +78,8 @@ impl Stars {
     }
 }
 
-/// Whether a group may come again: not where the groups ascend, as they do in a message that was packed in order.
+/// Whether a group may come again. It can't where the groups ascend, as they do in a message that
+/// was packed in order.
 pub(crate) fn may_repeat<F: Family>(sets: Sets<'_, F>) -> bool {
     let mut last: Option<F::Addr> = None;
     for set in sets {
@@ -90,8 +94,8 @@ pub(crate) fn may_repeat<F: Family>(sets: Sets<'_, F>) -> bool {
     false
 }
 
-/// Whether a set behind the one of this number has a Join(*,G) of this group, too. It takes a step for each set of the
-/// message.
+/// Whether a set after the one of this number has a Join(*,G) of this group. It takes a step for
+/// each set of the message.
 pub(crate) fn is_joined_again<F: Family>(
     message: &JpView<'_, F>,
     joined: &[bool; 256],
@@ -117,7 +121,8 @@ pub(crate) fn is_joined_again<F: Family>(
     false
 }
 
-/// A Join(*,G) comes to the (S,G,rpt) machine of this source. It begins to look near this place, and leaves one there.
+/// Applies Join(*,G) to the (S,G,rpt) machine of this source. The search begins near a place, and
+/// leaves the place that it found.
 pub(crate) fn join_rpt<F: Family>(
     records: &mut Store<F::Addr, OfFamily<F>>,
     near: &mut Place,
@@ -147,7 +152,7 @@ pub(crate) fn join_rpt<F: Family>(
     }
 }
 
-/// A Join(*,G) comes to the machines that a pruned list of its group names by a Prune(S,G,rpt).
+/// Applies Join(*,G) to the machines for which a pruned list of its group has a Prune(S,G,rpt).
 fn join_pruned<F: Family>(
     records: &mut Store<F::Addr, OfFamily<F>>,
     near: &mut Place,
@@ -178,11 +183,11 @@ fn join_pruned<F: Family>(
     }
 }
 
-/// A Join(*,G) comes to the machines that were pruned since the last one of its group. The answer is whether there was
-/// one; then it came to all.
+/// Applies Join(*,G) to the machines that were pruned since the last Join(*,G) of its group.
+/// Returns whether there was one; if so, the event has reached all machines that it changes.
 ///
-/// It takes a step for each set that is gone by, and one look-up for each Prune(S,G,rpt) that came since. No other
-/// Join(*,G) goes over these again.
+/// It takes a step for each set that is past, and one look-up for each Prune(S,G,rpt) since. No
+/// other Join(*,G) visits these again.
 fn join_since<F: Family>(
     records: &mut Store<F::Addr, OfFamily<F>>,
     near: &mut Place,
@@ -228,8 +233,8 @@ fn join_since<F: Family>(
     since
 }
 
-/// A Join(*,G) comes to the (S,G,rpt) machines of its group: to all of them, or where one came before in the message to
-/// those that were pruned since.
+/// Applies Join(*,G) to the (S,G,rpt) machines of its group: to all of them, or after another
+/// Join(*,G) of the message only to those pruned since.
 pub(crate) fn join_group<F: Family>(
     records: &mut Store<F::Addr, OfFamily<F>>,
     near: &mut Place,

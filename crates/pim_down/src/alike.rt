@@ -1,4 +1,7 @@
-//! The timers of records that go together: of those that end at one time all at once.
+//! Removes the timers of the machines that End of Message removes. One walk gathers, by end, the
+//! machines whose Expiry Timer is their only timer. The schedule is in order and has all their
+//! timers. If the timers of the first and the last of `count` such machines are `count` - 1 places
+//! apart, all between are theirs. Then one call removes them together.
 
 ghost use Rattle.std.specs.Prelude.{◌≡◌, ℕ, List, ◌+◌, ◌%◌, ◌<◌, ◌≤◌, [], ◌∷◌, ◌++◌, ◌&&◌, true, false, not, length, take, drop};
 ghost use Rattle.std.specs.Prelude.{Option, None, Some, replicate, slice_index_or, slice_set, IfSome};
@@ -21,11 +24,12 @@ use crate::schedule::Schedule;
 use crate::sweep::Sweep;
 use sorted_blocks::Place;
 
-/// So many records are gone through at once: they are few enough to stay at hand where they are gone through again, and what
-/// stands behind a run of them moves once for all of it.
+/// How many records are visited in one walk at most. They are few enough to stay in the cache for a
+/// second walk, and the list after a run moves once for all of it.
 const AT_ONCE: usize = 2048;
 
-/// Records whose only timers end at one time: when that is, the first of them, the last, and how many they are.
+/// A summary of records whose only timer is an Expiry Timer with one common end: this end, the
+/// first record, the last one, and their count.
 #[derive(Clone, Copy)]
 pub(crate) struct Alike<'a, A> {
     ends_at: u64,
@@ -34,7 +38,7 @@ pub(crate) struct Alike<'a, A> {
     count: usize,
 }
 
-/// When a record's expiry timer ends, where it is its only timer.
+/// The end of a record's Expiry Timer, if it is the record's only timer.
 fn only_end<A>(held: &Held<A>) -> Option<u64>
     ensures { result ≡ only_end held.now }
 {
@@ -44,7 +48,7 @@ fn only_end<A>(held: &Held<A>) -> Option<u64>
     }
 }
 
-/// Takes in one more record that ends at this time, where those of its slot do, or where the slot has none.
+/// Adds a record with this end to its slot, if the slot is empty or has the same end.
 fn add<'a, A: Copy>(slot: &mut Option<Alike<'a, A>>, ends_at: u64, held: &'a Held<A>)
     requires few { IfSome slot.old (λ alike. alike.count < 2048) }
     requires end { only_end held.now ≡ Some ends_at }
@@ -69,7 +73,7 @@ fn add<'a, A: Copy>(slot: &mut Option<Alike<'a, A>>, ends_at: u64, held: &'a Hel
     }
 }
 
-/// Takes in one more record, where its expiry timer is its only one and its slot has none that end at another time.
+/// Adds a record to its slot, if its Expiry Timer is its only timer and the slot has no other end.
 fn take_in<'a, A: Copy>(alikes: &mut [Option<Alike<'a, A>>; 31], held: &'a Held<A>)
     requires { (slot : ℕ) → IfSome (slice_index_or alikes.old slot None)
         (λ alike. alike.count < 2048) }
@@ -83,7 +87,8 @@ fn take_in<'a, A: Copy>(alikes: &mut [Option<Alike<'a, A>>; 31], held: &'a Held<
     }
 }
 
-/// Whether a slot has the records that end with this one, where its expiry timer is its only one.
+/// Whether a slot summarizes records with this record's end, and its Expiry Timer is its only
+/// timer.
 fn is_among<A>(alikes: &[Option<Alike<'_, A>>; 31], held: &Held<A>) -> bool
     ensures { result ≡ is_among alikes.now held.now }
 {
@@ -96,8 +101,9 @@ fn is_among<A>(alikes: &[Option<Alike<'_, A>>; 31], held: &Held<A>) -> bool
     }
 }
 
-/// Goes through the records from this place on, up to the first that the sweep doesn't reach, and up to so many as are gone
-/// through at once, and takes in those of them that it takes. The answer is how many it goes through, and how many it takes.
+/// Visits the records from this place on, up to the first that the sweep doesn't reach, and at most
+/// `AT_ONCE`. Adds those that the sweep takes to the table. Returns how many it visits and how many
+/// the sweep takes.
 fn gather<'a, A: Copy, S: Sweep<A>>(
     rows: &'a Rows<A>,
     place: Place,
@@ -132,7 +138,7 @@ fn gather<'a, A: Copy, S: Sweep<A>>(
     (count, taken)
 }
 
-/// Takes out the timers of records that are alike, where these stand side by side. The answer is whether they did.
+/// Removes the timers of summarized records, if these are side by side. Returns whether they are.
 fn stop_alike<A: Copy, O: KeyOrder<A>>(
     schedule: &mut Schedule<A, O, HALF_OF_TIMERS>,
     alike: &Alike<'_, A>,
@@ -159,8 +165,8 @@ fn stop_alike<A: Copy, O: KeyOrder<A>>(
     schedule.take_run(&from, &to, alike.count)
 }
 
-/// Takes out the timers of the records of a slot, where these stand side by side; else the slot has none from then on. The
-/// answer is how many they are.
+/// Removes the timers of the records of a slot, if these are side by side; otherwise empties the
+/// slot. Returns how many timers it removes.
 fn stop_slot<A: Copy, O: KeyOrder<A>>(
     schedule: &mut Schedule<A, O, HALF_OF_TIMERS>,
     alikes: &mut [Option<Alike<'_, A>>; 31],
@@ -191,14 +197,15 @@ fn stop_slot<A: Copy, O: KeyOrder<A>>(
     0
 }
 
-/// Whether the sweep takes a record that isn't among these.
+/// Whether the sweep takes a record whose timer isn't among the table's.
 fn is_left<A, S: Sweep<A>>(sweep: &S, alikes: &[Option<Alike<'_, A>>; 31], held: &Held<A>) -> bool
     ensures { result ≡ S.takes sweep.now held.now && not (is_among alikes.now held.now) }
 {
     sweep.takes(held) && !is_among(alikes, held)
 }
 
-/// Takes out the timers of those of so many records from this place on that the sweep takes and that aren't among these.
+/// Removes the timers of those of `count` records from this place on that the sweep takes and the
+/// table doesn't summarize.
 fn stop_rest<A: Copy, O: KeyOrder<A>, S: Sweep<A>>(
     rows: &Rows<A>,
     schedule: &mut Schedule<A, O, HALF_OF_TIMERS>,
@@ -222,10 +229,10 @@ fn stop_rest<A: Copy, O: KeyOrder<A>, S: Sweep<A>>(
     }
 }
 
-/// Goes through the records from this place on, up to the first that the sweep doesn't reach, and up to so many as are gone
-/// through at once, and takes out the timers of those that it takes: first of those that end at one time and have no other
-/// timer, for up to thirty-one times with a slot each, then of the rest, if there is any, one by one. The answer is how many
-/// records it goes through, and how many of these it takes.
+/// Visits the records from this place on, up to the first that the sweep doesn't reach, and at most
+/// `AT_ONCE`. Removes the timers of those that the sweep takes. Records that share an end and have
+/// no other timer come first, for up to 31 ends with a slot each; the rest follow one by one.
+/// Returns how many records it visits and how many the sweep takes.
 pub(crate) fn stop_swept<A: Copy, O: KeyOrder<A>, S: Sweep<A>>(
     rows: &Rows<A>,
     schedule: &mut Schedule<A, O, HALF_OF_TIMERS>,

@@ -1,8 +1,9 @@
-//! How large the blocks are in which records and timers stand.
+//! The sizes of the blocks in which records and timers are kept.
 
-/// So many records in half a block. They stand there by number, and a block that comes empty moves a row of all behind it:
-/// so blocks are long.
+/// The number of records in half a block. A block holds record numbers, and an empty block that is
+/// removed moves the row of all later blocks. So blocks are long.
 pub(crate) const HALF_OF_RECORDS: usize = 256;
 
-/// So many timers in half a block. They are larger than numbers, and most edits move some of a block's.
+/// The number of timers in half a block. Timers are larger than numbers, and most edits move some
+/// of a block's.
 pub(crate) const HALF_OF_TIMERS: usize = 128;

@@ -1,4 +1,5 @@
-//! A timer that runs: when it ends, and whose it is.
+//! A timer that runs. The schedule holds it as a value, not as a record's number. So a comparison
+//! opens no record, and contracts speak of the list of timers alone.
 
 ghost use Rattle.std.specs.Prelude.{◌≡◌};
 ghost use Rattle.std.specs.Ordering.{nat_cmp};
@@ -7,7 +8,7 @@ ghost use Rattle.pim_down.specs.Schedule.{timer_rank, deadline_cmp, deadline_see
 use crate::key::{Key, KeyOrder};
 use std::cmp::Ordering;
 
-/// The timers of a machine. Of those that end at one moment, prune-pending timers fire first.
+/// The kinds of timers. Of the timers that end at one moment, Prune-Pending Timers fire first.
 #[derive(Clone, Copy, Debug)]
 pub(crate) enum TimerKind {
     PendingTimer,
@@ -19,11 +20,11 @@ pub(crate) enum TimerKind {
 pub(crate) struct Deadline<A> {
     pub(crate) ends_at: u64,
     pub(crate) timer: TimerKind,
-    /// Whose timer it is.
+    /// The machine whose timer it is.
     pub(crate) key: Key<A>,
 }
 
-/// Which timers: of a kind, with an end. They stand side by side in the schedule.
+/// The timers of one kind and one end. They are side by side in the schedule.
 #[derive(Clone, Copy, Debug, Drop)]
 pub(crate) struct Ending {
     pub(crate) timer: TimerKind,
@@ -31,19 +32,19 @@ pub(crate) struct Ending {
 }
 
 impl Ending {
-    /// Of no timer.
+    /// Stands for no timer.
     pub(crate) const NONE: Ending = Ending {
         timer: TimerKind::PendingTimer,
         ends_at: 0,
     };
 
-    /// Whether these are the same ones.
+    /// Whether kind and end are equal.
     pub(crate) fn is_same(&self, other: Ending) -> bool {
         self.ends_at == other.ends_at && compare_kinds(self.timer, other.timer).is_eq()
     }
 }
 
-/// Prune-pending timers come first.
+/// Prune-Pending Timers come first.
 fn compare_kinds(a: TimerKind, b: TimerKind) -> Ordering
     ensures { result ≡ nat_cmp (timer_rank a) (timer_rank b) }
 {
@@ -54,7 +55,7 @@ fn compare_kinds(a: TimerKind, b: TimerKind) -> Ordering
     }
 }
 
-/// By deadline, prune-pending timers before expiry timers, by key.
+/// The order in which timers fire: by end, Prune-Pending Timers before Expiry Timers, by key.
 #[tactic(auto, unfolding(crate::specs::Schedule::deadline_cmp))]
 pub(crate) fn compare_deadlines<A, O: KeyOrder<A>>(a: &Deadline<A>, b: &Deadline<A>) -> Ordering
     ensures { result ≡ deadline_cmp (deadline_seen O.bytes_of a.now) (deadline_seen O.bytes_of b.now) }

@@ -1,4 +1,4 @@
-//! Looking up and changing one machine in a list of records in key order.
+//! Looks up and changes one machine in a list of records in key order.
 
 ghost use Rattle.std.specs.Prelude.{◌≡◌, ◌+◌, ◌<◌, ◌≤◌, ℕ, List, ◌++◌, Option, take, drop, length, slice_index_or};
 ghost use Rattle.sorted_slab.specs.Listed.{at, IsItem};
@@ -15,7 +15,7 @@ use pim_addr::Family;
 use sorted_blocks::{Place, Probe};
 use std::cmp::Ordering;
 
-/// A key, as it is sought among records.
+/// A key that is searched among records.
 #[derive(Drop)]
 struct Sought<F: Family> {
     key: Key<F::Addr>,
@@ -34,8 +34,8 @@ impl<F: Family> Probe<Held<F::Addr>> for Sought<F> {
     }
 }
 
-/// Where the key's record stands, or else where it would stand. It is looked for near a place where it may be;
-/// whatever place that is, the answer is right.
+/// The place of the key's record, or as an error the place where it would be inserted. The search
+/// begins near a place, which doesn't affect what it finds.
 pub(crate) fn find_place<F: Family>(
     records: &Store<F::Addr, OfFamily<F>>,
     near: Place,
@@ -47,14 +47,14 @@ pub(crate) fn find_place<F: Family>(
     records.find_near(near, &Sought::<F> { key: *key })
 }
 
-/// The place that was found.
+/// The place in either result.
 pub(crate) fn place_of(found: Result<Place, Place>) -> Place {
     match found {
         Ok(place) | Err(place) => place,
     }
 }
 
-/// Replaces the machine of the record at this place, or lets go of it. The answer is a place near by.
+/// Replaces the machine of the record at this place, or removes the record. Returns a place nearby.
 pub(crate) fn replace_at<A: Copy, O: KeyOrder<A>>(
     records: &mut Store<A, O>,
     place: Place,
@@ -77,7 +77,7 @@ pub(crate) fn replace_at<A: Copy, O: KeyOrder<A>>(
     }
 }
 
-/// The machine of the record that was found; `None` where none was.
+/// The machine of the record that was found; `None` if none was.
 pub(crate) fn machine_of<F: Family>(
     records: &Store<F::Addr, OfFamily<F>>,
     key: &Key<F::Addr>,
@@ -94,8 +94,8 @@ pub(crate) fn machine_of<F: Family>(
     }
 }
 
-/// The key's machine; `None` where it is in NoInfo. Beside it stands the place where its record stands, or would stand.
-/// It is looked for from near a place; whatever place that is, the answer is right.
+/// The key's machine; `None` is NoInfo. Also returns the place of its record, or where it would be.
+/// The search begins near a place, which doesn't affect the machine that it finds.
 pub(crate) fn machine_near<F: Family>(
     records: &Store<F::Addr, OfFamily<F>>,
     near: Near,
@@ -113,8 +113,8 @@ pub(crate) fn machine_near<F: Family>(
     (machine_of::<F>(records, key, found), stands)
 }
 
-/// Gives the machine of the key that was looked for this state, or lets go of it. There is room for the records that
-/// are held then. The answer is a place near by.
+/// Gives the machine that was searched this state, or removes its record. The caller ensures room
+/// for the records held afterwards. Returns a place nearby.
 pub(crate) fn put_machine<F: Family>(
     records: &mut Store<F::Addr, OfFamily<F>>,
     key: Key<F::Addr>,

@@ -1,4 +1,6 @@
-//! End of Message: what it does to the (S,G,rpt) machines of a port.
+//! End of Message (RFC 7761, 4.5.3, Figure 4). Between messages no machine is in a Tmp state, and
+//! within one only a Join(*,G) puts machines of its group into one. So End of Message visits only
+//! groups that had a Join(*,G) that counts: a message without one costs no walk.
 
 ghost use Rattle.std.specs.Prelude.{◌≡◌, not};
 ghost use Rattle.std.specs.List.{filter};
@@ -25,7 +27,7 @@ fn is_temporary(state: State) -> bool
     matches!(state, State::PruneTmp | State::PrunePendingTmp)
 }
 
-/// The (S,G,rpt) machines of a group on a port, of which those go that end with the message.
+/// The (S,G,rpt) machines of a group on a port. The sweep takes those that End of Message removes.
 #[derive(Drop)]
 struct OverIn<F: Family> {
     port: usize,
@@ -50,7 +52,7 @@ impl<F: Family> Sweep<F::Addr> for OverIn<F> {
     }
 }
 
-/// End of Message comes to the (S,G,rpt) machines of a group. It goes through these alone.
+/// Applies End of Message to the (S,G,rpt) machines of a group. It visits only these.
 pub(crate) fn end_group<F: Family>(
     records: &mut Store<F::Addr, OfFamily<F>>,
     port: usize,
@@ -71,9 +73,10 @@ pub(crate) fn end_group<F: Family>(
     }
 }
 
-/// End of Message comes to the (S,G,rpt) machines of a port. Those in a state that ends with it are of groups of which the
-/// message had a Join(*,G), and it goes through these alone: once for each group, at its last set that had one. Where a
-/// group may come again, such a set takes a step for each set of the message, too: 65,025 in all at most.
+/// Applies End of Message to the (S,G,rpt) machines of a port. Those in a Tmp state are of groups
+/// for which the message had a Join(*,G), and it visits only these groups. It visits each once, at
+/// the last set with such a Join. Where a group may come again, each such set takes a step for each
+/// set of the message: 65,025 steps at most.
 pub(crate) fn end_message<F: Family>(
     records: &mut Store<F::Addr, OfFamily<F>>,
     port: usize,

@@ -1,11 +1,11 @@
-//! The events of a message.
+//! The events of a message, and what a port knows when one comes.
 
 use crate::key::What;
 
-/// An event: a Join or a Prune at one machine of a group.
+/// A Join or a Prune for one machine of a group.
 #[derive(Clone, Copy)]
 pub(crate) struct Event<A> {
-    /// Whether it is a Join, not a Prune.
+    /// Whether it is a Join rather than a Prune.
     pub(crate) joins: bool,
     pub(crate) group: A,
     pub(crate) what: What<A>,
@@ -14,8 +14,8 @@ pub(crate) struct Event<A> {
 /// What a port knows of its neighbours when a message comes.
 #[derive(Clone, Copy, Debug, PartialEq, Eq)]
 pub struct Timing {
-    /// The whole override interval of the port, in milliseconds: its effective propagation delay and its effective
-    /// override interval together (RFC 7761, 4.3.3).
+    /// J/P_Override_Interval(I) of the port in milliseconds: Effective_Propagation_Delay(I) plus
+    /// Effective_Override_Interval(I) (RFC 7761, 4.3.3).
     pub override_ms: u64,
     /// Whether the port has more than one neighbour.
     pub several: bool,

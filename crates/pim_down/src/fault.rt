@@ -1,17 +1,18 @@
-//! Why a message isn't heard.
+//! Why a message is refused.
 
 use thiserror::Error;
 
-/// Why a message isn't heard. Then nothing has changed.
+/// Why a message is refused. A refusal changes nothing.
 #[derive(Clone, Copy, Debug, PartialEq, Eq, Error)]
 pub enum HearFault {
-    /// The port would need more records than its limit: so many.
+    /// The port would need more records than its limit.
     #[error("full {needed}")]
     Full {
-        /// The port's records, and the message's creating entries whose record isn't held, repeats counted.
+        /// The records needed: the port's, and for each creating entry whose record isn't held one
+        /// more, repeats counted.
         needed: usize,
     },
-    /// A growth was refused.
+    /// Memory for new records was refused.
     #[error("memory")]
     Memory,
 }

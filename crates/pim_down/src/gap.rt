@@ -1,4 +1,6 @@
-//! Timers that were taken out and still stand in their list.
+//! Timers that were removed from the schedule but are still in its list. Timers removed one after
+//! another, in list order, leave the list by one removal. So the next of them costs one comparison
+//! instead of a look-up and a move.
 
 ghost use Rattle.std.specs.Prelude.{◌≡◌, ◌+◌, ◌<◌, ◌≤◌, length, IsTrue};
 ghost use Rattle.std.specs.List.{slice_get};
@@ -12,19 +14,20 @@ use crate::deadline::{Deadline, Ending, compare_deadlines};
 use crate::key::KeyOrder;
 use sorted_blocks::{Blocks, Place, item_has_a_place, place_is_within};
 
-/// Timers that were taken out and still stand in the list, side by side: so many from one place on, up to another. They go all
-/// at once, when one is taken out elsewhere or put in.
+/// Timers that were removed but are still in the list, side by side: `count` from the place `from`
+/// up to the place `behind`. They leave the list together when a timer elsewhere is removed, or one
+/// is put in.
 #[derive(Clone, Copy, Drop)]
 pub(crate) struct Gap {
     pub(crate) from: Place,
     pub(crate) behind: Place,
     pub(crate) count: usize,
-    /// Which timers the first of them is among.
+    /// The kind and end of the first of them.
     pub(crate) ending: Ending,
 }
 
 impl Gap {
-    /// No timer stands in it.
+    /// An empty gap.
     pub(crate) fn none() -> Self
         ensures { result.count ≡ 0 }
     {
@@ -36,7 +39,7 @@ impl Gap {
         }
     }
 
-    /// The timer at this place alone.
+    /// A gap of the timer at this place.
     pub(crate) fn at<T: Copy, const HALF: usize>(
         list: &Blocks<T, HALF>,
         place: Place,
@@ -56,7 +59,7 @@ impl Gap {
         }
     }
 
-    /// Takes in the timer right behind.
+    /// Adds the timer right after the gap.
     #[inline(always)]
     pub(crate) fn grow<T: Copy, const HALF: usize>(&mut self, list: &Blocks<T, HALF>)
         requires gone { IsGone list.now self.old }
@@ -71,7 +74,7 @@ impl Gap {
         self.count += 1;
     }
 
-    /// Takes in so many timers from this place on, right behind what stands in it, up to the one at the other place.
+    /// Adds `count` timers from the place `from`, right after the gap, up to the one at `last`.
     pub(crate) fn take_in<T: Copy, const HALF: usize>(
         &mut self,
         list: &Blocks<T, HALF>,
@@ -102,7 +105,7 @@ impl Gap {
         self.count += count;
     }
 
-    /// The place of the first timer outside, where there is any.
+    /// The place of the first timer outside the gap, if there is one.
     pub(crate) fn first_outside<T: Copy, const HALF: usize>(&self, list: &Blocks<T, HALF>) -> Place
         requires { 0 < self.now.count → IsGone list.now self.now }
         ensures first { slice_get (remaining list.now self.now) 0 ≡ slice_get (items list.now) (before list.now result) }
@@ -118,7 +121,7 @@ impl Gap {
     }
 }
 
-/// Whether this timer stands right behind the gap.
+/// Whether this timer is right after the gap.
 #[inline(always)]
 pub(crate) fn is_behind<A: Copy, O: KeyOrder<A>, const HALF: usize>(
     list: &Blocks<Deadline<A>, HALF>,

@@ -1,4 +1,4 @@
-//! The machines of a group on a port, told one after another.
+//! A walk over the machines of a group on a port.
 
 ghost use Rattle.std.specs.Prelude.{◌≡◌, option_map};
 ghost use Rattle.pim_down.specs.After.{next_machine, left_behind};
@@ -16,12 +16,12 @@ use sorted_blocks::Place;
 use std::fmt;
 use std::marker::Model;
 
-/// The machines of a group on a port that are left, with what is left of their timers. Contracts see the records, and
-/// the key of the machine behind which it stands.
+/// The machines of a group on a port that a walk has left, with the time left of their timers.
+/// Contracts see the records, and the key of the machine that the walk follows.
 #[derive(Drop)]
 pub struct GroupMachines<'a, F: Family> {
     records: &'a Store<F::Addr, OfFamily<F>>,
-    /// Where the next one stands, if there is one.
+    /// The place of the next one, if there is one.
     place: Place,
     behind: Key<F::Addr>,
     moment: u64,
@@ -45,8 +45,8 @@ impl<'a, F: Family> Model for GroupMachines<'a, F> {
 }
 
 impl<'a, F: Family> GroupMachines<'a, F> {
-    /// Those behind this key, as they stand at this moment. They are looked for from near a place; whatever place that
-    /// is, they are the same.
+    /// The machines after this key, at this moment. The search begins near a place, which doesn't
+    /// affect the machines.
     pub(crate) fn behind(
         records: &'a Store<F::Addr, OfFamily<F>>,
         near: Near,
@@ -68,8 +68,9 @@ impl<'a, F: Family> GroupMachines<'a, F> {
         }
     }
 
-    /// Tells the next one, in key order; `None` where none is left. It compares one group, and takes no memory.
-    // Inlined, so that a caller who reads a part of the record alone doesn't make the rest.
+    /// Returns the next machine in key order; `None` if none is left. It compares one group, and
+    /// takes no memory.
+    // Inlined, so that a caller who reads only a part of the record doesn't build the rest.
     #[inline(always)]
     pub fn next_machine(&mut self) -> Option<Record<F::Addr>>
         ensures told { option_map (told_seen F.bytes_of) result ≡ next_machine self.old }
@@ -87,7 +88,8 @@ impl<'a, F: Family> GroupMachines<'a, F> {
         Some(record_after(&next, self.moment))
     }
 
-    /// Where the next one stands, or would stand: a place near which look-ups among these records may begin.
+    /// The place of the next machine, or where it would be. Look-ups among these records may begin
+    /// near it.
     pub fn near(&self) -> Near {
         Near {
             place: Some(self.place),

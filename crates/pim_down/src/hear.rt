@@ -1,4 +1,5 @@
-//! What the events of a message do to the machines of a port.
+//! What the events of a message do to the machines of a port. All of a message acts at one moment:
+//! no timer fires while it is heard, and the next run fires those that are due.
 
 ghost use Rattle.std.specs.Prelude.{◌≡◌, ◌≤◌, ◌+◌, ℕ, true, List, length};
 ghost use Rattle.pim_jp.specs.Seen.{entry_seen};
@@ -26,7 +27,7 @@ use pim_jp::{Entry, JpView};
 use sorted_blocks::Place;
 use std::cmp::Ordering;
 
-/// The holdtime of a Join/Prune that is never to time out, in seconds (RFC 7761, 4.9.5).
+/// The holdtime of a Join/Prune message that never times out, in seconds (RFC 7761, 4.9.5).
 const FOR_EVER: u16 = 0xffff;
 
 /// The timers that a message of this holdtime starts at this moment.
@@ -55,7 +56,7 @@ pub(crate) fn start_at(holdtime: u16, timing: Timing, now: u64) -> Start
     }
 }
 
-/// Whether this is the RP of the group.
+/// Whether this address is RP(G) of the group by the route table.
 fn is_known<F: Family>(routes: &Routes<F>, group: F::Addr, rp: F::Addr) -> bool
     ensures { result ≡ is_known (known_in F.family routes.now (F.bytes_of group)) (F.bytes_of rp) }
 {
@@ -65,8 +66,8 @@ fn is_known<F: Family>(routes: &Routes<F>, group: F::Addr, rp: F::Addr) -> bool
     }
 }
 
-/// The event that an entry is, of a joined or of a pruned list of the group; a Join(*,G) of another RP than the group's
-/// is none. The table is asked for a Join(*,G) alone, and a set has one at most.
+/// The event of an entry of a joined or pruned list of the group. A Join(*,G) whose RP isn't RP(G)
+/// is none. The table is asked only for a Join(*,G), and a set has at most one.
 pub(crate) fn event_of<F: Family>(
     routes: &Routes<F>,
     joins: bool,
@@ -89,7 +90,7 @@ pub(crate) fn event_of<F: Family>(
     Some(Event { joins, group, what })
 }
 
-/// What the event makes of the machine that it names.
+/// What the event does to the machine that it names.
 fn on_own<A>(event: &Event<A>, start: Start, held: Option<Timed>) -> Option<Timed>
     ensures { (bytes_of : A → List ℕ) → machine_seen result
         ≡ on_own event.now.joins (what_seen bytes_of event.now.what) (start_seen start) (machine_seen held) }
@@ -102,14 +103,14 @@ fn on_own<A>(event: &Event<A>, start: Start, held: Option<Timed>) -> Option<Time
     }
 }
 
-/// Whether it is an (S,G,rpt) machine of this group on this port.
+/// Whether the key is of an (S,G,rpt) machine of this group on this port.
 pub(crate) fn is_rpt_of<F: Family>(key: &Key<F::Addr>, port: usize, group: F::Addr) -> bool
     ensures { result ≡ is_rpt_of port (F.bytes_of group) (key_seen F.bytes_of key.now) }
 {
     key.port == port && matches!(key.what, What::Rpt(_)) && key.group == group
 }
 
-/// Whether a machine of a group stands before the (S,G,rpt) ones, as a comparison.
+/// How a machine of a group compares with the start of the group's (S,G,rpt) machines.
 fn beside_rpts<A>(what: &What<A>) -> Ordering
     ensures { (bytes_of : A → List ℕ) → result ≡ beside_rpts (is_rpt (what_seen bytes_of what.now)) }
 {
@@ -139,7 +140,7 @@ impl<F: Family> Bound<F::Addr> for RptsOf<F> {
     }
 }
 
-/// A Join(*,G) comes to the (S,G,rpt) machines of its group. It goes through these alone.
+/// Applies Join(*,G) to the (S,G,rpt) machines of its group. It visits only these.
 pub(crate) fn join_rpts<F: Family>(
     records: &mut Store<F::Addr, OfFamily<F>>,
     port: usize,
@@ -162,15 +163,15 @@ pub(crate) fn join_rpts<F: Family>(
     }
 }
 
-/// Whether it is a Join(*,G).
+/// Whether the event is a Join(*,G).
 pub(crate) fn is_star_join<A>(event: &Event<A>) -> bool
     ensures { (bytes_of : A → List ℕ) → result ≡ is_star_join (event_seen bytes_of event.now) }
 {
     event.joins && matches!(event.what, What::Star)
 }
 
-/// Lets an event of a message act on the machine that it names, and on no other. It begins to look near this place, and
-/// leaves one there.
+/// Applies an event to the machine that it names, and to no other. The search begins near a place,
+/// and leaves the place that it found.
 pub(crate) fn act_on_own<F: Family>(
     records: &mut Store<F::Addr, OfFamily<F>>,
     near: &mut Place,
@@ -198,7 +199,8 @@ pub(crate) fn act_on_own<F: Family>(
     *near = place;
 }
 
-/// Lets an event of a message act on the machines of a port. It begins to look near this place, and leaves one there.
+/// Applies an event to the machines of a port. The search begins near a place, and leaves the place
+/// that it found.
 pub(crate) fn act<F: Family>(
     records: &mut Store<F::Addr, OfFamily<F>>,
     near: &mut Place,

@@ -1,14 +1,15 @@
-//! A machine as it is held: its timers are deadlines, in milliseconds from the moment 0, so that nothing has to be
-//! changed while time passes.
+//! A machine as the code holds it. Its timers are deadlines in milliseconds from the moment 0, so
+//! that time alone changes nothing. Machines that are returned have countdowns, in types of their
+//! own.
 
 use crate::key::Key;
 use crate::machine::State;
 
-/// A prune-pending timer that runs.
+/// A Prune-Pending Timer that runs.
 #[derive(Clone, Copy, Debug)]
 pub(crate) struct Waiting {
     pub(crate) ends_at: u64,
-    /// Whether the port had more than one neighbour when it started.
+    /// Whether the port had more than one neighbour when the timer started.
     pub(crate) several: bool,
 }
 
@@ -28,8 +29,8 @@ pub(crate) struct Held<A> {
     pub(crate) machine: Timed,
 }
 
-/// What a message gives the timers that it starts: the expiry timer by its holdtime, the prune-pending timer by
-/// the port.
+/// The values that a message gives the timers that it starts: the Expiry Timer by its holdtime, the
+/// Prune-Pending Timer by the port.
 #[derive(Clone, Copy)]
 pub(crate) struct Start {
     pub(crate) expires_at: Option<u64>,

@@ -1,12 +1,14 @@
-//! Where to begin to look for a timer. These are hints, of which no contract knows: whatever place one names, what is found is the same.
+//! Where searches for timers begin. These places are hints, and no contract mentions them: they
+//! don't affect what a search finds. Timers of one kind, and of one end, mostly come and go side by
+//! side.
 
 ghost use Rattle.std.specs.Prelude.{◌≡◌, ◌%◌};
 
 use crate::deadline::{Ending, TimerKind};
 use sorted_blocks::Place;
 
-/// For each kind of timers a place to begin at: those of one kind mostly come and go side by side, and the two kinds of one machine
-/// stand far apart.
+/// For each kind of timers a place to begin at. The two timers of one machine are far apart in the
+/// schedule.
 #[derive(Drop)]
 pub(crate) struct Hints {
     pending: Place,
@@ -14,7 +16,7 @@ pub(crate) struct Hints {
 }
 
 impl Hints {
-    /// The beginning, for either kind.
+    /// The start of the list, for both kinds.
     pub(crate) fn new() -> Self {
         Hints {
             pending: Place::START,
@@ -30,7 +32,7 @@ impl Hints {
         }
     }
 
-    /// Timers of this kind begin at this place from now on.
+    /// Keeps the place for timers of this kind.
     pub(crate) fn keep(&mut self, timer: TimerKind, place: Place) {
         match timer {
             TimerKind::PendingTimer => self.pending = place,
@@ -46,16 +48,16 @@ struct Hint {
     place: Place,
 }
 
-/// Where timers were taken out last: for each kind, and for each of the last ends, since where timers with different ends take turns,
-/// those with one end stand side by side.
+/// Where timers were removed last: for each kind, and for each of the last ends. Where timers with
+/// different ends take turns, those with one end are side by side.
 #[derive(Drop)]
 pub(crate) struct Taken {
     kinds: Hints,
     ends: [Hint; 31],
 }
 
-/// Which of thirty-one slots is that of timers with this end. A prime number, so that ends a second or a minute apart have slots
-/// of their own, too.
+/// The slot of timers with this end. The number of slots is prime, so that ends a second or a
+/// minute apart have slots of their own.
 pub(crate) fn slot_of_end(ends_at: u64) -> usize
     ensures { result ≡ ends_at % 31 }
 {
@@ -63,7 +65,7 @@ pub(crate) fn slot_of_end(ends_at: u64) -> usize
 }
 
 impl Taken {
-    /// The beginning, for all.
+    /// The start of the list, for all timers.
     pub(crate) fn new() -> Self {
         Taken {
             kinds: Hints::new(),
@@ -74,7 +76,7 @@ impl Taken {
         }
     }
 
-    /// The place for these timers.
+    /// The place for timers of this kind and end.
     pub(crate) fn of(&self, ending: Ending) -> Place {
         let hint = self.ends[slot_of_end(ending.ends_at)];
         if hint.ends_at == ending.ends_at {
@@ -83,7 +85,7 @@ impl Taken {
         self.kinds.of(ending.timer)
     }
 
-    /// These timers, and those of their kind, begin at this place from now on.
+    /// Keeps the place for timers of this kind and end.
     pub(crate) fn keep(&mut self, ending: Ending, place: Place) {
         self.ends[slot_of_end(ending.ends_at)] = Hint {
             ends_at: ending.ends_at,

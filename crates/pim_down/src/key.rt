@@ -1,4 +1,4 @@
-//! Which machine is meant, and the order in which machines are held and told.
+//! The keys of machines, and the order in which machines are held and returned.
 
 ghost use Rattle.std.specs.Prelude.{◌≡◌};
 ghost use Rattle.std.specs.Ordering.{nat_cmp, ordering_then};
@@ -20,7 +20,7 @@ pub enum What<A> {
     Rpt(A),
 }
 
-/// One machine: its port, its group, and which of the group's it is.
+/// The key of one machine: its port, its group, and which machine of the group it is.
 #[derive(Clone, Copy, Debug, PartialEq, Eq)]
 pub struct Key<A> {
     /// The port, numbered from 0.
@@ -31,7 +31,8 @@ pub struct Key<A> {
     pub what: What<A>,
 }
 
-/// Compares two addresses in the order of their bytes. It is that of their numbers, which a processor compares at once.
+/// Compares two addresses in the order of their bytes. The code compares their numbers, which have
+/// the same order and cost one comparison.
 pub fn compare_addresses<F: Family>(a: F::Addr, b: F::Addr) -> Ordering
     ensures { result ≡ address_cmp (F.bytes_of a) (F.bytes_of b) }
 {
@@ -81,7 +82,7 @@ pub(crate) fn compare_keys<F: Family>(a: &Key<F::Addr>, b: &Key<F::Addr>) -> Ord
     compare_whats::<F>(&a.what, &b.what)
 }
 
-/// How keys are compared, with the bytes of their addresses.
+/// An order of keys, with the bytes of their addresses.
 pub(crate) trait KeyOrder<A> {
     ghost use Rattle.std.specs.Prelude.{ℕ, List};
 
@@ -93,7 +94,7 @@ pub(crate) trait KeyOrder<A> {
         ensures { result ≡ key_cmp (key_seen bytes_of a.now) (key_seen bytes_of b.now) };
 }
 
-/// The order of the keys of a family.
+/// The order of the keys of an address family.
 pub(crate) struct OfFamily<F: Family> {
     family: PhantomData<F>,
 }

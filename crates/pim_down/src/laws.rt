@@ -1,5 +1,5 @@
-//! Laws of the definitions: what runs mean together, and what a message means for one machine. Nothing here is to be
-//! called.
+//! Laws of the definitions: what runs mean together, and what a message means for one machine.
+//! These functions do nothing; their clauses are the laws.
 
 ghost use Rattle.pim_down.specs.Laws.{ChangeActsAtItsKey, AMapHasOneList, KeysAreToldApart, EventActsAtEachKey};
 ghost use Rattle.pim_down.specs.Laws.{EndActsAtEachKey, EventKeepsTheOrder, HearingKeepsTheOrder, HearingKeepsSound};
@@ -7,32 +7,32 @@ ghost use Rattle.pim_down.specs.Laws.{HearingLeavesOtherPorts, HearingActsAtEach
 ghost use Rattle.pim_down.specs.Laws.{RunKeepsSound, RunKeepsItsBounds, SilenceActsAtEachKey, EveryStateHasARun};
 ghost use Rattle.pim_down.specs.Laws.{EchoNamesAMachine, RunKeepsTheOrder, TimersRunOut};
 
-/// A change of one machine leaves the others.
+/// A change of one machine leaves all others unchanged.
 pub fn change_acts_at_its_key()
     ensures { ChangeActsAtItsKey }
 {}
 
-/// A map from keys to machines has one list in key order.
+/// A map from keys to machines has at most one list in key order.
 pub fn a_map_has_one_list()
     ensures { AMapHasOneList }
 {}
 
-/// Running to a moment until nothing is due, and then to a later one, is running to the later one.
+/// A run that reaches a moment, followed by a run to a later one, is a run to the later one.
 pub fn run_goes_on()
     ensures { RunGoesOn }
 {}
 
-/// A run has one end.
+/// All runs from a state up to a moment end alike.
 pub fn run_has_one_end()
     ensures { RunHasOneEnd }
 {}
 
-/// An event makes of each machine what the tables say.
+/// An event does to the machine at each key what the tables say.
 pub fn event_acts_at_each_key()
     ensures { EventActsAtEachKey }
 {}
 
-/// End of Message makes of each machine what the table says.
+/// End of Message does to the machine at each key what the table says.
 pub fn end_acts_at_each_key()
     ensures { EndActsAtEachKey }
 {}
@@ -42,7 +42,7 @@ pub fn hearing_keeps_the_order()
     ensures { HearingKeepsTheOrder }
 {}
 
-/// Hearing a message on one port leaves the machines of the others.
+/// Hearing a message on one port leaves the machines of the other ports unchanged.
 pub fn hearing_leaves_other_ports()
     ensures { HearingLeavesOtherPorts }
 {}
@@ -52,12 +52,14 @@ pub fn event_keeps_the_order()
     ensures { EventKeepsTheOrder }
 {}
 
-/// A message makes of each machine what End of Message makes of the effects of its events, one after the other.
+/// A message does to the machine at each key what its events do, one after the other, and then End
+/// of Message.
 pub fn hearing_acts_at_each_key()
     ensures { HearingActsAtEachKey }
 {}
 
-/// A run keeps the ports and the limit, and ends between its start and the moment, or at the later of both.
+/// A run keeps the ports and the limit. It ends between its start and the later of start and
+/// moment.
 pub fn run_keeps_its_bounds()
     ensures { RunKeepsItsBounds }
 {}
@@ -67,7 +69,7 @@ pub fn run_keeps_the_order()
     ensures { RunKeepsTheOrder }
 {}
 
-/// A run that reaches a moment leaves of each machine what the silence until then makes of it.
+/// A run that reaches a moment leaves at each key what the silence until then makes of the machine.
 pub fn silence_acts_at_each_key()
     ensures { SilenceActsAtEachKey }
 {}
@@ -77,27 +79,27 @@ pub fn every_state_has_a_run()
     ensures { EveryStateHasARun }
 {}
 
-/// Each timer that fires makes the records lighter, and time that passes leaves their weight.
+/// Each timer that fires lowers the weight of the records, and time that passes keeps it.
 pub fn timers_run_out()
     ensures { TimersRunOut }
 {}
 
-/// An echo names a machine that was held, whose prune-pending timer ended when it was told.
+/// A PruneEcho names a machine that was held, and whose Prune-Pending Timer ends at that moment.
 pub fn echo_names_a_machine()
     ensures { EchoNamesAMachine }
 {}
 
-/// Two keys compare as equal exactly if they are one.
+/// Two keys compare as equal exactly if they are the same key.
 pub fn keys_are_told_apart()
     ensures { KeysAreToldApart }
 {}
 
-/// A run keeps what is true of the machines between calls.
+/// A run keeps the machines sound.
 pub fn run_keeps_sound()
     ensures { RunKeepsSound }
 {}
 
-/// So does a message that is heard.
+/// A message that is heard, and for which there is room, keeps the machines sound.
 pub fn hearing_keeps_sound()
     ensures { HearingKeepsSound }
 {}

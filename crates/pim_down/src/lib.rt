@@ -1,11 +1,26 @@
-//! The downstream machines of PIM sparse mode (RFC 7761, 4.5): for each port those of (*,G), (S,G) and
-//! (S,G,rpt), what a Join/Prune message does to them, and what time does to them.
+//! The downstream per-interface state machines of PIM sparse mode (RFC 7761, 4.5.1 to 4.5.3,
+//! Figures 2 to 4): (*,G), (S,G) and (S,G,rpt) state of each port, with its Expiry Timer and
+//! Prune-Pending Timer.
 //!
-//! Proved: contracts see `Ports` as a finite map from keys to machines with countdowns. `hear` acts by the transition
-//! tables on that map, or refuses with nothing changed; `run_to` is the machine that counts milliseconds, stopped at
-//! its first echo, and looks at one timer for each that fires and at one more at most; `next_due` is the first moment
-//! at which that machine fires a timer. No machine is in a Tmp state between calls, and no port has more records than its
-//! limit.
+//! Contracts see [`Ports`] as the machines that are held, with countdowns, the present moment, the
+//! number of ports and the limit of records per port.
+//!
+//! - `hear` with `Ok` does what the tables say: event by event, then End of Message once. A
+//!   Join(*,G) counts only with the RP to which the route table leads G. Other ports stay
+//!   unchanged. `Full` comes exactly if `needed` exceeds the limit, `Memory` only for a message
+//!   that makes a record. A refusal changes nothing.
+//! - `run_to` runs up to a moment or the first PruneEcho, as if it counted milliseconds. It ends
+//!   with `Reached` at the later of now and the moment. `run_counted` also returns its looks at
+//!   timers: one for each that fires, and at most one more. `next_due` returns the first moment at
+//!   which a timer fires.
+//! - The other calls read. Between calls `is_sound` holds: records are real and in key order, none
+//!   is in a Tmp state, and no port exceeds the limit. The public functions of `laws` state laws.
+//!
+//! The caller ensures: 1 to 64 ports, a limit of 1 to 100,000, and a port that exists for `hear`.
+//! An override interval is at most 98,302 ms, a moment at most 10^15 ms.
+//!
+//! The code holds deadlines, and their timers in a list in the order in which they fire. So time
+//! alone changes no record, and a run looks only at the first timer.
 #![tactic(auto)]
 
 mod after;

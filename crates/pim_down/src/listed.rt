@@ -1,4 +1,4 @@
-//! Events in a list of their own, counted and heard.
+//! Counts and hears the events of a message from a list of their own.
 
 ghost use Rattle.std.specs.Prelude.{◌≡◌, ◌≤◌, ◌<◌, ◌+◌, ℕ, true, false, map, length, slice_index_or, Some};
 ghost use Rattle.std.specs.List.{list_any};
@@ -22,14 +22,14 @@ use pim_addr::{Family, Routes};
 use pim_jp::{Entries, JpView};
 use sorted_blocks::Place;
 
-/// The last Join(*,G) that was heard of listed events: its group, and where the events behind it begin.
+/// The last Join(*,G) that was heard from the list: its group, and the index after it.
 #[derive(Clone, Copy)]
 pub(crate) struct LastStar<A> {
     group: Option<A>,
     behind: usize,
 }
 
-/// How many of these events make a record that isn't held.
+/// How many of these events create a record that isn't held.
 pub(crate) fn count_events<F: Family>(
     records: &Store<F::Addr, OfFamily<F>>,
     port: usize,
@@ -50,7 +50,8 @@ pub(crate) fn count_events<F: Family>(
     count
 }
 
-/// A Join(*,G) comes to the (S,G,rpt) machines of its group, which it changes only where these events name them.
+/// Applies Join(*,G) to the (S,G,rpt) machines of its group. It changes only machines that these
+/// events name.
 fn join_named<F: Family>(
     records: &mut Store<F::Addr, OfFamily<F>>,
     near: &mut Place,
@@ -73,8 +74,9 @@ fn join_named<F: Family>(
     }
 }
 
-/// A Join(*,G) comes to the (S,G,rpt) machines of its group: where the last one came to the same group, to those that the events
-/// since then name, since the others are as it left them, and else to all.
+/// Applies Join(*,G) to the (S,G,rpt) machines of its group. If the last Join(*,G) was of the same
+/// group, it visits only those that the events since then name, since the others don't change.
+/// Otherwise it visits all.
 fn join_listed<F: Family>(
     records: &mut Store<F::Addr, OfFamily<F>>,
     near: &mut Place,
@@ -97,7 +99,7 @@ fn join_listed<F: Family>(
     }
 }
 
-/// Lets the event of this place act, where those before it have acted. The answer is the last Join(*,G) from then on.
+/// Applies the event at this index, after those before it. Returns the last Join(*,G) so far.
 fn act_listed<F: Family>(
     records: &mut Store<F::Addr, OfFamily<F>>,
     near: &mut Place,
@@ -134,8 +136,9 @@ fn act_listed<F: Family>(
 
 /// Hears these events, one after another.
 ///
-/// It looks up each event once, and one of an (S,G,rpt) machine once more where a Join(*,G) of its group comes behind it. It goes
-/// once through the (S,G,rpt) machines of each group that has a Join(*,G), where the events of each group stand together.
+/// It looks up each event once, and one of an (S,G,rpt) machine once more if a Join(*,G) of its
+/// group follows it. If the events of each group are side by side, it walks once through the
+/// (S,G,rpt) machines of each group that has a Join(*,G).
 pub(crate) fn hear_events<F: Family>(
     records: &mut Store<F::Addr, OfFamily<F>>,
     port: usize,
@@ -159,7 +162,7 @@ pub(crate) fn hear_events<F: Family>(
     }
 }
 
-/// Whether a joined list of the group has a Join(*,G).
+/// Whether a joined list of the group has a Join(*,G) whose RP is RP(G).
 fn has_star_join<F: Family>(routes: &Routes<F>, group: F::Addr, joined: Entries<'_, F>) -> bool
     ensures { result ≡ list_any is_star_join
         (list_events (known_in F.family routes.now) true (F.bytes_of group) joined.entry) }
@@ -177,7 +180,7 @@ fn has_star_join<F: Family>(routes: &Routes<F>, group: F::Addr, joined: Entries<
     false
 }
 
-/// Of each set of a message, by its number, whether it has a Join(*,G).
+/// For each set of a message, by its number, whether it has a Join(*,G) whose RP is RP(G).
 pub(crate) fn star_joins<F: Family>(routes: &Routes<F>, message: &JpView<'_, F>) -> [bool; 256]
     ensures { (i : ℕ) (d : GroupSet) → i < length message.now.sets →
         slice_index_or result i false

@@ -1,4 +1,6 @@
-//! One downstream machine: its state, its timers, and what each event of a message does to it.
+//! One downstream machine: its state, its timers, and what each event of a message does to it. A
+//! second Prune in Prune-Pending changes neither timer: if it restarted the Prune-Pending Timer,
+//! repeated Prunes could put the end off forever.
 
 ghost use Rattle.std.specs.Prelude.{◌≡◌, Some};
 ghost use Rattle.pim_down.specs.declared.machine.Machine.{Machine};
@@ -8,38 +10,40 @@ ghost use Rattle.pim_down.specs.Tables.{greater, on_join, on_prune, on_star_join
 use crate::held::{Start, Timed};
 use crate::key::Key;
 
-/// The states of the downstream machines (RFC 7761, figures 2 to 4). A machine in NoInfo isn't held.
+/// The states of the downstream machines (RFC 7761, Figures 2 to 4). A machine in NoInfo isn't
+/// held.
 #[derive(Clone, Copy, Debug, PartialEq, Eq)]
 pub enum State {
-    /// Joined: of (*,G) and (S,G).
+    /// Join (J), of (*,G) and (S,G).
     Join,
-    /// A prune was heard, and other neighbours may still override it.
+    /// Prune-Pending (PP): a Prune was heard, and other neighbours may still override it.
     PrunePending,
-    /// Pruned: of (S,G,rpt).
+    /// Prune (P), of (S,G,rpt).
     Prune,
-    /// Pruned before this message, which has a Join(*,G): only while it is heard.
+    /// PruneTmp (P'): in Prune before the message, which has a Join(*,G). Only while it is heard.
     PruneTmp,
-    /// Prune-Pending before this message, which has a Join(*,G): only while it is heard.
+    /// Prune-Pending-Tmp (PP'): in Prune-Pending before the message, which has a Join(*,G). Only
+    /// while it is heard.
     PrunePendingTmp,
 }
 
-/// A prune-pending timer that runs, as it is told.
+/// A Prune-Pending Timer that runs, as a countdown.
 #[derive(Clone, Copy, Debug, PartialEq, Eq)]
 pub struct Pending {
-    /// How long it still runs, in milliseconds; at 0 it is due.
+    /// The time left in milliseconds; at 0 the timer is due.
     pub ends_in: u64,
-    /// Whether the port had more than one neighbour when it started.
+    /// Whether the port had more than one neighbour when the timer started.
     pub several: bool,
 }
 
-/// A machine that is held, as it is told.
+/// A machine that is held, with countdowns.
 #[derive(Clone, Copy, Debug, PartialEq, Eq)]
 pub struct Machine {
     /// Its state.
     pub state: State,
-    /// How long its expiry timer still runs, in milliseconds; at 0 it is due, and `None` is never.
+    /// The time left of its Expiry Timer in milliseconds; at 0 it is due, and `None` is never.
     pub expires_in: Option<u64>,
-    /// Its prune-pending timer, where one runs.
+    /// Its Prune-Pending Timer, if one runs.
     pub pending: Option<Pending>,
 }
 
@@ -52,7 +56,7 @@ pub struct Record<A> {
     pub machine: Machine,
 }
 
-/// The greater of two times, of which `None` is never.
+/// The greater of two times, where `None` is never.
 fn greater(a: Option<u64>, b: Option<u64>) -> Option<u64>
     ensures { result ≡ greater a b }
 {
@@ -62,7 +66,8 @@ fn greater(a: Option<u64>, b: Option<u64>) -> Option<u64>
     }
 }
 
-/// A Join(*,G) at a (*,G) machine, or a Join(S,G) at an (S,G) machine.
+/// Receive Join(*,G) at a (*,G) machine, or Receive Join(S,G) at an (S,G) machine (RFC 7761, 4.5.1
+/// and 4.5.2).
 #[tactic(auto, unfolding(crate::specs::Tables::on_join))]
 pub(crate) fn on_join(start: Start, held: Option<Timed>) -> Option<Timed>
     ensures { machine_seen result ≡ on_join (start_seen start) (machine_seen held) }
@@ -89,7 +94,8 @@ pub(crate) fn on_join(start: Start, held: Option<Timed>) -> Option<Timed>
     }
 }
 
-/// A Prune(*,G) at a (*,G) machine, or a Prune(S,G) at an (S,G) machine.
+/// Receive Prune(*,G) at a (*,G) machine, or Receive Prune(S,G) at an (S,G) machine (RFC 7761,
+/// 4.5.1 and 4.5.2).
 #[tactic(auto, unfolding(crate::specs::Tables::on_prune))]
 pub(crate) fn on_prune(start: Start, held: Option<Timed>) -> Option<Timed>
     ensures { machine_seen result ≡ on_prune (start_seen start) (machine_seen held) }
@@ -105,7 +111,8 @@ pub(crate) fn on_prune(start: Start, held: Option<Timed>) -> Option<Timed>
     }
 }
 
-/// The state of an (S,G,rpt) machine behind a Join(*,G) of its group. Its timers stay.
+/// The state of an (S,G,rpt) machine after a Join(*,G) of its group (RFC 7761, 4.5.3). Its timers
+/// stay.
 #[tactic(auto, unfolding(crate::specs::Tables::on_star_join))]
 pub(crate) fn star_joined(state: State) -> State
     ensures { (held : Machine) → held.state ≡ state →
@@ -118,7 +125,7 @@ pub(crate) fn star_joined(state: State) -> State
     }
 }
 
-/// A Join(*,G) at an (S,G,rpt) machine of the group.
+/// Receive Join(*,G) at an (S,G,rpt) machine of the group (RFC 7761, 4.5.3).
 pub(crate) fn on_star_join(machine: Timed) -> Timed
     ensures { Some (timed_seen result) ≡ on_star_join (Some (timed_seen machine)) }
 {
@@ -128,7 +135,7 @@ pub(crate) fn on_star_join(machine: Timed) -> Timed
     }
 }
 
-/// A Prune(S,G,rpt) at its machine.
+/// Receive Prune(S,G,rpt) at its machine (RFC 7761, 4.5.3).
 #[tactic(auto, unfolding(crate::specs::Tables::on_rpt_prune))]
 pub(crate) fn on_rpt_prune(start: Start, held: Option<Timed>) -> Option<Timed>
     ensures { machine_seen result ≡ on_rpt_prune (start_seen start) (machine_seen held) }

@@ -1,4 +1,6 @@
-//! A message's entries, counted and heard.
+//! Counts and hears the entries of a message. The new records are counted, and memory for them is
+//! reserved in one step, before the first change: so a refusal changes nothing. End of Message
+//! comes once, after the last set, since several sets may be of one group.
 
 ghost use Rattle.std.specs.Prelude.{◌≡◌, ◌≤◌, ◌<◌, ◌+◌, ℕ, true, false, List, map, length, slice_index_or, OnOk, OnErr, IfSome};
 ghost use Rattle.std.specs.List.{flat_map, list_any};
@@ -32,7 +34,7 @@ use pim_jp::{Entries, JpView, Sets};
 use sorted_blocks::Place;
 use std::alloc::Global;
 
-/// Whether the event makes a record where none is held.
+/// Whether the event creates a record where none is held.
 fn creates<A>(event: &Event<A>) -> bool
     ensures { (bytes_of : A → List ℕ) → result ≡ creates (event_seen bytes_of event.now) }
 {
@@ -42,7 +44,8 @@ fn creates<A>(event: &Event<A>) -> bool
     }
 }
 
-/// Whether the event makes a record that isn't held. It begins to look near this place, and leaves one there.
+/// Whether the event creates a record that isn't held. The search begins near a place, and leaves
+/// the place that it found.
 pub(crate) fn is_new<F: Family>(
     records: &Store<F::Addr, OfFamily<F>>,
     near: &mut Place,
@@ -63,7 +66,7 @@ pub(crate) fn is_new<F: Family>(
     creates(event) && found.is_err()
 }
 
-/// How many entries of one list make a record that isn't held.
+/// How many entries of one list create a record that isn't held.
 fn count_list<F: Family>(
     records: &Store<F::Addr, OfFamily<F>>,
     near: &mut Place,
@@ -90,7 +93,8 @@ fn count_list<F: Family>(
     count
 }
 
-/// Hears the entries of one list of a message. The answer is whether it had a Join(*,G).
+/// Hears the entries of one list of a message. Returns whether it had a Join(*,G) whose RP is
+/// RP(G).
 fn hear_list<F: Family>(
     records: &mut Store<F::Addr, OfFamily<F>>,
     near: &mut Place,
@@ -138,8 +142,8 @@ fn hear_list<F: Family>(
     starred
 }
 
-/// Where to begin to look for what a list names: where the list before it ended, or, where sets of one group follow one another, the
-/// same list of the set before.
+/// Hints where searches for the entries of a list begin: where the list before ended. Where sets of
+/// one group follow one another, a search begins where the same list of the set before ended.
 #[derive(Drop)]
 struct Begin<F: Family> {
     group: Option<F::Addr>,
@@ -148,7 +152,7 @@ struct Begin<F: Family> {
 }
 
 impl<F: Family> Begin<F> {
-    /// The beginning.
+    /// The start of the records.
     fn new() -> Self {
         Begin {
             group: None,
@@ -164,7 +168,7 @@ impl<F: Family> Begin<F> {
         }
     }
 
-    /// The joined sources of a set of this group were looked for.
+    /// The search for the joined list of this group is over.
     fn turn(&mut self, group: F::Addr) {
         if self.group != Some(group) {
             self.pruned = self.joined;
@@ -173,7 +177,7 @@ impl<F: Family> Begin<F> {
     }
 }
 
-/// How many entries of these sets make a record that isn't held.
+/// How many entries of these sets create a record that isn't held, repeats counted.
 pub(crate) fn count_sets<F: Family>(
     records: &Store<F::Addr, OfFamily<F>>,
     port: usize,
@@ -215,11 +219,13 @@ pub(crate) fn count_sets<F: Family>(
     count
 }
 
-/// Hears the sets of a message. The answer tells of each, by its number, whether it had a Join(*,G).
+/// Hears the sets of a message. Returns for each, by its number, whether it had a Join(*,G) whose
+/// RP is RP(G).
 ///
-/// It looks up each entry once, and a Prune(S,G,rpt) once more where a Join(*,G) of its group comes behind it. It goes
-/// once through the (S,G,rpt) machines of each group that has a Join(*,G). Where a group may come again, each Join(*,G)
-/// takes a step for each set before its own, too: 32,385 in all at most, since a message has no more than 255 sets.
+/// It looks up each entry once, and a Prune(S,G,rpt) once more if a Join(*,G) of its group follows
+/// it. It walks once through the (S,G,rpt) machines of each group that has a Join(*,G). Where a
+/// group may come again, each Join(*,G) takes a step for each set before its own: 32,385 steps at
+/// most, since a message has at most 255 sets.
 pub(crate) fn hear_sets<F: Family>(
     records: &mut Store<F::Addr, OfFamily<F>>,
     port: usize,
@@ -275,7 +281,8 @@ pub(crate) fn hear_sets<F: Family>(
     joined
 }
 
-/// How many events of a message, which may stand in a list of their own, make a record that isn't held.
+/// How many events of a message create a record that isn't held, repeats counted. They may be in a
+/// list of their own.
 fn count_fresh<F: Family>(
     records: &Store<F::Addr, OfFamily<F>>,
     port: usize,
@@ -296,8 +303,8 @@ fn count_fresh<F: Family>(
     }
 }
 
-/// Hears the events of a message, which may stand in a list of their own. The answer tells of each set, by its number, whether
-/// it had a Join(*,G).
+/// Hears the events of a message, which may be in a list of their own. Returns for each set, by its
+/// number, whether it had a Join(*,G) whose RP is RP(G).
 fn hear_all<F: Family>(
     records: &mut Store<F::Addr, OfFamily<F>>,
     port: usize,
@@ -327,7 +334,9 @@ fn hear_all<F: Family>(
     }
 }
 
-/// Hears a message on a port, or refuses with nothing changed. All growths come before the first change.
+/// Hears a message on a port, or refuses it and changes no record. A refusal as `Full` keeps the
+/// capacity, too; one as `Memory` may raise it. All growth of the records comes before the first
+/// change.
 pub(crate) fn hear_message<F: Family>(
     alloc: Global,
     records: &mut Store<F::Addr, OfFamily<F>>,

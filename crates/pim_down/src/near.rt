@@ -1,17 +1,18 @@
-//! A place near which a look-up begins.
+//! Hints where look-ups begin.
 
 use sorted_blocks::Place;
 
-/// Where a look-up among the records of some `Ports` begins. It is only a hint: the answer is the same wherever a
-/// look-up begins, also where the records changed since, or where the hint came from other `Ports`. A look-up whose
-/// answer stands at its hint or right behind costs three comparisons at most; else it goes on by halves.
+/// Where a look-up among the records of some `Ports` begins. It is only a hint and never affects
+/// what a look-up returns. The records may have changed since, and it may come from other `Ports`.
+/// A look-up whose result is at its hint or right after it costs at most three comparisons;
+/// otherwise it goes on with a binary search.
 #[derive(Clone, Copy, Drop)]
 pub struct Near {
-    /// A place that was looked at, if any was.
+    /// A place that was looked at, if there is one.
     pub(crate) place: Option<Place>,
 }
 
 impl Near {
-    /// No place: the look-up begins from nothing, by halves among all records.
+    /// No hint: the look-up is a binary search among all records.
     pub const UNKNOWN: Near = Near { place: None };
 }

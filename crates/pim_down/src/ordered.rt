@@ -1,7 +1,11 @@
-//! The events of a message in key order, where its entries come in none: then look-ups go onward, and read what lies side by side.
+//! Puts the events of a message in key order, if its entries are far from it. In no order each
+//! look-up waits for memory at each comparison; in key order look-ups go onward through adjacent
+//! records.
 //!
-//! What events leave goes by the order of those of one machine alone, but for a Join(*,G), which acts on the (S,G,rpt) machines
-//! of its group, too (RFC 7761, 4.5.3).
+//! What events leave depends only on the order of the events of each machine, which a stable sort
+//! keeps. A Join(*,G) is the exception: it also acts on the (S,G,rpt) machines of its group (RFC
+//! 7761, 4.5.3). The code tests before and after a sort whether each Join(*,G) comes first, so that
+//! no proof depends on the order that the sort makes.
 
 ghost use Rattle.std.specs.Prelude.{◌≡◌, ℕ, List, true, ◌++◌, map, OnOk, IfOk, IfSome};
 ghost use Rattle.std.specs.List.{list_any};
@@ -34,7 +38,7 @@ fn compare_events<F: Family>(a: &Event<F::Addr>, b: &Event<F::Addr>) -> Ordering
     compare_whats::<F>(&a.what, &b.what)
 }
 
-/// The (S,G) machine of a source, or else (*,G).
+/// The (S,G) machine unchanged; (*,G) for all other machines.
 fn source_or_star<A: Copy>(what: What<A>) -> What<A>
     ensures { (bytes_of : A → List ℕ) → what_seen bytes_of result ≡ source_or_star (what_seen bytes_of what) }
 {
@@ -44,7 +48,7 @@ fn source_or_star<A: Copy>(what: What<A>) -> What<A>
     }
 }
 
-/// By group, and of one group those of (S,G) machines behind the others, by source.
+/// By group, and within a group (*,G) and (S,G,rpt) before (S,G), these by source.
 #[tactic(auto, unfolding(crate::specs::Key::key_cmp))]
 fn compare_sources<F: Family>(a: &Event<F::Addr>, b: &Event<F::Addr>) -> Ordering
     ensures { result ≡ key_cmp (source_key_of (event_seen F.bytes_of a.now))
@@ -87,7 +91,7 @@ fn entry_count<F: Family>(message: &JpView<'_, F>) -> usize {
     count
 }
 
-/// The events of a message, as they come.
+/// The events of a message, in its order. An error if memory for the list is refused.
 fn events_of<F: Family>(
     alloc: Global,
     routes: &Routes<F>,
@@ -106,14 +110,14 @@ fn events_of<F: Family>(
     Ok(events)
 }
 
-/// Whether it is a Join(*,G), or names an (S,G,rpt) machine, of this group.
+/// Whether the event is a Join(*,G) of this group or names one of its (S,G,rpt) machines.
 fn is_of_rpts_of<F: Family>(event: &Event<F::Addr>, group: F::Addr) -> bool
     ensures { result ≡ is_of_rpts_of (F.bytes_of group) (event_seen F.bytes_of event.now) }
 {
     event.group == group && (is_star_join(event) || matches!(event.what, What::Rpt(_)))
 }
 
-/// Whether one of these events is a Join(*,G), or names an (S,G,rpt) machine, of this group.
+/// Whether one of these events is a Join(*,G) of this group or names one of its (S,G,rpt) machines.
 fn have_rpts_of<F: Family>(events: &[Event<F::Addr>], group: F::Addr) -> bool
     ensures { result ≡ list_any (is_of_rpts_of (F.bytes_of group)) (map (event_seen F.bytes_of) events.now) }
 {
@@ -125,8 +129,9 @@ fn have_rpts_of<F: Family>(events: &[Event<F::Addr>], group: F::Addr) -> bool
     false
 }
 
-/// Whether no Join(*,G) stands behind another one of its group, or behind an event of one of its (S,G,rpt) machines. It takes a
-/// step for each event before a Join(*,G): fewer than two million in all, since a message has no more than 255.
+/// Whether no Join(*,G) follows another one of its group, or an event of one of the group's
+/// (S,G,rpt) machines. It takes a step for each event before a Join(*,G): fewer than two million,
+/// since a message has at most 255 of these.
 fn stars_come_first<F: Family>(events: &[Event<F::Addr>]) -> bool
     ensures { result ≡ true → StarsComeFirst (map (event_seen F.bytes_of) events.now) }
 {
@@ -139,7 +144,8 @@ fn stars_come_first<F: Family>(events: &[Event<F::Addr>]) -> bool
     true
 }
 
-/// Puts events into key order, those of one machine in the order in which they came. Where memory is refused they stay.
+/// Sorts events in key order. Events of one machine keep their order. An error if memory is
+/// refused.
 fn put_in_key_order<F: Family>(events: &mut Vec<Event<F::Addr>>) -> Result<(), AllocError>
     ensures permutation { IsPermutation events.old.items events.new.items }
     ensures stable { IsStableBy (λ x y. comes_before (event_seen F.bytes_of x) (event_seen F.bytes_of y))
@@ -148,8 +154,9 @@ fn put_in_key_order<F: Family>(events: &mut Vec<Event<F::Addr>>) -> Result<(), A
     events.sort_by(|a, b| compare_events::<F>(a, b))
 }
 
-/// Puts events in the order of their groups, and in each group those of (S,G) machines behind the others and into key order. Those of one
-/// machine, and all others of the group, stay in the order in which they came. Where memory is refused all stay.
+/// Sorts events by group, and within a group the events of (S,G) machines in key order after the
+/// others. The events of one machine, and all others of the group, keep their order. An error if
+/// memory is refused.
 fn put_sources_in_key_order<F: Family>(events: &mut Vec<Event<F::Addr>>) -> Result<(), AllocError>
     ensures permutation { IsPermutation events.old.items events.new.items }
     ensures stable { IsStableBy (λ x y. comes_before_by_source (event_seen F.bytes_of x) (event_seen F.bytes_of y))
@@ -158,7 +165,8 @@ fn put_sources_in_key_order<F: Family>(events: &mut Vec<Event<F::Addr>>) -> Resu
     events.sort_by(|a, b| compare_sources::<F>(a, b))
 }
 
-/// Events in key order, where no Join(*,G) stands behind what it acts on; `None` where memory is refused.
+/// The events in key order, if still no Join(*,G) follows what it acts on; `None` if one does or if
+/// memory is refused.
 fn all_in_key_order<F: Family>(mut events: Vec<Event<F::Addr>>) -> Option<Vec<Event<F::Addr>>>
     requires { StarsComeFirst (map (event_seen F.bytes_of) events.items) }
     ensures { IfSome result (λ ordered. AreAlike (map (event_seen F.bytes_of) ordered.items)
@@ -174,7 +182,7 @@ fn all_in_key_order<F: Family>(mut events: Vec<Event<F::Addr>>) -> Option<Vec<Ev
     }
 }
 
-/// Events of which those of (S,G) machines are in key order; `None` where memory is refused.
+/// The events with those of (S,G) machines in key order; `None` if memory is refused.
 fn sources_in_key_order<F: Family>(mut events: Vec<Event<F::Addr>>) -> Option<Vec<Event<F::Addr>>>
     ensures { IfSome result (λ ordered. AreAlike (map (event_seen F.bytes_of) ordered.items)
         (map (event_seen F.bytes_of) events.items)) }
@@ -185,8 +193,9 @@ fn sources_in_key_order<F: Family>(mut events: Vec<Event<F::Addr>>) -> Option<Ve
     Some(events)
 }
 
-/// The events of a message in key order, or where a Join(*,G) stands behind what it acts on, those of (S,G) machines. `None` where
-/// the entries stand near it as they come, and where memory is refused: then they are heard as they come.
+/// The events of a message in key order. Where a Join(*,G) follows what it acts on, only those of
+/// (S,G) machines are sorted. `None` where the entries are near key order or memory is refused; the
+/// caller then hears them in message order.
 pub(crate) fn in_key_order<F: Family>(
     alloc: Global,
     routes: &Routes<F>,

@@ -1,4 +1,4 @@
-//! The downstream machines of a router's ports.
+//! The public calls on the downstream machines of a router's ports.
 
 ghost use Rattle.std.specs.Prelude.{◌≡◌, ◌≤◌, ◌<◌, [], None, max, option_map, OnOk, OnErr};
 ghost use Rattle.std.specs.List.{filter};
@@ -32,15 +32,16 @@ use pim_jp::JpView;
 use std::alloc::Global;
 use std::marker::{Model, PhantomData};
 
-/// The downstream machines of all ports, with their timers (RFC 7761, 4.5). It begins at the moment 0.
+/// The downstream machines of all ports, with their timers (RFC 7761, 4.5). They begin at the
+/// moment 0.
 #[derive(Debug, Drop)]
 pub struct Ports<F: Family> {
     ports: usize,
     limit: usize,
     moment: u64,
-    /// In key order; no timer of theirs ends before the present moment.
+    /// In key order. No timer ends before the present moment.
     records: Store<F::Addr, OfFamily<F>>,
-    /// For what is put into key order while a message is heard.
+    /// For the list into which `hear` may sort the events of a message.
     alloc: Global,
     family: PhantomData<F>,
 }
@@ -62,7 +63,7 @@ impl<F: Family> Model for Ports<F> {
 }
 
 impl<F: Family> Ports<F> {
-    /// Machines of so many ports, 1 to 64, none of them held, with room for so many records a port, 1 to 100,000.
+    /// No machines on `ports` ports, 1 to 64, with a limit of records per port, 1 to 100,000.
     pub fn new(alloc: Global, ports: usize, limit: usize) -> Self
         requires some { 1 ≤ ports }
         requires ports { ports ≤ 64 }
@@ -87,21 +88,21 @@ impl<F: Family> Ports<F> {
         self.moment
     }
 
-    /// How many ports there are.
+    /// The number of ports.
     pub fn port_count(&self) -> usize
         ensures { result ≡ self.now.ports }
     {
         self.ports
     }
 
-    /// How many records a port may have.
+    /// How many records each port may have.
     pub fn limit(&self) -> usize
         ensures { result ≡ self.now.limit }
     {
         self.limit
     }
 
-    /// How many records this port has; a port that isn't there has none.
+    /// How many records this port has; 0 for a port that doesn't exist.
     pub fn count_on(&self, port: usize) -> usize
         ensures { result ≡ count_on port self.now.records }
     {
@@ -111,7 +112,7 @@ impl<F: Family> Ports<F> {
         count_on::<F>(&self.records, port)
     }
 
-    /// How many (S,G,rpt) records this port has; a port that isn't there has none.
+    /// How many (S,G,rpt) records this port has; 0 for a port that doesn't exist.
     pub fn rpt_count_on(&self, port: usize) -> usize
         ensures { result ≡ rpt_count_on port self.now.records }
     {
@@ -121,17 +122,17 @@ impl<F: Family> Ports<F> {
         rpt_count_on::<F>(&self.records, port)
     }
 
-    /// A law: what is true of the machines between calls. Each record's port is there, its group is a group, its
-    /// source, where it has one, a valid source, and its state and timers go together; the records stand in key order,
-    /// and no port has more than the limit. It does nothing.
+    /// A law: what holds of the machines between calls. For each record its port exists, its group
+    /// and source are valid addresses, and its state and timers go together. Records are in key
+    /// order, and no port exceeds the limit. The call does nothing.
     pub fn is_sound(&self)
         ensures { IsSound F.family self.now }
     {
         let _ports = self.ports;
     }
 
-    /// The first moment, from now on, at which a timer fires; `None` where none ever does. It looks at the timer that
-    /// fires first.
+    /// The first moment, from the present one on, at which a timer fires; `None` if none ever does.
+    /// It looks at the timer that fires first.
     pub fn next_due(&self) -> Option<u64>
         ensures { IsNextDue self.now result }
     {
@@ -147,12 +148,13 @@ impl<F: Family> Ports<F> {
         state
     }
 
-    /// The same as `state_of`, looked for from near a place; whatever place that is, the answer is right. Beside it
-    /// stands the place of the machine's record, or where that would stand.
+    /// The same as `state_of`, with a hint where the look-up begins. Also returns the place of the
+    /// machine's record, or where it would be.
     ///
-    /// Where the hint is of this record, it costs one comparison, of the record before two, and of where this one would
-    /// stand three at most; of an earlier record, a search in a block of up to 512 records and a few comparisons; else a
-    /// search by halves.
+    /// With the hint at this record it costs one comparison, and at the record before it two. At
+    /// the place where the record would be it costs at most three. With a hint at an earlier record
+    /// it costs a search in a block of up to 512 records and a few comparisons. Otherwise it costs
+    /// a binary search.
     pub fn state_of_near(
         &self,
         port: usize,
@@ -171,7 +173,7 @@ impl<F: Family> Ports<F> {
         }
     }
 
-    /// The machines that are held, in key order, with what is left of their timers.
+    /// The machines that are held, in key order, with the time left of their timers.
     pub fn records(&self) -> Records<'_, F>
         ensures records { result ≡ self.now.records }
         ensures sound { IsSound F.family self.now }
@@ -179,8 +181,8 @@ impl<F: Family> Ports<F> {
         Records::new(self.records.iter(), self.moment)
     }
 
-    /// The machines of one port that are held, in key order, with what is left of their timers; none where the port
-    /// isn't there.
+    /// The machines of one port that are held, in key order, with the time left of their timers;
+    /// none for a port that doesn't exist.
     pub fn records_on(&self, port: usize) -> Records<'_, F>
         ensures { result ≡ filter (is_on port) self.now.records }
     {
@@ -190,8 +192,8 @@ impl<F: Family> Ports<F> {
         Records::new(on_port::<F>(&self.records, port), self.moment)
     }
 
-    /// The least group above this one, or of all, that has a record on the port; `None` where none has. It looks by
-    /// halves, and takes no memory.
+    /// The least group after this one, or of all, that has a record on the port; `None` if none
+    /// has. It is a binary search, and takes no memory.
     pub fn group_after(&self, port: usize, group: Option<F::Addr>) -> Option<F::Addr>
         ensures { option_map F.bytes_of result ≡ group_after port (option_map F.bytes_of group) self.now.records }
     {
@@ -199,12 +201,12 @@ impl<F: Family> Ports<F> {
         next
     }
 
-    /// The same as `group_after`, looked for from near a place; whatever place that is, the answer is right. Beside it
-    /// stands the place of the group's first record on the port, or where that would stand.
+    /// The same as `group_after`, with a hint where the look-up begins. Also returns the place of
+    /// the group's first record on the port, or where it would be.
     ///
-    /// Where the hint is of the last record of this group, or of the answer, it costs three comparisons at most; where
-    /// it is of an earlier record, a search in a block of up to 512 records and a few comparisons; else a search by
-    /// halves. It takes no memory.
+    /// With the hint at the last record of this group, or at the result, it costs at most three
+    /// comparisons. With a hint at an earlier record it costs a search in a block of up to 512
+    /// records and a few comparisons. Otherwise it costs a binary search. It takes no memory.
     pub fn group_after_near(
         &self,
         port: usize,
@@ -220,8 +222,8 @@ impl<F: Family> Ports<F> {
         }
     }
 
-    /// The next record of this group on the port, in key order, behind that of this machine, which need not be held;
-    /// `None` where none follows. It looks by halves, and takes no memory.
+    /// The next record of this group on the port, in key order, after this machine, which need not
+    /// be held; `None` if none follows. It is a binary search, and takes no memory.
     pub fn record_after(
         &self,
         port: usize,
@@ -235,12 +237,12 @@ impl<F: Family> Ports<F> {
         next
     }
 
-    /// The same as `record_after`, looked for from near a place; whatever place that is, the answer is right. Beside it
-    /// stands the place of the record, or where it would stand.
+    /// The same as `record_after`, with a hint where the look-up begins. Also returns the place of
+    /// the record, or where it would be.
     ///
-    /// Where the hint is of the record before, or of the answer, it costs three comparisons at most; where it is of an
-    /// earlier record, a search in a block of up to 512 records and a few comparisons; else a search by halves. It takes
-    /// no memory.
+    /// With the hint at the record before, or at the result, it costs at most three comparisons.
+    /// With a hint at an earlier record it costs a search in a block of up to 512 records and a few
+    /// comparisons. Otherwise it costs a binary search. It takes no memory.
     pub fn record_after_near(
         &self,
         port: usize,
@@ -262,10 +264,11 @@ impl<F: Family> Ports<F> {
         }
     }
 
-    /// The machines of this group on the port behind this one, which need not be held, to be told one after another in
-    /// key order. They are looked for from near a place; whatever place that is, they are the same.
+    /// A walk, in key order, over the machines of this group on the port after this one, which need
+    /// not be held. The look-up begins at a hint, which doesn't affect the machines.
     ///
-    /// To begin costs what `record_after_near` costs; each one that is told then costs no search. It takes no memory.
+    /// The call costs as much as `record_after_near`; each machine of the walk then costs no
+    /// search. It takes no memory.
     pub fn machines_after_near(
         &self,
         port: usize,
@@ -281,20 +284,22 @@ impl<F: Family> Ports<F> {
         GroupMachines::behind(&self.records, near, Key { port, group, what }, self.moment)
     }
 
-    /// Hears a message on a port. A Join(*,G) counts only where its RP is the one to which the table leads G. No timer
-    /// fires, and the machines of other ports stay. A refusal changes nothing. The override interval is at most
-    /// 98,302 ms.
+    /// Hears a message on a port (RFC 7761, 4.5). A Join(*,G) counts only if its RP is the one to
+    /// which the table leads G. No timer fires, and the machines of other ports stay unchanged. A
+    /// refusal changes nothing. The override interval is at most 98,302 ms.
     ///
-    /// The table is asked for each Join(*,G) alone, three times at most.
+    /// It asks the table only for each Join(*,G), at most three times.
     ///
-    /// It looks up each entry twice, and a Prune(S,G,rpt) at most once more. It goes through the (S,G,rpt) machines of
-    /// each group at most twice, however often the message names the group: at its first Join(*,G), and at the end.
-    /// Where the groups don't ascend, it also takes fewer than 100,000 steps from set to set.
+    /// It looks up each entry twice, and a Prune(S,G,rpt) at most once more. It walks through the
+    /// (S,G,rpt) machines of each group at most twice, however often the message names the group:
+    /// at its first Join(*,G), and at End of Message. If the groups don't ascend, it also takes
+    /// fewer than 100,000 steps from set to set.
     ///
-    /// Look-ups are short where each entry stands behind the one before it in key order. So where more than a few don't, the
-    /// entries are put into that order first, those of one machine as they come, in n log n steps for n entries. Where a
-    /// Join(*,G) stands behind another one of its group, or behind an (S,G,rpt) entry of it, those of the group's (S,G)
-    /// machines alone are; and where memory for a list of them is refused, which is no fault, all are heard as they come.
+    /// Look-ups are short where each entry follows the one before it in key order. Where more than
+    /// a few don't, the code first sorts the entries in that order, in n log n steps for n entries.
+    /// Entries of one machine keep their order. If a Join(*,G) follows another one of its group, or
+    /// an (S,G,rpt) entry of it, the code sorts only the (S,G) entries of each group. If memory for
+    /// the sorted list is refused, the code hears the entries in message order.
     pub fn hear(
         &mut self,
         port: usize,
@@ -318,11 +323,11 @@ impl<F: Family> Ports<F> {
         hear_message::<F>(self.alloc, records, limit, port, start, routes, message)
     }
 
-    /// Runs to this moment, in milliseconds, at most 10^15, or to the first echo; an earlier moment counts as now. What
-    /// is still due after an echo stays due, and the next call goes on.
+    /// Runs to this moment, in milliseconds, at most 10^15, or to the first PruneEcho. An earlier
+    /// moment counts as now. What is still due after an echo stays due, and the next call goes on.
     ///
-    /// It takes no memory, and looks at the timer that fires first alone: once for each timer that fires, and once
-    /// more.
+    /// It takes no memory, and looks only at the timer that fires first: once for each timer that
+    /// fires, and at most once more.
     pub fn run_to(&mut self, moment: u64) -> Step<F::Addr>
         requires { moment ≤ 1000000000000000 }
         ensures run { Runs moment self.old (step_seen F.bytes_of result) self.new }
@@ -336,7 +341,7 @@ impl<F: Family> Ports<F> {
         step
     }
 
-    /// Runs like `run_to`. Beside what is told stands how many looks there were: a look compares the end of one timer
+    /// The same as `run_to`. Also returns the number of looks: a look compares the end of one timer
     /// with the moment. There is one for each timer that fires, and at most one more.
     pub fn run_counted(&mut self, moment: u64) -> (Step<F::Addr>, u64)
         requires { moment ≤ 1000000000000000 }

@@ -1,13 +1,14 @@
-//! Where the first entries of a pruned list were found. A Join(*,G) that comes behind them goes to the same machines.
+//! Where the first entries of a pruned list were found. A Join(*,G) that follows them visits the
+//! same machines, and begins its searches there.
 
 use sorted_blocks::Place;
 use std::cell::Cell;
 
-/// So many places of a list are kept.
+/// How many places of a list are kept.
 const PLACES: usize = 32;
 
-/// The places near which the first entries of a set's pruned list were found, of the last set that had any. They are only hints:
-/// where one is wrong, a look-up from there takes longer.
+/// The places near which the first entries of a pruned list were found, of the last set that had
+/// any. They are only hints: with a wrong one, a look-up takes longer.
 #[derive(Drop)]
 pub(crate) struct Recent {
     set: Cell<u8>,
@@ -23,7 +24,7 @@ impl Recent {
         }
     }
 
-    /// The entry of this index in the set's pruned list was found there.
+    /// Keeps the place of the entry of this index in the set's pruned list.
     pub(crate) fn keep(&self, set: u8, index: usize, place: Place) {
         if index == 0 {
             self.set.set(set);
@@ -33,7 +34,7 @@ impl Recent {
         }
     }
 
-    /// Where that entry was found, or else this place.
+    /// The place kept for that entry, or else this place.
     pub(crate) fn place_of(&self, set: u8, index: usize, near: Place) -> Place {
         if index < PLACES && self.set.get() == set {
             return self.places[index].get();

@@ -1,4 +1,6 @@
-//! The records of all ports, in key order, and how many each port has, and of these how many (S,G,rpt) ones.
+//! The records of all ports in key order, and for each port the number of its records and of its
+//! (S,G,rpt) records. Records are in a slab under numbers, and the list of numbers is in blocks. So
+//! an insert or a removal moves only the numbers of one block.
 
 ghost use Rattle.std.specs.Prelude.{◌≡◌, ℕ, List, ◌+◌, ◌-◌, ◌<◌, ◌≤◌, ◌↔◌, [], length, take, drop};
 ghost use Rattle.std.specs.Prelude.{slice_index_or, slice_set, OnOk, IsOk, IsTrue, Bool, true, false};
@@ -24,22 +26,22 @@ use std::alloc::{AllocError, Global};
 use std::cmp::Ordering;
 use std::marker::Model;
 
-/// So many ports there may be.
+/// The greatest number of ports.
 const PORTS: usize = 64;
 
-/// A bound in key order: which records stand before it.
+/// A bound in key order: which keys come before it.
 pub(crate) trait Bound<A> {
     ghost use Rattle.pim_down.specs.declared.key.Key.{Key};
 
-    /// Whether a record of this key stands before it.
+    /// Whether this key comes before the bound.
     ghost is_before: { Self → Key A → Bool };
 
-    /// Whether a record of this key stands before it.
+    /// Whether this key comes before the bound.
     fn is_before(&self, key: &Key<A>) -> bool
         ensures { result ≡ is_before self.now key.now };
 }
 
-/// A bound as it is sought among records.
+/// A bound that is searched among records.
 #[derive(Drop)]
 struct Side<'a, B> {
     bound: &'a B,
@@ -61,13 +63,14 @@ impl<'a, A, B: Bound<A>> Probe<Held<A>> for Side<'a, B> {
     }
 }
 
-/// The records of all ports. Contracts see their list, its places, and how many records fit without memory.
+/// The records of all ports. Contracts see their list, its places, and the number of records that
+/// fit without memory.
 #[derive(Drop)]
 pub(crate) struct Rows<A: Copy> {
     list: SortedSlab<Held<A>, HALF_OF_RECORDS>,
     /// How many records each port has.
     counts: [usize; 64],
-    /// How many of them are (S,G,rpt) ones.
+    /// How many of them are (S,G,rpt) records.
     rpts: [usize; 64],
 }
 
@@ -91,7 +94,7 @@ fn no_counts() -> [usize; 64]
     [0; 64]
 }
 
-/// So many more on this port.
+/// Adds to the count of this port.
 fn count_in(counts: &mut [usize; 64], port: usize, more: usize)
     requires { slice_index_or counts.old port 0 + more ≤ 18446744073709551615 }
     ensures { counts.new ≡ slice_set counts.old port (slice_index_or counts.old port 0 + more) }
@@ -101,7 +104,7 @@ fn count_in(counts: &mut [usize; 64], port: usize, more: usize)
     }
 }
 
-/// So many fewer on this port.
+/// Subtracts from the count of this port.
 fn count_out(counts: &mut [usize; 64], port: usize, fewer: usize)
     requires { port < 64 → fewer ≤ slice_index_or counts.old port 0 }
     ensures { counts.new ≡ slice_set counts.old port (slice_index_or counts.old port 0 - fewer) }
@@ -145,7 +148,7 @@ impl<A: Copy> Rows<A> {
         self.counts[port]
     }
 
-    /// How many (S,G,rpt) ones this port has.
+    /// How many (S,G,rpt) records this port has.
     pub(crate) fn rpt_count_on(&self, port: usize) -> usize
         requires { port < 64 }
         ensures { (bytes_of : A → List ℕ) → result ≡ rpt_count_on port (records_seen bytes_of self.now.items) }
@@ -153,8 +156,8 @@ impl<A: Copy> Rows<A> {
         self.rpts[port]
     }
 
-    /// Takes memory for so many more records: at `Ok` they fit, whichever go between. The records stay, at an `Err`
-    /// too. For none it takes no memory.
+    /// Takes memory for `additional` more records: after `Ok` they fit. The records stay, also
+    /// after an `Err`. For none it takes no memory.
     pub(crate) fn reserve(&mut self, additional: usize) -> Result<(), AllocError>
         ensures ok { OnOk result (length self.new.items + additional ≤ self.new.capacity) }
         ensures none { additional ≡ 0 → IsOk result }
@@ -164,7 +167,7 @@ impl<A: Copy> Rows<A> {
         self.list.reserve(additional)
     }
 
-    /// Puts in a record at this place, within the capacity. The answer is where it stands then.
+    /// Inserts a record at this place, within the capacity. Returns its place.
     pub(crate) fn insert_within(&mut self, place: Place, held: Held<A>) -> Place
         requires place { IsPlace self.old place }
         requires within { length self.old.items < self.old.capacity }
@@ -179,7 +182,7 @@ impl<A: Copy> Rows<A> {
         stands
     }
 
-    /// Takes out the record at this place. The answer is the place of the one that came next.
+    /// Removes the record at this place. Returns the place of the next one.
     pub(crate) fn remove(&mut self, place: Place) -> Place
         requires { IsItem self.old place }
         ensures items { self.new.items ≡ remove self.old.items (at self.old place) }
@@ -195,8 +198,8 @@ impl<A: Copy> Rows<A> {
         self.list.settled(behind)
     }
 
-    /// Takes out so many records from this place on, all of them (S,G,rpt) ones of this port: they aren't gone through.
-    /// The answer is the place of the one that came behind them.
+    /// Removes `count` records from this place on, all of them (S,G,rpt) records of this port. It
+    /// doesn't visit them. Returns the place of the record after them.
     pub(crate) fn remove_run(&mut self, place: Place, count: usize, port: usize) -> Place
         requires place { IsPlace self.old place }
         requires within { at self.old place + count ≤ length self.old.items }
@@ -213,7 +216,8 @@ impl<A: Copy> Rows<A> {
         self.list.settled(behind)
     }
 
-    /// How many records from this place on the sweep takes, up to the first that it doesn't, and up to so many.
+    /// How many records from this place on the sweep takes, up to the first that it doesn't, and at
+    /// most `most`.
     fn run_from<S: Sweep<A>>(&self, place: Place, most: usize, sweep: &S) -> usize
         requires place { IsPlace self.now place }
         requires within { at self.now place < length self.now.items }
@@ -235,8 +239,8 @@ impl<A: Copy> Rows<A> {
         count
     }
 
-    /// Takes out those of so many records from this place on that the sweep takes, run by run. All of them are (S,G,rpt)
-    /// ones of this port. The answer is the place of the one that came behind them.
+    /// Removes those of `count` records from this place on that the sweep takes, run by run. All of
+    /// them are (S,G,rpt) records of this port. Returns the place of the record after them.
     pub(crate) fn sweep<S: Sweep<A>>(
         &mut self,
         first: Place,
@@ -291,14 +295,14 @@ impl<A: Copy> Rows<A> {
         self.list.get(place)
     }
 
-    /// Whether a record stands at this place.
+    /// Whether there is a record at this place.
     pub(crate) fn is_item(&self, place: Place) -> bool
         ensures { IsTrue result ↔ IsItem self.now place }
     {
         self.list.is_item(place)
     }
 
-    /// The place before all records: the first one's, where there is any.
+    /// The place before all records: that of the first one, if there is any.
     pub(crate) fn first(&self) -> Place
         ensures place { IsPlace self.now result }
         ensures at { at self.now result ≡ 0 }
@@ -307,7 +311,7 @@ impl<A: Copy> Rows<A> {
         self.list.first()
     }
 
-    /// The place behind this record: the next one's, where there is any.
+    /// The place after this record: that of the next one, if there is any.
     pub(crate) fn next(&self, place: Place) -> Place
         requires { IsItem self.now place }
         ensures place { IsPlace self.now result }
@@ -317,7 +321,7 @@ impl<A: Copy> Rows<A> {
         self.list.next(place)
     }
 
-    /// So many records from this place on, in order, or those that there are.
+    /// At most `count` records from this place on, in order.
     pub(crate) fn walk(&self, place: Place, count: usize) -> Walk<'_, Held<A>, HALF_OF_RECORDS>
         requires { IsPlace self.now place }
         ensures { result ≡ take count (drop (at self.now place) self.now.items) }
@@ -332,8 +336,8 @@ impl<A: Copy> Rows<A> {
         self.list.walk(self.list.first(), self.list.len())
     }
 
-    /// Where a record stands that compares equal, or else a gap. It begins at a place near which that may be; whatever
-    /// place it is, the answer is right.
+    /// The place of a record that compares as equal, or as an error a place between records. The
+    /// search begins near a place, which doesn't affect whether it finds one.
     pub(crate) fn find_near<P: Probe<Held<A>>>(
         &self,
         near: Place,
@@ -345,7 +349,8 @@ impl<A: Copy> Rows<A> {
         self.list.find_near(near, probe)
     }
 
-    /// The place behind the records that stand before the bound: that of the first other one, where there is any.
+    /// The place after the records that come before the bound: that of the first other record, if
+    /// there is any. It is a binary search.
     pub(crate) fn first_behind<B: Bound<A>>(&self, bound: &B) -> Place
         requires { IsPartitionedBy (λ held. B.is_before bound.now held.key) self.now.items }
         ensures place { IsPlace self.now result }
@@ -360,8 +365,7 @@ impl<A: Copy> Rows<A> {
         }
     }
 
-    /// The same. Where there is a place near which it may be, it begins there; whatever place that is, the answer is
-    /// right.
+    /// The same as `first_behind`. The search begins near a place, if there is one.
     pub(crate) fn first_behind_near<B: Bound<A>>(&self, near: Option<Place>, bound: &B) -> Place
         requires { IsPartitionedBy (λ held. B.is_before bound.now held.key) self.now.items }
         ensures place { IsPlace self.now result }

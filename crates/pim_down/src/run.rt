@@ -1,4 +1,5 @@
-//! Running to a moment: from one deadline to the next.
+//! Runs to a moment, from one deadline to the next. No timer ends before the present moment, so the
+//! first timer of the schedule is the one that the definition fires, at its deadline.
 
 ghost use Rattle.std.specs.Prelude.{◌≡◌, ◌≤◌, ℕ, max};
 ghost use Rattle.pim_down.specs.declared.step.Step.TheVariants.{Reached};
@@ -17,14 +18,14 @@ use pim_addr::Family;
 /// Where a run stops.
 pub(crate) struct Stop<A> {
     pub(crate) step: Step<A>,
-    /// The moment then.
+    /// The moment at the stop.
     pub(crate) now: u64,
-    /// How many timers were looked at.
+    /// How many looks at timers there were.
     pub(crate) looks: u64,
 }
 
-/// Runs from this moment, before which no timer ends, to a later one, or to the first echo. No timer ends before the
-/// moment then.
+/// Runs from the present moment, before which no timer ends, to a later one, or to the first
+/// PruneEcho. No timer ends before the moment at which the run stops.
 pub(crate) fn run<F: Family>(
     records: &mut Store<F::Addr, OfFamily<F>>,
     now: u64,

@@ -1,13 +1,15 @@
-//! Whether the entries of a message stand so far from key order that they are put into it. It is only a hint: what a message does is
-//! the same in either order.
+//! Whether the entries of a message are so far from key order that the code sorts them. It is only
+//! a hint: a message does the same in either order.
 
 use pim_addr::Family;
 use pim_jp::{Entries, Entry, JpView};
 
-/// So many entries of joined lists, or of pruned ones, may stand behind one that they come before.
+/// How many entries of joined lists, or of pruned ones, may follow one that they come before in key
+/// order.
 const FEW: usize = 16;
 
-/// The last entry of joined or of pruned lists, and how many stood behind one that they come before.
+/// The last entry of joined or of pruned lists, and how many entries followed one that they come
+/// before in key order.
 #[derive(Drop)]
 struct Falls<F: Family> {
     group: Option<F::Addr>,
@@ -16,7 +18,7 @@ struct Falls<F: Family> {
     count: usize,
 }
 
-/// (*,G) first, then (S,G), then (S,G,rpt), each with its address.
+/// The rank of an entry, (*,G) before (S,G) before (S,G,rpt), and its address.
 fn rank_of<A: Copy>(entry: &Entry<A>) -> (u8, A) {
     match entry {
         Entry::Star(rp) => (0, *rp),
@@ -36,7 +38,7 @@ impl<F: Family> Falls<F> {
         }
     }
 
-    /// Takes in the entries of one list.
+    /// Counts the entries of one list.
     fn take_in(&mut self, group: F::Addr, entries: Entries<'_, F>) {
         for entry in entries {
             let (rank, address) = rank_of(&entry);
@@ -52,7 +54,7 @@ impl<F: Family> Falls<F> {
         }
     }
 
-    /// Whether an entry comes before the last one.
+    /// Whether an entry comes before the last one in key order.
     fn is_before(&self, group: F::Addr, rank: u8, address: F::Addr) -> bool {
         if self.group != Some(group) {
             return match self.group {
@@ -69,13 +71,13 @@ impl<F: Family> Falls<F> {
         }
     }
 
-    /// Whether they are more than a few.
+    /// Whether the count is more than a few.
     fn are_many(&self) -> bool {
         self.count > FEW
     }
 }
 
-/// Whether more than a few entries stand behind one that they come before.
+/// Whether more than a few entries follow one that they come before in key order.
 pub(crate) fn is_scattered<F: Family>(message: &JpView<'_, F>) -> bool {
     let mut joined = Falls::<F>::new();
     let mut pruned = Falls::<F>::new();

@@ -1,4 +1,6 @@
-//! The timers that run, in the order in which they fire.
+//! The schedule: the timers that run, in the order in which they fire. A run looks only at the
+//! first one. Room for the timers of new records is reserved with the records, so that a message
+//! puts timers in without memory.
 
 ghost use Rattle.std.specs.Prelude.{◌≡◌, ℕ, List, ◌+◌, ◌-◌, ◌*◌, ◌<◌, ◌≤◌, [], true, false, length, map, option_map};
 ghost use Rattle.std.specs.Prelude.{OnOk, IfSome};
@@ -23,7 +25,7 @@ use std::alloc::{AllocError, Global};
 use std::cmp::Ordering;
 use std::marker::{Model, PhantomData};
 
-/// A timer, as it is sought among those that run.
+/// A timer that is searched in the schedule.
 #[derive(Drop)]
 struct Wanted<A, O> {
     deadline: Deadline<A>,
@@ -43,18 +45,18 @@ impl<A: Copy, O: KeyOrder<A>> Probe<Deadline<A>> for Wanted<A, O> {
     }
 }
 
-/// The timers that run, in the order in which they fire, in blocks of up to twice `HALF`. Contracts see them, and how
-/// many fit without memory.
+/// The timers that run, in the order in which they fire, in blocks of up to twice `HALF`. Contracts
+/// see them, and how many fit without memory.
 #[derive(Drop)]
 pub(crate) struct Schedule<A: Copy, O: KeyOrder<A>, const HALF: usize> {
-    /// Those in the gap don't run any more.
+    /// Those in the gap don't run.
     list: Blocks<Deadline<A>, HALF>,
     gap: Gap,
     /// Where timers were put in last.
     put: Hints,
-    /// Where they were taken out last.
+    /// Where timers were removed last.
     taken: Taken,
-    /// Which one was taken out last, where none was put in since.
+    /// Kind and end of the last timer that was removed, if none was put in since.
     last: Option<Ending>,
     order: PhantomData<O>,
 }
@@ -99,8 +101,8 @@ fn slot_of<A: Copy, O: KeyOrder<A>, const HALF: usize>(
     }
 }
 
-/// Takes out what stands in the gap. Such timers are sought there next.
-// Inlined, since mostly nothing does.
+/// Removes the timers in the gap from the list. The next search for such timers begins there.
+// Inlined, since the gap is mostly empty.
 #[inline(always)]
 fn close<T: Copy, const HALF: usize>(list: &mut Blocks<T, HALF>, gap: &mut Gap, taken: &mut Taken)
     requires { 0 < gap.old.count → IsGone list.old gap.old }
@@ -116,7 +118,8 @@ fn close<T: Copy, const HALF: usize>(list: &mut Blocks<T, HALF>, gap: &mut Gap, 
     gap.count = 0;
 }
 
-/// Takes out the timer at this place. Where one with the same end was taken out right before, more may follow: then it stays as a gap.
+/// Removes the timer at this place. If one of the same kind and end was removed right before, more
+/// may follow: then the timer stays in the list as a gap.
 fn take_at<T: Copy, const HALF: usize>(
     list: &mut Blocks<T, HALF>,
     gap: &mut Gap,
@@ -139,7 +142,8 @@ fn take_at<T: Copy, const HALF: usize>(
     taken.keep(ending, behind);
 }
 
-/// Where the first timer of a run stands: right behind the gap, or elsewhere, and then nothing stands in the gap any more.
+/// The place of the first timer of a run. It is right after the gap; if it isn't, the gap is
+/// emptied first.
 fn place_of_first<A: Copy, O: KeyOrder<A>, const HALF: usize>(
     list: &mut Blocks<Deadline<A>, HALF>,
     gap: &mut Gap,
@@ -170,7 +174,7 @@ fn place_of_first<A: Copy, O: KeyOrder<A>, const HALF: usize>(
     }
 }
 
-/// Which timers it is among.
+/// The kind and end of a timer.
 fn ending_of<A>(deadline: &Deadline<A>) -> Ending {
     Ending {
         timer: deadline.timer,
@@ -178,7 +182,7 @@ fn ending_of<A>(deadline: &Deadline<A>) -> Ending {
     }
 }
 
-/// Whether there is a last one, of these timers.
+/// Whether the last timer is of this kind and end.
 fn is_last(last: Option<Ending>, ending: Ending) -> bool {
     match last {
         Some(other) => other.is_same(ending),
@@ -210,7 +214,8 @@ impl<A: Copy, O: KeyOrder<A>, const HALF: usize> Schedule<A, O, HALF> {
         self.list.capacity()
     }
 
-    /// Takes memory for the timers of so many records, and for two more: at `Ok` they fit.
+    /// Takes memory: after `Ok` the timers of this number of records fit, and two more, unless the
+    /// number is 0.
     pub(crate) fn reserve_for(&mut self, records: usize) -> Result<(), AllocError>
         ensures ok { OnOk result (2 * records ≤ self.new.capacity - 2) }
         ensures timers { self.new.timers ≡ self.old.timers }
@@ -239,7 +244,7 @@ impl<A: Copy, O: KeyOrder<A>, const HALF: usize> Schedule<A, O, HALF> {
         }
     }
 
-    /// Puts a timer in, within the capacity.
+    /// Puts in a timer, within the capacity.
     fn put(&mut self, deadline: Deadline<A>)
         requires { length self.old.timers < self.old.capacity }
         ensures timers { self.new.timers ≡ placed deadline_cmp (deadline_seen O.bytes_of deadline) self.old.timers }
@@ -252,9 +257,9 @@ impl<A: Copy, O: KeyOrder<A>, const HALF: usize> Schedule<A, O, HALF> {
         self.last = None;
     }
 
-    /// Takes a timer out, if it is there. Of those that are taken out one after another, as they stand, only the first ones are
-    /// looked up.
-    // Inlined, so that timers side by side go without a call.
+    /// Removes a timer, if it is there. Of timers that are removed one after another, in list
+    /// order, only the first ones are searched.
+    // Inlined, so that timers side by side are removed without a call.
     #[inline(always)]
     fn take(&mut self, deadline: Deadline<A>)
         ensures timers { self.new.timers ≡ without deadline_cmp (deadline_seen O.bytes_of deadline) self.old.timers }
@@ -267,8 +272,8 @@ impl<A: Copy, O: KeyOrder<A>, const HALF: usize> Schedule<A, O, HALF> {
         self.take_elsewhere(deadline);
     }
 
-    /// Takes a timer out, if it is there. It is looked up.
-    // Inlined, since a deadline that is handed on is copied, and read again before it is written.
+    /// Searches a timer and removes it, if it is there.
+    // Inlined, since an argument that is handed on is copied, and read again before it is written.
     #[inline(always)]
     fn take_elsewhere(&mut self, deadline: Deadline<A>)
         ensures timers { self.new.timers ≡ without deadline_cmp (deadline_seen O.bytes_of deadline) self.old.timers }
@@ -295,8 +300,8 @@ impl<A: Copy, O: KeyOrder<A>, const HALF: usize> Schedule<A, O, HALF> {
         }
     }
 
-    /// Takes so many timers out, from this one to that, if so many stand side by side from the one to the other. The answer
-    /// is whether they do. None of those between is looked at.
+    /// Removes the `count` timers from the first to the last, if they are `count` places side by
+    /// side. Returns whether they are. It doesn't look at those between.
     pub(crate) fn take_run(&mut self, first: &Deadline<A>, last: &Deadline<A>, count: usize) -> bool
         requires { 1 ≤ count }
         ensures taken { result ≡ true → (run rest : List (Deadline (List ℕ))) →
@@ -322,7 +327,7 @@ impl<A: Copy, O: KeyOrder<A>, const HALF: usize> Schedule<A, O, HALF> {
         true
     }
 
-    /// Puts a machine's timer in, where it runs.
+    /// Puts in a machine's timer, if it runs.
     fn start(&mut self, key: Key<A>, timer: TimerKind, end: Option<u64>)
         requires { length self.old.timers < self.old.capacity }
         ensures timers { self.new.timers ≡ with_end timer (key_seen O.bytes_of key) end self.old.timers }
@@ -338,7 +343,7 @@ impl<A: Copy, O: KeyOrder<A>, const HALF: usize> Schedule<A, O, HALF> {
         }
     }
 
-    /// Takes a machine's timer out, where it runs.
+    /// Removes a machine's timer, if it runs.
     #[inline(always)]
     fn stop(&mut self, key: Key<A>, timer: TimerKind, end: Option<u64>)
         ensures timers { (rest : List (Deadline (List ℕ))) →
@@ -356,7 +361,7 @@ impl<A: Copy, O: KeyOrder<A>, const HALF: usize> Schedule<A, O, HALF> {
         }
     }
 
-    /// The same, for a timer that doesn't go with others.
+    /// The same as `stop`, not inlined: for a timer that is removed alone.
     fn stop_one(&mut self, key: Key<A>, timer: TimerKind, end: Option<u64>)
         ensures timers { (rest : List (Deadline (List ℕ))) →
             self.old.timers ≡ with_end timer (key_seen O.bytes_of key) end rest → self.new.timers ≡ rest }
@@ -381,7 +386,7 @@ impl<A: Copy, O: KeyOrder<A>, const HALF: usize> Schedule<A, O, HALF> {
         }
     }
 
-    /// Puts the timers of a machine in.
+    /// Puts in the timers of a machine.
     pub(crate) fn start_all(&mut self, held: &Held<A>)
         requires { length self.old.timers + 2 ≤ self.old.capacity }
         ensures timers { self.new.timers ≡ with_timers (record_seen O.bytes_of held.now) self.old.timers }
@@ -395,7 +400,7 @@ impl<A: Copy, O: KeyOrder<A>, const HALF: usize> Schedule<A, O, HALF> {
         );
     }
 
-    /// Takes the timers of a machine out.
+    /// Removes the timers of a machine.
     #[inline(always)]
     pub(crate) fn stop_all(&mut self, held: &Held<A>)
         ensures timers { (rest : List (Deadline (List ℕ))) →
@@ -430,7 +435,7 @@ impl<A: Copy, O: KeyOrder<A>, const HALF: usize> Schedule<A, O, HALF> {
     }
 }
 
-/// When the machine's prune-pending timer ends.
+/// When the machine's Prune-Pending Timer ends, if it runs.
 fn pending_end(machine: &Timed) -> Option<u64>
     ensures { result ≡ pending_end (waiting_seen machine.now.pending) }
 {

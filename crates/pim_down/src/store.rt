@@ -1,4 +1,5 @@
-//! The records of all ports, with a schedule of their timers.
+//! The records of all ports, and a schedule of their timers. The schedule always has exactly the
+//! timers of the records: each change of a record puts timers in and removes others.
 
 ghost use Rattle.std.specs.Prelude.{◌≡◌, ℕ, List, ◌+◌, ◌*◌, ◌<◌, ◌≤◌, ◌↔◌, [], ◌++◌, length, take, drop, option_map};
 ghost use Rattle.std.specs.Prelude.{slice_index_or, slice_set, OnOk, IsOk, IsTrue, true, false};
@@ -29,12 +30,13 @@ use std::alloc::{AllocError, Global};
 use std::fmt;
 use std::marker::Model;
 
-/// The records of all ports. Contracts see their list, its places, and how many records fit without memory.
+/// The records of all ports. Contracts see their list, its places, and the number of records that
+/// fit without memory.
 #[derive(Drop)]
 pub(crate) struct Store<A: Copy, O: KeyOrder<A>> {
     rows: Rows<A>,
     schedule: Schedule<A, O, HALF_OF_TIMERS>,
-    /// The schedule has room for the timers of so many records.
+    /// For how many records the schedule has room.
     room: usize,
 }
 
@@ -64,7 +66,7 @@ impl<A: Copy, O: KeyOrder<A>> Store<A, O> {
         }
     }
 
-    /// How many records there are. Twice as many and two more are a number, too.
+    /// How many records there are. Twice this number and two more fit in a `usize`.
     pub(crate) fn len(&self) -> usize
         ensures len { result ≡ length self.now.items }
         ensures small { 2 * length self.now.items + 2 ≤ 18446744073709551615 }
@@ -89,8 +91,8 @@ impl<A: Copy, O: KeyOrder<A>> Store<A, O> {
         self.rows.rpt_count_on(port)
     }
 
-    /// Takes memory for so many more records: at `Ok` they fit, whichever go between. The records stay, at an `Err`
-    /// too. For none it takes no memory.
+    /// Takes memory for `additional` more records: after `Ok` they fit. The records stay, also
+    /// after an `Err`. For none it takes no memory.
     pub(crate) fn reserve(&mut self, additional: usize) -> Result<(), AllocError>
         ensures ok { OnOk result (length self.new.items + additional ≤ self.new.capacity) }
         ensures none { additional ≡ 0 → IsOk result }
@@ -112,7 +114,7 @@ impl<A: Copy, O: KeyOrder<A>> Store<A, O> {
         Ok(())
     }
 
-    /// Puts in a record at this place, within the capacity. The answer is where it stands then.
+    /// Inserts a record at this place, within the capacity. Returns its place.
     pub(crate) fn insert_within(&mut self, place: Place, held: Held<A>) -> Place
         requires place { IsPlace self.old place }
         requires within { length self.old.items < self.old.capacity }
@@ -123,7 +125,7 @@ impl<A: Copy, O: KeyOrder<A>> Store<A, O> {
         self.rows.insert_within(place, held)
     }
 
-    /// Takes out the record at this place. The answer is the place of the one that came next.
+    /// Removes the record at this place. Returns the place of the next one.
     pub(crate) fn remove(&mut self, place: Place) -> Place
         requires { IsItem self.old place }
         ensures items { self.new.items ≡ remove self.old.items (at self.old place) }
@@ -137,9 +139,10 @@ impl<A: Copy, O: KeyOrder<A>> Store<A, O> {
         self.rows.remove(place)
     }
 
-    /// Goes through the records from this place on, up to the first that the sweep doesn't reach, and up to so many as are
-    /// gone through at once, all of them (S,G,rpt) ones of this port, and takes out those that it takes. The answer is how
-    /// many it goes through, and the place of the one that came behind them.
+    /// Visits the records from this place on, up to the first that the sweep doesn't reach, and at
+    /// most as many as one walk visits. All of them are (S,G,rpt) records of this port. Removes
+    /// those that the sweep takes. Returns how many it visits, and the place of the record after
+    /// them.
     pub(crate) fn sweep<S: Sweep<A>>(
         &mut self,
         place: Place,
@@ -184,8 +187,8 @@ impl<A: Copy, O: KeyOrder<A>> Store<A, O> {
         self.rows.set_machine(place, machine);
     }
 
-    /// Gives the machine of the record at this place another state. Its timers stay, so that the schedule isn't looked
-    /// at.
+    /// Gives the machine of the record at this place another state. Its timers stay, so that the
+    /// schedule needs no change.
     pub(crate) fn set_state(&mut self, place: Place, state: State)
         requires { IsItem self.old place }
         ensures items { (d : Held A) → self.new.items ≡ slice_set self.old.items (at self.old place)
@@ -214,14 +217,14 @@ impl<A: Copy, O: KeyOrder<A>> Store<A, O> {
         self.rows.get(place)
     }
 
-    /// Whether a record stands at this place.
+    /// Whether there is a record at this place.
     pub(crate) fn is_item(&self, place: Place) -> bool
         ensures { IsTrue result ↔ IsItem self.now place }
     {
         self.rows.is_item(place)
     }
 
-    /// The place before all records: the first one's, where there is any.
+    /// The place before all records: that of the first one, if there is any.
     pub(crate) fn first(&self) -> Place
         ensures place { IsPlace self.now result }
         ensures at { at self.now result ≡ 0 }
@@ -230,7 +233,7 @@ impl<A: Copy, O: KeyOrder<A>> Store<A, O> {
         self.rows.first()
     }
 
-    /// The place behind this record: the next one's, where there is any.
+    /// The place after this record: that of the next one, if there is any.
     pub(crate) fn next(&self, place: Place) -> Place
         requires { IsItem self.now place }
         ensures place { IsPlace self.now result }
@@ -240,7 +243,7 @@ impl<A: Copy, O: KeyOrder<A>> Store<A, O> {
         self.rows.next(place)
     }
 
-    /// So many records from this place on, in order, or those that there are.
+    /// At most `count` records from this place on, in order.
     pub(crate) fn walk(&self, place: Place, count: usize) -> Walk<'_, Held<A>, HALF_OF_RECORDS>
         requires { IsPlace self.now place }
         ensures { result ≡ take count (drop (at self.now place) self.now.items) }
@@ -255,8 +258,8 @@ impl<A: Copy, O: KeyOrder<A>> Store<A, O> {
         self.rows.iter()
     }
 
-    /// Where a record stands that compares equal, or else a gap. It begins at a place near which that may be; whatever
-    /// place it is, the answer is right.
+    /// The place of a record that compares as equal, or as an error a place between records. The
+    /// search begins near a place, which doesn't affect whether it finds one.
     pub(crate) fn find_near<P: Probe<Held<A>>>(
         &self,
         near: Place,
@@ -268,7 +271,8 @@ impl<A: Copy, O: KeyOrder<A>> Store<A, O> {
         self.rows.find_near(near, probe)
     }
 
-    /// The place behind the records that stand before the bound: that of the first other one, where there is any.
+    /// The place after the records that come before the bound: that of the first other record, if
+    /// there is any. It is a binary search.
     pub(crate) fn first_behind<B: Bound<A>>(&self, bound: &B) -> Place
         requires { IsPartitionedBy (λ held. B.is_before bound.now held.key) self.now.items }
         ensures place { IsPlace self.now result }
@@ -280,8 +284,7 @@ impl<A: Copy, O: KeyOrder<A>> Store<A, O> {
         self.rows.first_behind(bound)
     }
 
-    /// The same. Where there is a place near which it may be, it begins there; whatever place that is, the answer is
-    /// right.
+    /// The same as `first_behind`. The search begins near a place, if there is one.
     pub(crate) fn first_behind_near<B: Bound<A>>(&self, near: Option<Place>, bound: &B) -> Place
         requires { IsPartitionedBy (λ held. B.is_before bound.now held.key) self.now.items }
         ensures place { IsPlace self.now result }

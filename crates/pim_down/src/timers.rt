@@ -1,4 +1,5 @@
-//! When the timers of some records end, and what they do then.
+//! When the timers of records end, and what they do when they expire. Every look at a timer of a
+//! run is a call of `is_due`, which counts it.
 
 ghost use Rattle.std.specs.Prelude.{◌≡◌, ◌+◌, ◌<◌, ℕ, List, ◌++◌, take, drop, length, slice_index_or, nat_le};
 ghost use Rattle.std.specs.List.{slice_get};
@@ -21,7 +22,7 @@ use crate::store::Store;
 use pim_addr::Family;
 use sorted_blocks::Place;
 
-/// When the first timer of all ends.
+/// When the first of all timers ends.
 pub(crate) fn next_end<F: Family>(records: &Store<F::Addr, OfFamily<F>>) -> Option<u64>
     ensures { result ≡ first_end (records_seen F.bytes_of records.now.items) }
 {
@@ -31,7 +32,7 @@ pub(crate) fn next_end<F: Family>(records: &Store<F::Addr, OfFamily<F>>) -> Opti
     }
 }
 
-/// Looks at a timer: whether it ends no later than this. Each look is counted.
+/// Whether this timer ends no later than the moment `last`. It counts as a look.
 fn is_due<A>(timer: &Deadline<A>, last: u64, looks: &mut u64) -> bool
     requires { looks.old < 18446744073709551615 }
     ensures due { result ≡ nat_le timer.now.ends_at last }
@@ -41,7 +42,8 @@ fn is_due<A>(timer: &Deadline<A>, last: u64, looks: &mut u64) -> bool
     timer.ends_at <= last
 }
 
-/// The timer that fires first, where it ends no later than this. It looks at one timer at most.
+/// The timer that fires first, if it ends no later than the moment `last`. It looks at one timer at
+/// most.
 pub(crate) fn first_by<F: Family>(
     records: &Store<F::Addr, OfFamily<F>>,
     last: u64,
@@ -63,7 +65,7 @@ pub(crate) fn first_by<F: Family>(
     }
 }
 
-/// Where a machine goes whose prune-pending timer fires: to Prune if it is of (S,G,rpt), else to NoInfo.
+/// Prune-Pending Timer Expires: an (S,G,rpt) machine goes to Prune, any other to NoInfo.
 fn on_ppt<A>(what: &What<A>, machine: &Timed) -> Option<Timed>
     ensures { (bytes_of : A → List ℕ) → machine_seen result
         ≡ on_ppt (what_seen bytes_of what.now) (timed_seen machine.now) }
@@ -78,7 +80,7 @@ fn on_ppt<A>(what: &What<A>, machine: &Timed) -> Option<Timed>
     }
 }
 
-/// What is told where the prune-pending timer of this record fires.
+/// What a run reports when the Prune-Pending Timer of this record expires: a PruneEcho, or nothing.
 fn echo_of<A: Copy>(held: &Held<A>) -> Step<A>
     ensures { (bytes_of : A → List ℕ) → step_seen bytes_of result ≡ echo_of (record_seen bytes_of held.now) }
 {
@@ -93,7 +95,8 @@ fn echo_of<A: Copy>(held: &Held<A>) -> Step<A>
     }
 }
 
-/// Fires the prune-pending timer of the record at this place. Beside what is told stands a place near by.
+/// Fires the Prune-Pending Timer of the record at this place. Returns what the run reports, and a
+/// place nearby.
 fn fire_pending<F: Family>(
     records: &mut Store<F::Addr, OfFamily<F>>,
     place: Place,
@@ -112,8 +115,8 @@ fn fire_pending<F: Family>(
     (echo_of(&fired), behind)
 }
 
-/// Fires the timer that is the first of all, at its end. It begins to look for the record near this place. Beside what
-/// is told stands a place near by.
+/// Fires the first of all timers, at its end. The search for its record begins near this place.
+/// Returns what the run reports, and a place nearby.
 pub(crate) fn fire_first<F: Family>(
     records: &mut Store<F::Addr, OfFamily<F>>,
     near: Place,

@@ -1,4 +1,5 @@
-//! The records, one after another.
+//! Walks over records. `{:?}` shows only the moment of a walk, since to go through a walk uses it
+//! up.
 
 ghost use Rattle.std.specs.Prelude.{◌≡◌, ◌<◌, ℕ, List};
 ghost use Rattle.std.specs.List.{filter};
@@ -19,7 +20,7 @@ use sorted_slab::Walk;
 use std::fmt;
 use std::marker::{Model, PhantomData};
 
-/// The machine as it stands at this moment: its times are what is left.
+/// The machine at this moment, with countdowns.
 fn machine_after(machine: &Timed, now: u64) -> Machine
     ensures { result ≡ machine_after now (timed_seen machine.now) }
 {
@@ -41,7 +42,7 @@ fn machine_after(machine: &Timed, now: u64) -> Machine
     }
 }
 
-/// The record as it stands at this moment.
+/// The record at this moment, with countdowns.
 pub(crate) fn record_after<A: Copy>(held: &Held<A>, now: u64) -> Record<A>
     ensures { (bytes_of : A → List ℕ) → told_seen bytes_of result ≡ record_after now (record_seen bytes_of held.now) }
 {
@@ -67,7 +68,7 @@ impl<A> Bound<A> for OfPort {
     }
 }
 
-/// The records of one port, which stand together.
+/// The records of one port, which are side by side.
 pub(crate) fn on_port<F: Family>(
     records: &Store<F::Addr, OfFamily<F>>,
     port: usize,
@@ -98,7 +99,7 @@ pub(crate) fn rpt_count_on<F: Family>(records: &Store<F::Addr, OfFamily<F>>, por
     records.rpt_count_on(port)
 }
 
-/// The records in key order, with what is left of their timers. Contracts see those that are left.
+/// The records in key order, with the time left of their timers. Contracts see those that are left.
 #[derive(Drop)]
 pub struct Records<'a, F: Family> {
     left: Walk<'a, Held<F::Addr>, HALF_OF_RECORDS>,
@@ -117,7 +118,7 @@ impl<'a, F: Family> Model for Records<'a, F> {
 }
 
 impl<'a, F: Family> Records<'a, F> {
-    /// These records, as they stand at this moment.
+    /// These records at this moment.
     pub(crate) fn new(left: Walk<'a, Held<F::Addr>, HALF_OF_RECORDS>, moment: u64) -> Self
         ensures { result ≡ shown F.bytes_of moment left.entry }
     {

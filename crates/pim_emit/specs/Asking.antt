@@ -1,4 +1,4 @@
--- What is asked of an upstream neighbour.
+-- What is asked of an upstream neighbour, as contracts see it.
 use Rattle.std.specs.Prelude.{List}
 use Rattle.pim_addr.specs.declared.family.AddressFamily.{AddressFamily}
 use Rattle.pim_addr.specs.Routes.{RouteTable}
@@ -7,11 +7,13 @@ use Rattle.pim_down.specs.Time.{Downstream}
 use Rattle.pim_form.specs.Messages.{Rps}
 use Rattle.pim_form.specs.NormalForm.{GroupForm}
 
--- a normal form, the table that has the RPs of its groups, and the machines that it is told from
+-- What is asked of an upstream neighbour: its normal form, the route table with the RPs of the
+-- groups, and the machines that the form follows from.
 pub record Asking : Type 0 where
   pub form : List GroupForm
   pub table : RouteTable
   pub machines : Downstream
 
+-- The RP of each group, by the route table.
 abbrev pub rps_of : AddressFamily → Asking → Rps
 rps_of family asking = known_in family asking.table

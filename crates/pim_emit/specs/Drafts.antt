@@ -1,4 +1,5 @@
--- A message that is being made.
+-- A Join/Prune message (RFC 7761, 4.9.5) that is being made in a buffer, and the message that comes
+-- next.
 use Rattle.std.specs.Prelude.{◌≡◌, ℕ, ◌+◌, ◌*◌, ◌≤◌, true, false, List, [], ◌++◌, Option, None, Some}
 use Rattle.std.specs.Prelude.{length, map, take, drop, if◌then◌else◌}
 use Rattle.std.specs.List.{AllByRecursion, flat_map}
@@ -15,6 +16,7 @@ use Rattle.pim_emit.specs.declared.draft.Draft.{Draft}
 use Rattle.pim_emit.specs.Asking.{Asking, rps_of}
 use Rattle.pim_emit.specs.Left.{left_at, is_past, IsPosition, position_seen}
 
+-- What contracts see of a draft, addresses as their bytes.
 abbrev pub draft_seen : {A : Type 0} → (A → List ℕ) → Draft A → Draft (List ℕ)
 draft_seen bytes_of draft = record {
   position = position_seen bytes_of draft.position;
@@ -23,18 +25,19 @@ draft_seen bytes_of draft = record {
   is_full = draft.is_full;
 }
 
--- its first bytes hold its header and its head
+-- The index at which the first set begins: after the PIM header and the fields before the groups.
 abbrev pub body_start : AddressFamily → ℕ
 body_start family = 4 + canonical_head_length family
 
--- how many bytes a message with so many groups and entries has
+-- The size of a message with this number of groups and entries, in bytes.
 abbrev pub message_size : AddressFamily → ℕ → ℕ → ℕ
 message_size family groups entries =
     empty_message_size family + groups * empty_set_size family + entries * entry_size family
 
 module _ (family : AddressFamily) (budget : ℕ) (asking : Asking) where
-  -- The message began at this place. What is told in it is a part of the form, and that part's sets are written; a full
-  -- one has no room for the next unit, or nothing is left.
+  -- The message began at the position `begun`. The units written are those of `part`, whose sets
+  -- are in the buffer; the units after the draft's position are left. A full draft has no room for
+  -- the next unit, or no unit is left.
   pub record IsDraft (begun : Position (List ℕ)) (draft : Draft (List ℕ)) (bytes : List ℕ) : Type 0 where
     pub part : List GroupForm
     pub told : units_of (left_at begun asking.form)
@@ -53,12 +56,12 @@ module _ (family : AddressFamily) (budget : ℕ) (asking : Asking) where
     pub stops : draft.is_full ≡ true →
         StopsBefore family budget (units_of part) (units_of (left_at draft.position asking.form))
 
-  -- it is one that began at some place
+  -- The draft began at some position.
   pub record IsBegun (draft : Draft (List ℕ)) (bytes : List ℕ) : Type 0 where
     pub begun : Position (List ℕ)
     pub made : IsDraft begun draft bytes
 
-  -- how much is left to do
+  -- A count that falls with each step: the units that are left, and one until the draft is full.
   abbrev pub steps_left : Draft (List ℕ) → ℕ
   steps_left draft =
       length (units_of (left_at draft.position asking.form)) + (if draft.is_full then 0 else 1)
@@ -66,7 +69,8 @@ module _ (family : AddressFamily) (budget : ℕ) (asking : Asking) where
 -- ---- the message that comes next
 
 module _ (family : AddressFamily) (writing : Writing) (asking : Asking) where
-  -- These bytes tell the units from one place to the other: as many as fit.
+  -- These bytes are the Join/Prune message of the units between two positions: at least one, and as
+  -- many as fit.
   pub record IsMessage (from to : Position (List ℕ)) (bytes : List ℕ) : Type 0 where
     pub run : List WantUnit
     pub units : units_of (left_at from asking.form) ≡ run ++ units_of (left_at to asking.form)
@@ -76,7 +80,7 @@ module _ (family : AddressFamily) (writing : Writing) (asking : Asking) where
     pub tells : TellsRun family writing (rps_of family asking) run bytes
     pub position : IsPosition family to
 
-  -- the message stands at the front of the bytes, if there is one
+  -- The message is at the front of the bytes, with this length; `None` if no unit is left.
   abbrev pub IsNext : Position (List ℕ) → Position (List ℕ) → List ℕ → Option ℕ → Type 0
   IsNext from to bytes None = units_of (left_at from asking.form) ≡ []
   IsNext from to bytes (Some length) = IsMessage from to (take length bytes)

@@ -3,7 +3,7 @@ use Rattle.std.specs.Prelude.{◌≡◌, ℕ, Bool, true, false, List, Option, N
 use Rattle.std.specs.Ordering.{is_le}
 use Rattle.pim_down.specs.Key.{address_cmp}
 
--- no other that passes comes before it; `None` where none passes
+-- This address passes the test, and no lesser one does; `None` if no address passes.
 abbrev pub IsLeast : (List ℕ → Bool) → Option (List ℕ) → Type 0
 IsLeast test None = (address : List ℕ) → test address ≡ false
 IsLeast test (Some least) =

@@ -1,4 +1,4 @@
--- What is written of a piece of a group.
+-- What is written of a piece of a group: a set of a Join/Prune message (RFC 7761, 4.9.5).
 use Rattle.std.specs.Prelude.{◌≡◌, ℕ, ◌+◌, List, ◌++◌, length, take, drop, min, option_map}
 use Rattle.std.specs.List.{flat_map}
 use Rattle.pim_addr.specs.declared.family.AddressFamily.{AddressFamily}
@@ -10,31 +10,33 @@ use Rattle.pim_emit.specs.declared.piece.Piece.{Piece}
 use Rattle.pim_emit.specs.declared.set.ToldSources.{ToldSources}
 use Rattle.pim_emit.specs.Left.{above, sources_in, piece_form}
 
--- ---- entries, one behind the other
+-- ---- entries, one after the other
 
--- sources as (S,G)
+-- The bytes of the sources as (S,G) entries, one after the other.
 abbrev pub source_entries : AddressFamily → List (List ℕ) → List ℕ
 source_entries family sources = flat_map (λ source. canonical_entry family (Source source)) sources
 
--- exceptions as (S,G,rpt)
+-- The bytes of the exceptions as (S,G,rpt) entries, one after the other.
 abbrev pub exception_entries : AddressFamily → List (List ℕ) → List ℕ
 exception_entries family exceptions = flat_map (λ source. canonical_entry family (Rpt source)) exceptions
 
 module _ (family : AddressFamily) (rps : Rps) (this : GroupForm) where
-  -- those of a set, the joined ones before the pruned ones
+  -- The bytes of the entries of a set, the joined ones before the pruned ones.
   abbrev pub set_entries : List ℕ
   set_entries = flat_map (canonical_entry family) (told_set rps this).joined
       ++ flat_map (canonical_entry family) (told_set rps this).pruned
 
+  -- The number of entries of a set.
   abbrev pub entry_count : ℕ
   entry_count = length (told_set rps this).joined + length (told_set rps this).pruned
 
+  -- The size of a set, in bytes.
   abbrev pub set_size : ℕ
   set_size = canonical_set_length family (length (told_set rps this).joined) (length (told_set rps this).pruned)
 
--- ---- the part of a piece that is told
+-- ---- the part of a piece that is written
 
--- the piece with so many of its sources
+-- A piece with its first `count` sources.
 abbrev pub cut_piece : ℕ → Piece (List ℕ) → List GroupForm → GroupForm
 cut_piece count piece form = record {
   group = piece.group;
@@ -42,11 +44,12 @@ cut_piece count piece form = record {
   sources = take count (piece_form piece form).sources;
 }
 
--- So many sources are told: all, or as many as there may be; those behind the last one are left.
+-- All sources of the piece are written, or as many as `most`. Those after the last one are left.
 pub record AreTold (piece : Piece (List ℕ)) (form : List GroupForm) (most : ℕ) (told : ToldSources (List ℕ))
     : Type 0 where
   pub count : told.count ≡ min most (length (piece_form piece form).sources)
   pub left : above told.last (sources_in piece.group form) ≡ drop told.count (piece_form piece form).sources
 
+-- What contracts see of the sources that are written.
 abbrev pub told_seen : {A : Type 0} → (A → List ℕ) → ToldSources A → ToldSources (List ℕ)
 told_seen bytes_of told = record { count = told.count; last = option_map bytes_of told.last }

@@ -5,17 +5,18 @@ use Rattle.pim_form.specs.Wants.{some_below}
 use Rattle.pim_emit.specs.declared.stars.Stars.{Stars}
 use Rattle.pim_emit.specs.Machines.{is_starred}
 
--- of each number below the count, whether it passes
+-- The flag of each number below the count is whether the number passes the test.
 abbrev pub AreFlags : ℕ → (ℕ → Bool) → List Bool → Type 0
 AreFlags count test flags =
     (place : ℕ) (other : Bool) → place < count → slice_index_or flags place other ≡ test place
 
--- the first number below the count that passes, or that none does
+-- The first number below the count that passes the test; `None` if none does.
 abbrev pub IsFirstBelow : ℕ → (ℕ → Bool) → Option ℕ → Type 0
 IsFirstBelow count test None = some_below count test ≡ false
 IsFirstBelow count test (Some first) = (first < count) × (test first ≡ true) × (some_below first test ≡ false)
 
--- these ports have it in Join or Prune-Pending, the first of them first
+-- These ports have (*,G) in Join or Prune-Pending, with the first of them: joins(*,G) (RFC 7761,
+-- 4.1).
 pub record AreStars (state : Downstream) (group : List ℕ) (stars : Stars) : Type 0 where
   pub each : AreFlags state.ports (is_starred state group) stars.on
   pub least : IsFirstBelow state.ports (is_starred state group) stars.first

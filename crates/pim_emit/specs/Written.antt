@@ -1,4 +1,5 @@
--- What is written of a state: its canonical messages, each behind two bytes of its length.
+-- What is written of a state: its canonical Join/Prune messages, each after two bytes of its
+-- length.
 use Rattle.std.specs.Prelude.{◌≡◌, ℕ, ◌+◌, ◌≤◌, List, [], ◌++◌, Option, None, Some, Result, Ok, Err, length, take, min}
 use Rattle.std.specs.List.{flat_map}
 use Rattle.std.specs.Io.KnownBytes.{Appends}
@@ -15,52 +16,56 @@ use Rattle.pim_form.specs.TowardLaws.{asked_of}
 use Rattle.pim_emit.specs.declared.fault.WriteFault.{WriteFault}
 use Rattle.pim_emit.specs.declared.fault.WriteFault.TheVariants.{TooBig, Output}
 
--- a message behind its length
+-- A message after its length as two bytes, big-endian.
 abbrev pub framed : List ℕ → List ℕ
 framed message = big_bytes 2 (length message) ++ message
 
+-- Messages, each after its length.
 abbrev pub all_framed : List (List ℕ) → List ℕ
 all_framed messages = flat_map framed messages
 
 module _ (family : AddressFamily) (writing : Writing) (table : RouteTable) (state : Downstream) where
-  -- the canonical messages of the normal form of what the writer's upstream neighbour is asked for
+  -- These are the canonical messages of the normal form of what the ports want of the writer's
+  -- upstream neighbour (RFC 7761, 4.1 and 4.9.5).
   pub record AskBy (messages : List (List ℕ)) : Type 0 where
     pub form : List GroupForm
     pub is : IsFormOf family (asked_of family table writing.upstream state) form
     pub told : AreCanonical family writing (known_in family table) form messages
 
-  -- The least group whose star, with all its exceptions, is too big for a message alone, in that form; `None` where
-  -- there is no such group.
+  -- The least group of that form whose star, with all its exceptions, is too big for a message
+  -- alone; `None` if no star is.
   pub record IsTooBig (group : Option (List ℕ)) : Type 0 where
     pub form : List GroupForm
     pub is : IsFormOf family (asked_of family table writing.upstream state) form
     pub least : too_big family writing.budget form ≡ group
 
-  -- All canonical messages went out.
+  -- All canonical messages were appended, each after its length; `count` is their number.
   pub record HaveGoneOut (old new : Option (List ℕ)) (count : ℕ) : Type 0 where
     pub messages : List (List ℕ)
     pub ask : AskBy messages
     pub counted : count ≡ length messages
     pub gone : Appends old new (all_framed messages)
 
-  -- So many bytes of whatever is to go out went out.
+  -- Whichever messages are the canonical ones, their first `sent` bytes were appended, lengths
+  -- included.
   abbrev pub HasGoneOut : Option (List ℕ) → Option (List ℕ) → ℕ → Type 0
   HasGoneOut old new sent = (messages : List (List ℕ)) → AskBy messages →
       (sent ≤ length (all_framed messages)) × Appends old new (take sent (all_framed messages))
 
-  -- what is told of what went out
+  -- What a result says of the bytes that were appended. After `TooBig` none were.
   abbrev pub IsWritten : {N A F : Type 0} → Option (List ℕ) → Option (List ℕ) → Result ℕ (WriteFault F A N) → Type 0
   IsWritten old new (Ok count) = HaveGoneOut old new count
   IsWritten old new (Err (TooBig group)) = Appends old new []
   IsWritten old new (Err (Output sent)) = HasGoneOut old new sent
 
--- the group that is told to be too big
+-- The group that is reported as too big, if one is.
 abbrev pub told_too_big : {T F A N : Type 0} → Result T (WriteFault F A N) → Option A
 told_too_big (Ok count) = None
 told_too_big (Err (TooBig group)) = Some group
 told_too_big (Err (Output sent)) = None
 
--- how often the device has failed then: once more exactly where its failure is told
+-- The device's count of failures after a call: one more, up to its top, exactly if its failure is
+-- the result.
 abbrev pub failures_told : {T F A N : Type 0} → ℕ → Result T (WriteFault F A N) → ℕ
 failures_told before (Ok count) = before
 failures_told before (Err (TooBig group)) = before

@@ -1,4 +1,6 @@
-//! Of each port the source that comes next there, so that the port's next machine is told only where one is passed.
+//! The source that comes next on each port. While the sources of a set are written, it is kept on
+//! the stack for each port, with the machines after it. So a port whose source was written goes on
+//! to its next machine without a search.
 
 ghost use Rattle.std.specs.Prelude.{◌≡◌, ◌≤◌, ◌<◌, ◌+◌, ℕ, false, List, Option, Some, IfSome, length, option_map};
 ghost use Rattle.std.specs.Prelude.{slice_index_or};
@@ -15,12 +17,12 @@ use pim_down::{GroupMachines, Near, What, compare_addresses};
 use std::cmp::Ordering;
 use std::marker::Model;
 
-/// A source that comes next on a port, and the machines of its group that are left behind it there.
+/// A source that comes next on a port, and the machines of its group that follow it there.
 #[derive(Drop)]
 pub(crate) struct Ahead<'a, F: Family> {
     source: F::Addr,
     left: GroupMachines<'a, F>,
-    /// Where the source's machine stands. No answer goes by it.
+    /// The place of the source's machine. No result depends on it.
     near: Near,
 }
 
@@ -36,13 +38,13 @@ impl<'a, F: Family> Model for Ahead<'a, F> {
 #[derive(Clone, Copy)]
 struct LeastAhead<A> {
     source: A,
-    /// The first port on which it comes next.
+    /// A port on which it comes next.
     port: usize,
-    /// Whether it comes next on no other one.
+    /// Whether it comes next on no other port.
     is_alone: bool,
 }
 
-/// The machine behind which the sources above the bound stand, or all.
+/// The machine after which the sources above the bound follow, or all sources.
 pub(crate) fn passed<F: Family>(bound: Option<F::Addr>) -> What<F::Addr>
     ensures { what_seen F.bytes_of result ≡ passed (option_map F.bytes_of bound) }
 {
@@ -52,7 +54,7 @@ pub(crate) fn passed<F: Family>(bound: Option<F::Addr>) -> What<F::Addr>
     }
 }
 
-/// Tells the next of these machines: its source, if it is (S,G).
+/// Takes the next of these machines, and returns its source if it is (S,G).
 fn next_source<F: Family>(left: &mut GroupMachines<'_, F>) -> Option<F::Addr>
     ensures { TellsNext F.family left.old left.new (option_map F.bytes_of result) }
 {
@@ -84,7 +86,8 @@ fn ahead_on<'a, F: Family>(
     })
 }
 
-/// Looks up, on each port, the least source above the bound, or of all, with (S,G) in Join or Prune-Pending.
+/// Looks up, on each port, the least source above the bound, or of all, with (S,G) in Join or
+/// Prune-Pending.
 pub(crate) fn look_ahead<'a, F: Family>(
     ports: &Nearby<'a, F>,
     group: F::Addr,
@@ -101,14 +104,14 @@ pub(crate) fn look_ahead<'a, F: Family>(
     }
 }
 
-/// Keeps where what comes next on the port stands.
+/// Keeps the place of what comes next on the port.
 fn keep_on<F: Family>(ports: &Nearby<'_, F>, port: usize, next: &Option<Ahead<'_, F>>) {
     if let Some(ahead) = next {
         ports.keep(port, ahead.near);
     }
 }
 
-/// Keeps where what comes next on each port stands, for the next look-up there.
+/// Keeps the place of what comes next on each port for the next look-up there.
 pub(crate) fn keep_ahead<F: Family>(ports: &Nearby<'_, F>, nexts: &[Option<Ahead<'_, F>>])
     requires { ports.now.ports ≤ length nexts.now }
 {
@@ -142,7 +145,8 @@ pub(crate) fn source_on<F: Family>(
     source_of::<F>(&next)
 }
 
-/// The least source above the bound, or of all, with (S,G) in Join or Prune-Pending on some port: each is looked up.
+/// The least source above the bound, or of all, with (S,G) in Join or Prune-Pending on some port.
+/// Each port is looked up.
 fn least_source<F: Family>(
     ports: &Nearby<'_, F>,
     group: F::Addr,
@@ -160,7 +164,7 @@ fn least_source<F: Family>(
 }
 
 impl<A> LeastAhead<A> {
-    /// The same, where it comes next on one more port.
+    /// The same least source, which comes next on one more port.
     fn beside_another(self) -> Self
         ensures { (bytes_of : A → List ℕ) → least_seen bytes_of result
             ≡ record { source = bytes_of self.source; port = self.port; is_alone = false } }
@@ -173,7 +177,7 @@ impl<A> LeastAhead<A> {
     }
 }
 
-/// How a source stands to the least one.
+/// Compares a source with the least one.
 #[inline(always)]
 fn compare_with<F: Family>(source: F::Addr, least: &LeastAhead<F::Addr>) -> Ordering
     ensures { result ≡ address_cmp (F.bytes_of source) (F.bytes_of least.now.source) }
@@ -181,7 +185,7 @@ fn compare_with<F: Family>(source: F::Addr, least: &LeastAhead<F::Addr>) -> Orde
     compare_addresses::<F>(source, least.source)
 }
 
-/// The least of the sources that come next on the ports before this one, and on this one.
+/// The least of the sources that come next on the ports before this one and on this one.
 #[inline(always)]
 fn with_port<F: Family>(
     least: Option<LeastAhead<F::Addr>>,
@@ -230,7 +234,7 @@ fn least_ahead<F: Family>(
     least
 }
 
-/// Whether the two are one address.
+/// Whether the two addresses are the same.
 fn is_same<F: Family>(one: F::Addr, other: F::Addr) -> bool
     ensures { result ≡ same_address (F.bytes_of one) (F.bytes_of other) }
 {
@@ -247,7 +251,7 @@ fn comes_next<F: Family>(next: &Option<Ahead<'_, F>>, source: F::Addr) -> bool
     }
 }
 
-/// Goes on to what comes next on the port behind what comes next there now.
+/// Goes on to what follows the source that comes next on the port.
 #[inline(always)]
 fn pass_here<F: Family>(ports: &Nearby<'_, F>, port: usize, next: &mut Option<Ahead<'_, F>>)
     ensures { (group passed : List ℕ) (bound : Option (List ℕ)) →
@@ -268,8 +272,8 @@ fn pass_here<F: Family>(ports: &Nearby<'_, F>, port: usize, next: &mut Option<Ah
     }
 }
 
-/// Goes on to what comes next on the port behind the source that is passed, which came next on some port and is the
-/// least of those that did.
+/// Goes on to what follows the passed source, if it comes next on the port. It is the least of the
+/// sources that come next on the ports.
 #[inline(always)]
 fn pass_on<F: Family>(
     ports: &Nearby<'_, F>,
@@ -288,7 +292,7 @@ fn pass_on<F: Family>(
     pass_here::<F>(ports, port, next);
 }
 
-/// Passes the source that comes next, so that of each port there is what comes next behind it.
+/// Passes a source on all ports, so that `nexts` holds what follows it on each.
 fn pass_all<F: Family>(ports: &Nearby<'_, F>, passed: F::Addr, nexts: &mut [Option<Ahead<'_, F>>])
     requires { ports.now.ports ≤ length nexts.old }
     ensures next { (group : List ℕ) (bound : Option (List ℕ)) → AreNext ports.now group bound nexts.old →
@@ -302,7 +306,7 @@ fn pass_all<F: Family>(ports: &Nearby<'_, F>, passed: F::Addr, nexts: &mut [Opti
     }
 }
 
-/// Passes the least source. Where it comes next on one port alone, no other one is looked at.
+/// Passes the least source. If it comes next on one port alone, no other port is looked at.
 #[inline(always)]
 fn pass_ahead<F: Family>(
     ports: &Nearby<'_, F>,
@@ -323,9 +327,9 @@ fn pass_ahead<F: Family>(
     pass_all::<F>(ports, least.source, nexts);
 }
 
-/// Takes the least source above the bound, or of all, with (S,G) in Join or Prune-Pending on some port. Where there is
-/// a place for each port, what comes next above the bound on each stands there, and then what comes next behind the
-/// source that was taken; else each port is looked up.
+/// Takes the least source above the bound, or of all, with (S,G) in Join or Prune-Pending on some
+/// port. If `nexts` has a place for each port, it holds what comes next on each above the bound,
+/// and after the call what follows the source. Otherwise each port is looked up.
 #[inline(always)]
 pub(crate) fn take_next<F: Family>(
     ports: &Nearby<'_, F>,

@@ -1,4 +1,5 @@
-//! What an upstream neighbour is asked for, read straight from the records.
+//! What an upstream neighbour is asked for, read from the records. Contracts see a normal form,
+//! which is kept nowhere; each call answers a question about it by look-ups.
 
 ghost use Rattle.std.specs.Prelude.{◌≡◌, ◌≤◌, ◌<◌, ◌||◌, ℕ, List, true, None, Some, IfSome, length};
 ghost use Rattle.std.specs.Prelude.{option_map, is_some};
@@ -23,8 +24,8 @@ use pim_down::Ports;
 use pim_form::{Tree, upstream_of};
 use std::marker::Model;
 
-/// What the machines of all ports want of an upstream neighbour (RFC 7761, 4.1). Contracts see its normal form; the
-/// records are read anew at each call, each look-up from near where one ended before.
+/// What the machines of all ports want of an upstream neighbour (RFC 7761, 4.1). Contracts see its
+/// normal form. Each call reads the records, from near where an earlier look-up ended.
 #[derive(Drop)]
 pub(crate) struct Asked<'a, F: Family> {
     ports: Nearby<'a, F>,
@@ -45,7 +46,7 @@ impl<'a, F: Family> Model for Asked<'a, F> {
     } };
 }
 
-/// Whether the address that is asked for is reached by this neighbour.
+/// Whether the route leads to this neighbour.
 fn is_neighbour<F: Family>(asked: Option<F::Addr>, upstream: F::Addr) -> bool
     ensures { result ≡ is_neighbour (F.bytes_of upstream) (option_map F.bytes_of asked) }
 {
@@ -56,7 +57,7 @@ fn is_neighbour<F: Family>(asked: Option<F::Addr>, upstream: F::Addr) -> bool
 }
 
 impl<'a, F: Family> Asked<'a, F> {
-    /// What these ports want of this neighbour, where the table leads to it.
+    /// What these ports want of this neighbour, for the routes that lead to it.
     pub(crate) fn new(ports: &'a Ports<F>, routes: &'a Routes<F>, upstream: F::Addr) -> Self
         ensures { result ≡ record {
           form = asked_form F.family routes.now (F.bytes_of upstream) ports.now;
@@ -71,7 +72,7 @@ impl<'a, F: Family> Asked<'a, F> {
         }
     }
 
-    /// A law: what is true of what is asked. It does nothing.
+    /// A law: what is asked is a normal form of at most 6,400,000 units. It does nothing.
     pub(crate) fn is_normal(&self)
         ensures normal { IsNormal F.family self.now.form }
         ensures few { length (units_of self.now.form) ≤ 6400000 }
@@ -121,7 +122,8 @@ impl<'a, F: Family> Asked<'a, F> {
         self.next_ahead(group, bound, &mut nowhere)
     }
 
-    /// Whether the least source of the group above the bound, or of all, on the port is reached by the neighbour.
+    /// Whether the route to the port's least source of the group above the bound, or of all, leads
+    /// to the neighbour.
     fn goes_on_at(&self, port: usize, group: F::Addr, bound: Option<F::Addr>) -> bool
         requires group { IsGroupAddress F.family (F.bytes_of group) }
         requires port { port < self.now.machines.ports }
@@ -137,7 +139,8 @@ impl<'a, F: Family> Asked<'a, F> {
         }
     }
 
-    /// Whether it is on some port. Where it is on none, the group may still have a source above the bound: a later one.
+    /// Whether that is so on some port. If not, the group may still have a later source above the
+    /// bound.
     fn goes_on(&self, group: F::Addr, bound: Option<F::Addr>) -> bool
         requires { IsGroupAddress F.family (F.bytes_of group) }
         ensures { result ≡ true → is_some (next_above (option_map F.bytes_of bound)
@@ -152,7 +155,8 @@ impl<'a, F: Family> Asked<'a, F> {
         false
     }
 
-    /// Whether the group has a source above the bound, or any. Of most groups the first port tells.
+    /// Whether the group has a source above the bound, or any. For most groups the first port
+    /// decides.
     pub(crate) fn has_source(&self, group: F::Addr, bound: Option<F::Addr>) -> bool
         requires { IsGroupAddress F.family (F.bytes_of group) }
         ensures { result ≡ is_some (next_above (option_map F.bytes_of bound)
@@ -161,7 +165,8 @@ impl<'a, F: Family> Asked<'a, F> {
         self.goes_on(group, bound) || self.next_source(group, bound).is_some()
     }
 
-    /// Whether the group has a star or a source. The star is looked up only where no first source tells.
+    /// Whether the group has a star or a source. The star is looked up only if no port's first
+    /// source decides.
     fn has_any(&self, group: F::Addr) -> bool
         requires { IsGroupAddress F.family (F.bytes_of group) }
         ensures { result ≡ (is_some (star_of (F.bytes_of group) self.now.form)
@@ -173,19 +178,20 @@ impl<'a, F: Family> Asked<'a, F> {
         self.has_star(group) || self.next_source(group, None).is_some()
     }
 
-    /// How many ports there are.
+    /// The number of ports.
     pub(crate) fn port_count(&self) -> usize
         ensures { result ≡ self.now.machines.ports }
     {
         self.ports.port_count()
     }
 
-    /// What is kept of a port before it is looked up.
+    /// What is kept of a port before a look-up.
     pub(crate) fn nothing_ahead(&self) -> Option<Ahead<'a, F>> {
         None
     }
 
-    /// Looks up what comes next of the group above the bound, or at all, on each port, if there is a place for each.
+    /// Looks up what comes next of the group above the bound, or at all, on each port, if there is
+    /// a place for each.
     pub(crate) fn look_ahead(
         &self,
         group: F::Addr,
@@ -202,15 +208,17 @@ impl<'a, F: Family> Asked<'a, F> {
         look_ahead::<F>(&self.ports, group, bound, nexts);
     }
 
-    /// Keeps where what comes next on each port stands, if there is a place for each, for the next look-up there.
+    /// Keeps the place of what comes next on each port for the next look-up there, if `nexts` has a
+    /// place for each.
     pub(crate) fn keep_ahead(&self, nexts: &[Option<Ahead<'a, F>>]) {
         if nexts.len() >= self.port_count() {
             keep_ahead::<F>(&self.ports, nexts);
         }
     }
 
-    /// The least source of the group above the bound, or of all. Where there is a place for each port, what comes next
-    /// on each above the bound stands there, and behind an answer what comes next then; else each port is looked up.
+    /// The least source of the group above the bound, or of all. If `nexts` has a place for each
+    /// port, it holds what comes next on each above the bound, and after the call what follows the
+    /// source. Otherwise each port is looked up.
     #[inline(always)]
     pub(crate) fn next_ahead(
         &self,
@@ -247,8 +255,8 @@ impl<'a, F: Family> Asked<'a, F> {
         stars_of::<F>(&self.ports, group)
     }
 
-    /// The (S,G,rpt) machines among which those of the exceptions of the group's star are, if the ports that have the
-    /// star are these.
+    /// The (S,G,rpt) machines that include those of all exceptions of the group's star, if these
+    /// ports have the star.
     pub(crate) fn rpts(&self, group: F::Addr, stars: &Stars) -> Rpts<'a, F>
         requires { IsGroupAddress F.family (F.bytes_of group) }
         ensures all { above (Some result.bound) (exceptions_in (F.bytes_of group) self.now.form)
@@ -260,8 +268,8 @@ impl<'a, F: Family> Asked<'a, F> {
         rpts_of::<F>(&self.ports, group, stars)
     }
 
-    /// The least exception above the bound of what is left, of the group's star, which it has on these ports. Then what
-    /// stands behind it is left.
+    /// The least exception of the group's star above the bound of what is left. Afterwards the
+    /// machines after it are left. The group has a star, on these ports.
     pub(crate) fn next_exception(
         &self,
         group: F::Addr,
@@ -290,8 +298,8 @@ impl<'a, F: Family> Asked<'a, F> {
         None
     }
 
-    /// Keeps where what is left of the (S,G,rpt) machines of the first port that has the star stands, for the next look-up
-    /// there.
+    /// Keeps the place of what is left of the (S,G,rpt) machines for the next look-up on the first
+    /// port that has the star.
     pub(crate) fn keep_rpts(&self, stars: &Stars, rpts: &Rpts<'a, F>) {
         if let Some(port) = stars.first {
             self.ports.keep(port, rpts.near());
@@ -316,7 +324,8 @@ impl<'a, F: Family> Asked<'a, F> {
         None
     }
 
-    /// No star has more exceptions than this: each is an (S,G,rpt) machine of every port that has the star.
+    /// A bound of the number of exceptions of every star: each is an (S,G,rpt) machine of every
+    /// port that has the star.
     pub(crate) fn most_exceptions(&self) -> usize
         ensures { (group : List ℕ) → IsGroupAddress F.family group →
             length (exceptions_in group self.now.form) ≤ result }
@@ -327,7 +336,8 @@ impl<'a, F: Family> Asked<'a, F> {
         most_rpts::<F>(&self.ports)
     }
 
-    /// How many exceptions the group's star has, which it has. The next look-up begins where one before these ended.
+    /// The number of exceptions of the group's star, which the group has. The walk keeps no place,
+    /// so the next look-up begins where one before the walk ended.
     pub(crate) fn exception_count(&self, group: F::Addr) -> usize
         requires group { IsGroupAddress F.family (F.bytes_of group) }
         requires star { is_some (star_of (F.bytes_of group) self.now.form) ≡ true }

@@ -1,4 +1,6 @@
-//! Canonical messages, straight from the records.
+//! The canonical messages, written to a device. If the device fails, the rest of the messages is
+//! never made, so the clause speaks of every list that is the canonical one; a form has at most
+//! one.
 
 ghost use Rattle.std.specs.Prelude.{◌≡◌, ◌≤◌, length, option_map};
 ghost use Rattle.pim_emit.specs.Written.{IsWritten, IsTooBig, told_too_big, failures_told};
@@ -13,25 +15,29 @@ use pim_device::Drain;
 use pim_down::Ports;
 use pim_form::Writer;
 
-/// Writes the canonical messages by which the writer's upstream neighbour is asked for what the machines of all ports
-/// want of it (RFC 7761, 4.1 and 4.9.5), each behind two bytes of its length, big-endian, and answers how many they
-/// are. They are those that `pack` gives for the normal form of what is asked. It makes no such form, and takes no
-/// memory: each message is made in the buffer, which has at least the writer's budget.
+/// Writes the canonical messages that ask the writer's upstream neighbour for what the machines of
+/// all ports want of it (RFC 7761, 4.1 and 4.9.5). Returns their number. Each message follows two
+/// bytes of its length, big-endian. They are the messages that `pack` gives for the normal form of
+/// what is asked. The call makes no form and takes no memory: it makes each message in the buffer,
+/// whose length is at least the writer's budget.
 ///
-/// The time goes by what is told or passed over, and by the ports: a source costs a step to the next machine on each port
-/// that has it, a look-up in the table, and a comparison on every port; an exception such a step on the first port that
-/// has the star, and at most one look-up on each other that has it; a group, and a message that begins or ends within
-/// one, some look-ups on every port and one or two in the table. On each of the first 64 ports, and there are no more, a
-/// look-up begins near where an earlier one ended. Where it passes over records, as at the next group, it is a search by
-/// halves in a block of up to 512 records or among all. Exceptions are walked through three times: to look for stars that
-/// are too big, to see whether a star has room, and to write them; and once more where the star begins a new message.
-/// Each of these walks begins with a look-up of the star on every port. The first, through all groups, is made only where
-/// some port has as many (S,G,rpt) machines, of whatever groups, as are too many for one message.
+/// The time grows with the machines that are passed and with the ports. A source takes a step to
+/// the next machine on each port that has it, a look-up in the table, and a comparison on every
+/// port. An exception takes a step on the first port that has the star, and at most one look-up on
+/// each other port that has it. A group takes some look-ups on every port and one or two in the
+/// table; so does a message that begins or ends within a group. A look-up begins near where an
+/// earlier one on the port ended. If it passes over records, it is a search by halves in a block of
+/// up to 512 records or among all.
+///
+/// Exceptions are walked three times: to look for stars that are too big, to see whether a star has
+/// room, and to write them. They are walked once more if the star begins a new message. Each walk
+/// begins with a look-up of the star on every port. The first is made only if some port has as many
+/// (S,G,rpt) machines as are too many for one message.
 ///
 /// # Errors
-/// `TooBig` of the least group whose star, with all its exceptions, is too big for a message of the writer's budget
-/// alone; it is looked for before any write. `Output` where the device failed in this call, with the number of bytes
-/// that it took: a front of what would have been written.
+/// `TooBig` of the least group whose star, with all its exceptions, is too big for a message of the
+/// writer's budget alone; nothing is written then. `Output` if the device failed, with the number
+/// of bytes that it took, from the front of the messages.
 pub fn write_canonical<F: Family, D: Drain>(
     ports: &Ports<F>,
     writer: &Writer<F>,

@@ -1,4 +1,4 @@
-//! A message that is being made: the sets that are written, and how far the units are told.
+//! A message that is being made in the caller's buffer, set by set. Nothing of a form is copied.
 
 ghost use Rattle.std.specs.Prelude.{◌≡◌, ◌+◌, ◌*◌, ◌≤◌, ◌<◌, ◌↔◌, ℕ, length, true, false, List, is_some, option_map};
 ghost use Rattle.std.specs.Int.{from_bool};
@@ -17,19 +17,19 @@ use crate::set::{ToldSources, write_set};
 use pim_addr::{Family, group_length, source_length};
 use pim_jp::{head_length, set_length};
 
-/// How many groups a message may have.
+/// The greatest number of groups in a message, whose field has 8 bits (RFC 7761, 4.9.5).
 const MOST_GROUPS: usize = 255;
 
 /// How far a message is made.
 #[derive(Clone, Copy)]
 pub(crate) struct Draft<A> {
-    /// Where the units stand that aren't told yet.
+    /// The position after the units that are written.
     pub(crate) position: Position<A>,
-    /// How many groups it has.
+    /// The number of its groups.
     pub(crate) groups: usize,
-    /// Where its last set ends.
+    /// The index at which its last set ends.
     pub(crate) end: usize,
-    /// Whether the next unit has no room in it, or nothing is left.
+    /// Whether the next unit has no room in it, or no unit is left.
     pub(crate) is_full: bool,
 }
 
@@ -45,7 +45,7 @@ pub(crate) fn empty_draft<F: Family>(position: Position<F::Addr>) -> Draft<F::Ad
     }
 }
 
-/// How many entries of one more group there is room for.
+/// The number of entries of one more group for which there is room.
 pub(crate) fn room<F: Family>(draft: &Draft<F::Addr>, budget: usize) -> usize
     requires end { draft.now.end ≤ 65000 }
     requires budget { budget ≤ 65000 }
@@ -59,7 +59,7 @@ pub(crate) fn room<F: Family>(draft: &Draft<F::Addr>, budget: usize) -> usize
     budget.saturating_sub(draft.end + set) / source_length::<F>()
 }
 
-/// Whether a group has sources behind those of a piece that were told, at most so many.
+/// Whether a group has sources after those of a piece that were written, at most `most`.
 fn has_more<F: Family>(
     asked: &Asked<'_, F>,
     piece: &Piece<F::Addr>,
@@ -74,8 +74,8 @@ fn has_more<F: Family>(
     told.count == most && asked.has_source(piece.group, told.last)
 }
 
-/// Tells a piece, as far as there is room: for so many entries, which are more than none and not fewer than its star
-/// has, with so many exceptions.
+/// Writes a piece, as far as there is room: for `room` entries, at least one, which suffice for its
+/// star with `exceptions` exceptions.
 fn tell_piece<F: Family>(
     asked: &Asked<'_, F>,
     piece: &Piece<F::Addr>,
@@ -118,7 +118,7 @@ fn tell_piece<F: Family>(
     }
 }
 
-/// How many exceptions the star of a piece has, if it is to be told.
+/// The number of exceptions of the star of a piece, if the piece has the star.
 fn exceptions_left<F: Family>(asked: &Asked<'_, F>, piece: &Piece<F::Addr>) -> usize
     requires group { IsGroupAddress F.family (F.bytes_of piece.now.group) }
     requires star { piece.now.starred ≡ true → is_some (star_of (F.bytes_of piece.now.group) asked.now.form) ≡ true }

@@ -7,12 +7,12 @@ use thiserror::Error;
 /// Why the canonical messages aren't written, or not all of them.
 #[derive(Debug, Drop, PartialEq, Eq, Error)]
 pub enum WriteFault<F: Family> {
-    /// The star of this group, with all its exceptions, is too big for a message of the writer's budget. It is the
-    /// least such group, and nothing was written.
+    /// The star of this group, with all its exceptions, is too big for a message of the writer's
+    /// budget. It is the least such group, and nothing was written.
     TooBig(F::Addr),
     /// The device failed.
     Output {
-        /// How many bytes it had taken by then.
+        /// The number of bytes that it took in this call.
         sent: u64,
     },
 }

@@ -1,20 +1,21 @@
-//! Where look-ups on each port begin. Nothing here changes an answer, so no clause speaks of it.
+//! Where look-ups on each port begin. No clause speaks of these places: one that is out of date
+//! costs time and changes no result.
 
 use pim_down::Near;
 use std::cell::Cell;
 
-/// So many ports there may be. Of one beyond, no hint is kept.
+/// The greatest number of ports of a router. No hint is kept of a port beyond.
 pub(crate) const PORTS: usize = 64;
 
-/// Of each port the place where a look-up ended last: what is told is told in the order of the records, so the next
-/// look-up mostly ends there or right behind.
+/// The place on each port where the last look-up ended. The walk follows the order of the records,
+/// so the next look-up mostly ends there or just after.
 #[derive(Drop)]
 pub(crate) struct Hints {
     places: [Cell<Near>; PORTS],
 }
 
 impl Hints {
-    /// No hint.
+    /// No hints.
     pub(crate) fn new() -> Self {
         Hints {
             places: std::array::from_fn(|_| Cell::new(Near::UNKNOWN)),

@@ -1,4 +1,4 @@
-//! Canonical messages, straight from the records, kept in memory one after another.
+//! The canonical messages, kept in memory one after another.
 
 ghost use Rattle.std.specs.Prelude.{◌≡◌, ◌≢◌, ◌≤◌, [], None, Err, IfOk, OnOk, length, option_map};
 ghost use Rattle.pim_form.specs.Messages.{AreCanonical};
@@ -15,14 +15,15 @@ use pim_down::Ports;
 use pim_form::{FormFault, Messages, Writer};
 use std::alloc::{AllocError, Global};
 
-/// So many bytes for one message.
+/// The buffer for one message: `budget` zeros.
 fn blank(alloc: Global, budget: usize) -> Result<Vec<u8>, AllocError>
     ensures { IfOk result (λ buffer. length buffer.items ≡ budget) }
 {
     vec![in alloc; 0u8; budget]
 }
 
-/// Keeps the messages one after another, each made in the buffer, which has at least the writer's budget.
+/// Keeps the messages one after another. Each is made in the buffer, whose length is at least the
+/// writer's budget.
 fn keep_all<F: Family>(
     asked: &Asked<'_, F>,
     writer: &Writer<F>,
@@ -44,15 +45,16 @@ fn keep_all<F: Family>(
     Ok(())
 }
 
-/// The canonical messages by which the writer's upstream neighbour is asked for what the machines of all ports want of
-/// it (RFC 7761, 4.1 and 4.9.5). They are those that `pack` gives for the normal form of what is asked. It makes no such
-/// form: beside the messages it takes memory for one of the writer's budget, and gives that back.
+/// The canonical messages by which the writer's upstream neighbour is asked for what the machines
+/// of all ports want of it (RFC 7761, 4.1 and 4.9.5). They are the messages that `pack` gives for
+/// the normal form of what is asked. The call makes no form: beside the messages it takes memory
+/// for one buffer of the writer's budget, and frees that.
 ///
 /// The time is that of `write_canonical`.
 ///
 /// # Errors
-/// `TooBig` of the least group whose star, with all its exceptions, is too big for a message of the writer's budget
-/// alone, exactly where there is one; it is looked for before any growth. Else `Memory` where a growth is refused.
+/// `TooBig` of the least group whose star, with all its exceptions, is too big for a message of the
+/// writer's budget alone, exactly if there is one. Otherwise `Memory` if a growth is refused.
 pub fn canonical_messages<F: Family>(
     alloc: Global,
     ports: &Ports<F>,

@@ -1,4 +1,4 @@
-//! The lesser of two addresses that may be there.
+//! The lesser of two optional addresses.
 
 ghost use Rattle.std.specs.Prelude.{ℕ, Bool, List, ◌||◌, option_map};
 ghost use Rattle.pim_emit.specs.Least.{IsLeast};
@@ -6,7 +6,7 @@ ghost use Rattle.pim_emit.specs.Least.{IsLeast};
 use pim_addr::Family;
 use pim_down::compare_addresses;
 
-/// The lesser of the two, where both are there; else the one that is.
+/// The lesser of the two if both are there, otherwise the one that is.
 pub(crate) fn lesser<F: Family>(one: Option<F::Addr>, other: Option<F::Addr>) -> Option<F::Addr>
     ensures { (test this : List ℕ → Bool) → IsLeast test (option_map F.bytes_of one) →
         IsLeast this (option_map F.bytes_of other) →

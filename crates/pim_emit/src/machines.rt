@@ -1,4 +1,5 @@
-//! The machines of a group, over all ports: which source, and which group, comes next.
+//! The machines of a group over all ports. What comes next is the least over all ports, looked up
+//! on each.
 
 ghost use Rattle.std.specs.Prelude.{◌≡◌, ◌<◌, ◌≤◌, ◌&&◌, List, ℕ, option_map};
 ghost use Rattle.std.specs.declared.cmp.Ordering.TheVariants.{Less};
@@ -25,7 +26,7 @@ pub(crate) fn is_starred<F: Family>(ports: &Nearby<'_, F>, port: usize, group: F
     )
 }
 
-/// The first port that has (*,G) in Join or Prune-Pending.
+/// A port that has (*,G) in Join or Prune-Pending, if one has.
 pub(crate) fn first_starred<F: Family>(ports: &Nearby<'_, F>, group: F::Addr) -> Option<usize>
     ensures { IsSomeBelow ports.now.ports (is_starred ports.now (F.bytes_of group)) result }
 {
@@ -47,7 +48,7 @@ pub(crate) struct Held<A> {
     pub(crate) state: State,
 }
 
-/// So many (S,G,rpt) machines has the port that has most.
+/// The greatest number of (S,G,rpt) machines that a port has.
 pub(crate) fn most_rpts<F: Family>(ports: &Nearby<'_, F>) -> usize
     ensures { (port : ℕ) → port < ports.now.ports → rpt_count_on port ports.now.records ≤ result }
 {
@@ -62,7 +63,7 @@ pub(crate) fn most_rpts<F: Family>(ports: &Nearby<'_, F>) -> usize
     most
 }
 
-/// The address before all valid sources.
+/// An address below all valid sources.
 pub(crate) fn lowest<F: Family>() -> F::Addr
     ensures { (source : List ℕ) → IsSourceAddress F.family source →
         address_cmp (F.bytes_of result) source ≡ Less }

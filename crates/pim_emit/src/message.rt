@@ -1,4 +1,6 @@
-//! The canonical messages, one after another.
+//! The canonical messages, one after another. Each exception of a star is an (S,G,rpt) machine of
+//! every port that has the star. So stars that are too big are looked for only if some port has
+//! enough (S,G,rpt) machines.
 
 ghost use Rattle.std.specs.Prelude.{◌≡◌, ◌+◌, ◌≤◌, ◌<◌, ◌^◌, ◌++◌, None, IfSome, length, take, drop, option_map};
 ghost use Rattle.pim_frame.specs.Frame.{all_routers};
@@ -18,8 +20,9 @@ use pim_form::Writer;
 use pim_frame::{MessageType, all_routers, seal};
 use pim_jp::{head_length, put_head};
 
-/// The least group whose star, with all its exceptions, doesn't fit a message of this budget alone, if there is one.
-/// It goes through the groups only where some port has so many (S,G,rpt) machines that one might.
+/// The least group whose star, with all its exceptions, doesn't fit a message of this budget alone,
+/// if there is one. The groups are walked only if some port has enough (S,G,rpt) machines for a
+/// star that is too big.
 pub(crate) fn too_big<F: Family>(asked: &Asked<'_, F>, budget: usize) -> Option<F::Addr>
     requires { budget ≤ 65000 }
     ensures { option_map F.bytes_of result ≡ too_big F.family budget asked.now.form }
@@ -40,7 +43,8 @@ pub(crate) fn too_big<F: Family>(asked: &Asked<'_, F>, budget: usize) -> Option<
     None
 }
 
-/// Writes the head of a message in front of its sets, and seals it from the writer's own address to ALL-PIM-ROUTERS.
+/// Writes the fields before the sets of a message, and seals it from the writer's own address to
+/// ALL-PIM-ROUTERS.
 fn finish<F: Family>(writer: &Writer<F>, sets: u8, bytes: &mut [u8])
     requires room { body_start F.family ≤ length bytes.old }
     requires counted { length bytes.old < 2 ^ 32 }
@@ -60,8 +64,9 @@ fn finish<F: Family>(writer: &Writer<F>, sets: u8, bytes: &mut [u8])
     );
 }
 
-/// Writes the message that comes next at the front of the buffer, which has at least the writer's budget, and answers
-/// how many bytes it has; `None` where all is told. The position is behind it then.
+/// Writes the next message at the front of the buffer, whose length is at least the writer's
+/// budget. Returns the length of the message and moves the position after it; `None` if no unit is
+/// left.
 pub(crate) fn next_message<F: Family>(
     asked: &Asked<'_, F>,
     writer: &Writer<F>,

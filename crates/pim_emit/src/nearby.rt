@@ -1,4 +1,4 @@
-//! The records, looked up from where look-ups ended before.
+//! The records, looked up from near where an earlier look-up ended.
 
 ghost use Rattle.std.specs.Prelude.{◌≡◌, option_map};
 ghost use Rattle.pim_down.specs.Hearing.{rpt_count_on};
@@ -13,8 +13,8 @@ use pim_addr::Family;
 use pim_down::{GroupMachines, Near, Ports, State, What};
 use std::marker::Model;
 
-/// The records of all ports, with hints where look-ups on each port begin. Contracts see the records alone: no answer
-/// goes by a hint.
+/// The records of all ports, with hints where look-ups on each port begin. Contracts see the
+/// records alone, since no result depends on a hint.
 #[derive(Drop)]
 pub(crate) struct Nearby<'a, F: Family> {
     ports: &'a Ports<F>,
@@ -30,7 +30,7 @@ impl<'a, F: Family> Model for Nearby<'a, F> {
 }
 
 impl<'a, F: Family> Nearby<'a, F> {
-    /// These records, with no hint yet.
+    /// These records, without hints.
     pub(crate) fn new(ports: &'a Ports<F>) -> Self
         ensures { result ≡ ports.now }
     {
@@ -40,21 +40,21 @@ impl<'a, F: Family> Nearby<'a, F> {
         }
     }
 
-    /// A law: what is true of the machines. It does nothing.
+    /// A law: the machines are sound. It does nothing.
     pub(crate) fn is_sound(&self)
         ensures { IsSound F.family self.now }
     {
         self.ports.is_sound();
     }
 
-    /// How many ports there are.
+    /// The number of ports.
     pub(crate) fn port_count(&self) -> usize
         ensures { result ≡ self.now.ports }
     {
         self.ports.port_count()
     }
 
-    /// How many (S,G,rpt) machines the port has.
+    /// The number of (S,G,rpt) machines on the port.
     pub(crate) fn rpt_count_on(&self, port: usize) -> usize
         ensures { result ≡ rpt_count_on port self.now.records }
     {
@@ -81,7 +81,7 @@ impl<'a, F: Family> Nearby<'a, F> {
         next
     }
 
-    /// The machines of this group on the port behind this one, to be told one after another.
+    /// The machines of this group on the port after this machine, one after another.
     pub(crate) fn machines_after(
         &self,
         port: usize,

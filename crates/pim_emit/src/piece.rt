@@ -1,4 +1,4 @@
-//! What of a group is told next.
+//! The piece of a group that is written next.
 
 ghost use Rattle.std.specs.Prelude.{option_map};
 ghost use Rattle.pim_emit.specs.Left.{IsPosition, IsNextPiece, position_seen, piece_seen};
@@ -12,13 +12,13 @@ use pim_addr::Family;
 pub(crate) struct Piece<A> {
     /// The group.
     pub(crate) group: A,
-    /// Whether its star is still to be told.
+    /// Whether its star is left.
     pub(crate) starred: bool,
-    /// The source up to which its sources are told, if any is.
+    /// The source up to which its sources are written, if any is.
     pub(crate) from: Option<A>,
 }
 
-/// What of a group is told next behind this position; `None` where all is told.
+/// The piece that comes next after this position; `None` if nothing is left.
 pub(crate) fn next_piece<F: Family>(
     asked: &Asked<'_, F>,
     position: Position<F::Addr>,

@@ -1,4 +1,5 @@
-//! The (S,G,rpt) machines of a group on the first port that has its star, told one after another.
+//! A walk over the (S,G,rpt) machines of a group on the first port that has its star. An exception
+//! is pruned on each port that has the star, so the first such port has all of them.
 
 ghost use Rattle.std.specs.Prelude.{◌≡◌, ◌&&◌, ℕ, List, Some, IfSome, option_map};
 ghost use Rattle.std.specs.declared.cmp.Ordering.TheVariants.{Less};
@@ -34,13 +35,14 @@ impl<'a, F: Family> Model for Rpts<'a, F> {
 }
 
 impl<'a, F: Family> Rpts<'a, F> {
-    /// Where the next one stands, or would stand.
+    /// The place of the next machine, or where it would be.
     pub(crate) fn near(&self) -> Near {
         self.left.near()
     }
 }
 
-/// All of them. Where no port has the star, they are those of the first port.
+/// All (S,G,rpt) machines of the group on the first port that has its star. If no port has it,
+/// those of the first port.
 pub(crate) fn rpts_of<'a, F: Family>(
     ports: &Nearby<'a, F>,
     group: F::Addr,
@@ -59,7 +61,8 @@ pub(crate) fn rpts_of<'a, F: Family>(
     Rpts { bound, left }
 }
 
-/// Tells the next of them: the machine of the least source above the bound whose (S,G,rpt) machine is held on the port.
+/// Takes the next machine: that of the least source above the bound whose (S,G,rpt) machine is held
+/// on the port.
 pub(crate) fn next_rpt<F: Family>(
     ports: &Nearby<'_, F>,
     rpts: &mut Rpts<'_, F>,

@@ -1,4 +1,5 @@
-//! Messages that go out, each behind its length.
+//! Messages written to a device, each after its length. 64 bits suffice for the count of bytes,
+//! since a form has at most 6,400,000 units.
 
 ghost use Rattle.std.specs.Prelude.{◌≡◌, ◌+◌, ◌-◌, ◌≤◌, ◌<◌, ◌^◌, length, take, OnOk};
 ghost use Rattle.std.specs.Io.KnownBytes.{Appends};
@@ -8,7 +9,7 @@ ghost use Rattle.pim_emit.specs.Written.{framed};
 use byteorder::{BigEndian, ByteOrder};
 use pim_device::{Drain, Failed};
 
-/// Sends bytes, up to the first failure. `sent` counts those that went out.
+/// Sends bytes, up to the first failure, and adds the number that went out to `sent`.
 fn send<D: Drain>(out: &mut D, bytes: &[u8], sent: &mut u64) -> Result<(), Failed>
     requires { sent.old + length bytes.now < 2 ^ 64 }
     ensures rises { sent.old ≤ sent.new }
@@ -27,7 +28,7 @@ fn send<D: Drain>(out: &mut D, bytes: &[u8], sent: &mut u64) -> Result<(), Faile
     Ok(())
 }
 
-/// Sends a message behind two bytes of its length, up to the first failure.
+/// Sends a message after two bytes of its length, up to the first failure.
 pub(crate) fn send_framed<D: Drain>(
     out: &mut D,
     message: &[u8],

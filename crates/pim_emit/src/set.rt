@@ -1,4 +1,5 @@
-//! The set that tells a piece of a group, written in place (RFC 7761, 4.9.5).
+//! The set of a piece of a group (RFC 7761, 4.9.5), written in place: first the sources as far as
+//! there is room, then the exceptions, and at last the group and the counts.
 
 ghost use Rattle.std.specs.Prelude.{◌≡◌, ◌+◌, ◌*◌, ◌≤◌, ◌++◌, true, length, take, is_some};
 ghost use Rattle.std.specs.Int.{from_bool};
@@ -22,20 +23,20 @@ use pim_addr::{Family, group_length, source_length};
 use pim_jp::{Entry, put_entry, put_group_and_counts};
 use std::mem::size_of_val;
 
-/// Mostly there are so many ports at most.
+/// The number of ports for which a small array suffices.
 const FEW: usize = 8;
 
-/// What comes next on a port is kept where it has so few bytes.
+/// The greatest size of what is kept of a port, in bytes. Larger values aren't kept.
 const LARGEST: usize = 256;
 
-/// The sources that a set tells: how many they are, and up to which one sources are told then.
+/// The sources of a set: their number, and the last one that is written.
 #[derive(Clone, Copy)]
 pub(crate) struct ToldSources<A> {
     pub(crate) count: usize,
     pub(crate) last: Option<A>,
 }
 
-/// Writes an entry at this place.
+/// Writes an entry at the index `at`.
 fn write_entry_at<F: Family>(entry: Entry<F::Addr>, at: usize, bytes: &mut [u8])
     requires { at + source_length F.family ≤ length bytes.old }
     ensures written { take (at + source_length F.family) bytes.new
@@ -47,8 +48,8 @@ fn write_entry_at<F: Family>(entry: Entry<F::Addr>, at: usize, bytes: &mut [u8])
     put_entry::<F>(entry, place);
 }
 
-/// Writes the sources of a piece, but at most so many, from this place on. What comes next on each port is kept in
-/// these places, if there is one for each.
+/// Writes the sources of a piece, at most `most`, from the index `at` on. `nexts` keeps what comes
+/// next on each port, if it has a place for each.
 fn write_sources_ahead<'a, F: Family>(
     asked: &Asked<'a, F>,
     piece: &Piece<F::Addr>,
@@ -82,7 +83,7 @@ fn write_sources_ahead<'a, F: Family>(
     ToldSources { count, last }
 }
 
-/// Writes the sources of a piece, but at most so many, from this place on.
+/// Writes the sources of a piece, at most `most`, from the index `at` on.
 fn write_sources<F: Family>(
     asked: &Asked<'_, F>,
     piece: &Piece<F::Addr>,
@@ -111,7 +112,7 @@ fn write_sources<F: Family>(
     write_sources_ahead::<F>(asked, piece, most, at, &mut nexts, bytes)
 }
 
-/// Writes the exceptions of the group's star, which it has, from this place on.
+/// Writes the exceptions of the group's star, which the group has, from the index `at` on.
 fn write_exceptions<F: Family>(asked: &Asked<'_, F>, group: F::Addr, at: usize, bytes: &mut [u8])
     requires group { IsGroupAddress F.family (F.bytes_of group) }
     requires star { is_some (star_of (F.bytes_of group) asked.now.form) ≡ true }
@@ -133,7 +134,7 @@ fn write_exceptions<F: Family>(asked: &Asked<'_, F>, group: F::Addr, at: usize, 
     asked.keep_rpts(&stars, &rpts);
 }
 
-/// Writes the star entry of a piece, if its star is to be told, and answers how many entries that is.
+/// Writes the (*,G) entry of a piece that has the star, and returns the number of such entries.
 fn write_star<F: Family>(asked: &Asked<'_, F>, piece: &Piece<F::Addr>, bytes: &mut [u8]) -> usize
     requires group { IsGroupAddress F.family (F.bytes_of piece.now.group) }
     requires star { piece.now.starred ≡ true → is_some (star_of (F.bytes_of piece.now.group) asked.now.form) ≡ true }
@@ -156,8 +157,8 @@ fn write_star<F: Family>(asked: &Asked<'_, F>, piece: &Piece<F::Addr>, bytes: &m
     1
 }
 
-/// Writes the entries of a piece: its star, if that is to be told, at most so many of its sources, and the star's
-/// exceptions.
+/// Writes the entries of a piece: its star, if the piece has it, at most `most` of its sources, and
+/// the exceptions of the star.
 fn write_entries<F: Family>(
     asked: &Asked<'_, F>,
     piece: &Piece<F::Addr>,
@@ -189,8 +190,8 @@ fn write_entries<F: Family>(
     told
 }
 
-/// Writes the set of a piece, with at most so many of its sources. The star, if it is to be told, has so many
-/// exceptions.
+/// Writes the set of a piece, with at most `most` of its sources. If the piece has the star,
+/// `exceptions` is the number of its exceptions.
 pub(crate) fn write_set<F: Family>(
     asked: &Asked<'_, F>,
     piece: &Piece<F::Addr>,

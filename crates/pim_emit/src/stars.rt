@@ -1,4 +1,5 @@
-//! The ports that have (*,G) of a group, and what they want on its shared tree.
+//! The ports that have (*,G) of a group, kept during a walk over its exceptions, and what they want
+//! on its shared tree.
 
 ghost use Rattle.std.specs.Prelude.{◌≡◌, ◌≤◌, ℕ, Bool, false, Some};
 ghost use Rattle.pim_down.specs.declared.key.What.TheVariants.{Rpt};
@@ -18,11 +19,11 @@ use pim_down::{State, What};
 pub(crate) struct Stars {
     /// The first of them.
     pub(crate) first: Option<usize>,
-    /// Of each port whether it is one of them.
+    /// Whether each port is one of them.
     pub(crate) on: [bool; PORTS],
 }
 
-/// Of each port whether it has (*,G) in Join or Prune-Pending.
+/// Whether each port has (*,G) in Join or Prune-Pending.
 fn starred_ports<F: Family>(ports: &Nearby<'_, F>, group: F::Addr) -> [bool; PORTS]
     ensures { AreFlags ports.now.ports (is_starred ports.now (F.bytes_of group)) result }
 {
@@ -35,7 +36,7 @@ fn starred_ports<F: Family>(ports: &Nearby<'_, F>, group: F::Addr) -> [bool; POR
     flags
 }
 
-/// The first of so many flags that is set.
+/// The first of `count` flags that is set.
 fn first_set(flags: &[bool; PORTS], count: usize) -> Option<usize>
     requires { count ≤ 64 }
     ensures { (test : ℕ → Bool) → AreFlags count test flags.now → IsFirstBelow count test result }
@@ -58,14 +59,15 @@ pub(crate) fn stars_of<F: Family>(ports: &Nearby<'_, F>, group: F::Addr) -> Star
     Stars { first, on }
 }
 
-/// Whether an (S,G,rpt) machine in this state holds traffic back.
+/// Whether an (S,G,rpt) machine in this state prunes the source from the shared tree.
 fn is_pruned(state: Option<State>) -> bool
     ensures { result ≡ is_pruned state }
 {
     matches!(state, Some(State::Prune))
 }
 
-/// Whether the port, which has the star or not, wants the traffic of this source on the shared tree of the group.
+/// Whether the port wants the traffic of this source on the shared tree of the group. `starred`
+/// says whether it has the star.
 fn wants_on<F: Family>(
     ports: &Nearby<'_, F>,
     starred: bool,
@@ -83,7 +85,8 @@ fn wants_on<F: Family>(
     !is_pruned(rpt)
 }
 
-/// Whether some port wants the traffic of this source on the shared tree of the group, where none before this one does.
+/// Whether some port wants the traffic of this source on the shared tree of the group, where no
+/// port before `from` does.
 fn wants_from<F: Family>(
     ports: &Nearby<'_, F>,
     stars: &Stars,
@@ -107,8 +110,9 @@ fn wants_from<F: Family>(
     false
 }
 
-/// Whether some port wants the traffic of this source on the shared tree of the group (RFC 7761, 4.1). The source is
-/// that of an (S,G,rpt) machine of the first port that has the star, whose state decides before any other is looked up.
+/// Whether some port wants the traffic of this source on the shared tree of the group (RFC 7761,
+/// 4.1). The source is that of an (S,G,rpt) machine of the first port that has the star. The state
+/// of this machine decides first.
 pub(crate) fn wants_shared<F: Family>(
     ports: &Nearby<'_, F>,
     stars: &Stars,

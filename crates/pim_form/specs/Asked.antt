@@ -1,4 +1,5 @@
--- The normal form of what one upstream neighbour is asked for, told from the records of the ports.
+-- The normal form of what a router requests from one upstream neighbour, built from the records of
+-- its ports (RFC 7761, 4.1 and 4.5.4 to 4.5.6).
 use Rattle.std.specs.Prelude.{◌≡◌, ◌≤◌, ℕ, zero, suc, true, false, ◌&&◌, not, List, [], length}
 use Rattle.std.specs.Option.{is_some}
 use Rattle.std.specs.List.{AllByRecursion}
@@ -21,19 +22,21 @@ use Rattle.pim_form.specs.TowardLaws.{asked_of}
 use Rattle.pim_form.specs.Units.{units_of, run_groups}
 use Rattle.pim_form.specs.Wants.{is_joined, state_on, some_below, wants}
 
--- what the first so many ports want
+-- The form of what the first `count` ports want, merged port by port.
 unfoldable pub form_below : ℕ → Downstream → List GroupForm
 form_below zero state = []
 form_below (suc count) state = merged (collected (of_port count state)) (form_below count state)
 
 module _ (family : AddressFamily) (table : RouteTable) (neighbour : List ℕ) (state : Downstream) where
-  -- what all ports want, as far as the neighbour is asked for it
+  -- The form of what all ports want, restricted to what is requested from this neighbour.
   unfoldable pub asked_form : List GroupForm
   asked_form = form_toward (known_in family table) (via_in family table) neighbour (form_below state.ports state)
 
-  -- What the form has of a group: a star where (*,G) is in Join or Prune-Pending on some port and the RP is reached by
-  -- the neighbour; its exceptions are the sources that no port wants on the shared tree; its sources those that some
-  -- port wants on their own, and that are reached by the neighbour (RFC 7761, 4.1).
+  -- What the form has of one group. It has a star if JoinDesired(*,G) is true (RFC 7761, 4.5.4) and
+  -- the neighbour is RPF'(*,G). Its exceptions are the valid sources whose inherited_olist(S,G,rpt)
+  -- is empty (4.5.6). Its sources are those for which JoinDesired(S,G) is true (4.5.5) and the
+  -- neighbour is RPF'(S,G). Local members, asserts, the Keepalive Timer and the SPTbit aren't
+  -- modeled. So immediate_olist(*,G) is joins(*,G), and immediate_olist(S,G) is joins(S,G).
   pub record HasAsked (group : List ℕ) (this : GroupForm) : Type 0 where
     pub star : is_some this.star
         ≡ (some_below state.ports (λ port. is_joined (state_on state.records port group Star))
@@ -44,17 +47,19 @@ module _ (family : AddressFamily) (table : RouteTable) (neighbour : List ℕ) (s
         is_listed source this.sources
         ≡ (wants state source group Source && is_neighbour neighbour (via_in family table source))
 
+  -- The form is the normal form of what is requested from the neighbour. It has of each group what
+  -- `HasAsked` says, and no more units than all ports together can have records.
   pub record IsAskedForm (form : List GroupForm) : Type 0 where
     pub is : IsFormOf family (asked_of family table neighbour state) form
     pub groups : (group : List ℕ) → IsGroupAddress family group → HasAsked group (group_in group form)
     pub few : length (units_of form) ≤ 6400000
 
--- Every state has a normal form of what a neighbour is asked for, with no more units than there may be records.
+-- The form that the records of a sound state give is the normal form of what is requested.
 abbrev pub AskedFormIsAsked : Type 0
 AskedFormIsAsked = (family : AddressFamily) (table : RouteTable) (neighbour : List ℕ) (state : Downstream) →
     IsSound family state → IsAskedForm family table neighbour state (asked_form family table neighbour state)
 
--- The units of a part of a form are of as many groups as the part has.
+-- A part of a form, ascending and without empty groups, has as many groups as its units belong to.
 abbrev pub GroupsAreCounted : Type 0
 GroupsAreCounted = (part : List GroupForm) → AreAscending (groups_of part) →
     AllByRecursion (λ this. is_empty this.star this.sources ≡ false) part → run_groups (units_of part) ≡ length part

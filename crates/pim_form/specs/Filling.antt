@@ -1,4 +1,4 @@
--- How a plan is made: some messages are closed, and one is open.
+-- How a plan of messages is filled: some messages are closed, and one is open.
 use Rattle.std.specs.Prelude.{◌≡◌, ℕ, ◌+◌, ◌*◌, ◌-◌, ◌≤◌, List, [], ◌∷◌, ◌++◌, None, length, map}
 use Rattle.std.specs.Prelude.{if◌then◌else◌}
 use Rattle.std.specs.List.{AllByRecursion, flat_map}
@@ -10,42 +10,47 @@ use Rattle.pim_form.specs.TooBig.{too_big}
 use Rattle.pim_form.specs.Rows.{form_seen, IsKept}
 use Rattle.pim_form.specs.Plan.{run_of}
 
--- a message with so many groups and entries is within the budget of bytes and groups
+-- A message of `groups` group sets and `entries` entries is within the budget of bytes and the
+-- limit of groups (RFC 7761, 4.9.5).
 abbrev pub HasRoom : AddressFamily → ℕ → ℕ → ℕ → Type 0
 HasRoom family budget groups entries =
     (empty_message_size family + groups * empty_set_size family + entries * entry_size family ≤ budget)
     × (groups ≤ most_groups)
 
--- the plan as far as it is made: the pieces of all messages, where those of each closed message end, and how many
--- groups and entries the open message has
+-- A plan under construction. `groups` and `entries` count those of the open message.
 pub record Filled (A : Type 0) : Type 0 where
+  -- the pieces of all messages, in order
   pub pieces : List (Place A)
+  -- for each closed message, the number of pieces up to its end
   pub ends : List ℕ
   pub groups : ℕ
   pub entries : ℕ
 
 -- ---- pieces of a group
 
+-- The number of entries of a piece's star: one for (*,G) and one for each exception.
 abbrev pub star_entries : {A : Type 0} → Place A → ℕ
 star_entries place = if place.starred then 1 + (place.exceptions_end - place.exceptions_start) else 0
 
+-- The number of sources of a piece.
 abbrev pub place_sources : {A : Type 0} → Place A → ℕ
 place_sources place = place.sources_end - place.sources_start
 
--- whether it has a star, as a number
+-- 1 where the piece has a star, else 0.
 abbrev pub star_count : {A : Type 0} → Place A → ℕ
 star_count place = if place.starred then 1 else 0
 
--- ---- what is done and what is left
+-- ---- what is in messages and what is left
 
--- where each of these parts ends, if the first begins at `start`
+-- Where each part ends in the concatenation of all, if the first begins at `start`.
 unfoldable pub ends_from : {A : Type 0} → ℕ → List (List A) → List ℕ
 ends_from start [] = []
 ends_from start (part ∷ parts) = (start + length part) ∷ ends_from (start + length part) parts
 
 module _ {A : Type 0} (bytes_of : A → List ℕ) where
-  -- These pieces are left: with those of the open message they are a part of the form, and whatever packing that part
-  -- has makes one of the whole form behind the messages that are closed.
+  -- The invariant of the filling. The pieces of the open message and those that are left are a part
+  -- of the form. Any packing of that part, placed after the closed messages, is a packing of the
+  -- whole form.
   pub record IsFilling (family : AddressFamily) (budget : ℕ) (row : List A) (places left : List (Place A))
       (filled : Filled A) : Type 0 where
     pub closed : List (List (Place A))
@@ -62,7 +67,7 @@ module _ {A : Type 0} (bytes_of : A → List ℕ) where
     pub fits : too_big family budget (form_seen bytes_of row left) ≡ None
     pub least : 70 ≤ budget
 
-  -- this piece can be told next
+  -- This piece can be put into the plan next.
   pub record IsNext (family : AddressFamily) (budget : ℕ) (place : Place A) (filled : Filled A) : Type 0 where
     pub row : List A
     pub places : List (Place A)

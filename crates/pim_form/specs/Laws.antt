@@ -1,4 +1,4 @@
--- The words of the laws in `src/laws.rt`.
+-- The statements of the laws in `src/laws.rt`.
 use Rattle.std.specs.Prelude.{◌≡◌, ◌↔◌, ◌≤◌, false, true, List, [], ◌∷◌, ◌++◌, ℕ, Option, Some, length}
 use Rattle.pim_addr.specs.declared.family.AddressFamily.{AddressFamily}
 use Rattle.pim_frame.specs.Frame.{join_prune, frame_faults, content, all_routers}
@@ -16,8 +16,8 @@ use Rattle.pim_form.specs.Units.{WantUnit, units_of, run_size}
 use Rattle.pim_form.specs.Packing.{IsPacking, fits, IsNonempty, StopsBefore}
 use Rattle.pim_form.specs.Messages.{Rps, Writing, IsWriting, HaveRps, AreCanonical, told_message}
 
--- The bytes, sent from `source` to ALL-PIM-ROUTERS, are opened as a Join/Prune whose body is read as this message, and
--- no fault is found on the way (RFC 7761, 4.9 and 4.9.5).
+-- The bytes, sent from `source` to ALL-PIM-ROUTERS, open as a Join/Prune message. Its body is read
+-- as this message, and no fault is found (RFC 7761, 4.9 and 4.9.5).
 pub record IsReadAs (family : AddressFamily) (source : List ℕ) (bytes : List ℕ) (message : Message) : Type 0 where
   pub body : List ℕ
   pub opened : frame_faults family source (all_routers family) bytes ≡ []
@@ -33,55 +33,57 @@ SealedMessageIsRead = (family : AddressFamily) (source : List ℕ) (message : Me
 
 -- ---- demand
 
--- a valid source that is none of these
+-- A valid source that isn't one of these exceptions.
 pub record Outside (family : AddressFamily) (exceptions : List (List ℕ)) : Type 0 where
   pub source : List ℕ
   pub valid : IsSourceAddress family source
   pub apart : is_listed source exceptions ≡ false
 
--- there is one outside the exceptions of any star
+-- Outside of at most 100,000 exceptions there is a valid source.
 abbrev pub SomeSourceIsOutside : Type 0
 SomeSourceIsOutside = (family : AddressFamily) (exceptions : List (List ℕ)) → length exceptions ≤ most_exceptions →
     Outside family exceptions
 
--- normal forms that want the same are one
+-- Two normal forms that want the same are equal.
 abbrev pub OneNormalForm : Type 0
 OneNormalForm = (family : AddressFamily) (one other : List GroupForm) → IsNormal family one → IsNormal family other →
     WantTheSame family one other → one ≡ other
 
--- units have one packing at most
+-- A list of units has at most one packing within a budget.
 abbrev pub OnePacking : Type 0
 OnePacking = (family : AddressFamily) (budget : ℕ) (units : List WantUnit) (one other : List (List WantUnit)) →
     IsPacking family budget units one → IsPacking family budget units other → one ≡ other
 
--- these runs begin with this one, and the others are a packing of what is left
+-- The first of the runs is this run, and the others are a packing of the units that are left.
 pub record BeginsWith (family : AddressFamily) (budget : ℕ) (run left : List WantUnit) (runs : List (List WantUnit))
     : Type 0 where
   pub others : List (List WantUnit)
   pub begins : runs ≡ run ∷ others
   pub packing : IsPacking family budget left others
 
--- A run at the front of the units that fits, and would not with the next unit, is the first of any packing.
+-- A nonempty run at the front of the units that fits, and would not fit with the next unit, is the
+-- first run of any packing.
 abbrev pub FirstRunIsTold : Type 0
 FirstRunIsTold = (family : AddressFamily) (budget : ℕ) (run left : List WantUnit) (runs : List (List WantUnit)) →
     IsNonempty run → fits family budget run ≡ true → StopsBefore family budget run left →
     IsPacking family budget (run ++ left) runs → BeginsWith family budget run left runs
 
--- normal forms that one writer tells by the same canonical messages are one
+-- Two normal forms with the same canonical messages by one writer are equal, where each star has an
+-- RP.
 abbrev pub MessagesTellTheForm : Type 0
 MessagesTellTheForm = (family : AddressFamily) (writing : Writing) (rps : Rps) (one other : List GroupForm)
     (messages : List (List ℕ)) → IsWriting family writing → IsNormal family one → IsNormal family other →
     HaveRps family rps one → HaveRps family rps other →
     AreCanonical family writing rps one messages → AreCanonical family writing rps other messages → one ≡ other
 
--- a form has one list of canonical messages at most
+-- A form has at most one list of canonical messages by a writer.
 abbrev pub OneListOfMessages : Type 0
 OneListOfMessages = (family : AddressFamily) (writing : Writing) (rps : Rps) (form : List GroupForm)
     (one other : List (List ℕ)) →
     AreCanonical family writing rps form one → AreCanonical family writing rps form other → one ≡ other
 
--- The messages of two demands, each in its normal form and told by one writer, are the same exactly if the demands
--- agree.
+-- The canonical messages of the normal forms of two demands, by one writer, are the same exactly if
+-- the demands agree. Each star has an RP.
 abbrev pub SameMessagesSameDemand : Type 0
 SameMessagesSameDemand = (family : AddressFamily) (writing : Writing) (rps : Rps) (this that : Demand)
     (one other : List GroupForm) (first second : List (List ℕ)) →
@@ -90,7 +92,7 @@ SameMessagesSameDemand = (family : AddressFamily) (writing : Writing) (rps : Rps
     AreCanonical family writing rps one first → AreCanonical family writing rps other second →
     (first ≡ second) ↔ Agree family this that
 
--- The size of a run that fits is the length of the message that tells it.
+-- The size of a run that fits is the length of its message in bytes.
 abbrev pub SizeIsLength : Type 0
 SizeIsLength = (family : AddressFamily) (writing : Writing) (rps : Rps) (part : List GroupForm) (bytes : List ℕ) →
     IsWriting family writing → IsNormal family part → HaveRps family rps part →
@@ -99,8 +101,8 @@ SizeIsLength = (family : AddressFamily) (writing : Writing) (rps : Rps) (part : 
     (canonical family (told_message writing rps part)) bytes →
     length bytes ≡ run_size family (units_of part)
 
--- Where all addresses are reached by one neighbour, and each group that is wanted on the shared tree has an RP, the
--- neighbour is asked for the whole demand.
+-- If one neighbour reaches all addresses, and each group wanted on the shared tree has an RP, the
+-- whole demand is requested from that neighbour.
 abbrev pub OneNeighbourIsAskedForAll : Type 0
 OneNeighbourIsAskedForAll = (rps via : List ℕ → Option (List ℕ)) (neighbour : List ℕ) (demand : Demand) →
     ((address : List ℕ) → via address ≡ Some neighbour) → SharedHaveRps rps via demand →

@@ -1,3 +1,4 @@
+-- The definitions that the contracts of `pim_form` cite.
 pub mod Laws
 pub mod Wants
 pub mod NormalForm

@@ -1,4 +1,4 @@
--- Two forms made one that wants what either wants.
+-- The merge of two forms into one that wants what either wants.
 use Rattle.std.specs.Prelude.{ℕ, zero, suc, ◌+◌, Bool, false, ◌||◌, List, [], ◌∷◌, Option, None, Some}
 use Rattle.std.specs.List.{filter}
 use Rattle.std.specs.declared.cmp.Ordering.{Ordering}
@@ -7,15 +7,16 @@ use Rattle.std.specs.Ordering.{nat_cmp}
 use Rattle.std.specs.Cmp.Lexicographic.{slice_cmp}
 use Rattle.pim_form.specs.NormalForm.{GroupForm, is_listed}
 
+-- One of three values, chosen by an ordering.
 abbrev pub by_order : {A : Type 0} → Ordering → A → A → A → A
 by_order Less below same above = below
 by_order Equal below same above = same
 by_order Greater below same above = above
 
--- ---- two lists in order of addresses, where what has the same address is made one
+-- ---- two ascending lists, where elements of the same address are combined
 
 module _ {A : Type 0} (address_of : A → List ℕ) (both : A → A → A) where
-  -- the first of a list, and the others of it, among those of another list
+  -- Merges `a` and the elements after it, which `others` merges, with another list.
   unfoldable pub merged_into : A → (List A → List A) → List A → List A
   merged_into a others [] = a ∷ others []
   merged_into a others (b ∷ other) =
@@ -24,32 +25,36 @@ module _ {A : Type 0} (address_of : A → List ℕ) (both : A → A → A) where
       (both a b ∷ others other)
       (b ∷ merged_into a others other)
 
+  -- Merges two ascending lists. `both` combines two elements of the same address.
   unfoldable pub merged_by : List A → List A → List A
   merged_by [] other = other
   merged_by (a ∷ one) other = merged_into a (merged_by one) other
 
 -- ---- groups
 
+-- The address of an address.
 abbrev pub itself : List ℕ → List ℕ
 itself address = address
 
+-- The first of two equal addresses.
 abbrev pub first_of : List ℕ → List ℕ → List ℕ
 first_of one other = one
 
--- the addresses of either list
+-- The addresses of either ascending list, in order.
 abbrev pub united : List (List ℕ) → List (List ℕ) → List (List ℕ)
 united = merged_by itself first_of
 
--- the addresses of both
+-- The addresses that are in both lists, in the order of the first list.
 abbrev pub common : List (List ℕ) → List (List ℕ) → List (List ℕ)
 common one other = filter (λ address. is_listed address other) one
 
--- a star of either; where both are stars, what both except
+-- The star of a merged group. Where both groups have a star, only the exceptions of both remain.
 abbrev pub both_stars : Option (List (List ℕ)) → Option (List (List ℕ)) → Option (List (List ℕ))
 both_stars None other = other
 both_stars (Some one) None = Some one
 both_stars (Some one) (Some other) = Some (common one other)
 
+-- The merge of two forms of the same group.
 abbrev pub both_groups : GroupForm → GroupForm → GroupForm
 both_groups one other = record {
   group = one.group;
@@ -57,15 +62,17 @@ both_groups one other = record {
   sources = united one.sources other.sources;
 }
 
+-- The address of a group.
 abbrev pub group_of : GroupForm → List ℕ
 group_of form = form.group
 
+-- The merge of two forms.
 abbrev pub merged : List GroupForm → List GroupForm → List GroupForm
 merged = merged_by group_of both_groups
 
--- ---- so many ports, from the first on
+-- ---- several ports
 
--- one of these passes the test
+-- Some number passes the test among the `count` numbers from `first` on.
 unfoldable pub some_from : ℕ → ℕ → (ℕ → Bool) → Bool
 some_from first zero test = false
 some_from first (suc count) test = test (first + count) || some_from first count test

@@ -1,4 +1,4 @@
--- The canonical messages of a normal form.
+-- The canonical Join/Prune messages of a normal form (RFC 7761, 4.9.5).
 use Rattle.std.specs.Prelude.{◌≡◌, ℕ, ◌≤◌, ◌<◌, ◌^◌, ◌≢◌, false, List, [], ◌∷◌, ◌++◌, Option, None, Some, map}
 use Rattle.std.specs.List.{AllByRecursion}
 use Rattle.pim_addr.specs.declared.family.AddressFamily.{AddressFamily}
@@ -14,14 +14,19 @@ use Rattle.pim_form.specs.NormalForm.{GroupForm, AreAscending, groups_of, is_emp
 use Rattle.pim_form.specs.Units.{WantUnit, units_of}
 use Rattle.pim_form.specs.Packing.{IsPacking}
 
--- what a writer of messages goes by: the neighbour that they are for, the address that they are sent from, the
--- holdtime in seconds, and how many bytes a message may have
+-- The parameters of a writer of Join/Prune messages.
 pub record Writing : Type 0 where
+  -- the upstream neighbour that the messages are for
   pub upstream : List ℕ
+  -- the source address of the packets
   pub own : List ℕ
+  -- the Holdtime of the messages, in seconds
   pub holdtime : ℕ
+  -- the most bytes of a message, PIM header included
   pub budget : ℕ
 
+-- The parameters are in their ranges: two different valid source addresses, and a holdtime longer
+-- than any override interval.
 pub record IsWriting (family : AddressFamily) (writing : Writing) : Type 0 where
   pub upstream : IsSourceAddress family writing.upstream
   pub own : IsSourceAddress family writing.own
@@ -31,35 +36,41 @@ pub record IsWriting (family : AddressFamily) (writing : Writing) : Type 0 where
   pub least : 70 ≤ writing.budget
   pub most : writing.budget ≤ 65000
 
--- ---- the RPs of groups, as a function, `None` where a group has none
+-- ---- the RPs of groups
 
+-- RP(G) of each group, or `None` where the group has no RP.
 abbrev pub Rps : Type 0
 Rps = List ℕ → Option (List ℕ)
 
+-- There is an RP, and it is a valid source address.
 abbrev pub IsRp : AddressFamily → Option (List ℕ) → Type 0
 IsRp family None = ⊥
 IsRp family (Some rp) = IsSourceAddress family rp
 
+-- If the group has a star, it has an RP that is a valid source address.
 abbrev pub IsRpOf : AddressFamily → Option (List ℕ) → Option (List (List ℕ)) → Type 0
 IsRpOf family rp None = Unit {0}
 IsRpOf family rp (Some exceptions) = IsRp family rp
 
--- each star has an RP, and it is a valid source
+-- Each group with a star has an RP that is a valid source address.
 abbrev pub HaveRps : AddressFamily → Rps → List GroupForm → Type 0
 HaveRps family rps form = AllByRecursion (λ this. IsRpOf family (rps this.group) this.star) form
 
--- ---- what is written of a part of a form (RFC 7761, 4.9.5)
+-- ---- the message of a part of a form (RFC 7761, 4.9.5)
 
+-- The (*,G) entry of a group with a star, which names the RP.
 abbrev pub star_entries : Option (List ℕ) → Option (List (List ℕ)) → List (Entry (List ℕ))
 star_entries rp None = []
 star_entries None (Some exceptions) = []
 star_entries (Some rp) (Some exceptions) = Star rp ∷ []
 
+-- An (S,G,rpt) entry for each exception of a star.
 abbrev pub excepted_entries : Option (List (List ℕ)) → List (Entry (List ℕ))
 excepted_entries None = []
 excepted_entries (Some exceptions) = map (λ source. Rpt source) exceptions
 
--- joined are the star and then the sources, pruned the exceptions as (S,G,rpt)
+-- The group set that requests a group: Join(*,G), then Join(S,G) for each source, and
+-- Prune(S,G,rpt) for each exception.
 abbrev pub told_set : Rps → GroupForm → GroupSet
 told_set rps this = record {
   group = this.group;
@@ -67,6 +78,8 @@ told_set rps this = record {
   pruned = excepted_entries this.star;
 }
 
+-- The Join/Prune message that requests a part of a form from the writer's upstream neighbour, with
+-- one group set for each group.
 abbrev pub told_message : Writing → Rps → List GroupForm → Message
 told_message writing rps part = record {
   upstream = writing.upstream;
@@ -74,8 +87,8 @@ told_message writing rps part = record {
   sets = map (told_set rps) part;
 }
 
--- These bytes tell the run: it is the units of a part of a form, one set a group, and the part is written canonically
--- and sealed for ALL-PIM-ROUTERS.
+-- The bytes are the message of a run. The run is the units of a part of a form, and the bytes are
+-- the canonical message of that part, sealed to ALL-PIM-ROUTERS.
 pub record TellsRun (family : AddressFamily) (writing : Writing) (rps : Rps) (run : List WantUnit) (bytes : List ℕ)
     : Type 0 where
   pub part : List GroupForm
@@ -85,7 +98,7 @@ pub record TellsRun (family : AddressFamily) (writing : Writing) (rps : Rps) (ru
   pub sealed : IsSealed family writing.own (all_routers family) JoinPrune
       (canonical family (told_message writing rps part)) bytes
 
--- one message for each run, in order
+-- The messages are those of the runs, one for each run, in order.
 abbrev pub TellRuns : AddressFamily → Writing → Rps → List (List WantUnit) → List (List ℕ) → Type 0
 TellRuns family writing rps [] [] = Unit {0}
 TellRuns family writing rps [] (bytes ∷ messages) = ⊥
@@ -93,7 +106,8 @@ TellRuns family writing rps (run ∷ runs) [] = ⊥
 TellRuns family writing rps (run ∷ runs) (bytes ∷ messages) =
     TellsRun family writing rps run bytes × TellRuns family writing rps runs messages
 
--- the canonical messages of a form: those of a packing of its units
+-- The messages are canonical messages of the form: they are those of the runs of a packing of its
+-- units. A form has at most one list of them by a writer.
 pub record AreCanonical (family : AddressFamily) (writing : Writing) (rps : Rps) (form : List GroupForm)
     (messages : List (List ℕ)) : Type 0 where
   pub runs : List (List WantUnit)

@@ -1,4 +1,4 @@
--- The parts of a form of which messages are made.
+-- The parts of a form from which messages are made.
 use Rattle.std.specs.Prelude.{◌≡◌, ℕ, ◌+◌, true, List, [], ◌∷◌}
 use Rattle.pim_addr.specs.declared.family.AddressFamily.{AddressFamily}
 use Rattle.pim_form.specs.declared.place.Place.{Place}
@@ -9,16 +9,16 @@ use Rattle.pim_form.specs.Rows.{form_seen, IsKept}
 use Rattle.pim_form.specs.Plan.{run_of}
 
 module _ {A : Type 0} (bytes_of : A → List ℕ) (family : AddressFamily) where
-  -- These pieces are a normal form that fits a message.
+  -- The groups at these places are a normal form whose units fit one message.
   pub record IsFitting (budget : ℕ) (row : List A) (part : List (Place A)) : Type 0 where
     pub kept : IsKept bytes_of family row part
     pub fitting : fits family budget (run_of bytes_of row part) ≡ true
 
-  -- each star among these pieces has an RP
+  -- Each star at these places has an RP that is a valid source address.
   abbrev pub PartHasRps : Rps → List A → List (Place A) → Type 0
   PartHasRps rps row part = HaveRps family rps (form_seen bytes_of row part)
 
--- how many bytes the messages of these runs have
+-- The number of bytes of the messages of all runs together.
 unfoldable pub runs_size : AddressFamily → List (List WantUnit) → ℕ
 runs_size family [] = 0
 runs_size family (run ∷ runs) = run_size family run + runs_size family runs

@@ -1,4 +1,4 @@
--- Which writers there are.
+-- Which writers there are, and why others are refused.
 use Rattle.std.specs.Prelude.{Bool, ◌||◌, not, List, ◌++◌, nat_lt}
 use Rattle.pim_addr.specs.declared.family.AddressFamily.{AddressFamily}
 use Rattle.pim_addr.specs.Address.{is_source}
@@ -8,14 +8,15 @@ use Rattle.pim_form.specs.declared.writer.WriterFault.TheVariants.{Address, Hold
 use Rattle.pim_form.specs.NormalForm.{same_address}
 use Rattle.pim_form.specs.Messages.{Writing}
 
--- one of the two isn't a valid source, or they are the same
+-- An address isn't a valid source, or both are the same.
 abbrev pub has_bad_address : AddressFamily → Writing → Bool
 has_bad_address family writing =
     not (is_source family writing.upstream) || not (is_source family writing.own)
     || same_address writing.own writing.upstream
 
--- The faults in the order in which they are told: the holdtime must be longer than the longest override interval,
--- 98,302 ms, and the budget lies between the least useful message and what an IP packet can hold.
+-- The faults, in the order of their report. The holdtime must exceed the longest
+-- J/P_Override_Interval(I), 98,302 ms. The budget must hold an IPv6 message with one star and stay
+-- below the size of an IP packet.
 abbrev pub writer_faults : AddressFamily → Writing → List WriterFault
 writer_faults family writing =
     fault_if (has_bad_address family writing) Address

@@ -54,7 +54,7 @@ fn add_exception<F: Family>(
     Ok(())
 }
 
-/// Adds what a record says to the last group. (*,G) comes first in key order, then (S,G), then (S,G,rpt).
+/// Adds a record to the last group. In key order (*,G) comes first, then (S,G), then (S,G,rpt).
 fn add<F: Family>(
     row: &mut Vec<F::Addr>,
     group: &mut Place<F::Addr>,
@@ -104,7 +104,7 @@ fn begin<F: Family>(
     Ok(group)
 }
 
-/// Ends a group: it is one of the form's unless nothing is wanted of it.
+/// Ends a group: the form gets it if it has a star or a source.
 fn close<F: Family>(
     places: &mut Vec<Place<F::Addr>>,
     group: &Place<F::Addr>,
@@ -119,7 +119,7 @@ fn close<F: Family>(
     Ok(())
 }
 
-/// The form of what one port wants. The only refusal is want of memory.
+/// The form of what one port wants. The only refusal is for lack of memory.
 pub(crate) fn collect<F: Family>(
     alloc: Global,
     ports: &Ports<F>,

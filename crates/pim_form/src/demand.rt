@@ -1,4 +1,7 @@
 //! The normal form of what all ports want.
+//!
+//! Ports are merged by halves. So an address is copied by at most one merge for each binary digit
+//! of the number of ports.
 
 ghost use Rattle.std.specs.Prelude.{◌≡◌, ◌+◌, ◌≤◌, IfOk};
 ghost use Rattle.pim_form.specs.NormalForm.{IsFormOf};
@@ -13,7 +16,7 @@ use pim_addr::Family;
 use pim_down::Ports;
 use std::alloc::{AllocError, Global};
 
-/// The form that wants what either wants: the other one where one wants nothing.
+/// The merge of two forms. A form without groups returns the other one unchanged.
 fn either<F: Family>(
     alloc: Global,
     one: NormalForm<F>,
@@ -30,8 +33,7 @@ fn either<F: Family>(
     merge::<F>(alloc, &one, &other)
 }
 
-/// The form of what so many ports want, from the first on. Its halves are merged, so that no record is copied more
-/// often than their number has binary digits.
+/// The form of what `count` ports want, from the port `first` on.
 fn form_from<F: Family>(
     alloc: Global,
     ports: &Ports<F>,
@@ -54,12 +56,12 @@ fn form_from<F: Family>(
 }
 
 impl<F: Family> NormalForm<F> {
-    /// The normal form of what the machines of all ports want (RFC 7761, 4.1). A group has a star where some port has
-    /// (*,G) in Join or Prune-Pending; its exceptions are the sources with (S,G,rpt) in Prune on each port that has the
-    /// star; its sources are those with (S,G) in Join or Prune-Pending on some port. The only refusal is want of
-    /// memory.
+    /// Returns the normal form of what the machines of all ports want (RFC 7761, 4.1). A group
+    /// has a star if joins(*,G) isn't empty. Its exceptions are the sources that are in
+    /// prunes(S,G,rpt) on each port of joins(*,G). Its sources are those whose joins(S,G) isn't
+    /// empty.
     ///
-    /// Each port's records are walked through once, and the forms of the ports are merged two by two.
+    /// The only refusal is for lack of memory. Each port's records are read once.
     pub fn of(alloc: Global, ports: &Ports<F>) -> Result<NormalForm<F>, AllocError>
         ensures { IfOk result (λ form. IsFormOf F.family (wants ports.now) form) }
     {

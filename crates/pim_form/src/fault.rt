@@ -1,4 +1,4 @@
-//! Why demands aren't told.
+//! Why no messages are made.
 
 use pim_addr::{Family, write_text};
 use std::fmt;
@@ -7,12 +7,12 @@ use thiserror::Error;
 /// Why a form isn't packed, or two demands aren't compared.
 #[derive(Debug, Drop, PartialEq, Eq, Error)]
 pub enum FormFault<F: Family> {
-    /// The star of this group, with all its exceptions, is too big for a message of the writer's budget. It is the
+    /// The star of this group, with all its exceptions, exceeds the budget of a message. It is the
     /// least such group.
     TooBig(F::Addr),
-    /// A growth was refused.
+    /// An allocation was refused.
     Memory,
-    /// The route tables of the two demands differ. A form alone never has this fault.
+    /// The route tables of the two demands differ. `pack` never returns this fault.
     Tables,
 }
 

@@ -12,17 +12,17 @@ use pim_addr::{Family, source_length};
 use std::alloc::{AllocError, Global};
 use std::marker::Model;
 
-/// How many groups a message may have.
+/// The most groups of a message.
 const MOST_GROUPS: usize = 255;
 
-/// A plan as far as it is made. Its last message is open.
+/// A plan under construction. Its last message is open.
 #[derive(Drop)]
 pub(crate) struct Filling<A> {
     pieces: Vec<Place<A>>,
     ends: Vec<usize>,
-    /// How many groups the open message has.
+    /// The number of groups of the open message.
     groups: usize,
-    /// How many entries it has.
+    /// The number of entries of the open message.
     entries: usize,
 }
 
@@ -40,7 +40,7 @@ impl<A> Model for Filling<A> {
 }
 
 impl<A: Copy> Filling<A> {
-    /// Nothing yet, with room for so many pieces.
+    /// An empty plan with room for `count` pieces.
     pub(crate) fn new(alloc: Global, count: usize) -> Result<Self, AllocError>
         ensures { IfOk result (λ filling. filling ≡ record { pieces = []; ends = []; groups = 0; entries = 0 }) }
     {
@@ -89,7 +89,7 @@ impl<A: Copy> Filling<A> {
     }
 }
 
-/// How many entries of one more group the open message has room for.
+/// The most entries of one more group that fit the open message.
 fn fitting<F: Family>(filling: &Filling<F::Addr>, budget: usize) -> usize
     requires room { HasRoom F.family budget filling.now.groups filling.now.entries }
     requires budget { budget ≤ 65000 }
@@ -103,7 +103,7 @@ fn fitting<F: Family>(filling: &Filling<F::Addr>, budget: usize) -> usize
     budget.saturating_sub(size) / source_length::<F>()
 }
 
-/// How many entries the star of a group has; none where there is no star.
+/// The number of entries of a star; none without a star.
 fn star_entries<A>(place: &Place<A>) -> usize
     requires within { place.now.exceptions_start ≤ place.now.exceptions_end }
     requires exceptions { place.now.starred ≡ true →
@@ -116,7 +116,7 @@ fn star_entries<A>(place: &Place<A>) -> usize
     1 + (place.exceptions_end - place.exceptions_start)
 }
 
-/// Closes the open message with as much of a group as it has room for, and answers what is left of the group.
+/// Closes the open message with as much of a group as fits, and returns what is left of the group.
 fn cut<F: Family>(
     filling: &mut Filling<F::Addr>,
     budget: usize,
@@ -156,7 +156,7 @@ fn cut<F: Family>(
     Ok(rest)
 }
 
-/// Whether a piece has at most so many entries.
+/// Whether a piece has at most `room` entries.
 fn has_at_most<A>(place: &Place<A>, room: usize) -> bool
     requires sources { place.now.sources_start ≤ place.now.sources_end }
     requires within { place.now.exceptions_start ≤ place.now.exceptions_end }
@@ -168,8 +168,8 @@ fn has_at_most<A>(place: &Place<A>, room: usize) -> bool
     star <= room && place.sources_end - place.sources_start <= room - star
 }
 
-/// Tells a group that the open message has no room for whole: in this message and in further ones as far as it fills
-/// them. It answers the piece that is left for the message that is open then.
+/// Puts a group that the open message can't hold whole into this message and further ones, as far
+/// as it fills them. It returns the piece that is left for the message that is open then.
 fn fill<F: Family>(
     filling: &mut Filling<F::Addr>,
     budget: usize,
@@ -192,7 +192,7 @@ fn fill<F: Family>(
     Ok(left)
 }
 
-/// Tells a group: in the open message as far as it has room, and then in further ones.
+/// Adds a group to the plan: to the open message as far as it fits, then to further messages.
 pub(crate) fn add<F: Family>(
     filling: &mut Filling<F::Addr>,
     budget: usize,
@@ -211,7 +211,7 @@ pub(crate) fn add<F: Family>(
     filling.push(&last)
 }
 
-/// Closes the open message, if there is something in it: this is the plan.
+/// Closes the open message, if it isn't empty, and returns the plan.
 pub(crate) fn finish<F: Family>(filling: Filling<F::Addr>) -> Result<Plan<F::Addr>, AllocError>
     ensures { IfOk result (λ plan. (budget : ℕ) (row : List F.Addr) (places : List (Place F.Addr)) →
         IsFilling F.bytes_of F.family budget row places [] filling →

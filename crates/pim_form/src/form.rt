@@ -1,4 +1,8 @@
 //! The normal form of a demand.
+//!
+//! A form is kept in two blocks: one row with all addresses, and for each group where its sources
+//! and its exceptions are in the row. A piece of a group that goes into one message is then a place
+//! in the same row. A plan of messages is a list of places.
 
 ghost use Rattle.std.specs.Prelude.{◌≡◌, List, [], IfOk, unwrap_or};
 ghost use Rattle.pim_form.specs.NormalForm.{IsNormal, form_wants};
@@ -12,13 +16,12 @@ use pim_addr::Family;
 use std::alloc::{AllocError, Global};
 use std::marker::Model;
 
-/// A demand in its normal form. Contracts see the list of its groups, each with the exceptions of its star, if it has
-/// one, and its sources.
+/// A demand in its normal form. Contracts see the list of its groups.
 #[derive(Drop)]
 pub struct NormalForm<F: Family> {
     /// The addresses of all groups.
     pub(crate) row: Vec<F::Addr>,
-    /// In the order of groups.
+    /// Where the addresses of each group are, in the order of groups.
     pub(crate) places: Vec<Place<F::Addr>>,
 }
 
@@ -45,14 +48,14 @@ impl<F: Family> NormalForm<F> {
         }
     }
 
-    /// The groups, in order.
+    /// Returns the groups, in order.
     pub fn groups(&self) -> Groups<'_, F>
         ensures { result ≡ self.now }
     {
         Groups::new(&self.row, &self.places)
     }
 
-    /// What the form has of this group; `None` where it has nothing. It looks for it by halves.
+    /// What the form has of this group, found by binary search; `None` if it has nothing.
     pub(crate) fn group(&self, group: F::Addr) -> Option<GroupView<'_, F>>
         ensures { unwrap_or result (unwanted (F.bytes_of group)) ≡ group_in (F.bytes_of group) self.now }
     {
@@ -62,8 +65,8 @@ impl<F: Family> NormalForm<F> {
         }
     }
 
-    /// Whether the traffic of this source to this group is wanted on this tree. It looks for the group and then for the
-    /// source, each in as many steps as their number has binary digits.
+    /// Returns whether the form wants the traffic of this source to this group on this tree. It
+    /// takes two binary searches, for the group and for the source.
     pub fn wants(&self, source: F::Addr, group: F::Addr, tree: Tree) -> bool
         ensures { result ≡ form_wants self.now (F.bytes_of source) (F.bytes_of group) tree }
     {
@@ -73,7 +76,7 @@ impl<F: Family> NormalForm<F> {
         }
     }
 
-    /// A law: what is true of each form. It does nothing.
+    /// A law: each form is normal. It does nothing.
     pub fn is_normal(&self)
         ensures { IsNormal F.family self.now }
     {
@@ -90,7 +93,8 @@ fn copied<T: Copy>(alloc: Global, values: &[T]) -> Result<Vec<T>, AllocError>
     Ok(copy)
 }
 
-/// The normal form of what a normal form wants, which is that form again. The only refusal is want of memory.
+/// Returns the normal form of what a normal form wants, which is that form again. The only refusal
+/// is for lack of memory.
 pub fn normal_again<F: Family>(
     alloc: Global,
     normal: &NormalForm<F>,

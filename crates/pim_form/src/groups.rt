@@ -1,4 +1,4 @@
-//! The groups of a form, one after another.
+//! Iteration over the groups of a form.
 
 ghost use Rattle.std.specs.Prelude.{◌≡◌, length, map};
 ghost use Rattle.std.specs.Option.{is_some};
@@ -12,7 +12,8 @@ use crate::tree::Tree;
 use pim_addr::Family;
 use std::marker::Model;
 
-/// What is wanted of one group. Contracts see the group, its exceptions where it has a star, and its sources.
+/// What is wanted of one group. Contracts see the group, its sources, and the exceptions of its
+/// star if it has one.
 #[derive(Drop)]
 pub struct GroupView<'a, F: Family> {
     group: F::Addr,
@@ -34,21 +35,22 @@ impl<'a, F: Family> Model for GroupView<'a, F> {
 }
 
 impl<'a, F: Family> GroupView<'a, F> {
-    /// The group.
+    /// Returns the group address.
     pub fn group(&self) -> F::Addr
         ensures { F.bytes_of result ≡ self.now.group }
     {
         self.group
     }
 
-    /// Whether it has a star: the traffic of all sources but the exceptions is wanted on the shared tree.
+    /// Returns whether the group has a star: all sources but the exceptions are wanted on the
+    /// shared tree.
     pub fn star(&self) -> bool
         ensures { result ≡ is_some self.now.star }
     {
         self.starred
     }
 
-    /// The exceptions of its star, in order; none where it has no star.
+    /// Returns the exceptions of the star, in order; none without a star.
     pub fn exceptions(&self) -> &'a [F::Addr]
         ensures { map F.bytes_of result.now ≡ exceptions_of self.now.star }
     {
@@ -59,21 +61,21 @@ impl<'a, F: Family> GroupView<'a, F> {
         none
     }
 
-    /// The sources that are wanted on their own trees, in order.
+    /// Returns the sources that are wanted on their own trees, in order.
     pub fn sources(&self) -> &'a [F::Addr]
         ensures { map F.bytes_of result.now ≡ self.now.sources }
     {
         self.sources
     }
 
-    /// A law: what is true of each group. It does nothing.
+    /// A law: each group is normal. It does nothing.
     pub fn is_normal(&self)
         ensures { IsNormalGroup F.family self.now }
     {
         let _starred = self.starred;
     }
 
-    /// Whether the traffic of this source is wanted on this tree.
+    /// Returns whether the traffic of this source is wanted on this tree.
     pub fn wants(&self, source: F::Addr, tree: Tree) -> bool
         ensures { result ≡ group_wants self.now (F.bytes_of source) tree }
     {
@@ -84,7 +86,7 @@ impl<'a, F: Family> GroupView<'a, F> {
     }
 }
 
-/// The group that stands at this place of the row.
+/// The group at this place of the row.
 pub(crate) fn group_at<'a, F: Family>(
     row: &'a [F::Addr],
     place: &Place<F::Addr>,
@@ -133,7 +135,7 @@ impl<'a, F: Family> Groups<'a, F> {
         Groups { row, places }
     }
 
-    /// How many groups are left.
+    /// Returns the number of groups that are left.
     #[tactic(auto, using(crate::proofs::Kept::places_count))]
     pub fn count_left(&self) -> usize
         ensures { result ≡ length self.now }
@@ -141,7 +143,7 @@ impl<'a, F: Family> Groups<'a, F> {
         self.places.len()
     }
 
-    /// The first group and those behind it; `None` where none is left.
+    /// Returns the first group and those after it, or `None` if none is left.
     pub fn split_first(&self) -> Option<(GroupView<'a, F>, Groups<'a, F>)>
         ensures { IsCut self.now result }
     {

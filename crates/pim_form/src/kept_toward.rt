@@ -1,4 +1,7 @@
-//! What is left of a form where only one neighbour is asked.
+//! What remains of a form when only one upstream neighbour is asked.
+//!
+//! The form of the whole state is made first, and a second row keeps what is requested from the
+//! neighbour. So the route table is asked for each star and source once, not for each record.
 
 ghost use Rattle.std.specs.Prelude.{◌≡◌, ◌∷◌, ◌++◌, [], true, filter, if◌then◌else◌, IfOk, OnOk};
 ghost use Rattle.std.specs.Option.{is_some};
@@ -16,7 +19,7 @@ use pim_addr::{Family, Routes};
 use pim_down::Ports;
 use std::alloc::{AllocError, Global};
 
-/// Appends those of these sources that are reached by this neighbour.
+/// Appends those of these sources whose RPF'(S,G) is this neighbour.
 fn push_reached<F: Family>(
     row: &mut Vec<F::Addr>,
     sources: &[F::Addr],
@@ -34,7 +37,7 @@ fn push_reached<F: Family>(
     Ok(())
 }
 
-/// Whether the star of a group, if it has one, is asked of this neighbour.
+/// Whether the group has a star that is requested from this neighbour.
 fn keeps_star<F: Family>(this: &GroupView<'_, F>, routes: &Routes<F>, upstream: F::Addr) -> bool
     ensures { result ≡ is_some (star_toward (known_in F.family routes.now) (via_in F.family routes.now)
         (F.bytes_of upstream) this.now.group this.now.star) }
@@ -42,7 +45,8 @@ fn keeps_star<F: Family>(this: &GroupView<'_, F>, routes: &Routes<F>, upstream: 
     this.star() && is_rp_reached::<F>(routes, this.group(), upstream)
 }
 
-/// Appends the exceptions of a star that is asked of this neighbour, and tells whether there is one.
+/// Appends the exceptions of a star that is requested from this neighbour, and returns whether
+/// there is one.
 fn push_star<F: Family>(
     row: &mut Vec<F::Addr>,
     this: &GroupView<'_, F>,
@@ -60,7 +64,7 @@ fn push_star<F: Family>(
     Ok(true)
 }
 
-/// Appends what is left of a group, and tells where it stands.
+/// Appends what remains of a group, and returns its place.
 fn push_group<F: Family>(
     row: &mut Vec<F::Addr>,
     this: &GroupView<'_, F>,
@@ -102,8 +106,8 @@ fn push_place<A: Copy>(places: &mut Vec<Place<A>>, place: Place<A>) -> Result<()
     Ok(())
 }
 
-/// The normal form of what a normal form wants of this neighbour: the stars, with all their exceptions, whose RP is
-/// reached by it, and the sources that are. The only refusal is want of memory.
+/// The normal form of what a normal form wants from this neighbour. The only refusal is for lack of
+/// memory.
 fn kept_toward<F: Family>(
     alloc: Global,
     normal: &NormalForm<F>,
@@ -126,11 +130,13 @@ fn kept_toward<F: Family>(
 }
 
 impl<F: Family> NormalForm<F> {
-    /// The normal form of what the machines of all ports want of this upstream neighbour: the stars whose RP is reached
-    /// by it, with all their exceptions, and the sources that are (RFC 7761, 4.1). What has no route is asked of
-    /// nobody. The only refusal is want of memory.
+    /// Returns the normal form of what the machines of all ports request from this upstream
+    /// neighbour. It has the stars for which the neighbour is RPF'(*,G), with all their exceptions,
+    /// and the sources for which it is RPF'(S,G) (RFC 7761, 4.1). Traffic without a route isn't
+    /// requested. The only refusal is for lack of memory.
     ///
-    /// It takes the time of `of`, and at most two look-ups in the table a star and one a source.
+    /// It takes the time of `of`, and at most two look-ups in the table for each star and one for
+    /// each source.
     pub fn toward(
         alloc: Global,
         ports: &Ports<F>,

@@ -1,13 +1,27 @@
-//! The demand of the downstream machines: what they want, its one normal form, and the Join/Prune messages that tell
-//! it.
+//! Demand: which traffic the downstream machines want, its normal form, and the Join/Prune messages
+//! that request it.
 //!
-//! Proved: `wants` is the macros of RFC 7761, 4.1. `NormalForm::of` and `NormalForm::toward` give the one normal form
-//! of what the machines want, of all upstream neighbours or of one; `pack` gives the one list of canonical messages of
-//! a form, or the least group that is too big. Normal forms that want the same are one; a list of units has one packing
-//! at most; a form has at most one list of canonical messages by a writer, and messages tell their form: so the
-//! messages of two states to a neighbour are byte-equal exactly if the states want the same of it. A canonical message
-//! that is sealed for ALL-PIM-ROUTERS opens without a fault and is read as that message. `settled` tells whether a
-//! port's machines are exactly those that a form asks for.
+//! A demand says of each source, group and tree whether the traffic is wanted (RFC 7761, 4.1). A
+//! form lists groups. A group has a star if (*,G) is joined; the exceptions of the star are the
+//! (S,G,rpt) prunes. Its sources are the (S,G) joins.
+//!
+//! - `wants` is that demand of a `Ports`. `NormalForm::of` returns its normal form,
+//!   `NormalForm::toward` that of what is requested from one neighbour. Both refuse only for lack of
+//!   memory.
+//! - `pack` returns the canonical messages of a form. The caller's condition is that `is_toward`
+//!   holds of the form and the writer's upstream neighbour. `TooBig` is returned exactly if some
+//!   star with its exceptions exceeds the budget, with the least such group.
+//! - `settled` returns whether the machines of a port are exactly those that a form requests. Only
+//!   (S,G,rpt) without a star may be in Prune or not.
+//! - `Writer::new` returns the first fault of its arguments, if there is one. `Messages` is a list
+//!   of byte strings; a refused `push` changes nothing.
+//!
+//! By the laws, normal forms that want the same are equal, and canonical messages determine their
+//! form. A form has at most one list of canonical messages by a writer. So the canonical messages
+//! of two states to one neighbour are byte-equal exactly if both request the same from it.
+//!
+//! A star lists at most 100,000 exceptions, so that some valid source is always outside of them.
+//! Without that limit, two forms could want the same.
 #![tactic(auto)]
 
 mod collect;

@@ -1,4 +1,4 @@
-//! Two forms made one that wants what either wants.
+//! The merge of two forms into one that wants what either wants.
 
 ghost use Rattle.std.specs.Prelude.{◌≡◌, ◌++◌, ◌∷◌, [], List, map, OnOk, IfOk};
 ghost use Rattle.pim_form.specs.NormalForm.{GroupForm, AreAscending};
@@ -54,7 +54,7 @@ fn push_united<F: Family>(
     append(row, right)
 }
 
-/// Appends the addresses of both lists to the row, in order.
+/// Appends the addresses that are in both lists to the row, in order.
 fn push_common<F: Family>(
     row: &mut Vec<F::Addr>,
     one: &[F::Addr],
@@ -83,8 +83,8 @@ fn push_common<F: Family>(
     Ok(())
 }
 
-/// Appends the exceptions of two groups made one: where both have a star those of both, else those of the one that has
-/// it.
+/// Appends the exceptions of a merged group: the common ones if both groups have a star, else those
+/// of the group that has one.
 fn push_exceptions<F: Family>(
     row: &mut Vec<F::Addr>,
     one: &GroupView<'_, F>,
@@ -102,7 +102,7 @@ fn push_exceptions<F: Family>(
     append(row, other.exceptions())
 }
 
-/// Appends a group to a form that is being made.
+/// Appends a group to a form under construction.
 fn push_group<F: Family>(
     row: &mut Vec<F::Addr>,
     places: &mut Vec<Place<F::Addr>>,
@@ -126,7 +126,7 @@ fn push_group<F: Family>(
     Ok(())
 }
 
-/// Appends two groups of the same address, made one that wants what either wants.
+/// Appends the merge of two groups of the same address.
 fn push_both<F: Family>(
     row: &mut Vec<F::Addr>,
     places: &mut Vec<Place<F::Addr>>,
@@ -151,7 +151,7 @@ fn push_both<F: Family>(
     Ok(())
 }
 
-/// Appends these groups to a form that is being made.
+/// Appends these groups to a form under construction.
 fn push_groups<F: Family>(
     row: &mut Vec<F::Addr>,
     places: &mut Vec<Place<F::Addr>>,
@@ -166,7 +166,7 @@ fn push_groups<F: Family>(
     Ok(())
 }
 
-/// The form that wants what either wants. The only refusal is want of memory.
+/// The form that wants what either wants. The only refusal is for lack of memory.
 pub(crate) fn merge<F: Family>(
     alloc: Global,
     one: &NormalForm<F>,

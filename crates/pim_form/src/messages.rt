@@ -16,16 +16,16 @@ use pim_addr::{Family, Routes};
 use std::alloc::{AllocError, Global};
 use std::marker::Model;
 
-/// Where a message stands in the block.
+/// Where a message is in the block.
 #[derive(Clone, Copy)]
 pub(crate) struct Span {
-    /// Where it begins.
+    /// The index of its first byte.
     pub(crate) start: usize,
-    /// Where it ends.
+    /// The index after its last byte.
     pub(crate) end: usize,
 }
 
-/// Messages, one after another. Contracts see the list of their bytes.
+/// A list of messages. Contracts see the list of their bytes.
 #[derive(Drop)]
 pub struct Messages {
     bytes: Vec<u8>,
@@ -45,7 +45,7 @@ impl Model for Messages {
 }
 
 impl Messages {
-    /// No messages.
+    /// Returns an empty list.
     pub fn none(alloc: Global) -> Self
         ensures { result ≡ [] }
     {
@@ -55,7 +55,7 @@ impl Messages {
         }
     }
 
-    /// Makes room for so many more messages of so many bytes together.
+    /// Reserves room for this number of further messages, and of their bytes together.
     pub(crate) fn reserve(&mut self, messages: usize, bytes: usize) -> Result<(), AllocError>
         ensures { self.new ≡ self.old }
     {
@@ -63,7 +63,8 @@ impl Messages {
         self.spans.reserve_exact(messages)
     }
 
-    /// Adds the message of a part of a form, which fits the writer's budget. The only refusal is want of memory.
+    /// Adds the message of a part of a form, which fits the writer's budget. The only refusal is
+    /// for lack of memory.
     pub(crate) fn add<F: Family>(
         &mut self,
         writer: &Writer<F>,
@@ -84,7 +85,8 @@ impl Messages {
         Ok(())
     }
 
-    /// Adds a message of these bytes behind the others. The only refusal is want of memory; then nothing changes.
+    /// Adds a message with these bytes at the end. The only refusal is for lack of memory; then
+    /// nothing changes.
     pub fn push(&mut self, message: &[u8]) -> Result<(), AllocError>
         ensures ok { OnOk result (self.new ≡ self.old ++ message.now ∷ []) }
         ensures err { OnErr result (self.new ≡ self.old) }
@@ -97,7 +99,7 @@ impl Messages {
         Ok(())
     }
 
-    /// How many messages there are.
+    /// Returns the number of messages.
     #[tactic(auto, using(crate::proofs::Spans::spans_count))]
     pub fn count(&self) -> usize
         ensures { result ≡ length self.now }
@@ -105,7 +107,8 @@ impl Messages {
         self.spans.len()
     }
 
-    /// The bytes of one message, from its header on, numbered from 0; none from `count()` on.
+    /// Returns the bytes of one message, PIM header included. Messages are numbered from 0; from
+    /// `count()` on there is none.
     pub fn get(&self, index: usize) -> Option<&[u8]>
         ensures { told_bytes result ≡ slice_get self.now index }
     {
@@ -118,7 +121,7 @@ impl Messages {
         Some(message)
     }
 
-    /// Whether both are the same messages, byte for byte.
+    /// Returns whether both lists have the same messages, byte for byte.
     pub fn same_bytes(&self, other: &Messages) -> bool
         ensures { IsTrue result ↔ (self.now ≡ other.now) }
     {
@@ -135,7 +138,7 @@ impl Messages {
     }
 }
 
-/// Whether both have the same message with this number, or none.
+/// Whether both lists have the same message with this number, or neither has one.
 fn same_at(one: &Messages, other: &Messages, index: usize) -> bool
     ensures { IsTrue result ↔ (slice_get one.now index ≡ slice_get other.now index) }
 {

@@ -1,4 +1,8 @@
 //! The canonical messages of a form.
+//!
+//! A star that is too big is looked for before anything is allocated. So `TooBig` comes exactly for
+//! such a form, also where memory is short. The bytes of all messages are reserved once and written
+//! in place.
 
 ghost use Rattle.std.specs.Prelude.{◌≡◌, ◌≢◌, ◌≤◌, true, None, Err, length, map, option_map, IfOk};
 ghost use Rattle.std.specs.List.{AllByRecursion};
@@ -23,7 +27,7 @@ use crate::written::message_length;
 use pim_addr::{Family, Routes};
 use std::alloc::{AllocError, Global};
 
-/// The pieces from one place to another.
+/// The pieces from `start` up to `end`.
 fn pieces_between<A>(pieces: &[Place<A>], start: usize, end: usize) -> &[Place<A>]
     requires start { start ≤ end }
     requires end { end ≤ length pieces.now }
@@ -34,7 +38,7 @@ fn pieces_between<A>(pieces: &[Place<A>], start: usize, end: usize) -> &[Place<A
     part
 }
 
-/// How many bytes the messages of a plan have together. It is an error if that is more than can be addressed.
+/// The number of bytes of all messages of a plan. It is an error if that can't be addressed.
 fn total_length<F: Family>(
     writer: &Writer<F>,
     row: &[F::Addr],
@@ -61,7 +65,7 @@ fn total_length<F: Family>(
     Ok(total)
 }
 
-/// The messages of a plan, in one block of their length.
+/// The messages of a plan, in one block.
 fn told_plan<F: Family>(
     alloc: Global,
     writer: &Writer<F>,
@@ -89,7 +93,8 @@ fn told_plan<F: Family>(
     Ok(messages)
 }
 
-/// The canonical messages of a form that has no star too big for them. The only refusal is want of memory.
+/// The canonical messages of a form, each of whose stars fits one message. The only refusal is for
+/// lack of memory.
 fn packed<F: Family>(
     alloc: Global,
     normal: &NormalForm<F>,
@@ -106,13 +111,16 @@ fn packed<F: Family>(
     told_plan::<F>(alloc, writer, routes, &normal.row, &plan)
 }
 
-/// The canonical messages by which a form is told to the writer's upstream neighbour (RFC 7761, 4.9.5): as few groups
-/// and sources a message as fit, sealed from the writer's own address to ALL-PIM-ROUTERS. The form wants only what that
-/// neighbour is asked for, as `is_toward` tells; each star names the RP to which the table leads its group.
+/// Returns the canonical messages that request a form from the writer's upstream neighbour
+/// (RFC 7761, 4.9.5). Each holds as many stars and sources as fit, and is sealed from the writer's
+/// own address to ALL-PIM-ROUTERS. Each star names the RP that the table has for its group.
+///
+/// The caller's condition is `is_toward`, so that no message requests from a neighbour what another
+/// one should send.
 ///
 /// # Errors
-/// `TooBig` of the least group whose star, with all its exceptions, is too big for a message of the writer's budget
-/// alone; it is looked for first. `Memory` where a growth is refused.
+/// `TooBig` with the least group whose star, with all its exceptions, exceeds the budget of a
+/// message. `Memory` if an allocation is refused.
 pub fn pack<F: Family>(
     alloc: Global,
     normal: &NormalForm<F>,

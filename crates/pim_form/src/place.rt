@@ -1,18 +1,18 @@
-//! Where the addresses of a group stand in a form.
+//! Where the addresses of a group are in a form.
 
-/// A group of a form, or a piece of one, and where its addresses stand in the form's row.
+/// A group of a form, or a piece of one, and where its addresses are in the form's row.
 #[derive(Clone, Copy)]
 pub(crate) struct Place<A> {
-    /// The group.
+    /// The group address.
     pub(crate) group: A,
     /// Whether it has a star.
     pub(crate) starred: bool,
-    /// Where its sources begin.
+    /// The index of its first source.
     pub(crate) sources_start: usize,
-    /// Where its sources end.
+    /// The index after its last source.
     pub(crate) sources_end: usize,
-    /// Where its exceptions begin.
+    /// The index of its first exception.
     pub(crate) exceptions_start: usize,
-    /// Where its exceptions end.
+    /// The index after its last exception.
     pub(crate) exceptions_end: usize,
 }

@@ -10,17 +10,17 @@ use crate::place::Place;
 use pim_addr::Family;
 use std::alloc::{AllocError, Global};
 
-/// Pieces of the groups of a form, in order, and where the pieces of each message end.
+/// The pieces of the groups of a form, in order, and where the pieces of each message end.
 #[derive(Drop)]
 pub(crate) struct Plan<A> {
-    /// Where in the form's row each piece stands.
+    /// Where each piece is in the form's row.
     pub(crate) pieces: Vec<Place<A>>,
-    /// How many pieces stand before the end of each message.
+    /// For each message, the number of pieces up to its end.
     pub(crate) ends: Vec<usize>,
 }
 
-/// Cuts the form that is kept at these places of the row into messages of at most so many bytes and 255 groups. The
-/// only refusal is want of memory.
+/// Cuts the form at these places of the row into messages of at most `budget` bytes and 255 groups.
+/// The only refusal is for lack of memory.
 pub(crate) fn plan_messages<F: Family>(
     alloc: Global,
     row: &[F::Addr],

@@ -1,4 +1,7 @@
 //! Whether a port is settled at a form.
+//!
+//! The check goes both ways. Each record of the port is looked up in the form, and each star,
+//! source and exception of the form is looked up among the records.
 
 ghost use Rattle.std.specs.Prelude.{◌≡◌, ◌↔◌, IsTrue, map};
 ghost use Rattle.std.specs.List.{filter, list_all};
@@ -15,14 +18,14 @@ use crate::wanting::is_pruned;
 use pim_addr::Family;
 use pim_down::{Ports, Record, State, What};
 
-/// Whether a machine in this state is in Join; `None` is NoInfo.
+/// Whether a machine is in Join.
 fn is_in_join(state: Option<State>) -> bool
     ensures { result ≡ is_in_join state }
 {
     matches!(state, Some(State::Join))
 }
 
-/// Whether a (*,G) or (S,G) machine is in Join if it is asked for, else in NoInfo.
+/// Whether a (*,G) or (S,G) machine is in Join if the form requests it, else in NoInfo.
 fn joins_if(asked: bool, state: Option<State>) -> bool
     ensures { result ≡ joins_if asked state }
 {
@@ -33,8 +36,8 @@ fn joins_if(asked: bool, state: Option<State>) -> bool
     }
 }
 
-/// Whether an (S,G,rpt) machine is in Prune exactly if the star of the group excepts the source, else in NoInfo; under
-/// no star either will do.
+/// Whether an (S,G,rpt) machine is in Prune if its source is an exception of the star, else in
+/// NoInfo. Without a star, Prune and NoInfo are both allowed.
 fn rpt_settles<F: Family>(this: &GroupView<'_, F>, source: F::Addr, state: Option<State>) -> bool
     ensures { result ≡ rpt_settles this.now.star (F.bytes_of source) state }
 {
@@ -48,7 +51,7 @@ fn rpt_settles<F: Family>(this: &GroupView<'_, F>, source: F::Addr, state: Optio
     state.is_none()
 }
 
-/// Whether a machine of a group is as the form asks.
+/// Whether the state of a machine is one that the form of its group allows.
 fn machine_settles<F: Family>(
     this: &GroupView<'_, F>,
     what: What<F::Addr>,
@@ -64,7 +67,7 @@ fn machine_settles<F: Family>(
     }
 }
 
-/// Whether the machine of a record is as the form asks.
+/// Whether the state of a record's machine is one that the form allows.
 fn record_settles<F: Family>(normal: &NormalForm<F>, held: &Record<F::Addr>) -> bool
     ensures { result ≡ record_settles normal.now (told_seen F.bytes_of held.now) }
 {
@@ -75,7 +78,7 @@ fn record_settles<F: Family>(normal: &NormalForm<F>, held: &Record<F::Addr>) -> 
     }
 }
 
-/// Whether each machine of the port that is held is as the form asks.
+/// Whether the state of each machine that the port holds is one that the form allows.
 fn all_held_settle<F: Family>(ports: &Ports<F>, port: usize, normal: &NormalForm<F>) -> bool
     ensures { result ≡ list_all (record_settles normal.now) (filter (is_on port) ports.now.records) }
 {
@@ -115,7 +118,7 @@ fn all_pruned<F: Family>(ports: &Ports<F>, port: usize, group: F::Addr, sources:
     true
 }
 
-/// Whether the machines that a group asks for are there.
+/// Whether the port has the machines that a group requests.
 fn group_settles<F: Family>(ports: &Ports<F>, port: usize, this: &GroupView<'_, F>) -> bool
     ensures { result ≡ group_settles ports.now.records port this.now }
 {
@@ -125,7 +128,7 @@ fn group_settles<F: Family>(ports: &Ports<F>, port: usize, this: &GroupView<'_, 
         && all_pruned::<F>(ports, port, group, this.exceptions())
 }
 
-/// Whether the machines that the form asks for are there.
+/// Whether the port has the machines that each group of the form requests.
 fn all_groups_settle<F: Family>(ports: &Ports<F>, port: usize, normal: &NormalForm<F>) -> bool
     ensures { result ≡ list_all (group_settles ports.now.records port) normal.now }
 {
@@ -137,13 +140,12 @@ fn all_groups_settle<F: Family>(ports: &Ports<F>, port: usize, normal: &NormalFo
     true
 }
 
-/// Whether the port is settled at the form (RFC 7761, 4.5): its (*,G) and (S,G) machines are in Join exactly for the
-/// form's stars and sources, and under each star (S,G,rpt) is in Prune exactly for the exceptions; every other machine
-/// of the port is in NoInfo, but for (S,G,rpt) under no star, which is in Prune or in NoInfo. A port that isn't there
-/// has no machine.
+/// Returns whether the port is settled at the form (RFC 7761, 4.5.1 to 4.5.3). Its (*,G) and (S,G)
+/// machines are in Join exactly for the form's stars and sources, else in NoInfo. Its (S,G,rpt)
+/// machines under a star are in Prune exactly for the exceptions, else in NoInfo. Without a star
+/// they are in Prune or in NoInfo. A port that doesn't exist has no machine.
 ///
-/// It looks up each record of the port in the form, and each star, source and exception of the form among the records,
-/// by halves, and takes no memory.
+/// It uses binary searches and allocates nothing.
 pub fn settled<F: Family>(ports: &Ports<F>, port: usize, normal: &NormalForm<F>) -> bool
     ensures { IsTrue result ↔ IsSettledAt port normal.now ports.now.records }
 {

@@ -1,4 +1,4 @@
-//! How long what is written is.
+//! The length of messages.
 
 ghost use Rattle.std.specs.Prelude.{◌≡◌, ◌≤◌, ◌+◌, ◌*◌, option_map};
 ghost use Rattle.pim_form.specs.Units.{empty_message_size, empty_set_size, entry_size};
@@ -8,7 +8,7 @@ use crate::form::NormalForm;
 use crate::groups::GroupView;
 use pim_addr::{Family, group_length, source_length, unicast_length};
 
-/// The bytes of a message with so many groups and entries. There are at most 255 of the one and 100,001 of the other.
+/// The number of bytes of a message with this number of groups and entries.
 pub(crate) fn message_size<F: Family>(groups: usize, entries: usize) -> usize
     requires groups { groups ≤ 255 }
     requires entries { entries ≤ 100001 }
@@ -19,7 +19,8 @@ pub(crate) fn message_size<F: Family>(groups: usize, entries: usize) -> usize
     head + groups * set + entries * source_length::<F>()
 }
 
-/// Whether a group's star, if it has one, fits a message of this budget alone with all its exceptions.
+/// Returns whether a group's star with all its exceptions fits a message of this budget alone. A
+/// group without a star fits.
 pub fn star_fits<F: Family>(group: &GroupView<'_, F>, budget: usize) -> bool
     ensures { result ≡ star_fits F.family budget group.now.group group.now.star }
 {
@@ -27,7 +28,7 @@ pub fn star_fits<F: Family>(group: &GroupView<'_, F>, budget: usize) -> bool
     !group.star() || message_size::<F>(1, 1 + group.exceptions().len()) <= budget
 }
 
-/// The least group whose star doesn't fit a message of this budget alone, if there is one.
+/// The least group whose star doesn't fit a message of this budget alone, or `None`.
 pub(crate) fn too_big<F: Family>(normal: &NormalForm<F>, budget: usize) -> Option<F::Addr>
     ensures { option_map F.bytes_of result ≡ too_big F.family budget normal.now }
 {

@@ -1,4 +1,4 @@
-//! Looking for an address among those in order, and for a group among places.
+//! Binary searches: for an address in an ascending list, and for a group among places.
 
 ghost use Rattle.std.specs.Prelude.{◌≡◌, map};
 ghost use Rattle.pim_form.specs.NormalForm.{AreAscending, is_listed};
@@ -7,7 +7,7 @@ ghost use Rattle.pim_form.specs.Rows.{place_group, Finds};
 use crate::place::Place;
 use pim_addr::Family;
 
-/// Whether the address is one of these, which are in strictly ascending order.
+/// Whether the address is in this strictly ascending list.
 pub(crate) fn is_listed<F: Family>(sorted: &[F::Addr], address: F::Addr) -> bool
     requires { AreAscending (map F.bytes_of sorted.now) }
     ensures { result ≡ is_listed (F.bytes_of address) (map F.bytes_of sorted.now) }
@@ -18,7 +18,7 @@ pub(crate) fn is_listed<F: Family>(sorted: &[F::Addr], address: F::Addr) -> bool
     }
 }
 
-/// Where the group stands among these, whose groups are in strictly ascending order.
+/// The index of a group among these places, whose groups are strictly ascending.
 pub(crate) fn find_group<F: Family>(places: &[Place<F::Addr>], group: F::Addr) -> Option<usize>
     requires { AreAscending (map (place_group F.bytes_of) places.now) }
     ensures { Finds F.bytes_of (F.bytes_of group) places.now result }

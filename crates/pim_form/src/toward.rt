@@ -1,4 +1,4 @@
-//! Of which upstream neighbour a want is asked.
+//! From which upstream neighbour traffic is requested.
 
 ghost use Rattle.std.specs.Prelude.{◌≡◌, List, ℕ, map, option_map};
 ghost use Rattle.std.specs.List.{list_all};
@@ -10,9 +10,9 @@ use crate::groups::GroupView;
 use crate::tree::Tree;
 use pim_addr::{Family, Routes};
 
-/// The upstream neighbour that is asked for the traffic of this source to this group: on the shared tree the one by
-/// which the group's RP is reached, on the source's tree the one by which the source is reached (RFC 7761, 4.1). `None`
-/// where the group has no RP or there is no route. It takes no memory.
+/// Returns the upstream neighbour from which the traffic of this source to this group is requested:
+/// RPF'(*,G) on the shared tree, RPF'(S,G) on the source's tree, both without asserts
+/// (RFC 7761, 4.1). It is `None` if the group has no RP or there is no route.
 pub fn upstream_of<F: Family>(
     routes: &Routes<F>,
     source: F::Addr,
@@ -28,7 +28,7 @@ pub fn upstream_of<F: Family>(
     }
 }
 
-/// Whether this is the neighbour that is asked, if anybody is.
+/// Whether there is an upstream neighbour and it is this one.
 pub(crate) fn is_asked<F: Family>(asked: Option<F::Addr>, upstream: F::Addr) -> bool
     ensures { result ≡ is_neighbour (F.bytes_of upstream) (option_map F.bytes_of asked) }
 {
@@ -38,7 +38,7 @@ pub(crate) fn is_asked<F: Family>(asked: Option<F::Addr>, upstream: F::Addr) -> 
     }
 }
 
-/// Whether the RP of this group is reached by this neighbour.
+/// Whether this neighbour is RPF'(*,G) of the group.
 pub(crate) fn is_rp_reached<F: Family>(
     routes: &Routes<F>,
     group: F::Addr,
@@ -52,7 +52,7 @@ pub(crate) fn is_rp_reached<F: Family>(
 }
 
 #[tactic(auto, using(crate::proofs::Asked::all_left, crate::proofs::Asked::none_left))]
-/// Whether all these sources are reached by this neighbour.
+/// Whether this neighbour is RPF'(S,G) of all these sources.
 fn all_reached<F: Family>(sources: &[F::Addr], routes: &Routes<F>, upstream: F::Addr) -> bool
     ensures { result ≡ list_all (λ (source : List ℕ). is_neighbour (F.bytes_of upstream)
         (via_in F.family routes.now source)) (map F.bytes_of sources.now) }
@@ -65,7 +65,8 @@ fn all_reached<F: Family>(sources: &[F::Addr], routes: &Routes<F>, upstream: F::
     true
 }
 
-/// Whether this neighbour is asked for the star of the group, if it has one, and for all its sources.
+/// Whether this neighbour is the upstream neighbour of the group's star, if it has one, and of all
+/// its sources.
 fn is_group_toward<F: Family>(
     this: &GroupView<'_, F>,
     routes: &Routes<F>,
@@ -80,9 +81,9 @@ fn is_group_toward<F: Family>(
     all_reached::<F>(this.sources(), routes, upstream)
 }
 
-/// Whether a form wants nothing but what this neighbour is asked for: each of its groups with a star has an RP that is
-/// reached by this neighbour, and each of its sources is. It takes no memory, and at most two look-ups a star and one a
-/// source.
+/// Returns whether this neighbour is the upstream neighbour of everything that a form wants: of
+/// each star and of each source. It allocates nothing, and takes at most two look-ups for each star
+/// and one for each source.
 pub fn is_toward<F: Family>(normal: &NormalForm<F>, routes: &Routes<F>, upstream: F::Addr) -> bool
     ensures { result ≡ is_toward (known_in F.family routes.now) (via_in F.family routes.now)
         (F.bytes_of upstream) normal.now }

@@ -1,10 +1,10 @@
-//! The two trees of a group.
+//! The two trees on which traffic to a group is wanted.
 
-/// The tree on which traffic is wanted (RFC 7761, 4.1).
+/// The tree on which traffic is wanted.
 #[derive(Clone, Copy, Debug, PartialEq, Eq)]
 pub enum Tree {
-    /// The tree that all sources of a group share, rooted at its RP.
+    /// The tree of all sources of a group, rooted at its RP.
     Shared,
-    /// The tree of one source.
+    /// The shortest-path tree of one source.
     Source,
 }

@@ -7,21 +7,21 @@ use crate::tree::Tree;
 use pim_addr::Family;
 use pim_down::{Ports, State, What};
 
-/// Whether a (*,G) or (S,G) machine in this state lets traffic through.
+/// Whether this state puts a port into joins(*,G) or joins(S,G).
 pub(crate) fn is_joined(state: Option<State>) -> bool
     ensures { result ≡ is_joined state }
 {
     matches!(state, Some(State::Join | State::PrunePending))
 }
 
-/// Whether an (S,G,rpt) machine in this state holds traffic back.
+/// Whether this state puts a port into prunes(S,G,rpt).
 pub(crate) fn is_pruned(state: Option<State>) -> bool
     ensures { result ≡ is_pruned state }
 {
     matches!(state, Some(State::Prune))
 }
 
-/// Whether one port wants it.
+/// Whether one port wants the traffic.
 fn wants_on<F: Family>(
     ports: &Ports<F>,
     source: F::Addr,
@@ -42,9 +42,11 @@ fn wants_on<F: Family>(
 }
 
 #[tactic(auto, using(crate::proofs::SomeBelow::none_more), unfolding(crate::specs::Wants::some_below))]
-/// Whether some port wants the traffic of this source to this group on this tree (RFC 7761, 4.1): on the shared tree
-/// where (*,G) is in Join or Prune-Pending and (S,G,rpt) isn't in Prune, on the source's tree where (S,G) is in
-/// Join or Prune-Pending. Two look-ups a port at most.
+/// Returns whether some port wants the traffic of this source to this group on this tree
+/// (RFC 7761, 4.1). A port wants it on the shared tree if it is in joins(*,G) and not in
+/// prunes(S,G,rpt), and on the source's tree if it is in joins(S,G).
+///
+/// It takes at most two look-ups for each port, and stops at the first port that wants the traffic.
 pub fn wants<F: Family>(ports: &Ports<F>, source: F::Addr, group: F::Addr, tree: Tree) -> bool
     ensures { result ≡ wants ports.now (F.bytes_of source) (F.bytes_of group) tree }
 {

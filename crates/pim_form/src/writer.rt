@@ -1,4 +1,4 @@
-//! Who writes messages, and to whom.
+//! The parameters of a writer of messages.
 
 ghost use Rattle.std.specs.Prelude.{◌≡◌, ℕ};
 ghost use Rattle.pim_addr.specs.Faults.{judged};
@@ -10,19 +10,19 @@ use pim_addr::Family;
 use std::marker::Model;
 use thiserror::Error;
 
-/// The least holdtime, in seconds: longer than the longest override interval, 98,302 ms.
+/// The least holdtime in seconds. It exceeds the longest J/P_Override_Interval(I), 98,302 ms.
 const LEAST_HOLDTIME: u16 = 99;
 
-/// The least budget: an IPv6 message with one star.
+/// The least budget in bytes: an IPv6 message with one star.
 const LEAST_BUDGET: usize = 70;
 
-/// The greatest budget.
+/// The greatest budget in bytes.
 const MOST_BUDGET: usize = 65_000;
 
-/// Why there is no such writer. Of several causes the first in this order is told.
+/// Why there is no such writer. If there are several causes, the first in this order is returned.
 #[derive(Clone, Copy, Debug, PartialEq, Eq, Error)]
 pub enum WriterFault {
-    /// One of the two addresses isn't a valid source, or they are the same.
+    /// An address isn't a valid source, or both are the same.
     #[error("address")]
     Address,
     /// The holdtime is below 99 s.
@@ -33,8 +33,8 @@ pub enum WriterFault {
     Budget,
 }
 
-/// What messages are written by: the upstream neighbour that they are for, the own address, the holdtime, and how many
-/// bytes a message may have.
+/// The parameters of messages: the upstream neighbour, the own address, the holdtime and the
+/// budget.
 #[derive(Drop)]
 pub struct Writer<F: Family> {
     upstream: F::Addr,
@@ -55,7 +55,7 @@ impl<F: Family> Model for Writer<F> {
     ghost invariant = { λ w. IsWriting F.family (writing_seen F.bytes_of w.upstream w.own w.holdtime w.budget) };
 }
 
-/// Whether one of the addresses isn't a valid source, or they are the same.
+/// Whether an address isn't a valid source, or both are the same.
 fn has_bad_address<F: Family>(upstream: F::Addr, own: F::Addr) -> bool
     ensures { (holdtime budget : ℕ) →
         result ≡ has_bad_address F.family (writing_seen F.bytes_of upstream own holdtime budget) }
@@ -64,8 +64,9 @@ fn has_bad_address<F: Family>(upstream: F::Addr, own: F::Addr) -> bool
 }
 
 impl<F: Family> Writer<F> {
-    /// A writer with these values: the two addresses are different valid sources, the holdtime is 99 s to 65,535 s,
-    /// which is never, and the budget 70 to 65,000 bytes of PIM message.
+    /// Returns a writer with these values, or their first fault. The addresses are different valid
+    /// sources. The holdtime is 99 to 65,535 s, where 65,535 means forever. The budget is 70 to
+    /// 65,000 bytes of a PIM message.
     pub fn new(
         upstream: F::Addr,
         own: F::Addr,
@@ -95,35 +96,35 @@ impl<F: Family> Writer<F> {
         })
     }
 
-    /// The neighbour that the messages are for.
+    /// Returns the upstream neighbour that the messages are for.
     pub fn upstream(&self) -> F::Addr
         ensures { F.bytes_of result ≡ self.now.upstream }
     {
         self.upstream
     }
 
-    /// The address that the messages are sent from.
+    /// Returns the address that the messages are sent from.
     pub fn own(&self) -> F::Addr
         ensures { F.bytes_of result ≡ self.now.own }
     {
         self.own
     }
 
-    /// The holdtime of the messages, in seconds; 65,535 is never.
+    /// Returns the holdtime of the messages in seconds; 65,535 means forever.
     pub fn holdtime(&self) -> u16
         ensures { result ≡ self.now.holdtime }
     {
         self.holdtime
     }
 
-    /// How many bytes a message may have, its header included.
+    /// Returns the most bytes of a message, PIM header included.
     pub fn budget(&self) -> usize
         ensures { result ≡ self.now.budget }
     {
         self.budget
     }
 
-    /// A law: what is true of a writer. It does nothing.
+    /// A law: the values of a writer are in their ranges. It does nothing.
     pub fn is_writing(&self)
         ensures { IsWriting F.family self.now }
     {

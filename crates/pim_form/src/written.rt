@@ -1,4 +1,5 @@
-//! One message, written in place: its head, a set for each group, and at last its header (RFC 7761, 4.9.5).
+//! One message, written in place: its head, a set for each group, and at last its header
+//! (RFC 7761, 4.9.5). The checksum is summed over the finished message.
 
 ghost use Rattle.std.specs.Prelude.{◌≡◌, ◌+◌, ◌*◌, ◌<◌, ◌≤◌, ◌^◌, true, take, drop, ◌++◌, length, map, OnOk, OnErr};
 ghost use Rattle.std.specs.List.{AllByRecursion, flat_map};
@@ -40,7 +41,7 @@ fn write_entry_at<F: Family>(entry: Entry<F::Addr>, at: usize, bytes: &mut [u8])
     put_entry::<F>(entry, place);
 }
 
-/// Writes sources as (S,G) entries, one behind the other.
+/// Writes sources as (S,G) entries, one after another.
 fn write_sources<F: Family>(sources: &[F::Addr], bytes: &mut [u8])
     requires { length bytes.old ≡ length sources.now * source_length F.family }
     ensures { bytes.new ≡ flat_map (canonical_source_entry F.family) (map F.bytes_of sources.now) }
@@ -50,7 +51,7 @@ fn write_sources<F: Family>(sources: &[F::Addr], bytes: &mut [u8])
     }
 }
 
-/// Writes exceptions as (S,G,rpt) entries, one behind the other.
+/// Writes exceptions as (S,G,rpt) entries, one after another.
 fn write_exceptions<F: Family>(exceptions: &[F::Addr], bytes: &mut [u8])
     requires { length bytes.old ≡ length exceptions.now * source_length F.family }
     ensures { bytes.new ≡ flat_map (canonical_rpt_entry F.family) (map F.bytes_of exceptions.now) }
@@ -60,7 +61,7 @@ fn write_exceptions<F: Family>(exceptions: &[F::Addr], bytes: &mut [u8])
     }
 }
 
-/// Writes the star entry of a group that has a star, and nothing of another group.
+/// Writes the (*,G) entry of a group that has a star; nothing for another group.
 fn write_star<F: Family>(routes: &Routes<F>, group: &GroupView<'_, F>, bytes: &mut [u8])
     requires rp { IsRpOf F.family (known_in F.family routes.now group.now.group) group.now.star }
     requires length { length bytes.old
@@ -76,7 +77,7 @@ fn write_star<F: Family>(routes: &Routes<F>, group: &GroupView<'_, F>, bytes: &m
     }
 }
 
-/// How many entries of a group are joined: its star and its sources.
+/// The number of joined entries of a group: its star and its sources.
 fn joined_count<F: Family>(group: &GroupView<'_, F>) -> usize
     requires { length group.now.sources < 2 ^ 16 }
     ensures { (rps : Rps) → IsRpOf F.family (rps group.now.group) group.now.star
@@ -85,14 +86,14 @@ fn joined_count<F: Family>(group: &GroupView<'_, F>) -> usize
     usize::from(group.star()) + group.sources().len()
 }
 
-/// How many entries of a group are pruned: its exceptions.
+/// The number of pruned entries of a group: its exceptions.
 fn pruned_count<F: Family>(group: &GroupView<'_, F>) -> usize
     ensures { (rps : Rps) → result ≡ length (told_set rps group.now).pruned }
 {
     group.exceptions().len()
 }
 
-/// Writes the set of a group: joined are its star and then its sources, pruned its exceptions.
+/// Writes the set of a group: it joins the star and then the sources, and prunes the exceptions.
 fn write_set<F: Family>(routes: &Routes<F>, group: &GroupView<'_, F>, bytes: &mut [u8])
     requires rp { IsRpOf F.family (known_in F.family routes.now group.now.group) group.now.star }
     requires joined { length (told_set (known_in F.family routes.now) group.now).joined < 2 ^ 16 }
@@ -115,7 +116,7 @@ fn write_set<F: Family>(routes: &Routes<F>, group: &GroupView<'_, F>, bytes: &mu
     write_exceptions::<F>(exceptions, prunes);
 }
 
-/// Writes the set of a group at this place, and answers the place behind it.
+/// Writes the set of a group at this place, and returns the place after it.
 fn write_set_at<F: Family>(
     routes: &Routes<F>,
     group: &GroupView<'_, F>,
@@ -141,7 +142,7 @@ fn write_set_at<F: Family>(
     at + length
 }
 
-/// Writes the sets of groups, one behind the other.
+/// Writes the sets of groups, one after another.
 fn write_sets<F: Family>(routes: &Routes<F>, groups: Groups<'_, F>, bytes: &mut [u8])
     requires rps { HaveRps F.family (known_in F.family routes.now) groups }
     requires sets { AllByRecursion (IsMessageSet F.family) (map (told_set (known_in F.family routes.now)) groups) }
@@ -156,8 +157,8 @@ fn write_sets<F: Family>(routes: &Routes<F>, groups: Groups<'_, F>, bytes: &mut 
     }
 }
 
-/// Writes the message of a part of a form, which fits the writer's budget, into a slice of its length: the sets of its
-/// groups behind their head, and the header, sealed for ALL-PIM-ROUTERS.
+/// Writes the message of a part of a form, which fits the writer's budget, into a slice of its
+/// length. It is sealed to ALL-PIM-ROUTERS.
 pub(crate) fn write_message<F: Family>(
     writer: &Writer<F>,
     routes: &Routes<F>,
@@ -189,7 +190,7 @@ pub(crate) fn write_message<F: Family>(
     );
 }
 
-/// How many entries a group has: its star, its exceptions and its sources.
+/// The number of entries of a group: its star, its exceptions and its sources.
 fn entry_count<F: Family>(group: &GroupView<'_, F>) -> usize
     requires { run_entries (group_units group.now) < 2 ^ 16 }
     ensures { result ≡ run_entries (group_units group.now) }
@@ -197,7 +198,7 @@ fn entry_count<F: Family>(group: &GroupView<'_, F>) -> usize
     usize::from(group.star()) + group.exceptions().len() + group.sources().len()
 }
 
-/// How many bytes the message of a part of a form has.
+/// The number of bytes of the message of a part of a form.
 pub(crate) fn message_length<F: Family>(part: Groups<'_, F>) -> usize
     requires normal { IsNormal F.family part }
     requires groups { run_groups (units_of part) ≤ 255 }
@@ -212,8 +213,8 @@ pub(crate) fn message_length<F: Family>(part: Groups<'_, F>) -> usize
     message_size::<F>(count, entries)
 }
 
-/// Appends the message of a part of a form, which fits the writer's budget. The only refusal is want of memory; then
-/// nothing changes.
+/// Appends the message of a part of a form, which fits the writer's budget. The only refusal is for
+/// lack of memory; then nothing changes.
 pub(crate) fn append_message<F: Family>(
     writer: &Writer<F>,
     routes: &Routes<F>,

@@ -1,3 +1,4 @@
+-- The definitions of the header of a PIM message and its checksum.
 pub mod Sum
 pub mod Folded
 pub mod Frame

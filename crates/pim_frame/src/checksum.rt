@@ -1,4 +1,7 @@
 //! The checksum of PIM messages (RFC 7761, 4.9), over IPv6 with the pseudo-header of RFC 8200, 8.1.
+//!
+//! The code sums words of 32 bits into 64 bits and folds the sum once, since 65,536 leaves 1 when
+//! it is divided by 65,535.
 
 ghost use Rattle.std.specs.Prelude.{◌≡◌, ◌+◌, ◌*◌, ◌%◌, ◌^◌, ◌<◌, ◌≤◌, length};
 ghost use Rattle.pim_frame.specs.Folded.{folded, wide, wide_total};
@@ -6,10 +9,10 @@ ghost use Rattle.pim_frame.specs.Sum.{words_sum, pseudo_header, message_sum, sum
 
 use pim_addr::{AddressFamily, Family};
 
-/// PIM's protocol number, the next header that the pseudo-header names.
+/// The IP protocol number of PIM, the Next Header of the pseudo-header.
 const PIM: u16 = 103;
 
-/// Adds a word to a folded sum, and a carry out of 16 bits back in.
+/// Adds a word to a folded sum, with a carry out of 16 bits added back in.
 #[tactic(auto, using(crate::proofs::Sums::folded_low, crate::proofs::Sums::folded_high))]
 fn add_word(sum: u16, word: u16) -> u16
     ensures { result ≡ folded (sum + word) }
@@ -22,8 +25,8 @@ fn add_word(sum: u16, word: u16) -> u16
     }
 }
 
-/// The number that one to four bytes make, zero bytes following fewer than four. By 65,535 it leaves what the sum of
-/// their words leaves, since 65,536 leaves 1.
+/// Returns the number that one to four bytes make, with zero bytes after fewer than four. It has
+/// the same remainder by 65,535 as the sum of their 16-bit words.
 #[tactic(auto, using(crate::proofs::Sums::folded_one, crate::proofs::Sums::folded_two, crate::proofs::Sums::folded_three, crate::proofs::Sums::folded_four,))]
 fn wide_word_of(bytes: &[u8]) -> u32
     requires some { 0 < length bytes.now }
@@ -39,15 +42,15 @@ fn wide_word_of(bytes: &[u8]) -> u32
     }
 }
 
-/// The number that four bytes make, big-endian. They come as one value and not one by one, so that a compiler loads
-/// them as one word, and sums several words at once.
+/// Returns the number that four bytes make, big-endian. They are one value, so that a compiler
+/// loads them as one word and sums several words at once.
 fn wide_word(word: [u8; 4]) -> u32
     ensures { result ≡ wide word }
 {
     u32::from_be_bytes(word)
 }
 
-/// The sum of wide words.
+/// Returns the sum of the numbers of these groups of four bytes.
 fn words_total(words: &[[u8; 4]]) -> u64
     requires { length words.now < 2 ^ 32 }
     ensures total { result ≡ wide_total words.now }
@@ -60,8 +63,8 @@ fn words_total(words: &[[u8; 4]]) -> u64
     sum
 }
 
-/// The sum of the wide words of these bytes, which 64 bits hold with all its carries. By 65,535 it leaves what the sum
-/// of their words of 16 bits leaves.
+/// Returns the sum of the 32-bit words of these bytes, with all carries. It has the same remainder
+/// by 65,535 as the sum of their 16-bit words.
 fn wide_sum(bytes: &[u8]) -> u64
     requires { length bytes.now < 2 ^ 32 }
     ensures sum { folded result ≡ folded (words_sum bytes.now) }
@@ -75,7 +78,7 @@ fn wide_sum(bytes: &[u8]) -> u64
     sum + u64::from(wide_word_of(rest))
 }
 
-/// A sum with its carries out of 16 bits added back in.
+/// Returns a sum with its carries out of 16 bits added back in.
 #[tactic(auto, unfolding(crate::specs::Folded::folded))]
 fn fold(sum: u64) -> u16
     ensures { result ≡ folded sum }
@@ -106,7 +109,8 @@ fn add_address<F: Family>(start: u16, address: F::Addr) -> u16
     add_bytes(start, bytes)
 }
 
-/// The folded sum of the pseudo-header of a message of so many bytes: 0 over IPv4, which has none.
+/// Returns the folded sum of the pseudo-header for a message of this length: 0 over IPv4, which has
+/// none.
 fn pseudo_header_sum<F: Family>(src: F::Addr, dst: F::Addr, message_length: u32) -> u16
     ensures sum { result
         ≡ folded (words_sum (pseudo_header F.family (F.bytes_of src) (F.bytes_of dst) message_length)) }
@@ -123,7 +127,7 @@ fn pseudo_header_sum<F: Family>(src: F::Addr, dst: F::Addr, message_length: u32)
     }
 }
 
-/// The folded sum of a message from `src` to `dst`, its checksum field included.
+/// Returns the folded sum of a message from `src` to `dst`, with its Checksum field.
 fn folded_sum<F: Family>(src: F::Addr, dst: F::Addr, message: &[u8]) -> u16
     requires { length message.now < 2 ^ 32 }
     ensures sum { result ≡ folded (message_sum F.family (F.bytes_of src) (F.bytes_of dst) message.now) }
@@ -133,8 +137,8 @@ fn folded_sum<F: Family>(src: F::Addr, dst: F::Addr, message: &[u8]) -> u16
     add_bytes(start, message)
 }
 
-/// Whether a message from `src` to `dst` sums rightly. Of the two spellings of zero, 0x0000 and 0xffff, a
-/// checksum may have either.
+/// Returns whether the checksum of a message from `src` to `dst` is correct. Checksum fields of
+/// 0x0000 and 0xffff are both correct where one is, unless the plain sum is then 0.
 pub(crate) fn sums_rightly<F: Family>(src: F::Addr, dst: F::Addr, message: &[u8]) -> bool
     requires { length message.now < 2 ^ 32 }
     ensures { result ≡ sums_rightly F.family (F.bytes_of src) (F.bytes_of dst) message.now }
@@ -142,7 +146,8 @@ pub(crate) fn sums_rightly<F: Family>(src: F::Addr, dst: F::Addr, message: &[u8]
     folded_sum::<F>(src, dst, message) == 0xffff
 }
 
-/// The checksum for a message from `src` to `dst` whose checksum field is 0: the complement of its sum.
+/// Returns the complement of the sum of a message from `src` to `dst`: the checksum, where the
+/// Checksum field is 0.
 pub(crate) fn complement<F: Family>(src: F::Addr, dst: F::Addr, message: &[u8]) -> u16
     requires { length message.now < 2 ^ 32 }
     ensures sum { folded (message_sum F.family (F.bytes_of src) (F.bytes_of dst) message.now) + result ≡ 65535 }

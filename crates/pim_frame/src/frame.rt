@@ -1,4 +1,4 @@
-//! The header of a PIM message, read and written (RFC 7761, 4.9).
+//! Reading and writing of the header of a PIM message (RFC 7761, 4.9).
 
 ghost use Rattle.std.specs.Prelude.{◌≡◌, ◌≢◌, ◌↔◌, ◌^◌, ◌<◌, ◌≤◌, length, drop, IsErrAnd, IsFalse, IsOk, Ok, Err};
 ghost use Rattle.pim_addr.specs.Faults.{judged, Answers};
@@ -11,44 +11,44 @@ use crate::checksum::{complement, sums_rightly};
 use pim_addr::{AddressFamily, Family};
 use thiserror::Error;
 
-/// PIM's version.
+/// The PIM version.
 const VERSION: u8 = 2;
 
-/// The type of a Hello (RFC 7761, 4.9).
+/// The message type of a Hello (RFC 7761, 4.9).
 const HELLO: u8 = 0;
 
-/// The type of a Join/Prune.
+/// The message type of a Join/Prune (RFC 7761, 4.9).
 const JOIN_PRUNE: u8 = 3;
 
-/// What is wrong with the header of a message. Of several faults the first in this order is told.
+/// A fault of the header of a message. Of several faults, `open` returns the first in this order.
 #[derive(Clone, Copy, Debug, PartialEq, Eq, Error)]
 pub enum FrameFault {
-    /// Fewer than the header's 4 bytes.
+    /// The message has fewer bytes than the header, which has 4.
     #[error("short")]
     Short,
-    /// The version, given here, isn't 2.
+    /// The version, given in the field, is not 2.
     #[error("version {0}")]
     Version(u8),
-    /// The message doesn't sum rightly.
+    /// The checksum is not correct.
     #[error("checksum")]
     Checksum,
-    /// The destination isn't ALL-PIM-ROUTERS.
+    /// The destination is not ALL-PIM-ROUTERS.
     #[error("not-all-routers")]
     NotAllRouters,
 }
 
-/// What a message carries after its header.
+/// The content of a message after its header.
 #[derive(Clone, Copy, Debug, PartialEq, Eq)]
 pub enum Body<'a> {
     /// The options of a Hello (RFC 7761, 4.9.2).
     Hello(&'a [u8]),
     /// The body of a Join/Prune (RFC 7761, 4.9.5).
     JoinPrune(&'a [u8]),
-    /// A message of another type, given here.
+    /// Another message, of which only the type is known.
     Other(u8),
 }
 
-/// The types of the messages that are sealed.
+/// The types of messages that `seal` writes.
 #[derive(Clone, Copy, Debug, PartialEq, Eq)]
 pub enum MessageType {
     /// A Hello (RFC 7761, 4.9.2).
@@ -58,7 +58,7 @@ pub enum MessageType {
 }
 
 impl MessageType {
-    /// The first byte of its messages: version 2 and the type.
+    /// Returns the first byte of its header: version 2 and the type.
     fn first_byte(self) -> u8
         ensures { result ≡ first_byte self }
     {
@@ -70,7 +70,8 @@ impl MessageType {
     }
 }
 
-/// ALL-PIM-ROUTERS, to which Hellos and Join/Prunes go: 224.0.0.13 or ff02::d (RFC 7761, 4.3.1).
+/// Returns ALL-PIM-ROUTERS, the destination of Hellos and Join/Prunes: 224.0.0.13 or ff02::d
+/// (RFC 7761, 4.3.1).
 pub fn all_routers<F: Family>() -> F::Addr
     ensures { F.bytes_of result ≡ all_routers F.family }
 {
@@ -80,8 +81,12 @@ pub fn all_routers<F: Family>() -> F::Addr
     }
 }
 
-/// Opens a message that came from `src` to `dst`: a Hello or a Join/Prune that is sound, with the bytes after
-/// its header, or the type of another message, of which only length and version are looked at.
+/// Opens a message from `src` to `dst`, the bytes from the PIM header on. Of a Hello or a
+/// Join/Prune it returns the bytes after the header. Of another message it checks only length and
+/// version, and returns the type.
+///
+/// # Errors
+/// The first fault of the header, in the order of `FrameFault`.
 pub fn open<'a, F: Family>(
     src: F::Addr,
     dst: F::Addr,
@@ -91,7 +96,8 @@ pub fn open<'a, F: Family>(
     ensures answer { Answers content_of result
         (judged (frame_faults F.family (F.bytes_of src) (F.bytes_of dst) bytes.now) (content bytes.now)) }
 
-    // What this says of acceptance, of the first two faults, and of the types that are not looked into.
+    // What this implies for acceptance, for the first two faults, and for the types that are not
+    // read.
     ensures accepted { IsOk result ↔ IsAccepted F.family (F.bytes_of src) (F.bytes_of dst) bytes.now }
     ensures short { (result ≡ Err FrameFault.Short) ↔ (length bytes.now < 4) }
     ensures version { IsErrAnd result (λ fault. fault ≡ FrameFault.Version (version bytes.now))
@@ -124,7 +130,7 @@ pub fn open<'a, F: Family>(
     }
 }
 
-/// Writes a header of this type, with this checksum, before the body.
+/// Writes a header with this type and checksum over the first 4 bytes.
 fn put_header(message_type: MessageType, checksum: u16, bytes: &mut [u8])
     requires { 4 ≤ length bytes.old }
     ensures { bytes.new ≡ framed message_type checksum (drop 4 bytes.old) }
@@ -134,8 +140,8 @@ fn put_header(message_type: MessageType, checksum: u16, bytes: &mut [u8])
     header.copy_from_slice(&[message_type.first_byte(), 0, high, low]);
 }
 
-/// Seals a message from `src` to `dst` whose body stands from byte 4: writes its header, with the one checksum
-/// below 65,535 with which it sums rightly.
+/// Seals a message from `src` to `dst` whose body starts at byte 4: it overwrites the first 4 bytes
+/// with the header. The checksum is the only correct one below 65,535.
 pub fn seal<F: Family>(src: F::Addr, dst: F::Addr, message_type: MessageType, bytes: &mut [u8])
     requires header { 4 ≤ length bytes.old }
     requires counted { length bytes.old < 2 ^ 32 }
@@ -148,12 +154,14 @@ pub fn seal<F: Family>(src: F::Addr, dst: F::Addr, message_type: MessageType, by
     put_header(message_type, checksum, bytes);
 }
 
-/// A law: of the messages of one type and body at most one has a checksum below 65,535 and sums rightly.
+/// A law: at most one message with a given type and body has a correct checksum below 65,535. It
+/// has no effect.
 pub fn one_checksum()
     ensures { OneChecksum }
 {}
 
-/// A law: a message sealed for ALL-PIM-ROUTERS opens with no fault, as its type with its body.
+/// A law: a message that is sealed for ALL-PIM-ROUTERS opens without a fault, as its type with its
+/// body. It has no effect.
 pub fn sealed_opens()
     ensures { SealedOpens }
 {}

@@ -1,5 +1,5 @@
--- What a canonical Join/Prune message asks for (RFC 7761, 4.9.5): of each of its groups the star with its exceptions,
--- where it has one, and sources.
+-- What a canonical Join/Prune message asks for (RFC 7761, 4.9.5): of each of its groups the star
+-- with its exceptions, if it has one, and sources.
 use Rattle.std.specs.Prelude.{◌≡◌, ℕ, List, [], ◌∷◌, ◌++◌, Option, None, Some, map, nat_eq}
 use Rattle.std.specs.List.{AllByRecursion, IsDistinct}
 use Rattle.std.specs.Cmp.Lexicographic.{pointwise}
@@ -7,24 +7,28 @@ use Rattle.pim_jp.specs.declared.entry.Entry.{Entry}
 use Rattle.pim_jp.specs.declared.entry.Entry.TheVariants.{Star, Source, Rpt}
 use Rattle.pim_jp.specs.Message.{GroupSet, Message}
 
--- no address stands twice
+-- No address is in the list twice.
 abbrev pub AreDifferent : List (List ℕ) → Type 0
 AreDifferent addresses = IsDistinct (pointwise nat_eq) addresses
 
--- A star, `Some`, has a list of exceptions. Its Join(*,G) names the RP that is known of the group.
+-- The (*,G) entry of a star, which names this RP. A star is the list of its exceptions, `None` is
+-- no star.
 abbrev pub star_entries : List ℕ → Option (List (List ℕ)) → List (Entry (List ℕ))
 star_entries rp None = []
 star_entries rp (Some exceptions) = Star rp ∷ []
 
+-- The exceptions of a star.
 abbrev pub excepted : Option (List (List ℕ)) → List (List ℕ)
 excepted None = []
 excepted (Some exceptions) = exceptions
 
+-- If there is a star, the RP is the one that is known of the group.
 abbrev pub IsKnownRp : Option (List ℕ) → List ℕ → Option (List (List ℕ)) → Type 0
 IsKnownRp known rp None = Unit {0}
 IsKnownRp known rp (Some exceptions) = known ≡ Some rp
 
--- the set joins a star, or none, and then sources; it prunes the exceptions of the star
+-- The set joins a star, or none, and sources, and prunes the exceptions of the star. It names no
+-- source and no exception twice.
 pub record Asks (known : List ℕ → Option (List ℕ)) (set : GroupSet) : Type 0 where
   pub rp : List ℕ
   pub star : Option (List (List ℕ))
@@ -35,7 +39,7 @@ pub record Asks (known : List ℕ → Option (List ℕ)) (set : GroupSet) : Type
   pub different_sources : AreDifferent sources
   pub different_exceptions : AreDifferent (excepted star)
 
--- each of its sets does, and no group has two
+-- Each set of the message asks for traffic so, and no group has two sets.
 pub record IsAsking (known : List ℕ → Option (List ℕ)) (message : Message) : Type 0 where
   pub sets : AllByRecursion (Asks known) message.sets
   pub different_groups : AreDifferent (map (λ (set : GroupSet). set.group) message.sets)

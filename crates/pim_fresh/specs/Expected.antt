@@ -1,4 +1,5 @@
--- What a machine is after some deliveries, said of the first and the last of them that name it.
+-- What a machine is after some deliveries, by the first and the last of them that name it (RFC
+-- 7761, 4.5.1 to 4.5.3).
 use Rattle.std.specs.Prelude.{◌≡◌, ℕ, ◌+◌, ◌-◌, Bool, true, ◌&&◌, nat_lt}
 use Rattle.std.specs.Prelude.{if◌then◌else◌, List, [], ◌∷◌, ◌++◌, Option, None, Some}
 use Rattle.pim_down.specs.declared.key.What.{What}
@@ -15,15 +16,17 @@ use Rattle.pim_down.specs.Time.{Downstream, expiry_after}
 use Rattle.pim_fresh.specs.Exchange.{Exchange, starts, is_named}
 use Rattle.pim_fresh.specs.Deliveries.{Delivery, is_delivered}
 
--- the moments of the first and of the last delivery that names a machine
+-- The moments of the first and of the last delivery that names a machine.
 pub record Span : Type 0 where
   pub first : ℕ
   pub last : ℕ
 
+-- The span with one more delivery, at this moment.
 abbrev pub up_to : ℕ → Option Span → Span
 up_to moment None = record { first = moment; last = moment }
 up_to moment (Some span) = record { first = span.first; last = moment }
 
+-- The span of a machine, or `None` if no delivery names it.
 unfoldable pub span_of : Exchange → Key (List ℕ) → List Delivery → Option Span
 span_of exchange key [] = None
 span_of exchange key (delivery ∷ earlier) =
@@ -31,16 +34,18 @@ span_of exchange key (delivery ∷ earlier) =
     then Some (up_to delivery.moment (span_of exchange key earlier))
     else span_of exchange key earlier
 
--- the holdtime less the time since the last delivery; without end for 65,535
+-- What is left of the Expiry Timer: the holdtime less the time since the last delivery; without end
+-- for 65,535.
 abbrev pub time_left : Exchange → ℕ → Span → Option ℕ
 time_left exchange moment span = expiry_after (moment - span.last) (starts exchange).expires_in
 
--- whether others may still override the prune: there are other neighbours, and the override interval that began with
--- the first delivery isn't over
+-- Whether the Prune-Pending Timer runs: the port has several neighbours, and
+-- J/P_Override_Interval(I) since the first delivery isn't over.
 abbrev pub is_waiting : Timing → ℕ → Span → Bool
 is_waiting timing moment span = timing.several && nat_lt moment (span.first + timing.override_ms)
 
--- (*,G) and (S,G) are in Join; (S,G,rpt) is in Prune-Pending while others may override it, and in Prune from then on.
+-- (*,G) and (S,G) are in Join. (S,G,rpt) is in Prune-Pending while others may override it, and in
+-- Prune from then on.
 abbrev pub unit_at : Exchange → ℕ → What (List ℕ) → Span → Option Machine
 unit_at exchange moment Star span = machine_in Join (time_left exchange moment span) None
 unit_at exchange moment (Source source) span = machine_in Join (time_left exchange moment span) None
@@ -50,40 +55,43 @@ unit_at exchange moment (Rpt source) span =
     (Some (record { ends_in = (span.first + exchange.timing.override_ms) - moment; several = true }))
     else machine_in Prune (time_left exchange moment span) None
 
--- a machine that no delivery names isn't held
+-- A machine that no delivery names isn't held.
 abbrev pub unit_of : Exchange → ℕ → What (List ℕ) → Option Span → Option Machine
 unit_of exchange moment what None = None
 unit_of exchange moment what (Some span) = unit_at exchange moment what span
 
+-- What the machine is at this moment after these deliveries.
 abbrev pub expected : Exchange → List Delivery → ℕ → Key (List ℕ) → Option Machine
 expected exchange deliveries moment key = unit_of exchange moment key.what (span_of exchange key deliveries)
 
--- at this moment each machine is the one that is expected
+-- At this moment each machine is the one that is expected.
 abbrev pub IsAsExpected : Exchange → List Delivery → ℕ → Downstream → Type 0
 IsAsExpected exchange deliveries moment state =
     (key : Key (List ℕ)) → machine_at key state.records ≡ expected exchange deliveries moment key
 
 -- ---- from the final moment on
 
--- what a unit asks for: the traffic of a star or a source, and that of an exception not
+-- The state that a unit asks for: Join for (*,G) and (S,G), Prune for (S,G,rpt).
 abbrev pub asked_state : What (List ℕ) → State
 asked_state Star = Join
 asked_state (Source source) = Join
 asked_state (Rpt source) = Prune
 
--- each unit that was delivered is in the state that it asks for, no prune-pending timer runs, and no other machine is
--- held
+-- A unit that was delivered, in the state that it asks for and without a Prune-Pending Timer. Other
+-- machines aren't held.
 abbrev pub asked_of : Exchange → ℕ → What (List ℕ) → Option Span → Option Machine
 asked_of exchange moment what None = None
 asked_of exchange moment what (Some span) = machine_in (asked_state what) (time_left exchange moment span) None
 
+-- Each unit that was delivered is in the state that it asks for, without a Prune-Pending Timer, and
+-- no other machine is held.
 abbrev pub IsAsAsked : Exchange → List Delivery → ℕ → Downstream → Type 0
 IsAsAsked exchange deliveries moment state = (key : Key (List ℕ)) →
     machine_at key state.records ≡ asked_of exchange moment key.what (span_of exchange key deliveries)
 
--- ---- how many there are
+-- ---- the number of units
 
--- the units of the different messages that were delivered
+-- The units of the different messages that were delivered.
 unfoldable pub units_of : Exchange → List Delivery → List Event
 units_of exchange [] = []
 units_of exchange (delivery ∷ earlier) =

@@ -1,4 +1,5 @@
--- What a fresh port holds, whatever the order of the deliveries and however often each comes.
+-- What a fresh port holds, for any order of the deliveries and any number of repetitions: the laws
+-- in `src/laws.rt`.
 use Rattle.std.specs.Prelude.{◌≡◌, ℕ, ◌-◌, ◌≤◌, true, List, [], ◌∷◌, Option, length, option_map}
 use Rattle.pim_down.specs.declared.key.Key.{Key}
 use Rattle.pim_down.specs.declared.step.Step.{Step}
@@ -13,14 +14,15 @@ use Rattle.pim_fresh.specs.Deliveries.{Delivery, first_of, last_of, IsTimely, fi
 use Rattle.pim_fresh.specs.Hearing.{Leaves, after_message}
 use Rattle.pim_fresh.specs.Expected.{span_of, IsAsExpected, IsAsAsked, units_of}
 
--- After timely deliveries exactly the units of the messages that were delivered have machines, each as expected.
+-- After timely deliveries exactly the units of the messages that came have machines, each as
+-- expected.
 abbrev pub FreshHearing : Type 0
 FreshHearing = (exchange : Exchange) (ports limit : ℕ) (deliveries : List Delivery) (moment : ℕ)
     (after : Downstream) → TellsUnitsOnce exchange → IsTimely (starts exchange).expires_in moment deliveries →
     Leaves exchange ports limit deliveries moment after →
     (after.moment ≡ moment) × IsAsExpected exchange deliveries moment after
 
--- No run after a delivery tells an echo.
+-- No run after a timely delivery stops at an echo (PruneEcho).
 abbrev pub NoEchoIsTold : Type 0
 NoEchoIsTold = (exchange : Exchange) (ports limit : ℕ) (delivery : Delivery) (earlier : List Delivery) (moment : ℕ)
     (before after : Downstream) (answer : Step (List ℕ)) → TellsUnitsOnce exchange →
@@ -28,18 +30,19 @@ NoEchoIsTold = (exchange : Exchange) (ports limit : ℕ) (delivery : Delivery) (
     Leaves exchange ports limit earlier delivery.moment before →
     Runs moment (after_message exchange delivery.message before) answer after → answer ≡ Reached
 
--- Timely deliveries leave machines.
+-- These deliveries leave some machines.
 pub record HasLeft (exchange : Exchange) (ports limit : ℕ) (deliveries : List Delivery) (moment : ℕ) : Type 0 where
   pub after : Downstream
   pub leaves : Leaves exchange ports limit deliveries moment after
 
+-- Timely deliveries leave some machines, since each run reaches its moment.
 abbrev pub EveryHearingReaches : Type 0
 EveryHearingReaches = (exchange : Exchange) (ports limit : ℕ) (deliveries : List Delivery) (moment : ℕ) →
     TellsUnitsOnce exchange → IsTimely (starts exchange).expires_in moment deliveries →
     HasLeft exchange ports limit deliveries moment
 
--- From the final moment on, while no message is missed for its holdtime, a run reaches each moment; each machine there
--- is as the messages ask, is the one that was held, so much later, and has the state that it had.
+-- A run from `moment` reaches the moment `later`. Each machine is then as the messages ask, is the
+-- old one after the time that passed, and has the old state.
 pub record Stays (exchange : Exchange) (deliveries : List Delivery) (moment later : ℕ) (state : Downstream)
     (answer : Step (List ℕ)) (after : Downstream) : Type 0 where
   pub reached : answer ≡ Reached
@@ -49,6 +52,8 @@ pub record Stays (exchange : Exchange) (deliveries : List Delivery) (moment late
       machine_at key after.records ≡ option_map (machine_after (later - moment)) (machine_at key state.records)
   pub state_stays : (key : Key (List ℕ)) → state_of key after.records ≡ state_of key state.records
 
+-- From the final moment on, while no message is missed for its holdtime, each run reaches its
+-- moment and the machines stay as the messages ask.
 abbrev pub StaysAsAsked : Type 0
 StaysAsAsked = (exchange : Exchange) (ports limit : ℕ) (deliveries : List Delivery) (moment later : ℕ)
     (state after : Downstream) (answer : Step (List ℕ)) → TellsUnitsOnce exchange →
@@ -57,7 +62,7 @@ StaysAsAsked = (exchange : Exchange) (ports limit : ℕ) (deliveries : List Deli
     Leaves exchange ports limit deliveries moment state → Runs later state answer after →
     Stays exchange deliveries moment later state answer after
 
--- The machines that are held are as many as the units of the different messages that were delivered.
+-- The number of machines is the number of units of the different messages that came.
 abbrev pub HoldsTheUnits : Type 0
 HoldsTheUnits = (exchange : Exchange) (ports limit : ℕ) (deliveries : List Delivery) (moment : ℕ)
     (after : Downstream) → TellsUnitsOnce exchange → IsTimely (starts exchange).expires_in moment deliveries →
@@ -73,18 +78,19 @@ NeedsTheUnits = (exchange : Exchange) (ports limit : ℕ) (delivery : Delivery) 
     needed exchange.port before.records (exchange.messages delivery.message)
     ≡ length (units_of exchange (delivery ∷ earlier))
 
--- The events of a message that asks for traffic, as canonical ones do, tell units.
+-- The events of a message that asks for traffic, as canonical messages do, create different
+-- machines, each exception after its star.
 abbrev pub AskingTellsUnits : Type 0
 AskingTellsUnits = (known : List ℕ → Option (List ℕ)) (port : ℕ) (message : Message) → IsAsking known message →
     AreUnits port [] (events_of known message)
 
--- Deliveries leave the machines that they leave, and no others.
+-- Deliveries leave at most one state.
 abbrev pub HearingHasOneEnd : Type 0
 HearingHasOneEnd = (exchange : Exchange) (ports limit : ℕ) (deliveries : List Delivery) (moment : ℕ)
     (one other : Downstream) → Leaves exchange ports limit deliveries moment one →
     Leaves exchange ports limit deliveries moment other → one ≡ other
 
--- The deliveries that name a machine are those of the message that names it.
+-- The first and the last delivery that name a machine are those of the message that names it.
 abbrev pub SpanIsOfItsMessage : Type 0
 SpanIsOfItsMessage = (exchange : Exchange) (message : ℕ) (key : Key (List ℕ)) (deliveries : List Delivery) →
     TellsUnitsOnce exchange → is_named exchange.port key (exchange.messages message) ≡ true →

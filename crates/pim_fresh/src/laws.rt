@@ -1,13 +1,14 @@
-//! What the definitions say together. Nothing here is to be called.
+//! The laws of this crate. Nothing in this module is to be called.
 
 ghost use Rattle.pim_fresh.specs.Laws.{FreshHearing, NoEchoIsTold, EveryHearingReaches, StaysAsAsked};
 ghost use Rattle.pim_fresh.specs.Laws.{HoldsTheUnits, NeedsTheUnits, AskingTellsUnits, HearingHasOneEnd};
 ghost use Rattle.pim_fresh.specs.Laws.{SpanIsOfItsMessage};
 
-/// After timely deliveries, run until nothing is due, exactly the units of the messages that came have machines: (\*,G)
-/// and (S,G) in Join, (S,G,rpt) in Prune-Pending with what is left of the override interval since its message came
-/// first, where there are other neighbours and it isn't over, else in Prune. ET left is the holdtime less the time
-/// since the message came last, and without end for 65,535.
+/// After timely deliveries and a run to a moment, exactly the units of the messages that came have
+/// machines. (\*,G) and (S,G) are in Join. (S,G,rpt) is in Prune-Pending, with what is left of the
+/// override interval since its message came first, while the port has other neighbours and the
+/// interval isn't over; else in Prune. The Expiry Timer has the holdtime less the time since the
+/// message came last, and never ends for 65,535.
 pub fn fresh_hearing()
     ensures { FreshHearing }
 {
@@ -19,7 +20,7 @@ pub fn fresh_hearing()
     pim_down::silence_acts_at_each_key();
 }
 
-/// No run behind a delivery tells an echo, so each reaches its moment.
+/// No run after a timely delivery stops at an echo, so each reaches its moment.
 pub fn no_echo_is_told()
     ensures { NoEchoIsTold }
 {
@@ -46,20 +47,21 @@ pub fn every_hearing_reaches()
     pim_down::every_state_has_a_run();
 }
 
-/// The first and the last delivery that name a machine are those of the one message that names it.
+/// The first and the last delivery that name a machine are those of the message that names it.
 pub fn span_is_of_its_message()
     ensures { SpanIsOfItsMessage }
 {}
 
-/// Deliveries leave one state alone.
+/// Deliveries leave at most one state.
 pub fn hearing_has_one_end()
     ensures { HearingHasOneEnd }
 {
     pim_down::run_has_one_end();
 }
 
-/// From the final moment on, as long as no message is missed for its holdtime, a run tells no echo, and each machine is
-/// the one that was held, so much later: stars and sources in Join, exceptions in Prune.
+/// From the final moment on, while no message is missed for its holdtime, a run stops at no echo.
+/// Each machine is the old one after the time that passed: stars and sources in Join, exceptions in
+/// Prune.
 pub fn stays_as_asked()
     ensures { StaysAsAsked }
 {
@@ -73,7 +75,7 @@ pub fn stays_as_asked()
     pim_down::run_goes_on();
 }
 
-/// There are as many machines as the different messages that came have units.
+/// The number of machines is the number of units of the different messages that came.
 pub fn holds_the_units()
     ensures { HoldsTheUnits }
 {
@@ -97,8 +99,10 @@ pub fn needs_the_units()
     pim_down::silence_acts_at_each_key();
 }
 
-/// A message tells units whose sets are of different groups and each join a star, by the RP that is known of the group,
-/// and sources, and prune exceptions of the star, none of them twice. Canonical messages do.
+/// The events of a message create different machines, each exception after its star, if its sets
+/// are of different groups and ask for traffic. Each set joins a star, by the RP that is known of
+/// the group, and sources, and prunes exceptions of the star, none of them twice. Canonical
+/// messages have sets of this kind.
 pub fn asking_tells_units()
     ensures { AskingTellsUnits }
 {

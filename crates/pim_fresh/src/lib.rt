@@ -1,13 +1,21 @@
-//! Laws on fresh hearing: what a port holds that hears one sender's Join/Prune messages alone (RFC 7761, 4.5), in any
-//! order and however often each comes. Nothing here is to be called.
+//! Laws on what a port holds that hears the Join/Prune messages of one sender alone (RFC 7761,
+//! 4.5), in any order and however often each comes. Nothing in this crate is to be called.
 //!
-//! Proved, over the definitions of `pim_down`: where no two entries of the messages name one machine, and no message is
-//! missed for its holdtime, the port holds exactly the units of the messages that came: (\*,G) and (S,G) in Join,
-//! (S,G,rpt) in Prune-Pending until others can't override it any more, then in Prune, each with the holdtime less the
-//! time since its message came last. No echo is told. From the final moment on every machine stays as the messages
-//! ask, until the first message was missed for its holdtime. The machines are as many as the units, and a delivery
-//! needs room for no more. A message as canonical ones are names each of its machines once, and each exception behind
-//! its star.
+//! The messages ask for traffic, and over all messages each machine is named once, an exception
+//! after its star. No message that came is missed for its holdtime. Then:
+//!
+//! - The port holds exactly the units of the messages that came: (\*,G) and (S,G) in Join,
+//!   (S,G,rpt) in Prune-Pending while others may override it, then in Prune. Each Expiry Timer has
+//!   the holdtime less the time since the message came last (`fresh_hearing`).
+//! - No run stops at an echo, and each reaches its moment (`no_echo_is_told`,
+//!   `every_hearing_reaches`).
+//! - From the end of the override intervals on, nothing changes but that time passes, until a
+//!   message is missed for its holdtime (`stays_as_asked`).
+//! - There are as many machines as units, and a delivery needs room for the units of the different
+//!   messages up to it (`holds_the_units`, `needs_the_units`).
+//!
+//! A canonical message names each of its machines once, and each exception after its star
+//! (`asking_tells_units`).
 #![tactic(auto)]
 
 mod laws;

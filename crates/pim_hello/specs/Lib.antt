@@ -1,3 +1,5 @@
+-- The definitions of Hello messages and neighbours (RFC 7761, 4.3 and 4.9.2) that contracts and
+-- laws cite.
 pub mod Hello
 pub mod Delays
 pub mod Options

@@ -1,5 +1,5 @@
--- The neighbours of one port (RFC 7761, 4.3.1, 4.3.2 and 4.9.2): a finite map from an address, as its list of
--- bytes, to what its last accepted Hello said and the time that is left to it.
+-- The neighbours of one port (RFC 7761, 4.3.1, 4.3.2 and 4.9.2): a finite map from their addresses.
+-- It has what the last accepted Hello of each said, and the time that is left.
 use Rattle.std.specs.Prelude.{◌≡◌, ◌↔◌, ℕ, ◌+◌, ◌-◌, ◌*◌, ◌^◌, ◌≤◌, Bool, false, not, ◌&&◌, ◌||◌, ◌==◌, nat_le, nat_eq}
 use Rattle.std.specs.Prelude.{List, [], length, map, filter, Option, Some, None, option_map, is_some, Result, Err, IfOk}
 use Rattle.std.specs.Prelude.{IsOk, OnOk, OnErr, IsTrue, if◌then◌else◌}
@@ -15,71 +15,73 @@ use Rattle.pim_hello.specs.declared.heard.Heard.TheVariants.{New, Same, Restarte
 use Rattle.pim_hello.specs.declared.heard.NeighbourFault.{NeighbourFault}
 use Rattle.pim_hello.specs.declared.heard.NeighbourFault.TheVariants.{Full}
 
--- one neighbour; `left` is its time in milliseconds, none where it never ends
+-- A neighbour. `left` is the time in milliseconds until it is removed, or None if it is kept
+-- forever.
 pub record Neighbour : Type 0 where
   pub parameters : Parameters
   pub left : Option ℕ
 
--- the present moment in milliseconds, and the neighbours in ascending order of their addresses
+-- The neighbours of a port at a moment in milliseconds, in ascending order of their addresses.
 pub record Table : Type 0 where
   pub moment : ℕ
   pub entries : List (List ℕ × Neighbour)
 
--- how many neighbours a port has at most
+-- A port has at most this number of neighbours.
 abbrev pub neighbour_limit : ℕ
 neighbour_limit = 1024
 
--- a new table
+-- The table of a new port.
 abbrev pub no_neighbours : Table
 no_neighbours = record { moment = 0; entries = [] }
 
--- the test of the one address
+-- Whether an address is this one.
 abbrev pub is_address : List ℕ → List ℕ → Bool
 is_address address = is_at (slice_cmp nat_cmp address)
 
--- what is kept of this address
+-- What the table has at this address.
 abbrev pub neighbour_at : List ℕ → Table → Option Neighbour
 neighbour_at address table = lookup (is_address address) table.entries
 
--- what the neighbours' last Hellos said
+-- What the last Hello of each neighbour said.
 abbrev pub hellos_of : Table → List Parameters
 hellos_of table = map (λ entry. entry.1.parameters) table.entries
 
 -- ---- time
 
--- milliseconds pass: the countdown falls, and stops at 0
+-- The neighbour after some milliseconds: its time falls, down to 0.
 abbrev pub waited : ℕ → Neighbour → Neighbour
 waited passed neighbour =
     record { parameters = neighbour.parameters; left = option_map (λ left. left - passed) neighbour.left }
 
--- time passes up to this moment; an earlier one counts as the present
+-- The table when time has passed up to the moment `now`. An earlier moment counts as the present
+-- one.
 abbrev pub passed_to : ℕ → Table → Table
 passed_to now table = let passed : ℕ = now - table.moment in
     record { moment = table.moment + passed; entries = map (λ entry. (entry.0, waited passed entry.1)) table.entries }
 
--- no time is left
+-- No time is left.
 abbrev pub is_over : Option ℕ → Bool
 is_over None = false
 is_over (Some left) = left == 0
 
--- without the neighbours whose time has ended
+-- The table without the neighbours whose time has ended.
 abbrev pub without_ended : Table → Table
 without_ended table =
     record { moment = table.moment; entries = filter (λ entry. not (is_over entry.1.left)) table.entries }
 
 -- ---- a Hello
 
--- how long a Hello keeps its sender, in milliseconds, by its holdtime in seconds: 105 s where it names none,
--- and for ever at 0xffff
+-- How long a Hello keeps its sender, in milliseconds, by its Holdtime in seconds. Without Holdtime
+-- it is 105 s, Default_Hello_Holdtime. Holdtime 0xffff means forever.
 abbrev pub lifetime : Option ℕ → Option ℕ
 lifetime None = Some 105000
 lifetime (Some holdtime) = if holdtime == 65535 then None else Some (1000 * holdtime)
 
--- a goodbye: holdtime 0
+-- The Hello is a goodbye: its Holdtime is 0.
 abbrev pub says_goodbye : Parameters → Bool
 says_goodbye hello = option_eq nat_eq hello.holdtime (Some 0)
 
--- the sender's neighbour, replaced by what this Hello says, or removed by a goodbye
+-- The table after a Hello: the sender has what the Hello says, or is removed by a goodbye.
 abbrev pub heard_from : List ℕ → Parameters → Table → Table
 heard_from sender hello table = record {
   moment = table.moment;
@@ -89,29 +91,33 @@ heard_from sender hello table = record {
       (record { parameters = hello; left = lifetime hello.holdtime });
 }
 
--- what is told of a known sender: its Generation ID, present or absent, is as it was, or it has restarted
+-- What the Generation ID of a known sender means (RFC 7761, 4.3.1). The sender is `Same` if it is
+-- equal or absent both times, else `Restarted`.
 abbrev pub told_of_known : Option ℕ → Option ℕ → Heard
 told_of_known kept generation = if option_eq nat_eq kept generation then Same else Restarted
 
--- what is told of a sender that isn't known, or is known with this
+-- What a Hello that is no goodbye means: its sender is new, the same, or has restarted.
 abbrev pub told_unless_goodbye : Option Neighbour → Parameters → Heard
 told_unless_goodbye None hello = New
 told_unless_goodbye (Some known) hello = told_of_known known.parameters.generation hello.generation
 
+-- What a Hello means for its sender, by what the table has of it.
 abbrev pub told : Option Neighbour → Parameters → Heard
 told known hello = if says_goodbye hello then Gone else told_unless_goodbye known hello
 
--- no room: the sender is new, says no goodbye, and the port has its neighbours
+-- There is no room: the sender is new, says no goodbye, and the port has `neighbour_limit`
+-- neighbours.
 abbrev pub is_full : List ℕ → Parameters → Table → Bool
 is_full sender hello table = not (says_goodbye hello) && not (is_some (neighbour_at sender table)) &&
     nat_le neighbour_limit (length table.entries)
 
--- A Hello that takes no memory: a goodbye, or one of a known sender whose time never ends by it.
+-- The Hello needs no memory: it is a goodbye, or a known sender is kept forever by it.
 abbrev pub needs_no_memory : List ℕ → Parameters → Table → Bool
 needs_no_memory sender hello table =
     says_goodbye hello || (is_some (neighbour_at sender table) && not (is_some (lifetime hello.holdtime)))
 
--- What a call that hears a Hello answers, and the table that it leaves.
+-- What a call that hears a Hello returns, and the table that it leaves. A refusal changes nothing.
+-- `Full` comes exactly where there is no room, and a Hello that needs no memory is never refused.
 pub record Hears (sender : List ℕ) (hello : Parameters) (now : ℕ) (old : Table)
     (result : Result Heard NeighbourFault) (new : Table) : Type 0 where
   pub answer : IfOk result (λ heard. heard ≡ told (neighbour_at sender old) hello)
@@ -122,11 +128,11 @@ pub record Hears (sender : List ℕ) (hello : Parameters) (now : ℕ) (old : Tab
 
 -- ---- between calls
 
--- the addresses ascend, so that each stands once
+-- The addresses ascend, so that each occurs once.
 abbrev pub IsAscending : Table → Type 0
 IsAscending table = IsStrictlySortedBy (slice_cmp nat_cmp) (keys_of table.entries)
 
--- what holds of each table: its moment in milliseconds, how many neighbours it has, and their order
+-- What holds of each table: its moment in milliseconds, its number of neighbours, and their order.
 pub record IsSound (table : Table) : Type 0 where
   pub moment : table.moment ≤ 10 ^ 15
   pub limit : length table.entries ≤ neighbour_limit

@@ -1,4 +1,4 @@
--- What the private helpers of the reader say: a message, option by option.
+-- Words for the contracts of the reader's private steps: a Hello, built option by option.
 use Rattle.std.specs.Prelude.{◌==◌, List, Some, if◌then◌else◌}
 use Rattle.std.specs.Option.{option_or, option_map, unwrap_or}
 use Rattle.byteorder.specs.Endian.{big_number}
@@ -8,7 +8,7 @@ use Rattle.pim_hello.specs.Options.{Content, whole, partial, Part, last_of}
 use Rattle.pim_hello.specs.Row.{addresses_of}
 use Rattle.pim_hello.specs.Value.{delays_of}
 
--- the message with this option in place of an earlier one of its type
+-- The Hello after one more option, which replaces an earlier one of its type.
 unfoldable pub with_option : AddressFamily → Content → Hello → Hello
 with_option family (whole type_code value) hello = record {
   parameters = record {
@@ -21,7 +21,7 @@ with_option family (whole type_code value) hello = record {
 }
 with_option family partial hello = hello
 
--- the message, where none of these parts says otherwise
+-- The Hello after more options, of which the last of each type counts.
 unfoldable pub over : AddressFamily → Hello → List Part → Hello
 over family hello ps = record {
   parameters = record {

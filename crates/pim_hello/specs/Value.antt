@@ -1,4 +1,4 @@
--- What a legal body says: each known option by the last of its type (RFC 7761, 4.9.2).
+-- What a legal body says: for each known option, the last one of its type (RFC 7761, 4.9.2).
 use Rattle.std.specs.Prelude.{ℕ, ◌%◌, nat_le, List, [], drop}
 use Rattle.std.specs.Option.{option_map, unwrap_or}
 use Rattle.byteorder.specs.Endian.{big_number}
@@ -7,7 +7,8 @@ use Rattle.pim_hello.specs.Hello.{Delays, Parameters, Hello}
 use Rattle.pim_hello.specs.Options.{Part, parts, last_of}
 use Rattle.pim_hello.specs.Row.{addresses_of}
 
--- the T bit on top of 15 bits of propagation delay, then the override interval
+-- The value of a LAN Prune Delay option: the T bit and 15 bits of Propagation_Delay, then 16 bits
+-- of Override_Interval.
 abbrev pub delays_of : List ℕ → Delays
 delays_of value = record {
   t = nat_le 32768 (big_number 2 value);
@@ -15,6 +16,8 @@ delays_of value = record {
   override_ms = big_number 2 (drop 2 value);
 }
 
+-- What the last options of type 1 (Holdtime), 2 (LAN Prune Delay), 19 (DR Priority) and 20
+-- (Generation ID) say.
 abbrev pub parameters_of : List Part → Parameters
 parameters_of ps = record {
   holdtime = option_map (big_number 2) (last_of 1 ps);
@@ -23,6 +26,8 @@ parameters_of ps = record {
   generation = option_map (big_number 4) (last_of 20 ps);
 }
 
+-- The Hello that a legal body holds. Its addresses are those of the message's family in the last
+-- Address List (type 24).
 abbrev pub hello_of : AddressFamily → List ℕ → Hello
 hello_of family body = record {
   parameters = parameters_of (parts body);

@@ -8,8 +8,8 @@ use pim_addr::{Family, read_unicast, unicast_length};
 use std::alloc::AllocError;
 use std::marker::PhantomData;
 
-/// The addresses of the family `F` in an Address List (RFC 7761, 4.9.2, option 24), in their order. Those of
-/// the other family are passed over.
+/// The addresses of the family `F` in an Address List (RFC 7761, 4.9.2, option 24), in their order.
+/// Those of the other family are skipped.
 #[derive_where(Debug)]
 pub struct Addresses<'a, F> {
     pub(crate) row: &'a [u8],
@@ -47,15 +47,15 @@ impl<'a, F: Family> Addresses<'a, F> {
         }
     }
 
-    /// How many bytes so many addresses take in a row.
+    /// The length in bytes of `count` encoded addresses.
     pub fn row_length(count: u16) -> usize
         ensures { result ≡ count * unicast_length F.family }
     {
         usize::from(count) * unicast_length::<F>()
     }
 
-    /// Writes these addresses into a row, one encoded unicast address (RFC 7761, 4.9.1) after the other, and gives
-    /// the walk over them.
+    /// Writes these addresses into a row, one encoded unicast address (RFC 7761, 4.9.1) after the
+    /// other, and returns the iterator over them. The row has `row_length` bytes, fewer than 2^16.
     pub fn put(addresses: &[F::Addr], row: &'a mut [u8]) -> Addresses<'a, F>
         requires length { length row.old ≡ length addresses.now * unicast_length F.family }
         requires fits_an_option { length row.old < 2 ^ 16 }
@@ -69,7 +69,7 @@ impl<'a, F: Family> Addresses<'a, F> {
         }
     }
 
-    /// How many addresses are left.
+    /// The number of addresses that are left.
     pub fn len(&self) -> usize
         ensures { result ≡ length (addresses_seen F.family self.now) }
     {
@@ -84,8 +84,8 @@ impl<'a, F: Family> Addresses<'a, F> {
         self.len() == 0
     }
 
-    /// The addresses of the family in a row of encoded unicast addresses, or `None` if the bytes are no row of
-    /// whole native addresses, or too many for one option.
+    /// The addresses of the family in a row of encoded unicast addresses. `None` if the row has
+    /// bytes that are no whole native address, or is too long for one option.
     pub fn in_row(row: &'a [u8]) -> Option<Addresses<'a, F>>
         ensures row { is_some result ≡ (is_row row.now && nat_lt (length row.now) (2 ^ 16)) }
         ensures addresses { IfSome result (λ a. addresses_seen F.family a ≡ addresses_of F.family row.now) }

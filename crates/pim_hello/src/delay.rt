@@ -7,13 +7,12 @@ ghost use Rattle.std.specs.Prelude.{◌≤◌};
 pub struct LanDelay {
     /// The T bit: the sender can disable join suppression. It is kept and has no effect.
     pub t: bool,
-    /// The propagation delay, in milliseconds: 15 bits, at most 32,767.
+    /// Propagation_Delay in milliseconds: 15 bits, at most 32,767.
     pub propagation: u16,
-    /// The sender's override delay, in milliseconds: one of the two parts of a port's override interval, the other of
-    /// which is the propagation delay (RFC 7761, 4.3.3).
+    /// Override_Interval in milliseconds.
     pub override_ms: u16,
     ghost fits_15_bits: { propagation ≤ 32767 },
 }
 
-/// The T bit of the option's first 16 bits, on top of the propagation delay.
+/// The T bit in the first 16 bits of the option, above the propagation delay.
 pub(crate) const T_BIT: u16 = 0x8000;

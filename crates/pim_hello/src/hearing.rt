@@ -1,4 +1,5 @@
-//! What one Hello means: a goodbye, the time that it gives, and what is told of it.
+//! What one Hello means: whether it is a goodbye, the time that it gives its sender, and the value
+//! that is returned.
 
 ghost use Rattle.std.specs.Prelude.{◌≡◌, ◌≤◌, ◌^◌, ◌+◌, option_map};
 ghost use Rattle.pim_hello.specs.Kept.{parameters_seen, kept_seen};
@@ -7,14 +8,15 @@ ghost use Rattle.pim_hello.specs.Neighbours.{says_goodbye, lifetime, told_unless
 use crate::heard::Heard;
 use crate::parameters::{Kept, Parameters};
 
-/// Whether a Hello says goodbye: its holdtime is 0.
+/// Whether a Hello says goodbye: its Holdtime is 0.
 pub(crate) fn says_goodbye(hello: &Parameters) -> bool
     ensures { result ≡ says_goodbye (parameters_seen hello.now) }
 {
     hello.holdtime == Some(0)
 }
 
-/// The moment at which the time of a sender ends whose Hello comes at this one, in milliseconds.
+/// The moment in milliseconds at which the time of a sender ends whose Hello arrives at `moment`,
+/// or `None` if it never ends.
 pub(crate) fn end_of_time(hello: &Parameters, moment: u64) -> Option<u64>
     requires { moment ≤ 10 ^ 15 }
     ensures { result ≡ option_map (λ time. moment + time) (lifetime hello.now.holdtime) }
@@ -26,7 +28,7 @@ pub(crate) fn end_of_time(hello: &Parameters, moment: u64) -> Option<u64>
     }
 }
 
-/// What is told of a Hello that is no goodbye, by what was kept of its sender.
+/// What a Hello that is no goodbye means, by what was kept of its sender.
 pub(crate) fn told(known: Option<Kept>, hello: &Parameters) -> Heard
     ensures { result ≡ told_unless_goodbye (option_map (kept_seen 0) known) (parameters_seen hello.now) }
 {

@@ -1,4 +1,4 @@
-//! A Hello message, read.
+//! A Hello message: read, and written.
 
 ghost use Rattle.std.specs.Prelude.{◌≡◌, ◌==◌, ◌<◌, ◌≤◌, ◌^◌, [], None, length, not, IfOk};
 ghost use Rattle.std.specs.Option.{unwrap_or};
@@ -32,22 +32,22 @@ use pim_addr::Family;
 /// A Hello message over the family `F` (RFC 7761, 4.9.2). Each option may be absent.
 #[derive_where(Clone, Copy, Debug)]
 pub struct Hello<'a, F> {
-    /// How long the sender is to be kept as a neighbour, in seconds. 65,535 is for ever, and 0 says goodbye.
+    /// How long the sender is kept as a neighbour, in seconds: 0 is a goodbye, 65,535 is forever.
     pub holdtime: Option<u16>,
-    /// The sender's delays on a LAN.
+    /// The LAN Prune Delay: the sender's delays.
     pub lan: Option<LanDelay>,
-    /// The sender's priority in the election of a designated router: the highest wins.
+    /// The DR Priority: the highest wins the election of a designated router.
     pub priority: Option<u32>,
-    /// A number that the sender draws anew whenever it starts.
+    /// The Generation ID, which the sender chooses anew whenever it starts.
     pub generation: Option<u32>,
-    /// The sender's further addresses. A message with none has no Address List.
+    /// The sender's secondary addresses. A message with none has no Address List.
     pub addresses: Addresses<'a, F>,
 }
 
 /// Default_Hello_Holdtime, in seconds (RFC 7761, 4.11).
 const DEFAULT_HOLDTIME: u16 = 105;
 
-/// A value of the LAN Prune Delay option.
+/// Reads the value of a LAN Prune Delay option.
 fn read_delays(value: &[u8]) -> Result<LanDelay, HelloKind>
     ensures { Answers delays_seen result
         (judged (fault_if (not (length value.now == 4)) OptionLength) (delays_of value.now)) }
@@ -65,7 +65,7 @@ fn read_delays(value: &[u8]) -> Result<LanDelay, HelloKind>
 }
 
 impl<'a, F: Family> Hello<'a, F> {
-    /// A message with no option.
+    /// A message without options.
     pub fn empty() -> Hello<'a, F>
         ensures { hello_seen F.family result ≡ record {
           parameters = record { holdtime = None; lan = None; priority = None; generation = None };
@@ -81,7 +81,8 @@ impl<'a, F: Family> Hello<'a, F> {
         }
     }
 
-    /// The message with this option in place of an earlier one of its type. One of an unknown type is skipped.
+    /// The message with this option in place of an earlier one of its type. An option of an unknown
+    /// type is skipped.
     #[tactic(auto, unfolding(crate::specs::Steps::with_option))]
     fn with_option(mut self, type_code: u16, value: &'a [u8]) -> Result<Hello<'a, F>, HelloKind>
         requires { length value.now < 2 ^ 16 }
@@ -100,7 +101,8 @@ impl<'a, F: Family> Hello<'a, F> {
         Ok(self)
     }
 
-    /// Takes in the option at the front, which stands at this offset of the body, and gives what stands behind it.
+    /// Adds the option at the front, which is at the offset `at` in the body, and returns the bytes
+    /// after it.
     fn take_option(&mut self, at: usize, bytes: &'a [u8]) -> Result<&'a [u8], HelloFault>
         ensures answer { Answers (λ _. hello_seen F.family self.new) result
             (judged (part_faults (record { at = at; content = content_at bytes.now }))
@@ -118,10 +120,12 @@ impl<'a, F: Family> Hello<'a, F> {
         Ok(option.behind)
     }
 
-    /// Reads the body of a Hello. Options of unknown types are skipped, and of a repeated option the last counts.
+    /// Reads the body of a Hello. Options of unknown types are skipped, and the last of a repeated
+    /// option counts.
     ///
     /// # Errors
-    /// The fault of least offset in the body.
+    /// The fault of least offset; of several kinds at one option, the first in the order of
+    /// `HelloKind`.
     pub fn read(body: &'a [u8]) -> Result<Hello<'a, F>, HelloFault>
         ensures { Answers (hello_seen F.family) result (judged (faults body.now) (hello_of F.family body.now)) }
     {
@@ -134,14 +138,14 @@ impl<'a, F: Family> Hello<'a, F> {
         Ok(hello)
     }
 
-    /// How long the sender is to be kept as a neighbour, in seconds: 105 if the message has no Holdtime.
+    /// How long the sender is kept as a neighbour, in seconds: 105 if the message has no Holdtime.
     pub fn holdtime_seconds(&self) -> u16
         ensures { result ≡ unwrap_or self.now.holdtime 105 }
     {
         self.holdtime.unwrap_or(DEFAULT_HOLDTIME)
     }
 
-    /// The options but the Address List: what is kept of the sender.
+    /// The options without the Address List, which are kept of the sender.
     pub fn parameters(&self) -> Parameters
         ensures { parameters_seen result ≡ (hello_seen F.family self.now).parameters }
     {
@@ -153,14 +157,14 @@ impl<'a, F: Family> Hello<'a, F> {
         }
     }
 
-    /// How many bytes the message's body has.
+    /// The length in bytes of the message's body.
     pub fn length(&self) -> usize
         ensures { result ≡ length (spelling_of F.family (hello_seen F.family self.now)) }
     {
         self.parameters_length() + size_addresses(self.addresses)
     }
 
-    /// How many bytes the options but the Address List take.
+    /// The length in bytes of the options without the Address List.
     fn parameters_length(&self) -> usize
         ensures length { result ≡ length (parameters_spelled (hello_seen F.family self.now).parameters) }
         ensures small { result ≤ 32 }
@@ -171,7 +175,7 @@ impl<'a, F: Family> Hello<'a, F> {
             + size_number32(self.generation)
     }
 
-    /// Writes the options but the Address List.
+    /// Writes the options without the Address List.
     fn put_parameters(&self, out: &mut [u8])
         requires { length out.old ≡ length (parameters_spelled (hello_seen F.family self.now).parameters) }
         ensures spelled { out.new ≡ parameters_spelled (hello_seen F.family self.now).parameters }
@@ -186,7 +190,8 @@ impl<'a, F: Family> Hello<'a, F> {
         put_number32(GENERATION_ID, self.generation, generation);
     }
 
-    /// Writes the message's body: the options that are there in rising type, each once.
+    /// Writes the message's body into a slice of `length` bytes: the options that are present, in
+    /// ascending order of their types.
     pub fn put(&self, body: &mut [u8])
         requires { length body.old ≡ length (spelling_of F.family (hello_seen F.family self.now)) }
         ensures spelled { body.new ≡ spelling_of F.family (hello_seen F.family self.now) }
@@ -198,7 +203,7 @@ impl<'a, F: Family> Hello<'a, F> {
     }
 }
 
-/// What is written is read: without a fault, and as the same message.
+/// What is written is read without a fault and as the same message.
 pub fn reads_back()
     ensures { (family : AddressFamily) → ReadsBack family }
 {}

@@ -4,15 +4,17 @@ ghost use Rattle.std.specs.Prelude.{◌≡◌, ◌≤◌, ◌+◌, max};
 
 use crate::delay::LanDelay;
 
-/// The override interval where a neighbour doesn't tell its delays, in milliseconds: 500 and 2,500.
+/// J/P_Override_Interval(I) in milliseconds if lan_delay_enabled(I) is false: 500 and 2,500 (RFC
+/// 7761, 4.11).
 pub(crate) const DEFAULT_OVERRIDE_INTERVAL: u32 = 3000;
 
-/// A port's own delays, in milliseconds. `default` gives those of a port that isn't told otherwise.
+/// A port's own delays, in milliseconds. They are a type of their own so that its propagation delay
+/// has 15 bits, as in a LAN Prune Delay.
 #[derive(Clone, Copy, Debug, PartialEq, Eq)]
 pub struct PortDelays {
-    /// The propagation delay: at most 32,767.
+    /// Propagation_Delay(I): at most 32,767.
     pub propagation: u16,
-    /// The override delay: the other part of the port's override interval.
+    /// Override_Interval(I).
     pub override_ms: u16,
     ghost fits_15_bits: { propagation ≤ 32767 },
 }
@@ -20,7 +22,7 @@ pub struct PortDelays {
 impl Default for PortDelays {
     ghost is_default = { λ delays. (delays.propagation ≡ 500) × (delays.override_ms ≡ 2500) };
 
-    /// The propagation delay of 500 ms and the override delay of 2,500 ms of RFC 7761, 4.11.
+    /// 500 and 2,500 ms, the defaults of RFC 7761, 4.11.
     fn default() -> PortDelays {
         PortDelays {
             propagation: 500,
@@ -30,7 +32,7 @@ impl Default for PortDelays {
 }
 
 impl PortDelays {
-    /// No delay.
+    /// No delays.
     pub(crate) fn zero() -> PortDelays
         ensures propagation { result.propagation ≡ 0 }
         ensures override_ms { result.override_ms ≡ 0 }
@@ -41,7 +43,7 @@ impl PortDelays {
         }
     }
 
-    /// The delays that a neighbour told.
+    /// The delays of a neighbour's LAN Prune Delay.
     pub(crate) fn told_by(lan: LanDelay) -> PortDelays
         ensures propagation { result.propagation ≡ lan.propagation }
         ensures override_ms { result.override_ms ≡ lan.override_ms }
@@ -52,7 +54,7 @@ impl PortDelays {
         }
     }
 
-    /// Each delay, or the other one where that is greater.
+    /// The greater of both delays, each kind by itself.
     pub(crate) fn or_greater(self, other: PortDelays) -> PortDelays
         ensures propagation { result.propagation ≡ max self.propagation other.propagation }
         ensures override_ms { result.override_ms ≡ max self.override_ms other.override_ms }
@@ -63,7 +65,7 @@ impl PortDelays {
         }
     }
 
-    /// Both together.
+    /// The sum of both delays.
     pub(crate) fn sum(self) -> u32
         ensures sum { result ≡ self.propagation + self.override_ms }
         ensures bound { result ≤ 98302 }

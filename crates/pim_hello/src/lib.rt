@@ -1,9 +1,25 @@
-//! Hello messages of PIM sparse mode (RFC 7761, 4.3 and 4.9.2), and the neighbours that they tell of.
+//! Hello messages of PIM sparse mode (RFC 7761, 4.3 and 4.9.2), and the neighbours of a port.
 //!
-//! Proved: `Hello::read` answers the message of a body that has no fault, and else the fault of least offset;
-//! `Hello::put` writes the one spelling, which reads back. The table of `Neighbours` is a finite map from an
-//! address to what its last accepted Hello said and the time that is left; `hear` and `expire` change exactly what
-//! the definitions say.
+//! - `Hello::read` accepts exactly the bodies whose options have no fault, and returns what the
+//!   last option of each known type says. Otherwise it returns the fault of least offset and,
+//!   there, of least number.
+//! - `Hello::put` writes the options that are present, in ascending order of their types. The law
+//!   `reads_back` says that they are read as the same message. The length of the slice is the
+//!   caller's condition.
+//! - `Neighbours`, one for each port, is a map from an address to its last accepted Hello, without
+//!   the Address List, and the time left. `hear` changes its sender's entry alone, and `expire`
+//!   removes exactly those whose time has ended.
+//! - `hear` returns `Full` exactly if the sender is new, says no goodbye, and the port has 1,024
+//!   neighbours. A goodbye needs no memory, nor does a known sender that the Hello keeps forever,
+//!   and neither is refused. A refusal changes nothing.
+//! - `Neighbours::override_interval` is J/P_Override_Interval(I), at most 98,302 ms.
+//! - Moments are milliseconds up to 10^15, the caller's condition. An earlier moment counts as the
+//!   present one.
+//!
+//! Each option is checked, also one that a later one of its type replaces. Addresses of the other
+//! family in an Address List are skipped, since a widely used daemon sends IPv6 addresses over
+//! IPv4. The limit of neighbours keeps a flood of Hellos from taking all memory. A goodbye returns
+//! `Gone` whether its sender was known or not.
 #![tactic(auto)]
 
 mod addresses;

@@ -18,10 +18,11 @@ use pim_addr::Family;
 use std::alloc::Global;
 use std::marker::Model;
 
-/// How many neighbours a port has at most.
+/// A port has at most this number of neighbours.
 const NEIGHBOUR_LIMIT: usize = 1024;
 
-/// The neighbours of one port: what the last accepted Hello of each said, and the time that is left to it.
+/// The neighbours of one port: what the last accepted Hello of each said, and the time that is
+/// left.
 #[derive(Drop)]
 pub struct Neighbours<F: Family> {
     roster: Roster<F::Addr>,
@@ -42,7 +43,7 @@ impl<F: Family> Model for Neighbours<F> {
     ghost invariant = { λ s. (s.moment ≤ 10 ^ 15) × (length s.roster.neighbours.entries ≤ 1024) };
 }
 
-/// Whether a sender of which this is kept has no place beside so many neighbours.
+/// Whether a port with `count` neighbours has no room for a sender of which this is kept.
 fn lacks_room(known: &Option<Kept>, count: usize) -> bool
     ensures { result ≡ (not (is_some known.now) && nat_le 1024 count) }
 {
@@ -60,16 +61,17 @@ impl<F: Family> Neighbours<F> {
         }
     }
 
-    /// A law: the moment is at most 10^15, there are at most 1,024 neighbours, and their addresses ascend. It does
-    /// nothing.
+    /// A law: the moment is at most 10^15, there are at most 1,024 neighbours, and their addresses
+    /// ascend. It does nothing.
     pub fn is_sound(&self)
         ensures { IsSound self.now }
     {
-        // It is read, so that what holds of its fields is known.
+        // Reading a field gives the proof what holds of all fields.
         let _moment = self.moment;
     }
 
-    /// How many neighbours there are, with those whose time has ended and that aren't removed yet.
+    /// The number of neighbours. It includes those whose time has ended but that aren't removed
+    /// yet.
     pub fn count(&self) -> usize
         ensures count { result ≡ length self.now.entries }
         ensures limit { result ≤ 1024 }
@@ -78,26 +80,28 @@ impl<F: Family> Neighbours<F> {
         self.roster.len()
     }
 
-    /// The neighbours in address order, with the time that is left to each.
+    /// The neighbours in ascending order of their addresses, with the time that is left to each.
     pub fn entries(&self) -> KnownNeighbours<'_, F>
         ensures { result ≡ self.now.entries }
     {
         KnownNeighbours::new(self.roster.iter(), self.moment)
     }
 
-    /// Whether this address is a neighbour.
+    /// Whether the table has this address.
     pub fn knows(&self, from: F::Addr) -> bool
         ensures { result ≡ is_some (neighbour_at (F.bytes_of from) self.now) }
     {
         self.roster.get(from).is_some()
     }
 
-    /// Takes a Hello at this moment, in milliseconds: its sender's neighbour is replaced, or removed by a
-    /// goodbye. Nobody's time ends here.
+    /// Takes a Hello at the moment `now`, in milliseconds. What it says replaces what was kept of
+    /// its sender; a goodbye removes the sender. No neighbour is removed because its time has
+    /// ended.
     ///
     /// # Errors
-    /// `Full` exactly where the sender is new and there are 1,024 neighbours, else `Memory`. Then nothing changes.
-    /// A goodbye is never refused, nor a known sender that is now kept for ever.
+    /// `Full` exactly if the sender is new, says no goodbye, and the port has 1,024 neighbours.
+    /// `Memory` if memory could not be allocated. An error changes nothing. A goodbye, or a known
+    /// sender that the Hello keeps forever, is never refused.
     pub fn hear(
         &mut self,
         from: F::Addr,
@@ -110,7 +114,7 @@ impl<F: Family> Neighbours<F> {
         self.hear_parameters(from, &hello.parameters(), now)
     }
 
-    /// Takes what a Hello says without its Address List.
+    /// The same as `hear`, for a Hello without its Address List.
     fn hear_parameters(
         &mut self,
         from: F::Addr,
@@ -141,7 +145,8 @@ impl<F: Family> Neighbours<F> {
         Ok(told(known, hello))
     }
 
-    /// Lets time pass up to this moment, in milliseconds, and removes the neighbours whose time has ended.
+    /// Lets time pass up to the moment `now`, in milliseconds, and removes the neighbours whose
+    /// time has ended.
     pub fn expire(&mut self, now: u64)
         requires { now ≤ 10 ^ 15 }
         ensures { self.new ≡ without_ended (passed_to now self.old) }
@@ -150,16 +155,17 @@ impl<F: Family> Neighbours<F> {
         while let Some(_removed) = self.roster.remove_ended(self.moment) {}
     }
 
-    /// Goes through the neighbours once where one was removed, told a lesser delay, or told some after none, since
-    /// they were last gone through, so that `override_interval` need not. It changes nothing that is told of them.
+    /// Prepares `override_interval`, which may otherwise walk over all neighbours each time. This
+    /// walks over them at most once, and only if a neighbour was removed, sent a lesser delay, or
+    /// sent delays after none. It changes nothing that contracts see.
     pub fn gather_delays(&mut self)
         ensures { self.new ≡ self.old }
     {
         self.roster.gather_delays();
     }
 
-    /// The override interval of a port with these delays of its own, in milliseconds (RFC 7761, 4.3.3): at
-    /// most 98,302. It goes through the neighbours only where `gather_delays` would.
+    /// J/P_Override_Interval(I) of a port with these delays of its own, in milliseconds (RFC 7761,
+    /// 4.3.3): at most 98,302. It walks over the neighbours only where `gather_delays` would.
     pub fn override_interval(&self, own: PortDelays) -> u32
         ensures interval { result ≡ override_interval own.propagation own.override_ms (hellos_of self.now) }
         ensures bound { result ≤ 98302 }

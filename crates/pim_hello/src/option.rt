@@ -1,4 +1,4 @@
-//! The options of a body, and the values of those that are known (RFC 7761, 4.9.2).
+//! The options of a body, and the values of the known ones (RFC 7761, 4.9.2).
 
 ghost use Rattle.std.specs.Prelude.{◌≡◌, ◌==◌, ◌<◌, ◌^◌, true, false, length, not};
 ghost use Rattle.std.specs.Option.{MatchOption, IfSome};
@@ -10,10 +10,10 @@ ghost use Rattle.pim_hello.specs.Options.{is_whole, option_type, option_value, b
 use crate::fault::HelloKind;
 use byteorder::{BigEndian, ByteOrder};
 
-/// How many bytes an option's type and length take, before its value.
+/// The length in bytes of an option's type and length.
 pub(crate) const HEADER_LENGTH: usize = 4;
 
-/// Type 1: how long the sender is to be kept as a neighbour.
+/// Type 1: how long the sender is kept as a neighbour.
 pub(crate) const HOLDTIME: u16 = 1;
 
 /// Type 2: the sender's delays on a LAN.
@@ -22,13 +22,13 @@ pub(crate) const LAN_PRUNE_DELAY: u16 = 2;
 /// Type 19: the priority in the election of a designated router.
 pub(crate) const DR_PRIORITY: u16 = 19;
 
-/// Type 20: the number that changes whenever the sender starts.
+/// Type 20: a number that changes whenever the sender starts.
 pub(crate) const GENERATION_ID: u16 = 20;
 
-/// Type 24: the sender's further addresses.
+/// Type 24: the sender's secondary addresses.
 pub(crate) const ADDRESS_LIST: u16 = 24;
 
-/// An option with what stands behind it.
+/// An option, and the bytes after it.
 #[derive(Clone, Copy)]
 pub(crate) struct FirstOption<'a> {
     pub(crate) type_code: u16,
@@ -62,7 +62,7 @@ pub(crate) fn first_option(bytes: &[u8]) -> Option<FirstOption<'_>>
     })
 }
 
-/// A value of 16 bits.
+/// Reads a value of 16 bits.
 pub(crate) fn read_number16(value: &[u8]) -> Result<u16, HelloKind>
     ensures { Answers (λ n. n) result
         (judged (fault_if (not (length value.now == 2)) OptionLength) (big_number 2 value.now)) }
@@ -73,7 +73,7 @@ pub(crate) fn read_number16(value: &[u8]) -> Result<u16, HelloKind>
     Ok(BigEndian::read_u16(value))
 }
 
-/// A value of 32 bits.
+/// Reads a value of 32 bits.
 pub(crate) fn read_number32(value: &[u8]) -> Result<u32, HelloKind>
     ensures { Answers (λ n. n) result
         (judged (fault_if (not (length value.now == 4)) OptionLength) (big_number 4 value.now)) }

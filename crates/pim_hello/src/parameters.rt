@@ -1,11 +1,11 @@
-//! What a Hello says without its Address List, and what is kept of its sender.
+//! The options of a Hello without its Address List, and what is kept of its sender.
 
 use crate::delay::LanDelay;
 
-/// What a Hello says without its Address List (RFC 7761, 4.9.2): what is kept of a neighbour.
+/// The options of a Hello (RFC 7761, 4.9.2) without its Address List.
 #[derive(Clone, Copy, Debug, PartialEq, Eq)]
 pub struct Parameters {
-    /// How long the sender is to be kept, in seconds (option 1): 0 is a goodbye, 0xffff is for ever.
+    /// How long the sender is kept, in seconds (option 1): 0 is a goodbye, 0xffff is forever.
     pub holdtime: Option<u16>,
     /// The LAN Prune Delay (option 2).
     pub lan: Option<LanDelay>,
@@ -20,6 +20,6 @@ pub struct Parameters {
 pub(crate) struct Kept {
     /// What its last accepted Hello said.
     pub(crate) parameters: Parameters,
-    /// The moment at which its time ends, in milliseconds; none where it never does.
+    /// The moment in milliseconds at which its time ends, or `None` if it never ends.
     pub(crate) end: Option<u64>,
 }

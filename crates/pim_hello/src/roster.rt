@@ -1,4 +1,5 @@
-//! What is kept of each neighbour, with an index of the moments at which their times end.
+//! The neighbours of one port, an ordered index of the moments at which their times end, and the
+//! greatest of their delays. With the index, a moment at which no time ends costs one lookup.
 
 ghost use Rattle.std.specs.Prelude.{◌≡◌, ◌<◌, ◌≤◌, ◌+◌, [], map, length, OnOk, OnErr, IfSome, IsSome, not, false, ◌&&◌};
 ghost use Rattle.std.specs.Prelude.{is_some, true, if◌then◌else◌};
@@ -17,20 +18,21 @@ use std::alloc::{AllocError, Global};
 use std::collections::btree_map::Iter;
 use std::collections::{BTreeMap, BTreeSet};
 
-/// The neighbours of one port by their addresses. Beside them stand the ends of their times in ascending
-/// order, each with its address, and what their delays come to.
+/// What is kept of the neighbours of one port, by their addresses. `ends` has the end of each time
+/// with its address, in ascending order. `told` is what the neighbours' delays come to.
 #[derive(Drop)]
 pub(crate) struct Roster<A: Ord + Copy> {
     neighbours: BTreeMap<A, Kept>,
     ends: BTreeSet<(u64, A)>,
-    /// None where one was removed, told less, or told some after none, since they were last gone through.
+    /// `None` if it isn't known: a neighbour was removed, sent a lesser delay, or sent delays after
+    /// none since the last walk over all.
     told: Option<DelaysTold>,
     ghost indexed: { IndexesEnds A.cmp ends.keys neighbours.entries },
     ghost ascending: { IsOrdered A.cmp neighbours } by { Prim.hlevel props },
     ghost delays: { IfSome told (λ told. ComesTo told (map hello_of_kept (values neighbours))) } by { Prim.hlevel props },
 }
 
-/// Adds an end to the index, where there is one.
+/// Adds an end to the index, if there is one.
 fn add_end<A: Ord + Copy>(
     ends: &mut BTreeSet<(u64, A)>,
     end: Option<u64>,
@@ -46,7 +48,7 @@ fn add_end<A: Ord + Copy>(
     Ok(())
 }
 
-/// Removes an end from the index, where there is one.
+/// Removes an end from the index, if there is one.
 fn remove_end<A: Ord + Copy>(ends: &mut BTreeSet<(u64, A)>, end: Option<u64>, address: A)
     ensures { RemovesEnd A.cmp end address ends.old.keys ends.new.keys }
 {
@@ -67,14 +69,14 @@ impl<A: Ord + Copy> Roster<A> {
         }
     }
 
-    /// How many there are.
+    /// The number of neighbours.
     pub(crate) fn len(&self) -> usize
         ensures { result ≡ length self.now.neighbours.entries }
     {
         self.neighbours.len()
     }
 
-    /// What is kept of each, in address order.
+    /// What is kept of each neighbour, in ascending order of their addresses.
     pub(crate) fn iter(&self) -> Iter<'_, A, Kept>
         ensures { result ≡ self.now.neighbours.entries }
     {
@@ -88,7 +90,8 @@ impl<A: Ord + Copy> Roster<A> {
         self.neighbours.get(&address).copied()
     }
 
-    /// Where the time of this address ends: none where it never does, or nothing is kept of it.
+    /// The moment at which the time of this address ends. `None` if it never ends, or nothing is
+    /// kept of the address.
     fn end_of(&self, address: A) -> Option<u64>
         ensures { result ≡ end_kept (get A.cmp self.now.neighbours address) }
     {
@@ -96,7 +99,7 @@ impl<A: Ord + Copy> Roster<A> {
         kept.end
     }
 
-    /// Keeps this of an address, in the place of what was kept of it.
+    /// Keeps this of an address, in place of what was kept of it. A refusal changes nothing.
     pub(crate) fn insert(&mut self, address: A, kept: Kept) -> Result<(), AllocError>
         ensures kept { OnOk result
             (self.new.neighbours.entries ≡ insert_entry A.cmp self.old.neighbours.entries address kept) }
@@ -109,7 +112,7 @@ impl<A: Ord + Copy> Roster<A> {
         let old_end = self.end_of(address);
         add_end(&mut self.ends, kept.end, address)?;
         let Ok(known) = self.neighbours.insert(address, kept) else {
-            // Only a new address is refused, so its end wasn't there before.
+            // Only a new address is refused, so the index had no end of it.
             remove_end(&mut self.ends, kept.end, address);
             return Err(AllocError);
         };
@@ -133,7 +136,7 @@ impl<A: Ord + Copy> Roster<A> {
         self.told = known_without(self.told, known);
     }
 
-    /// Removes the neighbour whose time ends first, where it has ended by this moment.
+    /// Removes the neighbour whose time ends first, if it has ended by this moment.
     pub(crate) fn remove_ended(&mut self, moment: u64) -> Option<A>
         ensures ended { IfSome result
             (λ address. ended_by moment (end_kept (get A.cmp self.old.neighbours address)) ≡ true) }
@@ -151,7 +154,7 @@ impl<A: Ord + Copy> Roster<A> {
         Some(address)
     }
 
-    /// What their delays come to, told by going through them.
+    /// What the neighbours' delays come to, by a walk over all.
     fn gathered(&self) -> DelaysTold
         ensures { ComesTo result (map hello_of_kept (values self.now.neighbours)) }
     {
@@ -165,7 +168,7 @@ impl<A: Ord + Copy> Roster<A> {
         DelaysTold::ByAll(greatest)
     }
 
-    /// Goes through them where it isn't known what their delays come to.
+    /// Walks over all neighbours if it isn't known what their delays come to.
     pub(crate) fn gather_delays(&mut self)
         ensures unchanged { self.new.neighbours.entries ≡ self.old.neighbours.entries }
         ensures known { IsSome self.new.told }
@@ -175,7 +178,8 @@ impl<A: Ord + Copy> Roster<A> {
         }
     }
 
-    /// The override interval of a port with these delays of its own, in milliseconds (RFC 7761, 4.3.3).
+    /// J/P_Override_Interval(I) of a port with these delays of its own, in milliseconds (RFC 7761,
+    /// 4.3.3).
     pub(crate) fn override_interval(&self, own: PortDelays) -> u32
         ensures interval { result ≡ override_interval own.propagation own.override_ms
             (map hello_of_kept (values self.now.neighbours)) }

@@ -1,4 +1,4 @@
-//! The row of encoded addresses that an Address List holds.
+//! The encoded addresses in the value of an Address List.
 
 ghost use Rattle.std.specs.Prelude.{◌≡◌};
 ghost use Rattle.std.specs.Option.{option_map};
@@ -7,7 +7,7 @@ ghost use Rattle.pim_hello.specs.Row.{first_family, is_row};
 
 use pim_addr::{V4, V6, read_unicast, unicast_length};
 
-/// How many bytes the address at the front takes, or `None` if no whole native address stands there.
+/// The length in bytes of the address at the front, or `None` if no whole native address is there.
 pub(crate) fn native_size(bytes: &[u8]) -> Option<usize>
     ensures { result ≡ option_map unicast_length (first_family bytes.now) }
 {
@@ -20,7 +20,7 @@ pub(crate) fn native_size(bytes: &[u8]) -> Option<usize>
     }
 }
 
-/// Whether the bytes are a row of whole native addresses and nothing else.
+/// Whether the bytes consist of whole native addresses.
 #[tactic(auto, using(crate::proofs::Rows::steps))]
 pub(crate) fn is_row(bytes: &[u8]) -> bool
     ensures { result ≡ is_row bytes.now }

@@ -1,4 +1,7 @@
-//! What the delays come to that the neighbours of a port told (RFC 7761, 4.3.3).
+//! What the LAN Prune Delays of a port's neighbours come to (RFC 7761, 4.3.3). It is kept, so that
+//! most Join/Prune messages need no walk over the neighbours. A Hello of a new neighbour updates
+//! it, and so does one whose delays are absent or no less than the last ones. It is forgotten when
+//! a neighbour is removed, sends a lesser delay, or sends delays after none.
 
 ghost use Rattle.std.specs.Prelude.{◌≡◌, ◌≤◌, [], ◌∷◌, List, None, option_map, IfSome, IsSome};
 ghost use Rattle.std.specs.Prelude.{true, false, nat_le, ◌&&◌};
@@ -12,24 +15,24 @@ use crate::delay::LanDelay;
 use crate::interval::{DEFAULT_OVERRIDE_INTERVAL, PortDelays};
 use crate::parameters::Kept;
 
-/// What the delays come to that the neighbours of a port told in their last Hellos.
+/// What the delays in the last Hellos of a port's neighbours come to.
 #[derive(Clone, Copy)]
 pub(crate) enum DelaysTold {
-    /// One of them told none.
+    /// lan_delay_enabled(I) is false: one of them sent none.
     NotByAll,
-    /// All told theirs, and these are the greatest: 0 where there are no neighbours.
+    /// All sent theirs, and these are the greatest: 0 if there are no neighbours.
     ByAll(PortDelays),
 }
 
 impl DelaysTold {
-    /// Those of no neighbours.
+    /// The delays of no neighbours.
     pub(crate) fn of_none() -> DelaysTold
         ensures { ComesTo result [] }
     {
         DelaysTold::ByAll(PortDelays::zero())
     }
 
-    /// With those of one neighbour more.
+    /// The same with the delays of one more neighbour.
     fn with(self, lan: Option<LanDelay>) -> DelaysTold
         ensures { (hello : Parameters) (hellos : List Parameters) → hello.lan ≡ option_map delays_seen lan →
             ComesTo self hellos → ComesTo result (hello ∷ hellos) }
@@ -45,7 +48,7 @@ impl DelaysTold {
         }
     }
 
-    /// The override interval of a port with these delays of its own, in milliseconds.
+    /// J/P_Override_Interval(I) of a port with these delays of its own, in milliseconds.
     pub(crate) fn interval(self, own: PortDelays) -> u32
         ensures interval { (hellos : List Parameters) → ComesTo self hellos →
             result ≡ override_interval own.propagation own.override_ms hellos }
@@ -58,8 +61,9 @@ impl DelaysTold {
     }
 }
 
-/// Whether a neighbour tells no less now than it told before, so that no greatest delay can be less. To tell none is
-/// no less than any: the default then holds, whatever others tell.
+/// Whether a neighbour's delays are no less than the last ones, so that no greatest delay can be
+/// less. Absent delays count as no less than any: the defaults then hold, whichever delays others
+/// sent.
 fn tells_no_less(now: Option<LanDelay>, before: Option<LanDelay>) -> bool
     ensures none { now ≡ None → result ≡ true }
     ensures first { IfNone before (IsSome now → result ≡ false) }
@@ -75,8 +79,8 @@ fn tells_no_less(now: Option<LanDelay>, before: Option<LanDelay>) -> bool
     now.propagation >= before.propagation && now.override_ms >= before.override_ms
 }
 
-/// What is known once a neighbour, of which this was kept, tells these delays: nothing where they are less, since the
-/// greatest ones may have been its own.
+/// What is known after a neighbour, of which `known` was kept, sends these delays. It is nothing if
+/// they are less, since the greatest delays may have been those of this neighbour.
 pub(crate) fn known_with(
     told: Option<DelaysTold>,
     known: Option<Kept>,
@@ -98,7 +102,7 @@ pub(crate) fn known_with(
     Some(told.with(lan))
 }
 
-/// What is known once a neighbour, of which this was kept, is removed.
+/// What is known after a neighbour, of which `known` was kept, is removed.
 pub(crate) fn known_without(told: Option<DelaysTold>, known: Option<Kept>) -> Option<DelaysTold>
     ensures stays { known ≡ None → result ≡ told }
     ensures known { IfSome result (λ _. (result ≡ told) × (known ≡ None)) }

@@ -1,4 +1,4 @@
-//! The neighbours of a port, one after another.
+//! An iterator over the neighbours of a port.
 
 ghost use Rattle.std.specs.Prelude.{◌≡◌, ℕ, List, map};
 ghost use Rattle.std.specs.Iterator.{YieldsFirstBy, item_count};
@@ -10,19 +10,19 @@ use pim_addr::Family;
 use std::collections::btree_map::Iter;
 use std::marker::Model;
 
-/// A neighbour, as a walk gives it.
+/// A neighbour, as the iterator gives it.
 #[derive(Clone, Copy, Debug, PartialEq, Eq)]
 pub struct KnownNeighbour<A> {
-    /// The address from which its Hellos come.
+    /// The source address of its Hellos.
     pub address: A,
     /// What its last accepted Hello said, without the Address List.
     pub parameters: Parameters,
-    /// The time that is left to it, in milliseconds; none where it never ends. It is 0 where it has ended and the
-    /// neighbour isn't removed yet.
+    /// The time that is left, in milliseconds, or `None` if it never ends. It is 0 if the time has
+    /// ended and the neighbour isn't removed yet.
     pub left: Option<u64>,
 }
 
-/// The neighbour as it stands at this moment.
+/// The neighbour with the time that is left at this moment.
 fn neighbour_at<A>(address: A, kept: Kept, moment: u64) -> KnownNeighbour<A>
     ensures { (bytes_of : A → List ℕ) → neighbour_seen bytes_of result ≡ entry_seen bytes_of moment (address, kept) }
 {
@@ -36,7 +36,8 @@ fn neighbour_at<A>(address: A, kept: Kept, moment: u64) -> KnownNeighbour<A>
     }
 }
 
-/// The neighbours of a port in the order of their addresses. Contracts see those that are left.
+/// The neighbours of a port in ascending order of their addresses. Contracts see those that are
+/// left.
 #[derive(Drop)]
 pub struct KnownNeighbours<'a, F: Family> {
     entries: Iter<'a, F::Addr, Kept>,
@@ -55,7 +56,7 @@ impl<'a, F: Family> Model for KnownNeighbours<'a, F> {
 }
 
 impl<'a, F: Family> KnownNeighbours<'a, F> {
-    /// These neighbours, as they stand at this moment.
+    /// These neighbours, with the times that are left at this moment.
     pub(crate) fn new(entries: Iter<'a, F::Addr, Kept>, moment: u64) -> Self
         ensures { result ≡ map (entry_seen F.bytes_of moment) entries.entry }
     {

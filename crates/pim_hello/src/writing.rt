@@ -1,4 +1,4 @@
-//! Options, written (RFC 7761, 4.9.2). An option that is absent takes no bytes.
+//! Options as they are written (RFC 7761, 4.9.2). An absent option has no bytes.
 
 ghost use Rattle.std.specs.Prelude.{◌≡◌, ℕ, ◌+◌, ◌*◌, ◌<◌, ◌≤◌, ◌^◌, ◌++◌, map, length};
 ghost use Rattle.std.specs.Option.{IfSome, option_map};
@@ -25,7 +25,7 @@ fn put_header(type_code: u16, size: u16, out: &mut [u8])
     BigEndian::write_u16(second, size);
 }
 
-/// How many bytes an option of 16 bits takes.
+/// The length in bytes of an option whose value has 16 bits.
 pub(crate) fn size_number16(number: Option<u16>) -> usize
     ensures size { (type_code : ℕ) → result ≡ length (if_there type_code (option_map (big_bytes 2) number)) }
     ensures small { result ≤ 8 }
@@ -37,7 +37,7 @@ pub(crate) fn size_number16(number: Option<u16>) -> usize
     }
 }
 
-/// Writes an option of 16 bits.
+/// Writes an option whose value has 16 bits.
 pub(crate) fn put_number16(type_code: u16, number: Option<u16>, out: &mut [u8])
     requires { length out.old ≡ length (if_there type_code (option_map (big_bytes 2) number)) }
     ensures spelled { out.new ≡ if_there type_code (option_map (big_bytes 2) number) }
@@ -50,7 +50,7 @@ pub(crate) fn put_number16(type_code: u16, number: Option<u16>, out: &mut [u8])
     }
 }
 
-/// How many bytes an option of 32 bits takes.
+/// The length in bytes of an option whose value has 32 bits.
 pub(crate) fn size_number32(number: Option<u32>) -> usize
     ensures size { (type_code : ℕ) → result ≡ length (if_there type_code (option_map (big_bytes 4) number)) }
     ensures small { result ≤ 8 }
@@ -62,7 +62,7 @@ pub(crate) fn size_number32(number: Option<u32>) -> usize
     }
 }
 
-/// Writes an option of 32 bits.
+/// Writes an option whose value has 32 bits.
 pub(crate) fn put_number32(type_code: u16, number: Option<u32>, out: &mut [u8])
     requires { length out.old ≡ length (if_there type_code (option_map (big_bytes 4) number)) }
     ensures spelled { out.new ≡ if_there type_code (option_map (big_bytes 4) number) }
@@ -75,7 +75,7 @@ pub(crate) fn put_number32(type_code: u16, number: Option<u32>, out: &mut [u8])
     }
 }
 
-/// How many bytes the LAN Prune Delay takes.
+/// The length in bytes of the LAN Prune Delay option.
 pub(crate) fn size_delays(lan: Option<LanDelay>) -> usize
     ensures size { result ≡ length (if_there 2 (option_map delays_spelled (option_map delays_seen lan))) }
     ensures small { result ≤ 8 }
@@ -83,7 +83,7 @@ pub(crate) fn size_delays(lan: Option<LanDelay>) -> usize
     if lan.is_some() { HEADER_LENGTH + 4 } else { 0 }
 }
 
-/// Writes the LAN Prune Delay.
+/// Writes the LAN Prune Delay option.
 pub(crate) fn put_delays(lan: Option<LanDelay>, out: &mut [u8])
     requires { length out.old ≡ length (if_there 2 (option_map delays_spelled (option_map delays_seen lan))) }
     ensures spelled { out.new ≡ if_there 2 (option_map delays_spelled (option_map delays_seen lan)) }
@@ -99,7 +99,7 @@ pub(crate) fn put_delays(lan: Option<LanDelay>, out: &mut [u8])
     }
 }
 
-/// How many bytes the addresses take in their row.
+/// The length in bytes of the encoded addresses.
 fn size_row<F: Family>(addresses: Addresses<'_, F>) -> usize
     ensures size { result ≡ length (row_spelled F.family (addresses_seen F.family addresses.entry)) }
     ensures small { result < 2 ^ 16 }
@@ -107,7 +107,7 @@ fn size_row<F: Family>(addresses: Addresses<'_, F>) -> usize
     addresses.len() * unicast_length::<F>()
 }
 
-/// Writes the addresses, one after the other.
+/// Writes the encoded addresses, one after the other.
 fn put_row<F: Family>(addresses: Addresses<'_, F>, row: &mut [u8])
     requires { length row.old ≡ length (row_spelled F.family (addresses_seen F.family addresses)) }
     ensures { row.new ≡ row_spelled F.family (addresses_seen F.family addresses.entry) }
@@ -122,7 +122,7 @@ fn put_row<F: Family>(addresses: Addresses<'_, F>, row: &mut [u8])
     }
 }
 
-/// Writes these addresses, one after the other.
+/// Writes these addresses, each encoded, one after the other.
 pub(crate) fn put_each<F: Family>(addresses: &[F::Addr], row: &mut [u8])
     requires { length row.old ≡ length addresses.now * unicast_length F.family }
     ensures row { row.new ≡ row_spelled F.family (map F.bytes_of addresses.now) }
@@ -138,7 +138,7 @@ pub(crate) fn put_each<F: Family>(addresses: &[F::Addr], row: &mut [u8])
     }
 }
 
-/// How many bytes the Address List takes. There is none without an address.
+/// The length in bytes of the Address List option, which is absent if there is no address.
 #[tactic(auto, using(crate::proofs::Spelled::nothing_written))]
 pub(crate) fn size_addresses<F: Family>(addresses: Addresses<'_, F>) -> usize
     ensures size { result ≡ length (if_there 24 (row_there F.family (addresses_seen F.family addresses.entry))) }
@@ -150,7 +150,7 @@ pub(crate) fn size_addresses<F: Family>(addresses: Addresses<'_, F>) -> usize
     }
 }
 
-/// Writes the Address List. There is none without an address.
+/// Writes the Address List option, which is absent if there is no address.
 #[tactic(auto, using(crate::proofs::Spelled::nothing_written))]
 pub(crate) fn put_addresses<F: Family>(addresses: Addresses<'_, F>, out: &mut [u8])
     requires { length out.old ≡ length (if_there 24 (row_there F.family (addresses_seen F.family addresses))) }

@@ -1,3 +1,4 @@
+-- The definitions of Join/Prune messages (RFC 7761, 4.9.5) that contracts and laws cite.
 pub mod Message
 pub mod Spelling
 pub mod Parts

@@ -1,4 +1,6 @@
-//! Sources that are looked for among many: the numbers of these are sorted block by block, on the stack.
+//! The search for sources in both lists by sorted blocks of joined numbers. A block has the sources
+//! of (S,G) entries at its front and those of (S,G,rpt) entries at its back. So each block takes
+//! one pass over both lists, whichever types they have.
 
 ghost use Rattle.std.specs.Prelude.{◌≡◌, ℕ, ◌*◌, ◌≤◌, ◌<◌, ◌||◌, true, false};
 ghost use Rattle.std.specs.Prelude.{List, length, take, drop, nat_eq};
@@ -18,11 +20,11 @@ use crate::pairs::{are_missing, holds};
 use crate::sorting::sort_numbers;
 use pim_addr::{Family, numbers_are_in_order, source_length};
 
-/// So many pruned entries are looked for together.
+/// The number of pruned entries that are looked for together.
 pub(crate) const TOGETHER: u16 = 64;
 
-/// Where the numbers of a block end: those of (S,G) entries stand before `front`, those of (S,G,rpt) ones from `back`
-/// on, and what is between is free.
+/// Where the numbers in a block end: those of (S,G) entries are before `front`, those of (S,G,rpt)
+/// entries from `back` on. The places between are free.
 #[derive(Clone, Copy)]
 pub(crate) struct Ends {
     pub front: usize,
@@ -68,7 +70,7 @@ fn is_rpt<F: Family>(entry: Entry<F::Addr>) -> bool
     matches!(entry, Entry::Rpt(_))
 }
 
-/// Whether the number of the entry's source is one of those of its type. Both lists are in order.
+/// Whether the number of the entry's source is among those of its type. Both lists are sorted.
 fn is_listed<F: Family>(sources: &[F::Number], rpts: &[F::Number], entry: Entry<F::Addr>) -> bool
     requires sources { IsSorted F.Number.cmp sources.now }
     requires rpts { IsSorted F.Number.cmp rpts.now }
@@ -81,8 +83,7 @@ fn is_listed<F: Family>(sources: &[F::Number], rpts: &[F::Number], entry: Entry<
     }
 }
 
-/// The place of the first of so many entries whose number is one of those of its type; their number if there is none.
-/// Both lists are in order.
+/// The same as `first_listed`, with one search for each entry.
 fn first_listed_of_few<F: Family>(
     sources: &[F::Number],
     rpts: &[F::Number],
@@ -109,9 +110,10 @@ fn first_listed_of_few<F: Family>(
     count
 }
 
-/// Takes as many entries as the block has room for, and puts the numbers of their sources into it: of (S,G) entries at
-/// its front, of (S,G,rpt) ones at its back. Each number is written at both ends, and then counted at one of them or,
-/// of (*,G), at none, so that a processor has no branch to guess that goes by the type.
+/// Moves entries into the block until it is full or none is left. The numbers of (S,G) entries go
+/// to its front, those of (S,G,rpt) entries to its back. Each number is written at both ends and
+/// then counted at one of them, or for (*,G) at neither. So no branch depends on the type of an
+/// entry.
 pub(crate) fn fill<F: Family>(entries: &mut Entries<'_, F>, block: &mut [F::Number]) -> Ends
     requires { 0 < length block.old }
     ensures order { result.front ≤ result.back }
@@ -138,8 +140,8 @@ pub(crate) fn fill<F: Family>(entries: &mut Entries<'_, F>, block: &mut [F::Numb
     Ends { front, back }
 }
 
-/// Whether it is plain that none of a block's numbers is one of those of its type: they are looked for two at a time.
-/// Both lists are in order.
+/// Whether two-at-a-time searches show that no number of a block is among those of its type. Both
+/// lists are sorted. False decides nothing.
 pub(crate) fn are_numbers_unlisted<F: Family>(
     sources: &[F::Number],
     rpts: &[F::Number],
@@ -161,7 +163,8 @@ pub(crate) fn are_numbers_unlisted<F: Family>(
     sources_are_missing & rpts_are_missing
 }
 
-/// Whether it is plain that none of so many entries is listed. Both lists are in order.
+/// Whether two-at-a-time searches show that none of `count` entries is listed. Both lists are
+/// sorted. False decides nothing.
 fn are_unlisted<F: Family>(
     sources: &[F::Number],
     rpts: &[F::Number],
@@ -182,7 +185,8 @@ fn are_unlisted<F: Family>(
     are_numbers_unlisted::<F>(sources, rpts, ends, block)
 }
 
-/// The same as `first_listed_of_few`, sooner where none is listed.
+/// The same as `first_listed`, for at most as many entries as the block holds. It is faster where
+/// none is listed.
 fn first_listed_together<F: Family>(
     sources: &[F::Number],
     rpts: &[F::Number],
@@ -207,8 +211,9 @@ fn first_listed_together<F: Family>(
     first_listed_of_few::<F>(sources, rpts, count, bytes)
 }
 
-/// The place of the first of so many entries whose number is one of those of its type; their number if there is none.
-/// Both lists are in order.
+/// The index of the first of `count` entries whose number is among those of its type, or `count` if
+/// there is none. Both lists are sorted. Entries are looked for 64 together, and one by one where
+/// that doesn't show that none of them is listed.
 pub(crate) fn first_listed<F: Family>(
     sources: &[F::Number],
     rpts: &[F::Number],
@@ -242,8 +247,8 @@ pub(crate) fn first_listed<F: Family>(
     count
 }
 
-/// The place of the first of so many entries whose source is among the joined ones of its type; their number if there
-/// is none.
+/// The index of the first of `count` pruned entries whose source is joined by an entry of its type,
+/// or `count` if there is none.
 pub(crate) fn first_clash_by_blocks<F: Family>(
     count: u16,
     bytes: &[u8],

@@ -1,4 +1,6 @@
-//! Sources that are in both lists of a set by entries of one type.
+//! The search for sources that are in both lists of a group set by entries of one type. Short lists
+//! are compared pair by pair. Otherwise the shorter list is sorted, since sorting a number costs
+//! more than looking one up.
 
 ghost use Rattle.std.specs.Prelude.{◌≡◌, ◌*◌, ◌≤◌, ◌<◌, true, length};
 ghost use Rattle.std.specs.List.{list_any};
@@ -14,19 +16,20 @@ use crate::swapped::first_clash_by_pruned;
 use pim_addr::{Family, source_length};
 use std::mem::size_of_val;
 
-/// So few joined entries are compared one by one sooner than sorted.
+/// Up to this number of joined entries, comparing pair by pair is faster than sorting.
 const FEW: u16 = 4;
 
-/// With so few pruned entries each joined one is compared with them sooner than they are sorted and it is looked for.
+/// Up to this number of pruned entries, comparing pair by pair is faster than sorting.
 const FEW_PRUNED: u16 = 8;
 
-/// So many of the shorter list fit into the smallest block.
+/// The length of the smallest block. Blocks have three sizes, so that small group sets don't pay
+/// for filling a large block.
 const SOME: u16 = 128;
 
-/// So many fit into the middle one.
+/// The length of the middle block.
 const MORE: u16 = 1024;
 
-/// Whether two entries have the same source, and are both (S,G) or both (S,G,rpt).
+/// Whether two entries have the same source and are both (S,G) or both (S,G,rpt).
 fn same_source<F: Family>(this: Entry<F::Addr>, that: Entry<F::Addr>) -> bool
     ensures { result ≡ same_source (entry_seen F.bytes_of this) (entry_seen F.bytes_of that) }
 {
@@ -36,7 +39,7 @@ fn same_source<F: Family>(this: Entry<F::Addr>, that: Entry<F::Addr>) -> bool
     }
 }
 
-/// Whether the entry's source is among those of the other list that are of its type.
+/// Whether the other list has the entry's source in an entry of the same type.
 fn is_among<F: Family>(entry: Entry<F::Addr>, others: Entries<'_, F>) -> bool
     ensures { result ≡ list_any (same_source (entry_seen F.bytes_of entry)) others.entry }
 {
@@ -48,8 +51,8 @@ fn is_among<F: Family>(entry: Entry<F::Addr>, others: Entries<'_, F>) -> bool
     false
 }
 
-/// The place of the first of so many pruned entries whose source is among the joined ones of its type; their
-/// number if there is none. Each pruned entry is compared with each joined one, so that one of the lists is short.
+/// The same as `first_clash`. It compares each pruned entry with each joined one, so one of the
+/// lists should be short.
 fn first_clash_among_few<F: Family>(count: u16, bytes: &[u8], joined: &Entries<'_, F>) -> u16
     requires { count * source_length F.family ≤ length bytes.now }
     ensures bound { result ≤ count }
@@ -67,9 +70,9 @@ fn first_clash_among_few<F: Family>(count: u16, bytes: &[u8], joined: &Entries<'
     count
 }
 
-/// The same among many: the numbers of the shorter list's sources are sorted in a block on the stack, those of a type
-/// apart from those of the other, and those of the other list are looked for in it. Where there are more than `N`, the
-/// joined ones are sorted, as many at a time, and each pruned one is looked for in each block.
+/// The same as `first_clash`, by way of sorted blocks of `N` numbers on the stack. The shorter list
+/// is sorted if it fits into a block. Otherwise the joined list is sorted block by block, and each
+/// pruned entry is looked for in each block.
 fn first_clash_among_many<F: Family, const N: usize>(
     count: u16,
     bytes: &[u8],
@@ -86,6 +89,7 @@ fn first_clash_among_many<F: Family, const N: usize>(
     }
     let (_, first) = bytes.split_at(4);
     let number = F::number(F::take(first));
+    // Each number has at most 16 bytes. The test shows that a block fits in memory.
     if size_of_val(&number) > 16 {
         return first_clash_among_few::<F>(count, bytes, joined);
     }
@@ -105,8 +109,8 @@ fn first_clash_among_many<F: Family, const N: usize>(
     first_clash_by_blocks::<F>(count, bytes, joined, &mut block, &mut spare, &mut together)
 }
 
-/// The place of the first of so many pruned entries whose source is among the joined ones of its type; their
-/// number if there is none.
+/// The index of the first of `count` pruned entries whose source is joined by an entry of its type,
+/// or `count` if there is none.
 #[cold]
 #[inline(never)]
 pub(crate) fn first_clash<F: Family>(count: u16, bytes: &[u8], joined: &Entries<'_, F>) -> u16

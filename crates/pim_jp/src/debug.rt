@@ -1,4 +1,4 @@
-//! What `{:?}` shows of a view: its numbers and addresses, and not its bytes.
+//! What `{:?}` prints of a view: its numbers and addresses, but not its bytes.
 
 use crate::entries::Entries;
 use crate::sets::{SetView, Sets};

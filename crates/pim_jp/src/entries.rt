@@ -12,7 +12,8 @@ use bitflags::Flags;
 use pim_addr::{Family, SourceAddress, SourceBits, source_length};
 use std::marker::{Model, PhantomData};
 
-/// The entry that a source and its bits name. W without R, which no legal message has, counts as neither.
+/// The entry that a source and its bits name. W without R, which no legal message has, counts as
+/// (S,G).
 fn entry_named<A>(source: SourceAddress<A>) -> Entry<A>
     ensures { (bytes_of : A → List ℕ) → entry_seen bytes_of result ≡ entry_of (source_seen bytes_of source) }
 {
@@ -24,14 +25,14 @@ fn entry_named<A>(source: SourceAddress<A>) -> Entry<A>
     }
 }
 
-/// The entry at the front, whatever else its bytes say.
+/// The entry at the front, without a check of its other bytes.
 pub(crate) fn first_entry<F: Family>(bytes: &[u8]) -> Entry<F::Addr>
     requires { source_length F.family ≤ length bytes.now }
     ensures { entry_seen F.bytes_of result ≡ entry_of (source_value F.family bytes.now) }
 {
     let bits = SourceBits::from_bits_retain(bytes[2]);
     let (_, behind) = bytes.split_at(4);
-    // Its length is one that a compiler knows, so that no test of it is left in loops over entries.
+    // A compiler knows this length, so that loops over entries have no test of it.
     let (address, _) = behind.split_at(F::LEN);
     entry_named(SourceAddress {
         address: F::take(address),
@@ -61,7 +62,7 @@ impl<'a, F: Family> Model for Entries<'a, F> {
 }
 
 impl<'a, F: Family> Entries<'a, F> {
-    /// So many entries, at the front of the bytes.
+    /// The first `count` entries of the bytes.
     pub(crate) fn new(count: u16, bytes: &'a [u8]) -> Self
         requires { count * source_length F.family ≤ length bytes.now }
         ensures { result ≡ entries_of F.family count bytes.now }
@@ -73,7 +74,7 @@ impl<'a, F: Family> Entries<'a, F> {
         }
     }
 
-    /// How many entries are left.
+    /// The number of entries that are left.
     #[tactic(auto, using(crate::proofs::Walks::entries_count))]
     pub fn count_left(&self) -> u16
         ensures { result ≡ length self.now }
@@ -81,7 +82,7 @@ impl<'a, F: Family> Entries<'a, F> {
         self.left
     }
 
-    /// The entries that are left, once more.
+    /// Another iterator over the entries that are left.
     pub(crate) fn again(&self) -> Entries<'a, F>
         ensures { result ≡ self.now }
     {

@@ -1,4 +1,4 @@
-//! Numbers in order, of which those get a mark that are among others too.
+//! Marks on sorted numbers that are also among others.
 
 ghost use Rattle.std.specs.Prelude.{◌≡◌, ℕ, ◌≤◌, ◌<◌, ◌||◌, List, true, nat_eq, get_or, take, length};
 ghost use Rattle.std.specs.List.Sorted.{IsSorted};
@@ -22,7 +22,7 @@ fn is_set(marks: &[bool], place: usize) -> bool
     marks[place]
 }
 
-/// Marks the number where it is one of these, which are in order. No branch goes by a number.
+/// Marks the number if it is in the sorted list. No branch depends on a number.
 fn mark<F: Family>(sorted: &[F::Number], marks: &mut [bool], number: F::Number)
     requires sorted { IsSorted F.Number.cmp sorted.now }
     requires room { length sorted.now ≤ length marks.old }
@@ -41,7 +41,7 @@ fn mark<F: Family>(sorted: &[F::Number], marks: &mut [bool], number: F::Number)
     marks[next] = was | is_there;
 }
 
-/// Marks the number of the entry's source where it is one of those of its type. Both lists are in order.
+/// Marks the number of the entry's source if it is among those of its type. Both lists are sorted.
 fn mark_entry<F: Family>(
     sources: &[F::Number],
     rpts: &[F::Number],
@@ -68,7 +68,7 @@ fn mark_entry<F: Family>(
     }
 }
 
-/// The same for each of the entries.
+/// The same as `mark_entry` for each of the entries.
 pub(crate) fn mark_entries<F: Family>(
     sources: &[F::Number],
     rpts: &[F::Number],
@@ -92,7 +92,7 @@ pub(crate) fn mark_entries<F: Family>(
     }
 }
 
-/// Copies those of the numbers that are marked to the front of others, and answers how many they are.
+/// Copies the marked numbers to the front of `copies`, and returns their count.
 pub(crate) fn copy_marked<F: Family>(
     numbers: &[F::Number],
     marks: &[bool],

@@ -1,5 +1,7 @@
-//! Numbers that are looked for in a list in order, two at a time: the steps of one search wait for one another, and a
-//! processor takes those of the other meanwhile.
+//! The search for numbers in a sorted list, two at a time. Each step of a search waits for the
+//! previous one, and a processor takes a step of the other search meanwhile. A search promises only
+//! that its places are in the list. The numbers at these places show that a number is absent; where
+//! they don't, the caller searches again one by one.
 
 ghost use Rattle.std.specs.Prelude.{◌≡◌, ℕ, ◌+◌, ◌^◌, ◌≤◌, ◌<◌, true, false, length, min, get_or};
 ghost use Rattle.std.specs.List.Sorted.{IsSorted};
@@ -7,11 +9,10 @@ ghost use Rattle.pim_jp.specs.Sources.{is_among};
 
 use pim_addr::{Family, count_below};
 
-/// The levels of a search, each of which halves what is left: as many as a block of 4,096 numbers has.
+/// The levels of a search, each of which halves what is left. A block of 4,096 numbers has as many.
 const LEVELS: u32 = 12;
 
-/// Whether the number is one of these, which are in order. Neither the search nor the test behind it has a branch that
-/// goes by what is found.
+/// Whether the number is in the sorted list. No branch depends on what is found.
 pub(crate) fn holds<F: Family>(sorted: &[F::Number], number: F::Number) -> bool
     requires { IsSorted F.Number.cmp sorted.now }
     ensures { result ≡ is_among F.value_of sorted.now (F.value_of number) }
@@ -24,7 +25,7 @@ pub(crate) fn holds<F: Family>(sorted: &[F::Number], number: F::Number) -> bool
     sorted[next] == number
 }
 
-/// The place so far, or the one so many on as the level says if the number there is less too.
+/// The guess, or the place 2^level after it if the number there is less too.
 #[inline(always)]
 fn next_guess<N: Copy + Ord>(sorted: &[N], guess: usize, level: u32, number: N) -> usize
     requires level { level < 12 }
@@ -35,14 +36,15 @@ fn next_guess<N: Copy + Ord>(sorted: &[N], guess: usize, level: u32, number: N) 
     guess + (usize::from(is_less) << level)
 }
 
-/// Where each of two numbers may stand.
+/// Where each of two numbers may be.
 #[derive(Clone, Copy)]
 struct Guesses {
     one: usize,
     other: usize,
 }
 
-/// The next guesses for two numbers, at one of the levels that a list has; at the levels above, those so far.
+/// The next guesses for two numbers at this level. At levels that the list doesn't have, the same
+/// guesses.
 #[inline(always)]
 fn next_guesses<N: Copy + Ord>(
     sorted: &[N],
@@ -67,9 +69,9 @@ fn next_guesses<N: Copy + Ord>(
     }
 }
 
-/// For each of two numbers the place of the last one of these that is less, or 0, where they are in order and fit into
-/// a block. That it is the right place saves time alone, so no clause says it. No branch goes by a number, for the
-/// reasons that `count_below` has.
+/// For each of two numbers, the last place of a lesser number, or 0, in a sorted list that fits
+/// into a block. No clause says that it is the right place, since a wrong one would cost time
+/// alone. No branch depends on a number, for the reasons given at `count_below`.
 fn guess_both<N: Copy + Ord>(sorted: &[N], one: N, other: N) -> Guesses
     requires { 0 < length sorted.now }
     ensures one { result.one < length sorted.now }
@@ -87,8 +89,7 @@ fn guess_both<N: Copy + Ord>(sorted: &[N], one: N, other: N) -> Guesses
     guesses
 }
 
-/// Whether this place shows that the number isn't one of these, which are in order: it is above what stands there and
-/// below what stands behind.
+/// Whether the numbers at the guess and after it show that the number isn't in the sorted list.
 fn is_between<F: Family>(sorted: &[F::Number], guess: usize, number: F::Number) -> bool
     requires sorted { IsSorted F.Number.cmp sorted.now }
     requires bound { guess < length sorted.now }
@@ -102,7 +103,7 @@ fn is_between<F: Family>(sorted: &[F::Number], guess: usize, number: F::Number) 
     number.cmp(&sorted[next]).is_lt() & (is_above | (guess == 0))
 }
 
-/// Whether it is plain that neither of two numbers is one of these, which are in order. Where it isn't, `holds` knows.
+/// Whether a search shows that neither of two numbers is in the sorted list. False decides nothing.
 fn are_both_missing<F: Family>(sorted: &[F::Number], one: F::Number, other: F::Number) -> bool
     requires { IsSorted F.Number.cmp sorted.now }
     ensures one { result ≡ true → is_among F.value_of sorted.now (F.value_of one) ≡ false }
@@ -115,7 +116,7 @@ fn are_both_missing<F: Family>(sorted: &[F::Number], one: F::Number, other: F::N
     is_between::<F>(sorted, guesses.one, one) && is_between::<F>(sorted, guesses.other, other)
 }
 
-/// Whether it is plain that none of these numbers is one of those, which are in order. Where it isn't, `holds` knows.
+/// Whether searches show that none of `numbers` is in the sorted list. False decides nothing.
 pub(crate) fn are_missing<F: Family>(sorted: &[F::Number], numbers: &[F::Number]) -> bool
     requires { IsSorted F.Number.cmp sorted.now }
     ensures { result ≡ true → (index : ℕ) (other : F.Number) → index < length numbers.now

@@ -1,4 +1,4 @@
-//! The reader of a body: once, forward, to the first fault.
+//! The check of a body: once, forward, up to the first fault.
 
 ghost use Rattle.std.specs.Prelude.{◌≡◌, ℕ, ◌+◌, ◌*◌, ◌≤◌, ◌<◌, ◌^◌, List, [], length, map, drop, IfOk, IfErr, Ok};
 ghost use Rattle.std.specs.List.{list_any};
@@ -36,7 +36,7 @@ impl From<AddrFault> for JpKind {
     }
 }
 
-/// Looks at the upstream neighbour.
+/// Checks the upstream neighbour.
 fn check_upstream<F: Family>(bytes: &[u8]) -> Result<(), JpKind>
     ensures told { Judges result (kinds_at F.family upstream bytes.now) }
     ensures whole { IfOk result (λ _. unicast_length F.family ≤ length bytes.now) }
@@ -45,7 +45,8 @@ fn check_upstream<F: Family>(bytes: &[u8]) -> Result<(), JpKind>
     Ok(())
 }
 
-/// Looks at a part of four bytes whose values are all legal: the head of a message or the counts of a set.
+/// Checks a part of four bytes with no illegal value: the head of a message, or the counts of a
+/// group set.
 fn check_four(bytes: &[u8]) -> Result<(), JpKind>
     ensures told { Judges result (short_kinds 4 bytes.now) }
     ensures whole { IfOk result (λ _. 4 ≤ length bytes.now) }
@@ -56,7 +57,7 @@ fn check_four(bytes: &[u8]) -> Result<(), JpKind>
     Ok(())
 }
 
-/// Looks at the group of a set.
+/// Checks the group of a group set.
 fn check_group<F: Family>(bytes: &[u8]) -> Result<(), JpKind>
     ensures told { Judges result (kinds_at F.family group bytes.now) }
     ensures whole { IfOk result (λ _. group_length F.family ≤ length bytes.now) }
@@ -68,7 +69,7 @@ fn check_group<F: Family>(bytes: &[u8]) -> Result<(), JpKind>
     Ok(())
 }
 
-/// Looks at what is left after the last set.
+/// Checks that no bytes are left after the last group set.
 fn check_rest<F: Family>(bytes: &[u8]) -> Result<(), JpKind>
     ensures { Judges result (kinds_at F.family rest bytes.now) }
 {
@@ -78,7 +79,7 @@ fn check_rest<F: Family>(bytes: &[u8]) -> Result<(), JpKind>
     Ok(())
 }
 
-/// The same answer, with the fault told at this offset.
+/// The same result, with the fault at this offset.
 fn told_at<T>(at: usize, part: Result<T, JpKind>) -> Result<T, JpFault>
     ensures told { (kinds : List JpKind) → Judges part kinds
         → Judges result (map (λ kind. record { at = at; kind = kind }) kinds) }
@@ -90,7 +91,7 @@ fn told_at<T>(at: usize, part: Result<T, JpKind>) -> Result<T, JpFault>
     }
 }
 
-/// Looks at the joined entries of a set, and says of which types they are.
+/// Checks the joined entries of a group set, and returns their types.
 fn check_joined<F: Family>(at: usize, count: u16, bytes: &[u8]) -> Result<EntryTypes, JpFault>
     requires fits { at + length bytes.now < 2 ^ 64 }
     ensures passes { IfOk result (λ _. EntriesPass F.family count [] at bytes.now) }
@@ -107,7 +108,7 @@ fn check_joined<F: Family>(at: usize, count: u16, bytes: &[u8]) -> Result<EntryT
     }
 }
 
-/// The fault of this kind at this place of a list that starts at this offset.
+/// The fault of this kind at the entry with this index, in a list that starts at the offset `at`.
 fn fault_at<F: Family>(at: usize, place: u16, kind: JpKind) -> JpFault
     requires { at + place * source_length F.family < 2 ^ 64 }
     ensures { result ≡ record { at = at + place * source_length F.family; kind = kind } }
@@ -118,7 +119,8 @@ fn fault_at<F: Family>(at: usize, place: u16, kind: JpKind) -> JpFault
     }
 }
 
-/// Looks at so many pruned entries beside the joined ones: the first whose source is in both lists, if there is one.
+/// Looks for the first of `count` pruned entries whose source is joined too, by an entry of its
+/// type.
 fn check_apart<F: Family>(
     at: usize,
     count: u16,
@@ -137,7 +139,9 @@ fn check_apart<F: Family>(
     Ok(())
 }
 
-/// Looks at the pruned entries of a set, behind the joined ones, which are of these types.
+/// Checks the pruned entries of a group set whose joined entries have these types. If no entry has
+/// a fault by itself and the types of the two lists can't meet, it doesn't search for sources in
+/// both lists. The canonical messages of `pim_form` are of that kind.
 fn check_pruned<F: Family>(
     at: usize,
     count: u16,
@@ -167,7 +171,7 @@ fn check_pruned<F: Family>(
     }
 }
 
-/// Looks at the counts and the entries of a set, and answers the bytes after it.
+/// Checks the counts and the entries of a group set, and returns the bytes after it.
 #[tactic(auto, using(crate::proofs::Walks::entries_end))]
 fn check_lists<F: Family>(at: usize, bytes: &[u8]) -> Result<&[u8], JpFault>
     requires fits { at + length bytes.now < 2 ^ 64 }
@@ -191,7 +195,7 @@ fn check_lists<F: Family>(at: usize, bytes: &[u8]) -> Result<&[u8], JpFault>
     Ok(after)
 }
 
-/// Looks at a set, and answers the bytes after it.
+/// Checks a group set, and returns the bytes after it.
 fn check_set<F: Family>(at: usize, bytes: &[u8]) -> Result<&[u8], JpFault>
     requires fits { at + length bytes.now < 2 ^ 64 }
     ensures passes { IfOk result (λ _. Passes F.family (set_then F.family at bytes.now)
@@ -208,7 +212,7 @@ fn check_set<F: Family>(at: usize, bytes: &[u8]) -> Result<&[u8], JpFault>
     Ok(after)
 }
 
-/// Looks at so many sets, and at what is left after them.
+/// Checks `count` group sets and what is left after them.
 fn check_sets<F: Family>(mut at: usize, count: u8, bytes: &[u8]) -> Result<(), JpFault>
     requires fits { at + length bytes.now < 2 ^ 64 }
     ensures told { Judges result (faults_of F.family (set_parts F.family count at bytes.now)) }
@@ -224,7 +228,7 @@ fn check_sets<F: Family>(mut at: usize, count: u8, bytes: &[u8]) -> Result<(), J
     Ok(())
 }
 
-/// Looks at a whole body: the first fault, if there is one.
+/// Checks a whole body. The error is its first fault.
 pub(crate) fn check_body<F: Family>(body: &[u8]) -> Result<(), JpFault>
     ensures told { Judges result (faults F.family body.now) }
     ensures whole { IfOk result (λ _. HoldsMessage F.family body.now) }

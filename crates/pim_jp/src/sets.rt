@@ -11,8 +11,8 @@ use byteorder::{BigEndian, ByteOrder};
 use pim_addr::{Family, group_length, source_length};
 use std::marker::{Model, PhantomData};
 
-/// What stands behind the group of a set: its two lists, each with its count and the bytes from its first
-/// entry on, and the bytes after the set.
+/// What follows the group of a set: both counts, and the bytes from the first entry of each list
+/// and after the set.
 #[derive(Clone, Copy)]
 struct Lists<'a> {
     joined_count: u16,
@@ -22,7 +22,7 @@ struct Lists<'a> {
     after: &'a [u8],
 }
 
-/// The lists of the set at the front.
+/// The lists of the group set at the front.
 fn lists_of<F: Family>(bytes: &[u8]) -> Lists<'_>
     requires { set_length F.family bytes.now ≤ length bytes.now }
     ensures joined_count { result.joined_count ≡ joined_count F.family bytes.now }
@@ -47,7 +47,7 @@ fn lists_of<F: Family>(bytes: &[u8]) -> Lists<'_>
     }
 }
 
-/// One group with its entries. Contracts see the group and both lists.
+/// A group set (RFC 7761, 4.9.5): a group with its entries. Contracts see the group and both lists.
 #[derive(Drop)]
 pub struct SetView<'a, F: Family> {
     bytes: &'a [u8],
@@ -73,7 +73,7 @@ impl<'a, F: Family> Model for SetView<'a, F> {
 }
 
 impl<'a, F: Family> SetView<'a, F> {
-    /// The set at the front of the bytes, with its lists.
+    /// The group set at the front of the bytes, with its lists.
     fn new(bytes: &'a [u8], lists: Lists<'a>) -> Self
         requires long { set_length F.family bytes.now ≤ length bytes.now }
         requires joined_count { lists.joined_count ≡ joined_count F.family bytes.now }
@@ -89,7 +89,7 @@ impl<'a, F: Family> SetView<'a, F> {
         }
     }
 
-    /// The group.
+    /// The multicast group.
     pub fn group(&self) -> F::Addr
         ensures { F.bytes_of result ≡ self.now.group }
     {
@@ -97,7 +97,7 @@ impl<'a, F: Family> SetView<'a, F> {
         F::take(address)
     }
 
-    /// How many entries are joined.
+    /// Number of Joined Sources.
     #[tactic(auto, using(crate::proofs::Walks::entries_count))]
     pub fn joined_count(&self) -> u16
         ensures { result ≡ length self.now.joined }
@@ -105,7 +105,7 @@ impl<'a, F: Family> SetView<'a, F> {
         self.lists.joined_count
     }
 
-    /// How many entries are pruned.
+    /// Number of Pruned Sources.
     #[tactic(auto, using(crate::proofs::Walks::entries_count))]
     pub fn pruned_count(&self) -> u16
         ensures { result ≡ length self.now.pruned }
@@ -128,7 +128,7 @@ impl<'a, F: Family> SetView<'a, F> {
     }
 }
 
-/// The sets of a message, in their order. Contracts see those that are left.
+/// The group sets of a message, in their order. Contracts see those that are left.
 #[derive(Drop)]
 pub struct Sets<'a, F: Family> {
     bytes: &'a [u8],
@@ -149,7 +149,7 @@ impl<'a, F: Family> Model for Sets<'a, F> {
 }
 
 impl<'a, F: Family> Sets<'a, F> {
-    /// So many sets, at the front of the bytes.
+    /// The first `count` group sets of the bytes.
     pub(crate) fn new(count: u8, bytes: &'a [u8]) -> Self
         requires { HoldsSets F.family count bytes.now }
         ensures { result ≡ sets_of F.family count bytes.now }
@@ -161,7 +161,7 @@ impl<'a, F: Family> Sets<'a, F> {
         }
     }
 
-    /// How many sets are left.
+    /// The number of group sets that are left.
     #[tactic(auto, using(crate::proofs::Walks::sets_count))]
     pub fn count_left(&self) -> u8
         ensures { result ≡ length self.now }

@@ -1,5 +1,8 @@
-//! Sources that are in both lists, where the pruned ones are fewer: their numbers are sorted, and those of the joined
-//! ones are looked for among them.
+//! The search for sources in both lists where the pruned list is the shorter one. Its numbers are
+//! sorted, and each joined number is looked for among them and marks the one that it finds. The
+//! fault is at the first pruned entry, so the pruned entries are then looked for, in their order,
+//! among the marked numbers. Marks need no sorting; the index of each pruned entry would have to be
+//! sorted along.
 
 ghost use Rattle.std.specs.Prelude.{◌≡◌, ℕ, ◌+◌, ◌*◌, ◌≤◌, ◌<◌, true, false, List, length};
 ghost use Rattle.std.specs.List.Sorted.{IsSorted};
@@ -15,7 +18,8 @@ use crate::marked::{copy_marked, mark_entries};
 use crate::sorting::sort_numbers;
 use pim_addr::Family;
 
-/// The entries from where one may be listed; where none is, none are left. Both lists are in order.
+/// The entries from some place on, with all that are listed, or none if no entry is listed. Both
+/// lists are sorted.
 fn from_listed<'a, F: Family>(
     sources: &[F::Number],
     rpts: &[F::Number],
@@ -39,9 +43,8 @@ fn from_listed<'a, F: Family>(
     left
 }
 
-/// The place of the first of so many listed entries whose source is among the joined ones of its type; their number if
-/// there is none. Each listed number gets a mark where it is joined; those with marks are what the entries are then looked
-/// for in. Both lists are in order, and have at most `N` numbers together.
+/// The same as `first_clash_of_sorted`. A listed number that is joined gets a mark, and the pruned
+/// entries are then looked for among the marked numbers.
 fn first_marked<F: Family, const N: usize>(
     sources: &[F::Number],
     rpts: &[F::Number],
@@ -77,8 +80,8 @@ fn first_marked<F: Family, const N: usize>(
     first_listed::<F>(marked_sources, marked_rpts, count, bytes, together)
 }
 
-/// The place of the first of so many listed entries whose source is among the joined ones of its type; their number if
-/// there is none. Both lists are in order, and have at most `N` numbers together.
+/// The index of the first of `count` listed pruned entries whose source is joined by an entry of
+/// its type; `count` if there is none. Both lists are sorted and have at most `N` numbers together.
 fn first_clash_of_sorted<F: Family, const N: usize>(
     sources: &[F::Number],
     rpts: &[F::Number],
@@ -108,8 +111,8 @@ fn first_clash_of_sorted<F: Family, const N: usize>(
     first_marked::<F, N>(sources, rpts, count, bytes, left, copies, together)
 }
 
-/// The place of the first of so many entries whose source is among the joined ones of its type; their number if there
-/// is none. The block has room for all their numbers. Each joined number is looked for once, whether one is found or not.
+/// The index of the first of `count` pruned entries whose source is joined by an entry of its type,
+/// or `count` if there is none. The block has room for the numbers of all pruned entries.
 pub(crate) fn first_clash_by_pruned<F: Family, const N: usize>(
     count: u16,
     bytes: &[u8],

@@ -14,7 +14,7 @@ use byteorder::{BigEndian, ByteOrder};
 use pim_addr::{Family, unicast_length};
 use std::marker::{Model, PhantomData};
 
-/// A legal Join/Prune message (RFC 7761, 4.9.5). It stands on the body that was read, and takes no memory.
+/// A legal Join/Prune message (RFC 7761, 4.9.5). It borrows the body that was read.
 #[derive(Drop)]
 pub struct JpView<'a, F: Family> {
     body: &'a [u8],
@@ -35,21 +35,24 @@ impl<'a, F: Family> Model for JpView<'a, F> {
 }
 
 impl<'a, F: Family> JpView<'a, F> {
-    /// Reads a body: the bytes of a Join/Prune message behind the PIM header. The fault is that of least
-    /// offset, and of several at one part the first in the order of `JpKind`.
+    /// Reads a body: the bytes of a Join/Prune message after the PIM header. It reads once,
+    /// forward.
     ///
-    /// It reads once, forward, and takes no memory; its cost grows with the length of the body. Where both lists of a
-    /// set have entries (S,G), or both have (S,G,rpt), which no message needs, the sources are looked for too: with 8
-    /// pruned entries or fewer, or 4 joined ones or fewer, one by one, else by their numbers. Those of the shorter list
-    /// are sorted on the stack, by way of as many spare ones (40 KiB for IPv4, 136 KiB for IPv6, with marks; sorting
-    /// calls itself at most 8 deep, and costs about the same in whatever order they come), and those of the other list
-    /// are looked for among them. So at worst it costs, for n entries, n log n steps, as long as one list of each set
-    /// has at most 4,096 entries, and else one search of each pruned entry for each 4,096 joined ones.
+    /// If both lists of a group set have (S,G) entries, or both have (S,G,rpt) entries, it also
+    /// looks for sources in both lists. With at most 8 pruned or at most 4 joined entries it
+    /// compares them pair by pair. Otherwise it sorts the sources of the shorter list on the stack
+    /// and looks for the others among them. This takes about 40 KiB for IPv4 and 136 KiB for IPv6
+    /// at most, and the sort calls itself at most 8 deep. In all, n entries take about n log n
+    /// steps at most if one list of each set has at most 4,096 entries. Beyond that, each pruned
+    /// entry is looked for once for every 4,096 joined ones.
+    ///
+    /// # Errors
+    /// The fault of least offset; of several kinds at one part, the first in the order of `JpKind`.
     pub fn read(body: &'a [u8]) -> Result<JpView<'a, F>, JpFault>
         ensures answer { Answers (λ message. message) result
             (judged (faults F.family body.now) (message_of F.family body.now)) }
 
-        // The same, apart from the order in which a reader goes over the bytes.
+        // The same by the grammar, which knows no order of reading.
         ensures spelled { IfOk result (λ message. Spells F.family message body.now) }
     {
         check_body::<F>(body)?;
@@ -59,15 +62,16 @@ impl<'a, F: Family> JpView<'a, F> {
         })
     }
 
-    /// A law: the message can be spelled. Its groups are groups, its sources and RPs valid sources, each address has
-    /// the bytes of its family, and each list and number is in range. It does nothing.
+    /// A law: the message can be spelled. Its groups are multicast groups, and its sources and RPs
+    /// valid sources. Each address has the bytes of its family, and each list and number is in
+    /// range. It does nothing.
     pub fn is_legal(&self)
         ensures { IsMessage F.family self.now }
     {
         let _ = &self.body;
     }
 
-    /// The upstream neighbour to whom the message is addressed.
+    /// The upstream neighbour to which the message is addressed.
     pub fn upstream(&self) -> F::Addr
         ensures { F.bytes_of result ≡ self.now.upstream }
     {
@@ -75,7 +79,8 @@ impl<'a, F: Family> JpView<'a, F> {
         F::take(address)
     }
 
-    /// How long to keep what is joined or pruned, in seconds; 0xffff means until it is cancelled.
+    /// The holdtime in seconds (J/P_HoldTime). 0xffff means until the state is canceled (RFC 7761,
+    /// 4.9.5).
     pub fn holdtime(&self) -> u16
         ensures { result ≡ self.now.holdtime }
     {
@@ -84,7 +89,7 @@ impl<'a, F: Family> JpView<'a, F> {
         BigEndian::read_u16(holdtime)
     }
 
-    /// How many sets the message has.
+    /// The number of group sets.
     #[tactic(auto, using(crate::proofs::Walks::sets_count))]
     pub fn set_count(&self) -> u8
         ensures { result ≡ length self.now.sets }

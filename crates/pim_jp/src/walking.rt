@@ -1,4 +1,4 @@
-//! The entries of one list, looked at one by one, to the first fault.
+//! The check of the entries of one list, one by one, up to the first fault.
 
 ghost use Rattle.std.specs.Prelude.{◌≡◌, ◌*◌, ◌≤◌, ◌&&◌, ◌||◌, true, [], length, map, IfOk, IfErr};
 ghost use Rattle.std.specs.List.{list_any};
@@ -13,7 +13,7 @@ use crate::fault::JpKind;
 use bitflags::Flags;
 use pim_addr::{Family, SourceBits, source_length};
 
-/// Which types of entries are among some.
+/// Which types of entries some list has.
 #[derive(Clone, Copy)]
 pub(crate) struct EntryTypes {
     /// (*,G).
@@ -25,7 +25,7 @@ pub(crate) struct EntryTypes {
 }
 
 impl EntryTypes {
-    /// Whether a source may be among these and among the others by entries of one type.
+    /// Whether a source may be in both of two lists by entries of one type.
     pub fn may_clash(self, others: EntryTypes) -> bool
         ensures { result ≡ ((self.source && others.source) || (self.rpt && others.rpt)) }
     {
@@ -33,21 +33,21 @@ impl EntryTypes {
     }
 }
 
-/// Where a list has its first fault: at which of its entries, and what is wrong with it.
+/// The index of the first entry with a fault other than BothLists, and the kind of that fault.
 #[derive(Clone, Copy)]
 pub(crate) struct Stop {
     pub place: u16,
     pub kind: JpKind,
 }
 
-/// How many bytes so many entries have.
+/// The length in bytes of `count` entries.
 pub(crate) fn entries_size<F: Family>(count: u16) -> usize
     ensures { result ≡ count * source_length F.family }
 {
     usize::from(count) * source_length::<F>()
 }
 
-/// Looks at the front of an entry, up to its address, but for its flags.
+/// Checks the front of an entry, up to its address, except its flags.
 fn check_front<F: Family>(bytes: &[u8]) -> Result<(), JpKind>
     ensures told { Judges result (map address_kind (source_faults F.family bytes.now)) }
     ensures whole { IfOk result (λ _. source_length F.family ≤ length bytes.now) }
@@ -76,7 +76,8 @@ fn has_source<F: Family>(bytes: &[u8]) -> bool
     F::is_source(F::take(address))
 }
 
-/// Looks at an entry whose front is as it must be and whose W bit is set: (*,G), or none where the R bit isn't set.
+/// Checks the rest of an entry whose W bit is set: it is (*,G), or has no type if the R bit isn't
+/// set. Other entries therefore need no test on (*,G).
 fn check_star<F: Family>(bytes: &[u8], has_star: bool) -> Result<EntryTypes, JpKind>
     requires front { source_faults F.family bytes.now ≡ [] }
     requires whole { source_length F.family ≤ length bytes.now }
@@ -104,8 +105,8 @@ fn check_star<F: Family>(bytes: &[u8], has_star: bool) -> Result<EntryTypes, JpK
     })
 }
 
-/// Looks at an entry beside those before it in its set, but for the other list, and says of which type it is.
-/// `has_star` says whether a (*,G) entry is before it.
+/// Checks an entry, except for a source in the other list, and returns its type. `has_star` says
+/// whether a (*,G) entry precedes it in its group set.
 fn check_entry<F: Family>(bytes: &[u8], has_star: bool) -> Result<EntryTypes, JpKind>
     ensures told { Judges result (lone_kinds F.family has_star bytes.now) }
     ensures star { IfOk result (λ types. types.star ≡ is_star (entry_of (source_value F.family bytes.now))) }
@@ -129,8 +130,9 @@ fn check_entry<F: Family>(bytes: &[u8], has_star: bool) -> Result<EntryTypes, Jp
     })
 }
 
-/// Looks at so many entries of one list, but for the other list, and says which types are among them. `has_star` says
-/// whether a (*,G) entry is in their set before them, and the answer counts it.
+/// Checks `count` entries of one list, except for sources in the other list, and returns their
+/// types. `has_star` says whether a (*,G) entry precedes the list in its group set, and the result
+/// includes that entry.
 #[inline(never)]
 pub(crate) fn check_entries<F: Family>(
     count: u16,

@@ -1,4 +1,6 @@
-//! The canonical spelling of a message, written part by part (RFC 7761, 4.9.5): its head, then set after set.
+//! The canonical spelling of a message (RFC 7761, 4.9.5), written part by part: its head, then each
+//! group set. The functions write what they are given, also an address or a list that no legal
+//! message has. Refusing is for the reader.
 
 ghost use Rattle.std.specs.Prelude.{◌≡◌, ℕ, ◌+◌, ◌*◌, ◌<◌, ◌≤◌, ◌^◌, List, ◌++◌, length, map, take, drop};
 ghost use Rattle.std.specs.List.{flat_map};
@@ -19,15 +21,16 @@ use pim_addr::{
     source_length, unicast_length,
 };
 
-/// How many bytes the head of a message has: the upstream neighbour, a reserved byte, the number of sets and the
-/// holdtime.
+/// The length in bytes of the head of a message: the upstream neighbour, a reserved byte, Num
+/// groups and the holdtime.
 pub fn head_length<F: Family>() -> usize
     ensures { result ≡ canonical_head_length F.family }
 {
     unicast_length::<F>() + 4
 }
 
-/// How many bytes a set has that joins so many entries and prunes so many.
+/// The length in bytes of a group set with these numbers of joined and pruned entries. It takes the
+/// counts alone, since a caller may not have the entries yet.
 pub fn set_length<F: Family>(joined: u16, pruned: u16) -> usize
     ensures { result ≡ canonical_set_length F.family joined pruned }
 {
@@ -35,8 +38,7 @@ pub fn set_length<F: Family>(joined: u16, pruned: u16) -> usize
     group_length::<F>() + 4 + usize::from(joined) * entry + usize::from(pruned) * entry
 }
 
-/// Writes the head of a message, into a slice of its length: the upstream neighbour, how many sets follow, and the
-/// holdtime in seconds.
+/// Writes the head of a message, with the holdtime in seconds, into a slice of `head_length` bytes.
 pub fn put_head<F: Family>(upstream: F::Addr, sets: u8, holdtime: u16, bytes: &mut [u8])
     requires { length bytes.old ≡ canonical_head_length F.family }
     ensures { bytes.new ≡ canonical_head F.family (F.bytes_of upstream) sets holdtime }
@@ -48,7 +50,7 @@ pub fn put_head<F: Family>(upstream: F::Addr, sets: u8, holdtime: u16, bytes: &m
     BigEndian::write_u16(time, holdtime);
 }
 
-/// The encoded source of an entry, whose bits name its type.
+/// The encoded source of an entry, whose W and R bits name its type.
 fn source_of<A>(entry: Entry<A>) -> SourceAddress<A>
     ensures { (bytes_of : A → List ℕ) → source_seen bytes_of result ≡ source_of (entry_seen bytes_of entry) }
 {
@@ -70,7 +72,7 @@ fn source_of<A>(entry: Entry<A>) -> SourceAddress<A>
     }
 }
 
-/// Writes an entry, into a slice of its length.
+/// Writes an entry into a slice of the length of an encoded source.
 pub fn put_entry<F: Family>(entry: Entry<F::Addr>, bytes: &mut [u8])
     requires { length bytes.old ≡ source_length F.family }
     ensures { bytes.new ≡ canonical_entry F.family (entry_seen F.bytes_of entry) }
@@ -78,7 +80,7 @@ pub fn put_entry<F: Family>(entry: Entry<F::Addr>, bytes: &mut [u8])
     put_source::<F>(source_of(entry), bytes);
 }
 
-/// Writes an entry at this place.
+/// Writes an entry at the offset `at`.
 fn put_entry_at<F: Family>(entry: Entry<F::Addr>, at: usize, bytes: &mut [u8])
     requires { at + source_length F.family ≤ length bytes.old }
     ensures written { bytes.new ≡ take at bytes.old ++ canonical_entry F.family (entry_seen F.bytes_of entry)
@@ -100,8 +102,8 @@ fn put_entries<F: Family>(entries: &[Entry<F::Addr>], bytes: &mut [u8])
     }
 }
 
-/// Writes what stands before the entries of a set, into a slice of its length, 4 bytes more than an encoded group has:
-/// the group, how many entries are joined, and how many pruned.
+/// Writes the front of a group set: the group, and the numbers of joined and pruned entries. The
+/// slice is 4 bytes longer than an encoded group.
 pub fn put_group_and_counts<F: Family>(group: F::Addr, joined: u16, pruned: u16, bytes: &mut [u8])
     requires { length bytes.old ≡ group_length F.family + 4 }
     ensures { bytes.new ≡ canonical_group F.family (F.bytes_of group) ++ big_bytes 2 joined ++ big_bytes 2 pruned }
@@ -113,7 +115,8 @@ pub fn put_group_and_counts<F: Family>(group: F::Addr, joined: u16, pruned: u16,
     BigEndian::write_u16(pruned_place, pruned);
 }
 
-/// Writes a set, into a slice of its length: its group, the entries that it joins and those that it prunes.
+/// Writes a group set into a slice of `set_length` bytes: its group, its joined entries and its
+/// pruned entries.
 pub fn put_set<F: Family>(
     group: F::Addr,
     joined: &[Entry<F::Addr>],

@@ -1,4 +1,4 @@
--- What a contract sees of captures that are being merged.
+-- What contracts see of the captures of a merge.
 use Rattle.std.specs.Prelude.{◌≡◌, ℕ, ◌+◌, List, [], ◌∷◌, map, Option, None, Some, Ok, IsSome, slice_index_or}
 use Rattle.std.specs.Option.{option_map}
 use Rattle.pim_capture.specs.declared.event.Event.{Event}
@@ -7,15 +7,20 @@ use Rattle.pim_capture.specs.Capture.{Told, packet, skipped, ended, Answer}
 use Rattle.pim_capture.specs.Next.{event_seen, coming, reader_of, state_of, in_front, records_left}
 use Rattle.pim_merge.specs.Merge.{time_told}
 
--- A capture: its head, where that was read already; what it still answers behind that, where its reader tells its
--- bytes; how often its reader has failed; how many records more may be read; and the bytes of the record read last.
+-- A capture of a merge.
 pub record LaneState : Type 0 where
+  -- what its next record holds, or that it is at its end, if that was read
   pub head : Option Told
+  -- the results that it has to return after the head, if the bytes of its reader are known
   pub behind : Option (List Answer)
+  -- the reader's count of failures
   pub failures : ℕ
+  -- the number of records that may still be read
   pub left : ℕ
+  -- the bytes of the record that was read last
   pub bytes : List ℕ
 
+-- What contracts see of a capture, its head and the bytes in its buffer.
 abbrev pub lane_seen : {R : Type 0} → (R → Option (List ℕ)) → (R → ℕ) → Capture R → Option Event → List ℕ → LaneState
 lane_seen remaining failures capture head bytes = record {
   head = option_map (event_seen bytes) head;
@@ -25,20 +30,24 @@ lane_seen remaining failures capture head bytes = record {
   bytes = bytes;
 }
 
--- ---- what a capture still answers, its head first
+-- ---- the results to come, the head first
 
+-- The results that a capture has still to return, with its head in front if it was read.
 abbrev pub with_head : Option Told → Option (List Answer) → Option (List Answer)
 with_head None behind = behind
 with_head (Some told) behind = option_map (in_front (Ok told)) behind
 
+-- The results that a capture has still to return, whether its head was read or not. `None` if the
+-- bytes of its reader aren't known.
 abbrev pub coming_on : LaneState → Option (List Answer)
 coming_on lane = with_head lane.head lane.behind
 
--- These are the lists of what the captures still answer.
+-- These are the lists of results that the captures have still to return. The bytes of all their
+-- readers are known.
 abbrev pub IsComing : List LaneState → List (List Answer) → Type 0
 IsComing lanes captures = map coming_on lanes ≡ map Some captures
 
--- its head was taken
+-- The capture after its head was taken.
 abbrev pub without_head : LaneState → LaneState
 without_head lane = record {
   head = None;
@@ -48,39 +57,47 @@ without_head lane = record {
   bytes = lane.bytes;
 }
 
+-- The head of the capture was read.
 abbrev pub IsLooked : LaneState → Type 0
 IsLooked lane = IsSome lane.head
 
--- the time of the head, where it was read and is a record
+-- The time of a head, if it was read and is a record.
 abbrev pub time_at : Option Told → Option ℕ
 time_at None = None
 time_at (Some told) = time_told told
 
+-- The time of the head of a capture, if it was read and is a record.
 abbrev pub head_time : LaneState → Option ℕ
 head_time lane = time_at lane.head
 
--- ---- how many records may still be taken
+-- ---- the number of records that may still be taken
 
+-- 1 for a head that is a record, else 0.
 abbrev pub counted : Option Told → ℕ
 counted None = 0
 counted (Some (packet millis frame datagram)) = 1
 counted (Some (skipped millis why)) = 1
 counted (Some ended) = 0
 
+-- The number of records that may still be taken of a capture.
 abbrev pub lane_left : LaneState → ℕ
 lane_left lane = lane.left + counted lane.head
 
+-- The number of records that may still be taken of all captures.
 unfoldable pub records_to_come : List LaneState → ℕ
 records_to_come [] = 0
 records_to_come (lane ∷ lanes) = lane_left lane + records_to_come lanes
 
--- ---- the capture of this number
+-- ---- a capture by its number
 
+-- The state that `lane_at` gives for a number without a capture.
 abbrev pub no_lane : LaneState
 no_lane = record { head = None; behind = None; failures = 0; left = 0; bytes = [] }
 
+-- The capture with this number.
 abbrev pub lane_at : ℕ → List LaneState → LaneState
 lane_at number lanes = slice_index_or lanes number no_lane
 
+-- The count of failures of each capture's reader.
 abbrev pub failures_of : List LaneState → List ℕ
 failures_of lanes = map (λ (lane : LaneState). lane.failures) lanes

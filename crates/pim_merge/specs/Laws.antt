@@ -1,11 +1,12 @@
--- What the definitions mean together.
+-- The law of the definitions of a merge.
 use Rattle.std.specs.Prelude.{◌≡◌, ℕ, List, Option}
 use Rattle.pim_capture.specs.declared.fault.CaptureFault.{CaptureFault}
 use Rattle.pim_capture.specs.Capture.{Answer}
 use Rattle.pim_merge.specs.declared.clock.Clock.{Clock}
 use Rattle.pim_merge.specs.Merge.{Taken, IsMerge}
 
--- The merge of captures is a function of what they answer.
+-- The clock and the results of the captures determine the records that a merge takes, their moments
+-- and how it ends.
 abbrev pub MergeHasOneEnd : Type 0
 MergeHasOneEnd = (clock : Option Clock) (captures : List (List Answer)) (taken other : List Taken)
     (fault told : Option (ℕ × CaptureFault)) → IsMerge clock captures taken fault → IsMerge clock captures other told →

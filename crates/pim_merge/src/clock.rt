@@ -6,15 +6,15 @@ ghost use Rattle.pim_merge.specs.Merge.{clock_by};
 /// The clock of a merge, which begins with the first record that is taken.
 #[derive(Clone, Copy, Debug, PartialEq, Eq)]
 pub struct Clock {
-    /// When that record was captured, in milliseconds since 1970.
+    /// The time of that record, in milliseconds since 1970.
     pub begin: u64,
-    /// The moment now, in milliseconds since then.
+    /// The moment of the merge, in milliseconds since `begin`.
     pub moment: u64,
 }
 
 impl Clock {
-    /// The clock behind a record that was captured at this time, in milliseconds since 1970. A time that runs back
-    /// counts as now.
+    /// The clock after a record of this time, in milliseconds since 1970. A time that runs back
+    /// leaves the moment.
     pub(crate) fn by(clock: Option<Clock>, time: u64) -> Clock
         ensures { result ≡ clock_by clock time }
     {

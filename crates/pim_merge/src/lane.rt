@@ -1,4 +1,4 @@
-//! A capture that is being merged, with its head.
+//! A capture of a merge, with its head.
 
 ghost use Rattle.std.specs.Prelude.{◌≡◌, ◌≤◌, ◌⊎◌, ℕ, List, length, None, Some, Err, IfOk, IfErr, IsSome};
 ghost use Rattle.std.specs.Option.{option_map, IfSome};
@@ -12,11 +12,12 @@ use pim_capture::{Capture, CaptureFault, Event};
 use std::alloc::Global;
 use std::marker::Model;
 
-/// A capture with its head, the record that is taken next. Contracts see what it still answers.
+/// A capture with its head, the record that is taken next. Contracts see what it has still to
+/// return.
 #[derive(Drop)]
 pub(crate) struct Lane<R: Feed + Drop> {
     capture: Capture<R>,
-    /// The head, where it was read already.
+    /// The head, if it was read.
     head: Option<Event>,
     /// The bytes of the record that was read last.
     buffer: Vec<u8>,
@@ -39,7 +40,7 @@ impl<R: Feed + Drop> Model for Lane<R> {
 }
 
 impl<R: Feed + Drop> Lane<R> {
-    /// The capture that a reader gives, of which nothing was read yet.
+    /// The capture of a reader, of which nothing was read.
     pub(crate) fn new(alloc: Global, reader: R) -> Self
         ensures head { result.head ≡ None }
         ensures coming { result.behind ≡ option_map answers (R.remaining reader) }
@@ -53,10 +54,10 @@ impl<R: Feed + Drop> Lane<R> {
         }
     }
 
-    /// Reads the head, unless it was read already.
+    /// Reads the head, if it wasn't read.
     ///
     /// # Errors
-    /// The fault that the capture answers in its place. Then there is no head.
+    /// The fault that the capture returns in its place. Then there is no head.
     pub(crate) fn look(&mut self) -> Result<(), CaptureFault>
         ensures coming { IfOk result (λ _. StillComes self.old self.new) }
         ensures looked { IfOk result (λ _. IsLooked self.new) }
@@ -72,7 +73,8 @@ impl<R: Feed + Drop> Lane<R> {
         Ok(())
     }
 
-    /// When the head was captured, in milliseconds since 1970; `None` at the end, and where no head was read.
+    /// The time of the head, in milliseconds since 1970; `None` at the end, and if no head was
+    /// read.
     pub(crate) fn time(&self) -> Option<u64>
         ensures { result ≡ head_time self.now }
     {

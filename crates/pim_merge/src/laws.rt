@@ -1,8 +1,8 @@
-//! Laws of the definitions. Nothing here is to be called.
+//! Laws of the definitions. Nothing in this module is to be called.
 
 ghost use Rattle.pim_merge.specs.Laws.{MergeHasOneEnd};
 
-/// The turns of a merge, and how it ends, are a function of what its captures answer.
+/// The turns of a merge and its end are a function of the results of its captures.
 pub fn merge_has_one_end()
     ensures { MergeHasOneEnd }
 {}

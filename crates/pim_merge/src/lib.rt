@@ -1,8 +1,20 @@
-//! Captures of several ports, merged by time into one list of turns.
+//! Merges the captures of several ports by time into one list of turns.
 //!
-//! What a merge gives is a function of what its captures answer, `IsMerge` in `specs/Merge.antt`: each turn takes the
-//! first of the heads of least time, and a head that is a fault ends the merge before any record. `Merge::next` gives
-//! these turns one after the other, each with its moment.
+//! `Merge::next` returns the next turn: the first record of least time among the heads of the
+//! captures, with the number of its capture and its moment, in milliseconds since the first record.
+//! `None` means that all captures are at their ends. A fault at the head of a capture comes before
+//! all records. Where the bytes of the readers are known, the turns are a function of them
+//! (`IsMerge` in `specs/Merge.antt`, the law `merge_has_one_end`). A failed read and refused memory
+//! are turns too: they count as a fault in the place of what their capture had still to return.
+//! `Merge::add` appends a capture, or leaves the merge unchanged where memory is refused.
+//!
+//! A head is read when the next turn is asked for, not when the one before is taken. So the bytes
+//! of a turn stay until the next call, and a fault comes after all turns before it. A time that
+//! runs back counts as the moment of the last record, so that the merge needs no clock of its
+//! caller.
+//!
+//! A merge keeps one record of each capture. It sets no limit on the number of captures; a router
+//! limits its ports itself.
 #![tactic(auto)]
 
 mod clock;

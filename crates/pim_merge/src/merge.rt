@@ -25,28 +25,29 @@ use thiserror::Error;
 #[derive(Clone, Copy, Debug, PartialEq, Eq, Error)]
 #[error("{fault} in capture {capture}")]
 pub struct MergeFault {
-    /// The number of the capture, from 0.
+    /// The number of the capture, counted from 0.
     pub capture: usize,
-    /// What it answers in place of its head.
+    /// The fault that the capture has in place of its head.
     pub fault: CaptureFault,
 }
 
 /// A record that is taken.
 #[derive(Clone, Debug, PartialEq, Eq, Drop)]
 pub struct Turn {
-    /// The number of its capture, from 0.
+    /// The number of its capture, counted from 0.
     pub capture: usize,
     /// Its moment, in milliseconds since the first record that was taken.
     pub moment: u64,
-    /// What it holds; never `End`. Its bytes are those of its capture, until the next turn.
+    /// What it holds; never `End`. `Merge::bytes` returns its bytes until the next turn.
     pub event: Event,
 }
 
-/// Captures that are merged by the times of their records. Contracts see what each still answers, and the clock.
+/// Captures that are merged by the times of their records. Contracts see what each has still to
+/// return, and the clock.
 #[derive(Drop)]
 pub struct Merge<R: Feed + Drop> {
     lanes: Vec<Lane<R>>,
-    /// That of the records that were taken; `None` before the first.
+    /// The clock of the records that were taken; `None` before the first.
     clock: Option<Clock>,
 }
 
@@ -76,10 +77,10 @@ impl<R: Feed + Drop> Merge<R> {
         }
     }
 
-    /// Adds the capture that a reader gives behind the others. Nothing of it is read yet.
+    /// Appends the capture of a reader. Nothing of it is read.
     ///
     /// # Errors
-    /// Where memory is refused. Then nothing has changed.
+    /// If memory is refused. Then nothing changes.
     pub fn add(&mut self, alloc: Global, reader: R) -> Result<(), AllocError>
         ensures coming { IfOk result (λ _. map coming_on self.new.lanes ≡
             map coming_on self.old.lanes ++ option_map answers (R.remaining reader) ∷ []) }
@@ -92,14 +93,14 @@ impl<R: Feed + Drop> Merge<R> {
         Ok(())
     }
 
-    /// How many captures there are.
+    /// The number of captures.
     pub fn count(&self) -> usize
         ensures { result ≡ length self.now.lanes }
     {
         self.lanes.len()
     }
 
-    /// Reads the heads that weren't read yet, in the order of the captures, up to the first fault.
+    /// Reads the heads that weren't read, in the order of the captures, up to the first fault.
     fn look(&mut self) -> Result<(), MergeFault>
         ensures coming { IfOk result (λ _. (captures : List (List Answer)) →
             IsComing self.old.lanes captures → IsComing self.new.lanes captures) }
@@ -115,7 +116,7 @@ impl<R: Feed + Drop> Merge<R> {
         look_at_all(&mut self.lanes)
     }
 
-    /// The first of the heads that have the least time, with that time.
+    /// The number of the first capture whose head has the least time, with that time.
     fn earliest(&self) -> Option<(usize, u64)>
         ensures { result ≡ earliest_from 0 (map head_time self.now.lanes) }
     {
@@ -138,7 +139,7 @@ impl<R: Feed + Drop> Merge<R> {
         self.lanes[capture].take()
     }
 
-    /// Lets the clock go on with a record of this time, and answers its moment.
+    /// Moves the clock on by a record of this time, and returns its moment.
     fn tick(&mut self, time: u64) -> u64
         requires { time ≤ latest_moment }
         ensures clock { self.new.clock ≡ Some (clock_by self.old.clock time) }
@@ -151,12 +152,13 @@ impl<R: Feed + Drop> Merge<R> {
         clock.moment
     }
 
-    /// The next turn: the first of the records that have the least time among the heads of the captures; `None` where
-    /// all captures are at their ends. It reads the head of each capture that has none, and so one record a call behind
-    /// the first call.
+    /// Takes the next turn: the first of the records that have the least time among the heads of
+    /// the captures. `None` means that all captures are at their ends. Each head that wasn't read
+    /// is read, so after the first call one record a call.
     ///
     /// # Errors
-    /// A head that is a fault, before any record; of several that of the first capture.
+    /// The fault at the head of a capture, before any record is taken; of several faults the one of
+    /// the first capture.
     pub fn next(&mut self) -> Result<Option<Turn>, MergeFault>
         ensures turn { (captures : List (List Answer)) → IsComing self.old.lanes captures →
             TellsTurn captures result self.new }
@@ -185,7 +187,8 @@ impl<R: Feed + Drop> Merge<R> {
         }))
     }
 
-    /// The bytes of the record of this capture that was read last: those of a turn, until the next one.
+    /// The bytes of the record of this capture that was read last: those of a turn, until the next
+    /// call of `next`.
     pub fn bytes(&self, capture: usize) -> &[u8]
         requires { capture < length self.now.lanes }
         ensures bytes { result.now ≡ bytes_at capture self.now }

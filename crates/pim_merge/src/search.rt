@@ -1,4 +1,4 @@
-//! The heads of captures: reading them all, and finding the one that is taken next.
+//! Reads the heads of all captures, and finds the one that is taken next.
 
 ghost use Rattle.std.specs.Prelude.{◌≡◌, ◌<◌, ◌≤◌, List, map, length, Some, IfOk, IfErr};
 ghost use Rattle.std.specs.Option.{IfSome};
@@ -12,10 +12,10 @@ use crate::lane::Lane;
 use crate::merge::MergeFault;
 use pim_addr::Feed;
 
-/// Reads the heads that weren't read yet, in the order of the captures.
+/// Reads the heads that weren't read, in the order of the captures.
 ///
 /// # Errors
-/// The first fault that a capture answers in place of its head.
+/// The first fault that a capture returns in place of its head.
 pub(crate) fn look_at_all<R: Feed + Drop>(lanes: &mut [Lane<R>]) -> Result<(), MergeFault>
     ensures coming { IfOk result (λ _. (captures : List (List Answer)) →
         IsComing lanes.old captures → IsComing lanes.new captures) }
@@ -44,7 +44,7 @@ fn numbered(number: usize, time: Option<u64>) -> Option<(usize, u64)>
     }
 }
 
-/// Of two heads the one of less time, and of one time the first.
+/// The lesser of two numbered times; of equal times the first.
 fn sooner(one: Option<(usize, u64)>, other: Option<(usize, u64)>) -> Option<(usize, u64)>
     ensures { result ≡ sooner one other }
 {
@@ -58,7 +58,8 @@ fn sooner(one: Option<(usize, u64)>, other: Option<(usize, u64)>) -> Option<(usi
 }
 
 #[tactic(auto, using(crate::proofs::Sooner::one_head_more, crate::proofs::Sooner::no_head_more))]
-/// The first of the heads that have the least time, with that time; `None` where all captures are at their ends.
+/// The number of the first capture whose head has the least time, with that time; `None` if all
+/// captures are at their ends.
 pub(crate) fn earliest<R: Feed + Drop>(lanes: &[Lane<R>]) -> Option<(usize, u64)>
     ensures { result ≡ earliest_from 0 (map head_time lanes.now) }
 {

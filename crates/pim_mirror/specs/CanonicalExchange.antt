@@ -1,4 +1,6 @@
--- Messages that a router hears on a port, and the machines that they name.
+-- Canonical Join/Prune messages as an exchange that a port hears (RFC 7761, 4.5 and 4.9.5), and the
+-- machines that they name. An exchange is read from the bytes of the messages, so it is what a
+-- receiver has.
 use Rattle.std.specs.Prelude.{◌≡◌, ℕ, ◌<◌, true, List, [], ◌∷◌, map, slice_index_or}
 use Rattle.pim_addr.specs.declared.family.AddressFamily.{AddressFamily}
 use Rattle.pim_frame.specs.Frame.{Content, hello, join_prune, other, content}
@@ -12,20 +14,21 @@ use Rattle.pim_form.specs.Laws.{IsReadAs}
 use Rattle.pim_fresh.specs.Exchange.{Exchange, TellsUnitsOnce, is_named}
 use Rattle.pim_mirror.specs.CanonicalUnits.{form_names}
 
--- the events of the message of this number, none where there is no such message
+-- The events of the message with this number; none where there is no such message.
 abbrev pub events_at : Rps → List Message → ℕ → List Event
 events_at rps messages i = slice_index_or (map (events_of rps) messages) i []
 
--- what is read of a message's bytes (RFC 7761, 4.9 and 4.9.5)
+-- The body of a Join/Prune message, after the header; empty for any other type (RFC 7761, 4.9).
 abbrev pub body_of : Content → List ℕ
 body_of (join_prune body) = body
 body_of (hello body) = []
 body_of (other type) = []
 
+-- The Join/Prune message that is read from these bytes, header included (RFC 7761, 4.9 and 4.9.5).
 abbrev pub message_in : AddressFamily → List ℕ → Message
 message_in family bytes = message_of family (body_of (content bytes))
 
--- these messages, of one holdtime in seconds, heard on a port that has this timing
+-- These messages, with one holdtime in seconds, as an exchange on a port with this timing.
 abbrev pub exchange_of : Rps → ℕ → ℕ → Timing → List Message → Exchange
 exchange_of rps holdtime port timing messages = record {
   messages = events_at rps messages;
@@ -34,26 +37,28 @@ exchange_of rps holdtime port timing messages = record {
   timing = timing;
 }
 
--- the messages that these byte lists hold, by this writer
+-- The messages in these byte lists, by this writer, as an exchange on a port with this timing.
 abbrev pub exchange_in : AddressFamily → Rps → Writing → ℕ → Timing → List (List ℕ) → Exchange
 exchange_in family rps writing port timing messages =
     exchange_of rps writing.holdtime port timing (map (message_in family) messages)
 
--- one of so many messages names the machine
+-- One of the first `count` messages names the machine.
 pub record IsTold (exchange : Exchange) (count : ℕ) (key : Key (List ℕ)) : Type 0 where
   pub message : ℕ
   pub within : message < count
   pub named : is_named exchange.port key (exchange.messages message) ≡ true
 
--- the message names machines of the form on the port, and is one of so many
+-- The message is one of the first `count`, and the machine is on the exchange's port and named by
+-- the form.
 pub record NamesOfForm (exchange : Exchange) (count : ℕ) (form : List GroupForm) (message : ℕ) (key : Key (List ℕ))
     : Type 0 where
   pub within : message < count
   pub port : key.port ≡ exchange.port
   pub named : form_names form key.group key.what ≡ true
 
--- So many messages tell units, no machine is named by two of them, and the machines that they name are exactly those
--- of the form on the port.
+-- Each message announces units, and no machine is named by two messages. The machines that the
+-- first `count` messages name are exactly those of the form on the port, and no other message names
+-- any.
 pub record TellsForm (exchange : Exchange) (count : ℕ) (form : List GroupForm) : Type 0 where
   pub once : TellsUnitsOnce exchange
   pub no_others : (message : ℕ) (key : Key (List ℕ)) →
@@ -63,7 +68,8 @@ pub record TellsForm (exchange : Exchange) (count : ℕ) (form : List GroupForm)
 
 -- ---- reading
 
--- each of these byte lists, sent from this source, is read as the message beside it
+-- Each of these byte lists, sent from this source, is read without a fault as the message at its
+-- place.
 unfoldable pub AreReadAs : AddressFamily → List ℕ → List (List ℕ) → List Message → Type 0
 AreReadAs family source [] [] = Unit {0}
 AreReadAs family source [] (said ∷ others) = ⊥

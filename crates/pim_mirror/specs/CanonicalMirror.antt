@@ -1,4 +1,4 @@
--- What a port asks for that heard the canonical messages of a form.
+-- The state of a port after the canonical messages of a form (RFC 7761, 4.1).
 use Rattle.std.specs.Prelude.{◌≡◌, ℕ, ◌<◌, true, List}
 use Rattle.pim_addr.specs.declared.family.AddressFamily.{AddressFamily}
 use Rattle.pim_addr.specs.Routes.{RouteTable}
@@ -11,12 +11,13 @@ use Rattle.pim_form.specs.TowardLaws.{asked_of}
 use Rattle.pim_form.specs.Wants.{wants}
 use Rattle.pim_fresh.specs.Deliveries.{Delivery, is_delivered}
 
--- each of so many messages was delivered
+-- Each message with a number below `count` was delivered.
 abbrev pub AllCame : ℕ → List Delivery → Type 0
 AllCame count deliveries = (message : ℕ) → message < count → is_delivered message deliveries ≡ true
 
--- The machines want exactly what the form wants, of every source and group. The form is the one normal form of what
--- they ask of the writer's upstream neighbour, and its canonical messages are these and no others.
+-- The machines want exactly what the form wants, for all byte lists as source and group, valid or
+-- not. The form is the only normal form of what they ask of the writer's upstream neighbour, and
+-- any canonical messages of that are these.
 pub record AsksAgain (family : AddressFamily) (table : RouteTable) (writing : Writing) (form : List GroupForm)
     (messages : List (List ℕ)) (state : Downstream) : Type 0 where
   pub wanted : (source group : List ℕ) (tree : Tree) → wants state source group tree ≡ form_wants form source group tree

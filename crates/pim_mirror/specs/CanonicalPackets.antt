@@ -1,4 +1,5 @@
--- The packets that hold canonical messages, at the router to which they are written.
+-- The packets of canonical messages at the router to which they are written (RFC 7761, 4.3.1 and
+-- 4.5.1).
 use Rattle.std.specs.Prelude.{◌≡◌, ℕ, ◌<◌, ◌≤◌, nat_lt, true, List, [], slice_index_or}
 use Rattle.pim_addr.specs.Faults.{fault_if}
 use Rattle.pim_addr.specs.declared.family.AddressFamily.{AddressFamily}
@@ -15,7 +16,8 @@ use Rattle.pim_router.specs.Packets.{Packet, causes, received, own_address, know
 use Rattle.pim_router.specs.State.{RouterState, with_machines}
 use Rattle.pim_mirror.specs.CanonicalExchange.{exchange_in}
 
--- the message of this number, as the writer sends it to ALL-PIM-ROUTERS and it comes on a port
+-- The packet of the message with this number, from the writer to ALL-PIM-ROUTERS, as a port
+-- receives it.
 abbrev pub packet_of : AddressFamily → Writing → ℕ → List (List ℕ) → ℕ → Packet
 packet_of family writing port messages i = record {
   port = port;
@@ -24,23 +26,25 @@ packet_of family writing port messages i = record {
   bytes = slice_index_or messages i [];
 }
 
--- The port is the neighbour to which the writer writes, it knows the writer as a neighbour, and this is its timing.
+-- The port is the writer's upstream neighbour, knows the writer as a neighbour, and has this
+-- timing.
 pub record HearsWriter (writing : Writing) (port : ℕ) (timing : Timing) (state : RouterState) : Type 0 where
   pub own : own_address port state ≡ writing.upstream
   pub known : knows port writing.own state ≡ true
   pub timing_is : timing ≡ timing_on port state
 
--- what the port hears of these messages under the router's route table
+-- These messages as an exchange on the port, under the router's route table.
 abbrev pub heard_exchange : AddressFamily → Writing → ℕ → Timing → List (List ℕ) → RouterState → Exchange
 heard_exchange family writing port timing messages state =
     exchange_in family (known_in family state.routes) writing port timing messages
 
--- how many records the port needs for the message of this number
+-- The number of records that the port needs for the message with this number.
 abbrev pub needed_records : Exchange → ℕ → RouterState → ℕ
 needed_records exchange i state = needed exchange.port state.machines.records (exchange.messages i)
 
--- Only room may be wanting for a packet: where there is room, the message is applied as the exchange says, and nothing
--- else changes; where there is none, the packet is told as Full, with what is needed, and changes nothing.
+-- Only want of room can refuse the packet. With room its message acts as the exchange says, and
+-- nothing else changes. Without room the verdict is `Full` with the number of records that it
+-- needs, and nothing changes.
 pub record IsHeard (family : AddressFamily) (exchange : Exchange) (i : ℕ) (packet : Packet) (state : RouterState)
     : Type 0 where
   pub only_room : causes family packet state ≡ fault_if

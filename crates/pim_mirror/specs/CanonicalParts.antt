@@ -1,4 +1,5 @@
--- The parts of a normal form that its canonical messages tell.
+-- The parts of a normal form that its canonical Join/Prune messages announce, one part each (RFC
+-- 7761, 4.9.5).
 use Rattle.std.specs.Prelude.{◌≡◌, ℕ, true, List, [], ◌∷◌}
 use Rattle.std.specs.List.{AllByRecursion, flat_map}
 use Rattle.pim_addr.specs.declared.family.AddressFamily.{AddressFamily}
@@ -12,22 +13,23 @@ use Rattle.pim_form.specs.Units.{units_of}
 use Rattle.pim_form.specs.Packing.{fits}
 use Rattle.pim_form.specs.Messages.{Writing, Rps, HaveRps, told_message}
 
--- the exceptions and the sources of a group are in strictly ascending order
+-- The exceptions and the sources of a group are in strictly ascending order.
 pub record HasListsInOrder (this : GroupForm) : Type 0 where
   pub exceptions : AreAscending (exceptions_of this.star)
   pub sources : AreAscending this.sources
 
--- so are the groups, and the lists of each
+-- The groups of a part, and the exceptions and sources of each, are in strictly ascending order.
 pub record IsInOrder (part : List GroupForm) : Type 0 where
   pub groups : AreAscending (groups_of part)
   pub lists : AllByRecursion HasListsInOrder part
 
--- These bytes are the message that tells a part, written canonically and sealed for ALL-PIM-ROUTERS.
+-- The bytes are the Join/Prune message of a part, written canonically and sealed for
+-- ALL-PIM-ROUTERS.
 abbrev pub TellsPart : AddressFamily → Writing → Rps → List GroupForm → List ℕ → Type 0
 TellsPart family writing rps part bytes =
     IsSealed family writing.own (all_routers family) JoinPrune (canonical family (told_message writing rps part)) bytes
 
--- one message for each part, in order
+-- The messages are one for each part, in order.
 unfoldable pub TellParts : AddressFamily → Writing → Rps → List (List GroupForm) → List (List ℕ) → Type 0
 TellParts family writing rps [] [] = Unit {0}
 TellParts family writing rps [] (bytes ∷ messages) = ⊥
@@ -35,8 +37,8 @@ TellParts family writing rps (part ∷ parts) [] = ⊥
 TellParts family writing rps (part ∷ parts) (bytes ∷ messages) =
     TellsPart family writing rps part bytes × TellParts family writing rps parts messages
 
--- Each message tells a part, which is a normal form that fits it and whose stars have RPs; the units of the parts, one
--- part after the other, are those of the form.
+-- The messages announce these parts of the form, one each. Each part is a normal form that fits its
+-- message and whose stars have RPs. The units of all parts, in order, are those of the form.
 pub record AreParts (family : AddressFamily) (writing : Writing) (rps : Rps) (form : List GroupForm)
     (messages : List (List ℕ)) (parts : List (List GroupForm)) : Type 0 where
   pub normal : AllByRecursion (IsNormal family) parts

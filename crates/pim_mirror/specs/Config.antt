@@ -1,5 +1,5 @@
--- A fresh router that hears one sender (RFC 7761, 4.3 and 4.5): what it is made from, who its neighbours are, and when
--- which message comes to it.
+-- A fresh router that hears one sender (RFC 7761, 4.3 and 4.5): what it is made from, its
+-- neighbours, and the deliveries of messages to it.
 use Rattle.std.specs.Prelude.{ℕ, List, [], ◌∷◌, map, reverse, false, None, Some}
 use Rattle.pim_addr.specs.Routes.{RouteTable}
 use Rattle.pim_hello.specs.Hello.{Parameters}
@@ -12,13 +12,14 @@ use Rattle.pim_mirror.specs.declared.config.OtherNeighbour.{OtherNeighbour}
 use Rattle.pim_mirror.specs.declared.config.Delivery as code
 use Rattle.pim_mirror.specs.declared.config.FreshConfig.{FreshConfig}
 
--- a neighbour: its address, and what its Hello says
+-- A neighbour: its address, and the parameters of its Hello.
 pub record Neighbour : Type 0 where
   pub address : List ℕ
   pub hello : Parameters
 
--- It has one port; `limit` is how many records that may have, `others` are the neighbours beside the sender. The
--- deliveries stand in the order in which they come.
+-- A fresh router, which is to have one port, and what comes to it. `limit` is the most records that
+-- the port may hold, `others` are the neighbours beside the sender. The deliveries are in the order
+-- in which they come.
 pub record Fresh : Type 0 where
   pub ports : List Port
   pub routes : RouteTable
@@ -27,15 +28,17 @@ pub record Fresh : Type 0 where
   pub others : List Neighbour
   pub deliveries : List Delivery
 
--- the only port
+-- The first port of a list.
 abbrev pub first_port : List Port → Port
 first_port [] = record { address = []; propagation = 0; override_ms = 0 }
 first_port (port ∷ ports) = port
 
+-- The only port of the fresh router.
 abbrev pub port_of : Fresh → Port
 port_of fresh = first_port fresh.ports
 
--- The sender's Hello: for ever, with the router's own delays as its LAN Prune Delay, and no other option.
+-- The sender's Hello: holdtime 65,535, the port's own delays as its LAN Prune Delay, and no other
+-- option (RFC 7761, 4.9.2).
 abbrev pub sender_hello : Port → Parameters
 sender_hello port = record {
   holdtime = Some 65535;
@@ -44,35 +47,41 @@ sender_hello port = record {
   generation = None;
 }
 
--- the neighbours of the port, the sender first
+-- The neighbours of the port, the sender first.
 abbrev pub neighbours : Fresh → List Neighbour
 neighbours fresh = record { address = fresh.sender; hello = sender_hello (port_of fresh) } ∷ fresh.others
 
--- the override interval of the port, in milliseconds (RFC 7761, 4.3.3)
+-- The override interval of the port after the Hellos of all its neighbours, in milliseconds:
+-- J/P_Override_Interval(I) (RFC 7761, 4.3.3).
 abbrev pub interval_of : Fresh → ℕ
 interval_of fresh = override_interval (port_of fresh).propagation (port_of fresh).override_ms
     (map (λ (neighbour : Neighbour). neighbour.hello) (neighbours fresh))
 
+-- The deliveries from the newest to the oldest, as `pim_fresh` lists them.
 abbrev pub newest_first : Fresh → List Delivery
 newest_first fresh = reverse fresh.deliveries
 
--- the moment at which the router ends
+-- The final moment of the fresh router: that of the last delivery, or the end of the override
+-- interval that began with the latest first delivery of a message, whichever is later.
 abbrev pub end_of : Fresh → ℕ
 end_of fresh = final_moment (interval_of fresh) (newest_first fresh)
 
--- what the router is made from
+-- What the fresh router is made from.
 abbrev pub setup_of : Fresh → Setup
 setup_of fresh = record { ports = fresh.ports; routes = fresh.routes; limit = fresh.limit }
 
--- ---- what a contract sees
+-- ---- how contracts see values of the code
 
+-- How contracts see a delivery.
 abbrev pub delivery_seen : code.Delivery → Delivery
 delivery_seen delivery = record { message = delivery.message; moment = delivery.moment }
 
 module _ {A : Type 0} (bytes_of : A → List ℕ) where
+  -- How contracts see another neighbour.
   abbrev pub neighbour_seen : OtherNeighbour A → Neighbour
   neighbour_seen other = record { address = bytes_of other.address; hello = parameters_seen other.hello }
 
+  -- How contracts see a fresh router's configuration.
   abbrev pub fresh_seen : {F N : Type 0} → FreshConfig F A N → Fresh
   fresh_seen fresh = record {
     ports = map (port_seen bytes_of) fresh.ports.now;

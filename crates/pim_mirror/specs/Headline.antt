@@ -1,4 +1,5 @@
--- The words of the laws in `src/headline_laws.rt`: two states and their messages, and a fresh router that hears the
+-- The statements of the laws in `src/headline_laws.rt` (RFC 7761, 4.1, 4.5 and 4.9.5). They speak
+-- of two downstream states and their canonical messages, and of a fresh router that hears the
 -- messages of one of them alone.
 use Rattle.std.specs.Prelude.{◌≡◌, ◌↔◌, ℕ, zero, suc, ◌+◌, ◌-◌, ◌≤◌, ◌<◌, Bool, true, false, List, [], ◌∷◌, length}
 use Rattle.std.specs.Prelude.{Option, None, Some, Result, Ok, Err, nat_lt, if◌then◌else◌}
@@ -35,58 +36,58 @@ use Rattle.pim_mirror.specs.declared.mirroring.MirrorFault.TheVariants as fault
 
 -- ---- a state and its messages
 
--- The canonical messages by which the writer asks its upstream neighbour, under a route table, for what these machines
--- want of it: those of its normal form (RFC 7761, 4.1 and 4.9.5). They are there exactly if each star with its
--- exceptions fits a message.
+-- The canonical messages by which the writer, under a route table, asks its upstream neighbour for
+-- what these machines want (RFC 7761, 4.1 and 4.9.5). A state whose star with its exceptions is too
+-- big for a message has none.
 pub record AreMessagesOf (family : AddressFamily) (table : RouteTable) (writing : Writing) (state : Downstream)
     (messages : List (List ℕ)) : Type 0 where
   pub form : List GroupForm
   pub is : IsFormOf family (asked_of family table writing.upstream state) form
   pub told : AreCanonical family writing (known_in family table) form messages
 
--- Two states want the same traffic of the writer's upstream neighbour: for every valid source, every group and both
--- trees.
+-- Two states want the same traffic of the writer's upstream neighbour, for every valid source,
+-- every group and both trees (RFC 7761, 4.1).
 abbrev pub WantTheSameTraffic : AddressFamily → RouteTable → Writing → Downstream → Downstream → Type 0
 WantTheSameTraffic family table writing one other =
     Agree family (asked_of family table writing.upstream one) (asked_of family table writing.upstream other)
 
 -- ---- a fresh router that hears messages alone
 
--- what it hears of them
+-- The messages as the exchange that the fresh router's port hears.
 abbrev pub fresh_exchange : AddressFamily → RouteTable → Writing → List (List ℕ) → Fresh → Exchange
 fresh_exchange family table writing messages fresh =
     exchange_in family (known_in family table) writing 0 (timing_of fresh) messages
 
--- A new router hears the Hellos of its neighbours and these messages, nothing else, and is this one at its final
--- moment. The caller's conditions are met: it has the sender's table and knows the sender; each message comes at least
--- once, and none is missed for a whole holdtime up to the final moment, by which the prune-pending times are over.
--- There is room for each.
+-- A new router that fits its sender receives the Hellos of its neighbours and these messages,
+-- nothing else, and is `router` at its final moment. Each message had room.
 pub record HearsAlone (family : AddressFamily) (table : RouteTable) (writing : Writing) (messages : List (List ℕ))
     (fresh : Fresh) (router : RouterState) : Type 0 where
   pub fits : Fits messages writing table fresh
   pub course : GoesThrough family messages fresh None router
 
--- From the end of the prune-pending times until the first expiry: the final moment has come, and each message came last
--- less than its holdtime ago.
+-- The moment is in the window from the end of the prune-pending times until the first expiry: the
+-- final moment has come, and each message came last less than its holdtime ago. It may be beyond
+-- 10^15 ms.
 pub record IsInWindow (writing : Writing) (fresh : Fresh) (moment : ℕ) : Type 0 where
   pub from_the_end : end_of fresh ≤ moment
   pub before_expiry : AreAlive (expiry_of writing.holdtime) moment (newest_first fresh)
 
--- it runs on to this moment, where nothing is due any more
+-- The router runs on to this moment until nothing is due, and is `later` there.
 pub record IsAt (moment : ℕ) (router later : RouterState) : Type 0 where
   pub told : List Telling
   pub reaches : Reaches moment told router later
 
--- ---- what it holds
+-- ---- the machines that it holds
 
+-- The report is a PruneEcho.
 abbrev pub is_echo : Telling → Bool
 is_echo (echo port group what) = true
 is_echo refresh = false
 is_echo (verdict of_packet) = false
 
--- A machine that one of so many messages names, at this moment: in Join for a star or a source, in Prune for an
--- exception; left is the holdtime less the time since the message came last, without end for 65,535; no prune-pending
--- timer runs.
+-- The machine at `key`, which one of the first `count` messages names, at this moment: Join for a
+-- star or a source, Prune for an exception. Its Expiry Timer has the holdtime less the time since
+-- the message came last, without end for 65,535. Its Prune-Pending Timer doesn't run.
 pub record IsHeldAs (exchange : Exchange) (count : ℕ) (deliveries : List Delivery) (moment : ℕ) (key : Key (List ℕ))
     (machine : Option Machine) : Type 0 where
   pub message : ℕ
@@ -97,8 +98,8 @@ pub record IsHeldAs (exchange : Exchange) (count : ℕ) (deliveries : List Deliv
   pub is : machine
       ≡ machine_in (asked_state key.what) (expiry_after (moment - last) (expiry_of exchange.holdtime)) None
 
--- The machines are those of the form, and no others: (*,G) of each star, (S,G,rpt) of each exception, (S,G) of each
--- source.
+-- The machines are exactly those of the form: (*,G) of each star, (S,G,rpt) of each exception,
+-- (S,G) of each source.
 pub record HoldsTheForm (exchange : Exchange) (count : ℕ) (form : List GroupForm) (deliveries : List Delivery)
     (moment : ℕ) (state : Downstream) : Type 0 where
   pub held : (key : Key (List ℕ)) → key.port ≡ exchange.port → form_names form key.group key.what ≡ true →
@@ -106,8 +107,9 @@ pub record HoldsTheForm (exchange : Exchange) (count : ℕ) (form : List GroupFo
   pub no_others : (key : Key (List ℕ)) → is_some (machine_at key state.records) ≡ true →
       (key.port ≡ exchange.port) × (form_names form key.group key.what ≡ true)
 
--- At a moment of the window the router holds exactly the machines of the form, wants exactly what the form wants, and
--- asks for it again by the same messages, under the same table. On the way there no echo was told.
+-- At this moment the router holds exactly the machines of the form and wants exactly what the form
+-- wants. It asks for it again by the same messages, under the same table. On the way no PruneEcho
+-- was reported.
 pub record MirrorsForm (family : AddressFamily) (table : RouteTable) (writing : Writing) (form : List GroupForm)
     (messages : List (List ℕ)) (fresh : Fresh) (moment : ℕ) (told : List Telling) (later : RouterState) : Type 0 where
   pub moment_is : later.machines.moment ≡ moment
@@ -124,7 +126,8 @@ abbrev pub NormalisingTwiceIsOnce : Type 0
 NormalisingTwiceIsOnce = (family : AddressFamily) (demand : Demand) (once twice : List GroupForm) →
     IsFormOf family demand once → IsFormOf family (form_wants once) twice → twice ≡ once
 
--- A fresh router that heard the canonical messages of a form alone mirrors it at every moment of the window.
+-- A fresh router that heard the canonical messages of a form alone mirrors it at every moment of
+-- the window.
 abbrev pub FreshRouterMirrors : Type 0
 FreshRouterMirrors = (family : AddressFamily) (table : RouteTable) (writing : Writing) (state : Downstream)
     (messages : List (List ℕ)) (fresh : Fresh) (router later : RouterState) (moment : ℕ) →
@@ -134,21 +137,22 @@ FreshRouterMirrors = (family : AddressFamily) (table : RouteTable) (writing : Wr
     (at : IsAt moment router later) →
     MirrorsForm family table writing asked.form messages fresh moment at.told later
 
--- Nor does it tell one up to its final moment.
+-- Such a router reports no PruneEcho up to its final moment.
 abbrev pub FreshRouterTellsNoEcho : Type 0
 FreshRouterTellsNoEcho = (family : AddressFamily) (table : RouteTable) (writing : Writing) (state : Downstream)
     (messages : List (List ℕ)) (fresh : Fresh) (router : RouterState) → IsRouteTable family table →
     IsWriting family writing → AreMessagesOf family table writing state messages →
     (hears : HearsAlone family table writing messages fresh router) → list_any is_echo hears.course.told ≡ false
 
--- The router has one port, on which it knows the writer, who may ask it; by this moment none of its neighbours' times
--- is over.
+-- The router has one port, which is the writer's upstream neighbour and knows the writer. At the
+-- moment `last` no neighbour's time is over.
 pub record KnowsItsWriter (writing : Writing) (fresh : Fresh) (last : ℕ) (router : RouterState) : Type 0 where
   pub one_port : router.machines.ports ≡ 1
   pub lasts : Lasts last router
   pub hears : HearsWriter writing 0 (timing_of fresh) router
 
--- Such a router knows the writer at its final moment, and on, as long as the other neighbours stay.
+-- Such a router knows the writer at its final moment. No neighbour's time is over at any later
+-- moment up to which the other neighbours stay.
 abbrev pub FreshRouterKnowsTheWriter : Type 0
 FreshRouterKnowsTheWriter = (family : AddressFamily) (table : RouteTable) (writing : Writing) (state : Downstream)
     (messages : List (List ℕ)) (fresh : Fresh) (router : RouterState) (last : ℕ) → IsRouteTable family table →
@@ -156,27 +160,30 @@ FreshRouterKnowsTheWriter = (family : AddressFamily) (table : RouteTable) (writi
     HearsAlone family table writing messages fresh router → end_of fresh ≤ last → OthersStay fresh last →
     KnowsItsWriter writing fresh last router
 
--- how many entries so many messages have together: the stars, exceptions and sources of their form
+-- The number of entries of the first `count` messages: stars, exceptions and sources.
 unfoldable pub entries_of : Exchange → ℕ → ℕ
 entries_of exchange zero = 0
 entries_of exchange (suc count) = entries_of exchange count + length (exchange.messages count)
 
+-- The number of entries of all messages.
 abbrev pub all_entries : AddressFamily → RouteTable → Writing → List (List ℕ) → Fresh → ℕ
 all_entries family table writing messages fresh =
     entries_of (fresh_exchange family table writing messages fresh) (length messages)
 
--- how many units the different messages have up to the first delivery at which they pass the limit; none where they
--- never do
+-- The number `count` where it passes the limit, else none.
 abbrev pub if_over : ℕ → ℕ → Option ℕ
 if_over limit count = if nat_lt limit count then Some count else None
 
+-- The number of units of the different messages up to the first delivery at which they pass the
+-- limit; none where they never do.
 unfoldable pub first_over : Exchange → ℕ → List Delivery → Option ℕ
 first_over exchange limit [] = None
 first_over exchange limit (delivery ∷ earlier) = or_later (first_over exchange limit earlier)
     (if_over limit (length (units_of exchange (delivery ∷ earlier))))
 
--- A message has no room on the course exactly where the entries of all messages together pass the limit; the first such
--- message needs as many records as the different messages have units up to it.
+-- Each message has room on the course exactly where the entries of all messages together are within
+-- the limit. The first message without room needs as many records as the different messages have
+-- units up to it.
 abbrev pub RoomIsForTheUnits : Type 0
 RoomIsForTheUnits = (family : AddressFamily) (table : RouteTable) (writing : Writing) (state : Downstream)
     (messages : List (List ℕ)) (fresh : Fresh) (needed : Option ℕ) (after : RouterState) →
@@ -185,7 +192,8 @@ RoomIsForTheUnits = (family : AddressFamily) (table : RouteTable) (writing : Wri
     (needed ≡ first_over (fresh_exchange family table writing messages fresh) fresh.limit (newest_first fresh))
     × ((needed ≡ None) ↔ (all_entries family table writing messages fresh ≤ fresh.limit))
 
--- such a router, which stands at its final moment, a moment of the window, and goes on to every later one
+-- There is such a router. Its final moment is in the window, it is at that moment, and it runs on
+-- to every moment.
 pub record IsThere (family : AddressFamily) (table : RouteTable) (writing : Writing) (messages : List (List ℕ))
     (fresh : Fresh) : Type 0 where
   pub router : RouterState
@@ -194,7 +202,8 @@ pub record IsThere (family : AddressFamily) (table : RouteTable) (writing : Writ
   pub stands : IsAt (end_of fresh) router router
   pub goes_on : (moment : ℕ) → (later : RouterState) × IsAt moment router later
 
--- Where the caller's conditions are met and there is room for the entries of all messages, there is one.
+-- Where the conditions of `Fits` hold and there is room for the entries of all messages, there is
+-- such a router.
 abbrev pub FreshRouterIsThere : Type 0
 FreshRouterIsThere = (family : AddressFamily) (table : RouteTable) (writing : Writing) (state : Downstream)
     (messages : List (List ℕ)) (fresh : Fresh) (hellos : List Packet) → IsRouteTable family table →
@@ -202,11 +211,11 @@ FreshRouterIsThere = (family : AddressFamily) (table : RouteTable) (writing : Wr
     all_entries family table writing messages fresh ≤ fresh.limit →
     AreHellosOf family (neighbours fresh) hellos → IsThere family table writing messages fresh
 
--- ---- what `mirror` answers
+-- ---- the result of `mirror`
 
--- A router at the end of its course, on which each message had room: there is room for the entries of all messages; it
--- stands where the window begins, and mirrors the form there, and at every moment of the window to which it goes on; no
--- echo was told on its course. It knows the writer.
+-- What an Ok router of `mirror` is, where the messages are the canonical ones of a state. There was
+-- room for the entries of all messages. At its final moment and at every moment of the window to
+-- which it runs on, the router mirrors the form. No PruneEcho was reported on its course.
 pub record IsMirrorOf (family : AddressFamily) (table : RouteTable) (writing : Writing) (form : List GroupForm)
     (messages : List (List ℕ)) (fresh : Fresh) (router : RouterState)
     (course : GoesThrough family messages fresh None router) : Type 0 where
@@ -216,11 +225,13 @@ pub record IsMirrorOf (family : AddressFamily) (table : RouteTable) (writing : W
   pub later : (moment : ℕ) (later : RouterState) → IsInWindow writing fresh moment → (at : IsAt moment router later) →
       MirrorsForm family table writing form messages fresh moment at.told later
   pub no_echo : list_any is_echo course.told ≡ false
-  -- It knows the writer as long as the other neighbours stay: from its final moment on to this one.
+  -- It knows the writer, and by a later moment up to which the other neighbours stay no neighbour's
+  -- time is over.
   pub knows : (last : ℕ) → end_of fresh ≤ last → OthersStay fresh last → KnowsItsWriter writing fresh last router
 
--- Full: the entries of all messages together pass the limit; it tells how many units the different messages have up to
--- the first delivery at which these do.
+-- The meaning of a result of `mirror`. Ok is such a router. `Full` says that the entries of all
+-- messages together pass the limit. Its number is that of the units of the different messages up to
+-- the first delivery at which they do. `Memory` says nothing.
 abbrev pub AnswersFor : (family : AddressFamily) (table : RouteTable) (writing : Writing) (form : List GroupForm)
     (messages : List (List ℕ)) (fresh : Fresh) (result : Result RouterState MirrorFault) →
     Mirrors family messages fresh result → Type 0
@@ -231,13 +242,14 @@ AnswersFor family table writing form messages fresh (Err (fault.Full needed)) co
     × (first_over (fresh_exchange family table writing messages fresh) fresh.limit (newest_first fresh) ≡ Some needed)
 AnswersFor family table writing form messages fresh (Err fault.Memory) course = Unit {0}
 
--- a call's answer, and what it means
+-- A result of `mirror`: the course that it comes from, and its meaning.
 pub record TellsOfForm (family : AddressFamily) (table : RouteTable) (writing : Writing) (form : List GroupForm)
     (messages : List (List ℕ)) (fresh : Fresh) (result : Result RouterState MirrorFault) : Type 0 where
   pub course : Mirrors family messages fresh result
   pub answers : AnswersFor family table writing form messages fresh result course
 
--- What `mirror` answers is so wherever the messages are the canonical ones of a state.
+-- Where the messages are the canonical ones of a state, the course of `mirror` determines the
+-- meaning of its result.
 abbrev pub MirrorAnswersForTheForm : Type 0
 MirrorAnswersForTheForm = (family : AddressFamily) (table : RouteTable) (writing : Writing) (state : Downstream)
     (messages : List (List ℕ)) (fresh : Fresh) (result : Result RouterState MirrorFault) →
@@ -248,31 +260,34 @@ MirrorAnswersForTheForm = (family : AddressFamily) (table : RouteTable) (writing
 
 -- ---- the headline
 
--- A state wants the same traffic as another one, whose messages these are, and writes the same bytes: they are its
--- canonical messages, and it has no others.
+-- A state wants the same traffic as another one, whose canonical messages these are. They are its
+-- canonical messages too, and it has no others.
 pub record WantsAndWritesTheSame (family : AddressFamily) (table : RouteTable) (writing : Writing) (state : Downstream)
     (messages : List (List ℕ)) (other : Downstream) : Type 0 where
   pub traffic : WantTheSameTraffic family table writing state other
   pub bytes : AreMessagesOf family table writing other messages
   pub no_others : (others : List (List ℕ)) → AreMessagesOf family table writing other others → others ≡ messages
 
+-- The three parts of the headline, for one route table and one writer.
 pub record IsHeadline (family : AddressFamily) (table : RouteTable) (writing : Writing) : Type 0 where
-  -- Two downstream states under one route table want the same traffic of an upstream neighbour, for every source, group
-  -- and tree, exactly if their canonical Join/Prune messages to it are byte-equal;
+  -- Two downstream states under one route table want the same traffic of an upstream neighbour
+  -- exactly if their canonical Join/Prune messages to it are byte-equal. The traffic is that of
+  -- every source, group and tree.
   pub same_traffic_same_bytes : (one other : Downstream) (first second : List (List ℕ)) →
       AreMessagesOf family table writing one first → AreMessagesOf family table writing other second →
       WantTheSameTraffic family table writing one other ↔ (first ≡ second)
-  -- normalising twice is once;
+  -- Normalizing twice is once.
   pub twice_is_once : (demand : Demand) (once twice : List GroupForm) →
       IsFormOf family demand once → IsFormOf family (form_wants once) twice → twice ≡ once
-  -- and a fresh router that hears these messages alone, in any order and however often, wants exactly that traffic from
-  -- the end of its prune-pending times until the first expiry, and writes the same bytes.
+  -- A fresh router hears these messages alone, in any order and however often. From the end of its
+  -- prune-pending times until the first expiry it wants exactly that traffic and writes the same
+  -- bytes.
   pub fresh_router_does_the_same : (state : Downstream) (messages : List (List ℕ)) (fresh : Fresh)
       (router later : RouterState) (moment : ℕ) → AreMessagesOf family table writing state messages →
       HearsAlone family table writing messages fresh router → IsInWindow writing fresh moment →
       IsAt moment router later → WantsAndWritesTheSame family table writing state messages later.machines
 
--- It holds under every route table and for every writer.
+-- The headline, for every route table and every writer.
 abbrev pub Headline : Type 0
 Headline = (family : AddressFamily) (table : RouteTable) (writing : Writing) → IsRouteTable family table →
     IsWriting family writing → IsHeadline family table writing

@@ -1,4 +1,4 @@
--- The words of the laws in `src/hello_laws.rt`.
+-- The statements of the laws in `src/hello_laws.rt`.
 use Rattle.std.specs.Prelude.{List, map, ℕ}
 use Rattle.pim_addr.specs.declared.family.AddressFamily.{AddressFamily}
 use Rattle.pim_addr.specs.Routes.{RouteTable}
@@ -11,12 +11,13 @@ use Rattle.pim_mirror.specs.Fits.{Fits}
 use Rattle.pim_mirror.specs.Hellos.{AreHellosFrom, HasMet}
 use Rattle.pim_mirror.specs.Mirror.{AreHellosOf}
 
--- Hellos that are written are read as what the neighbours say.
+-- Hellos that are written canonically and sealed are read as their senders' parameters.
 abbrev pub WrittenHellosAreRead : Type 0
 WrittenHellosAreRead = (family : AddressFamily) (neighbours : List Neighbour) (packets : List Packet) →
     AreHellosOf family neighbours packets → AreHellosFrom family neighbours packets
 
--- A new router that takes the Hellos of the sender and of the other neighbours at the moment 0 has met them.
+-- A new router that receives the Hellos of the sender and of the other neighbours at the moment 0
+-- has met them, where `Fits` holds.
 abbrev pub HellosAreHeard : Type 0
 HellosAreHeard = (family : AddressFamily) (messages : List (List ℕ)) (writing : Writing) (table : RouteTable)
     (fresh : Fresh) (hellos : List Packet) (told : List Telling) (after : RouterState) → IsWriting family writing →

@@ -1,5 +1,5 @@
--- The Hellos by which a fresh router meets its neighbours at the moment 0, and what it knows behind them
--- (RFC 7761, 4.3.1 and 4.3.3).
+-- The Hellos by which a fresh router meets its neighbours at the moment 0, and the router after
+-- them (RFC 7761, 4.3.1 and 4.3.3).
 use Rattle.std.specs.Prelude.{◌≡◌, ℕ, nat_lt, List, [], ◌∷◌, length}
 use Rattle.pim_addr.specs.declared.family.AddressFamily.{AddressFamily}
 use Rattle.pim_frame.specs.Frame.{content, hello, frame_faults}
@@ -14,8 +14,8 @@ use Rattle.pim_mirror.specs.Fits.{OthersStay}
 use Rattle.pim_mirror.specs.CanonicalCourse.{HoldsNothing, Lasts}
 use Rattle.pim_mirror.specs.CanonicalPackets.{HearsWriter}
 
--- The packet is a Hello of this neighbour on the only port: its header has no fault (RFC 7761, 4.9) and its body none
--- (4.9.2), and its options but the Address List say what the neighbour says.
+-- The packet is a Hello of this neighbour on the only port. Its header and its body have no fault
+-- (RFC 7761, 4.9 and 4.9.2), and its options but the Address List are the neighbour's parameters.
 pub record IsHelloFrom (family : AddressFamily) (neighbour : Neighbour) (packet : Packet) : Type 0 where
   pub port : packet.port ≡ 0
   pub source : packet.source ≡ neighbour.address
@@ -25,7 +25,7 @@ pub record IsHelloFrom (family : AddressFamily) (neighbour : Neighbour) (packet 
   pub legal : faults body ≡ []
   pub says : (hello_of family body).parameters ≡ neighbour.hello
 
--- one of each of these neighbours, in order
+-- The packets are one Hello of each of these neighbours, in order.
 unfoldable pub AreHellosFrom : AddressFamily → List Neighbour → List Packet → Type 0
 AreHellosFrom family [] [] = Unit {0}
 AreHellosFrom family [] (packet ∷ packets) = ⊥
@@ -33,12 +33,12 @@ AreHellosFrom family (neighbour ∷ neighbours) [] = ⊥
 AreHellosFrom family (neighbour ∷ neighbours) (packet ∷ packets) =
     IsHelloFrom family neighbour packet × AreHellosFrom family neighbours packets
 
--- the override interval of the port, and whether it has neighbours beside the sender
+-- The override interval of the port, and whether it has neighbours beside the sender.
 abbrev pub timing_of : Fresh → Timing
 timing_of fresh = record { override_ms = interval_of fresh; several = nat_lt 1 (length (neighbours fresh)) }
 
--- The router holds no records. It knows the writer, who is its upstream neighbour's neighbour, and as long as the other
--- neighbours stay, none of its neighbours' times is over.
+-- The router holds no records and has the fresh router's table. Its port is the writer's upstream
+-- neighbour and knows the writer, and no neighbour's time is over while the other neighbours stay.
 pub record HasMet (writing : Writing) (fresh : Fresh) (state : RouterState) : Type 0 where
   pub nothing : HoldsNothing fresh.limit state
   pub routes : state.routes ≡ fresh.routes

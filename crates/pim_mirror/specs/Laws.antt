@@ -1,4 +1,4 @@
--- The words of the laws in `src/laws.rt`.
+-- The statements of the laws in `src/laws.rt`.
 use Rattle.std.specs.Prelude.{◌≡◌, ℕ, ◌<◌, ◌≤◌, List, [], ◌∷◌, ◌++◌, length, map}
 use Rattle.pim_addr.specs.declared.family.AddressFamily.{AddressFamily}
 use Rattle.pim_addr.specs.Routes.{RouteTable, IsRouteTable}
@@ -28,33 +28,34 @@ use Rattle.pim_mirror.specs.CanonicalCourse.{HearsAll, IsTaken, AreOf, HoldsNoth
 use Rattle.pim_mirror.specs.CanonicalPackets.{packet_of, HearsWriter, heard_exchange, IsHeard}
 use Rattle.pim_mirror.specs.MachineRuns.{IsRunOfMachines}
 
--- The message of a part in strictly ascending order, whose stars have RPs, asks for traffic.
+-- The message of a part in strictly ascending order whose stars have RPs asks for traffic.
 abbrev pub PartIsAsking : Type 0
 PartIsAsking = (family : AddressFamily) (writing : Writing) (rps : Rps) (part : List GroupForm) →
     IsInOrder part → HaveRps family rps part → IsAsking rps (told_message writing rps part)
 
--- The canonical messages of a normal form tell parts of it.
+-- The canonical messages of a normal form announce parts of it.
 abbrev pub CanonicalMessagesTellParts : Type 0
 CanonicalMessagesTellParts = (family : AddressFamily) (writing : Writing) (rps : Rps) (form : List GroupForm)
     (messages : List (List ℕ)) → IsNormal family form → HaveRps family rps form →
     AreCanonical family writing rps form messages →
     (parts : List (List GroupForm)) × AreParts family writing rps form messages parts
 
--- The messages of these parts tell the form.
+-- The messages of these parts name exactly the machines of the form, each in one message.
 abbrev pub PartsTellUnitsOnce : Type 0
 PartsTellUnitsOnce = (family : AddressFamily) (writing : Writing) (rps : Rps) (form : List GroupForm)
     (messages : List (List ℕ)) (parts : List (List GroupForm)) (port : ℕ) (timing : Timing) → IsNormal family form →
     AreParts family writing rps form messages parts →
     TellsForm (exchange_of rps writing.holdtime port timing (map (told_message writing rps) parts)) (length parts) form
 
--- Their bytes are read back as these messages.
+-- The bytes of the messages are read as the messages of these parts.
 abbrev pub MessagesAreRead : Type 0
 MessagesAreRead = (family : AddressFamily) (writing : Writing) (rps : Rps) (form : List GroupForm)
     (messages : List (List ℕ)) (parts : List (List GroupForm)) → IsWriting family writing →
     AreParts family writing rps form messages parts →
     AreReadAs family writing.own messages (map (told_message writing rps) parts)
 
--- So the bytes of the canonical messages tell the form.
+-- What is read from the canonical messages of a form names exactly its machines, each in one
+-- message.
 abbrev pub CanonicalMessagesTellForm : Type 0
 CanonicalMessagesTellForm = (family : AddressFamily) (writing : Writing) (rps : Rps) (form : List GroupForm)
     (messages : List (List ℕ)) (port : ℕ) (timing : Timing) → IsWriting family writing → IsNormal family form →
@@ -67,8 +68,8 @@ AskedStarsHaveRps = (family : AddressFamily) (table : RouteTable) (neighbour : L
     (form : List GroupForm) → IsRouteTable family table → IsFormOf family (asked_of family table neighbour state) form →
     HaveRps family (known_in family table) form
 
--- A fresh port that heard all the messages of a form, run from the final moment of the deliveries on while none is
--- missed for its holdtime, asks again for what the form asks for.
+-- A fresh port heard all canonical messages of what is asked of a neighbour. It asks again for what
+-- their form asks for, from the final moment of the deliveries on, while no message expires.
 abbrev pub HeardMessagesAreAskedAgain : Type 0
 HeardMessagesAreAskedAgain = (family : AddressFamily) (table : RouteTable) (writing : Writing) (sender : Downstream)
     (form : List GroupForm) (messages : List (List ℕ)) (timing : Timing) (limit : ℕ) (deliveries : List Delivery)
@@ -83,7 +84,8 @@ HeardMessagesAreAskedAgain = (family : AddressFamily) (table : RouteTable) (writ
     Stays (exchange_in family (known_in family table) writing 0 timing messages) deliveries moment later state answer
     after × AsksAgain family table writing form messages after
 
--- A packet of the writer whose bytes are read as a message to this neighbour is heard as what the message asks for.
+-- A packet of the writer whose bytes are read as a message to this neighbour acts as that message,
+-- or is `Full`.
 abbrev pub ReadPacketIsHeard : Type 0
 ReadPacketIsHeard = (family : AddressFamily) (writing : Writing) (exchange : Exchange) (i : ℕ) (bytes : List ℕ)
     (said : Message) (state : RouterState) → IsWriting family writing → IsReadAs family writing.own bytes said →
@@ -97,7 +99,8 @@ ReadPacketIsHeard = (family : AddressFamily) (writing : Writing) (exchange : Exc
       bytes = bytes;
     }) state
 
--- The packet of a canonical message is heard by the router to which it is written, as the exchange says.
+-- The packet of a canonical message acts at the router to which it is written as the exchange says,
+-- or is `Full`.
 abbrev pub CanonicalPacketIsHeard : Type 0
 CanonicalPacketIsHeard = (family : AddressFamily) (writing : Writing) (form : List GroupForm)
     (messages : List (List ℕ)) (i port : ℕ) (timing : Timing) (state : RouterState) → IsWriting family writing →
@@ -107,8 +110,9 @@ CanonicalPacketIsHeard = (family : AddressFamily) (writing : Writing) (form : Li
     IsHeard family (heard_exchange family writing port timing messages state) i
     (packet_of family writing port messages i) state
 
--- A router of one port that begins without records, and hears deliveries of the canonical messages whose units are
--- within its limit, leaves the machines of a fresh port that hears them, under its route table.
+-- A router of one port that begins without records hears deliveries of canonical messages whose
+-- units are within its limit. Its machines are those of a fresh port that hears them under its
+-- route table.
 abbrev pub RouterLeavesItsPort : Type 0
 RouterLeavesItsPort = (family : AddressFamily) (writing : Writing) (form : List GroupForm) (messages : List (List ℕ))
     (timing : Timing) (limit : ℕ) (start : RouterState) (deliveries : List Delivery) (moment : ℕ)
@@ -121,7 +125,8 @@ RouterLeavesItsPort = (family : AddressFamily) (writing : Writing) (form : List 
     Leaves (heard_exchange family writing 0 timing messages start) 1 limit deliveries moment after.machines
     × (after.routes ≡ start.routes)
 
--- Behind such deliveries one more is taken by its packet where there is room for its units, and is else Full.
+-- After such deliveries the packet of one more is applied where there is room for its units, and is
+-- else `Full`.
 abbrev pub DeliveryIsTaken : Type 0
 DeliveryIsTaken = (family : AddressFamily) (writing : Writing) (form : List GroupForm) (messages : List (List ℕ))
     (timing : Timing) (limit : ℕ) (start : RouterState) (delivery : Delivery) (earlier : List Delivery)
@@ -136,20 +141,21 @@ DeliveryIsTaken = (family : AddressFamily) (writing : Writing) (form : List Grou
     IsTaken family (heard_exchange family writing 0 timing messages start) limit delivery earlier
     (packet_of family writing 0 messages delivery.message) before
 
--- The runs of a router to a moment are runs of its machines, through the echoes that they tell; its table and its ports
--- stay.
+-- The runs of a router to a moment are runs of its machines through some echoes, and its table and
+-- its ports stay.
 abbrev pub RouterRunsAsItsMachines : Type 0
 RouterRunsAsItsMachines = (moment : ℕ) (told : List Telling) (state after : RouterState) →
     Reaches moment told state after → IsRunOfMachines moment state after
 
--- Who hears the writer hears it still behind runs to a moment by which none of its neighbours' times is over.
+-- A router that hears the writer hears it still after runs to a moment by which no neighbour's time
+-- is over.
 abbrev pub WriterStaysHeard : Type 0
 WriterStaysHeard = (writing : Writing) (port : ℕ) (timing : Timing) (moment last : ℕ) (told : List Telling)
     (state after : RouterState) → moment ≤ last → Lasts last state → HearsWriter writing port timing state →
     Reaches moment told state after → Lasts last after × HearsWriter writing port timing after
 
--- The course of a router over deliveries, and then to a moment, is a hearing of all of them, where it knows the writer
--- at first and none of its neighbours' times is over by the last moment.
+-- The course of a router over deliveries and then to a moment hears all of them. It knows the
+-- writer at first, and no neighbour's time is over by the last moment.
 abbrev pub CourseHearsAll : Type 0
 CourseHearsAll = (family : AddressFamily) (writing : Writing) (form : List GroupForm) (messages : List (List ℕ))
     (timing : Timing) (limit last : ℕ) (start : RouterState) (deliveries : List Delivery) (moment : ℕ)
@@ -163,11 +169,12 @@ CourseHearsAll = (family : AddressFamily) (writing : Writing) (form : List Group
     HearsAll family writing 0 timing messages start deliveries moment after × Lasts last after
     × HearsWriter writing 0 timing after
 
--- A router of one port, which begins without records and knows the writer, is given the packets of all canonical
--- messages of what is asked of it under its route table, in any order and however often, and no others, and then a
--- moment from the final one of these deliveries on. Then it asks again for what the form asks for, by the same
--- messages: where it has room for their units, no message is missed for its holdtime by then, and none of its
--- neighbours' times is over.
+-- A router of one port begins without records and knows the writer. It receives the packets of all
+-- canonical messages of what is asked of it, in any order and however often, and no others.
+--
+-- From the final moment of these deliveries on it asks again for what the form asks for, by the
+-- same messages. There is room for their units, no message expires, and no neighbour's time is over
+-- by then.
 abbrev pub RouterAsksAgain : Type 0
 RouterAsksAgain = (family : AddressFamily) (writing : Writing) (sender : Downstream) (form : List GroupForm)
     (messages : List (List ℕ)) (timing : Timing) (limit last : ℕ) (start : RouterState) (deliveries : List Delivery)

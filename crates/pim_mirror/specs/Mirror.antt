@@ -1,5 +1,5 @@
--- What a fresh router goes through that hears one sender: the Hellos of its neighbours at the moment 0, each delivery
--- at its moment, and the way to the final moment.
+-- The course of a fresh router that hears one sender: the Hellos of its neighbours at the moment 0,
+-- each delivery at its moment, and the time up to the final moment.
 use Rattle.std.specs.Prelude.{◌≡◌, ℕ, List, [], ◌∷◌, ◌++◌, map, flat_map, slice_index_or, Option, None, Some}
 use Rattle.std.specs.Prelude.{Result, Ok, Err, Bool, true, false}
 use Rattle.pim_addr.specs.declared.family.AddressFamily.{AddressFamily}
@@ -20,9 +20,11 @@ use Rattle.pim_mirror.specs.Config.{Neighbour, Fresh, neighbours, setup_of, end_
 use Rattle.pim_mirror.specs.declared.mirroring.MirrorFault.{MirrorFault}
 use Rattle.pim_mirror.specs.declared.mirroring.MirrorFault.TheVariants as fault
 
--- ---- what it is given
+-- ---- its inputs
 
--- The Hello of a neighbour, whose numbers are in their ranges and which has no Address List, comes to the only port.
+-- The packet is this neighbour's Hello on the only port, written canonically and sealed for
+-- ALL-PIM-ROUTERS (RFC 7761, 4.3.1 and 4.9.2). Its numbers are in their ranges, and it has no
+-- Address List.
 pub record IsHelloOf (family : AddressFamily) (neighbour : Neighbour) (packet : Packet) : Type 0 where
   pub port : packet.port ≡ 0
   pub source : packet.source ≡ neighbour.address
@@ -31,7 +33,7 @@ pub record IsHelloOf (family : AddressFamily) (neighbour : Neighbour) (packet : 
   pub sealed : IsSealed family neighbour.address (all_routers family) Hello
       (spelling_of family (record { parameters = neighbour.hello; addresses = [] })) packet.bytes
 
--- one of each neighbour, in order
+-- The packets are one such Hello of each neighbour, in order.
 unfoldable pub AreHellosOf : AddressFamily → List Neighbour → List Packet → Type 0
 AreHellosOf family [] [] = Unit {0}
 AreHellosOf family [] (packet ∷ packets) = ⊥
@@ -39,7 +41,8 @@ AreHellosOf family (neighbour ∷ neighbours) [] = ⊥
 AreHellosOf family (neighbour ∷ neighbours) (packet ∷ packets) =
     IsHelloOf family neighbour packet × AreHellosOf family neighbours packets
 
--- A delivery is its moment, and then the packet of its message.
+-- The inputs of a delivery: its moment, and then the packet of its message, from the sender to
+-- ALL-PIM-ROUTERS.
 abbrev pub delivery_inputs : AddressFamily → List (List ℕ) → List ℕ → Delivery → List Input
 delivery_inputs family messages sender delivery = runs_to delivery.moment ∷ takes (record {
   port = 0;
@@ -48,34 +51,40 @@ delivery_inputs family messages sender delivery = runs_to delivery.moment ∷ ta
   bytes = slice_index_or messages delivery.message [];
 }) ∷ []
 
+-- All inputs of a fresh router: the Hellos, the deliveries, and the final moment.
 abbrev pub inputs_of : AddressFamily → List (List ℕ) → Fresh → List Packet → List Input
 inputs_of family messages fresh hellos =
     map (λ packet. takes packet) hellos
     ++ (flat_map (delivery_inputs family messages fresh.sender) fresh.deliveries ++ runs_to (end_of fresh) ∷ [])
 
--- ---- what it tells
+-- ---- its reports
 
+-- The number of records that a Join/Prune message needed which had no room; none for any other
+-- verdict.
 abbrev pub needed_by : Verdict → Option ℕ
 needed_by (Full (Records needed)) = Some needed
 needed_by other = None
 
+-- The same for a report of the router.
 abbrev pub needed_of : Telling → Option ℕ
 needed_of (verdict of_packet) = needed_by of_packet
 needed_of other = None
 
+-- The first number, or else the later one.
 abbrev pub or_later : Option ℕ → Option ℕ → Option ℕ
 or_later None later = later
 or_later (Some needed) later = Some needed
 
--- how many records the first Join/Prune needed for which there was no room
+-- The number of records that the first Join/Prune message needed which had no room; none where each
+-- had room.
 unfoldable pub first_needed : List Telling → Option ℕ
 first_needed [] = None
 first_needed (told ∷ more) = or_later (needed_of told) (first_needed more)
 
 -- ---- the mirror
 
--- The course of the router over the Hellos, the deliveries and the way to its final moment leaves this state; and so
--- many records the first Join/Prune needed on it for which there was no room.
+-- The course of a new router over the Hellos, the deliveries and the final moment leaves the state
+-- `after`. `needed` is the number of records that the first message without room needed on it.
 pub record GoesThrough (family : AddressFamily) (messages : List (List ℕ)) (fresh : Fresh) (needed : Option ℕ)
     (after : RouterState) : Type 0 where
   pub hellos : List Packet
@@ -84,21 +93,24 @@ pub record GoesThrough (family : AddressFamily) (messages : List (List ℕ)) (fr
   pub course : IsCourse family (inputs_of family messages fresh hellos) told (new_router (setup_of fresh)) after
   pub needed_is : first_needed told ≡ needed
 
--- Ok is the state behind the course, on which each message had room; Full tells what the first needed that had none.
+-- The result of a mirror: Ok with the state after the course, on which each message had room;
+-- `Full` with the number that the first message without room needed; `Memory` says nothing.
 abbrev pub Mirrors : AddressFamily → List (List ℕ) → Fresh → Result RouterState MirrorFault → Type 0
 Mirrors family messages fresh (Ok router) = GoesThrough family messages fresh None router
 Mirrors family messages fresh (Err (fault.Full needed)) =
     (after : RouterState) × GoesThrough family messages fresh (Some needed) after
 Mirrors family messages fresh (Err fault.Memory) = Unit {0}
 
--- ---- what the private steps answer and leave
+-- ---- the results of private functions
 
--- the same of inputs on the way: Ok leaves the state behind them
+-- The result over inputs of a course: Ok leaves the state after them, and each message had room.
+-- `Full` gives what the first message without room needed, and says nothing of the state.
 abbrev pub IsPassed : List Telling → RouterState → RouterState → Result (Unit {0}) MirrorFault → Type 0
 IsPassed told after now (Ok done) = (first_needed told ≡ None) × (now ≡ after)
 IsPassed told after now (Err (fault.Full needed)) = first_needed told ≡ Some needed
 IsPassed told after now (Err fault.Memory) = Unit {0}
 
+-- The router gets these inputs, and `result` is the result over their course.
 pub record Passes (family : AddressFamily) (inputs : List Input) (old : RouterState)
     (result : Result (Unit {0}) MirrorFault) (now : RouterState) : Type 0 where
   pub told : List Telling
@@ -106,33 +118,36 @@ pub record Passes (family : AddressFamily) (inputs : List Input) (old : RouterSt
   pub course : IsCourse family inputs told old after
   pub passed : IsPassed told after now result
 
--- a neighbour's Hello, which was taken
+-- The router receives the Hello of a neighbour.
 pub record PassesHello (family : AddressFamily) (neighbour : Neighbour) (old now : RouterState) : Type 0 where
   pub packet : Packet
   pub is_hello : IsHelloOf family neighbour packet
   pub passes : Passes family (takes packet ∷ []) old (Ok tt) now
 
--- those of some neighbours, in order
+-- The router receives the Hellos of these neighbours, in order.
 pub record PassesHellos (family : AddressFamily) (of : List Neighbour) (old now : RouterState) : Type 0 where
   pub hellos : List Packet
   pub are_hellos : AreHellosOf family of hellos
   pub passes : Passes family (map (λ packet. takes packet) hellos) old (Ok tt) now
 
--- runs to the moment until nothing is due, none of which tells of a message
+-- The router runs up to the moment until nothing is due, and no report on the way is of a message
+-- without room.
 pub record HasReached (moment : ℕ) (old now : RouterState) : Type 0 where
   pub told : List Telling
   pub reaches : Reaches moment told old now
   pub none_needed : first_needed told ≡ None
 
--- a packet passed, or there was no room, or no memory
+-- The result after a verdict: `Full` where a number of records had no room, else Ok.
 abbrev pub outcome_if : Option ℕ → Result (Unit {0}) MirrorFault
 outcome_if None = Ok tt
 outcome_if (Some needed) = Err (fault.Full needed)
 
+-- The result after a call that receives a packet.
 abbrev pub outcome_of : {E : Type 0} → Result Verdict E → Result (Unit {0}) MirrorFault
 outcome_of (Ok told) = outcome_if (needed_by told)
 outcome_of (Err refused) = Err fault.Memory
 
+-- The step of a run is that nothing is due and the moment is reached.
 abbrev pub is_reached : {A : Type 0} → Step A → Bool
 is_reached Reached = true
 is_reached other = false

@@ -1,11 +1,11 @@
--- The words of the laws in `src/mirror_laws.rt`.
+-- The statements of the laws in `src/mirror_laws.rt`.
 use Rattle.std.specs.Prelude.{ℕ, ◌≤◌, List, length}
 use Rattle.std.specs.List.{AllByRecursion}
 use Rattle.pim_addr.specs.declared.family.AddressFamily.{AddressFamily}
 use Rattle.pim_form.specs.Messages.{Writing, IsWriting, Rps, HaveRps, AreCanonical}
 use Rattle.pim_form.specs.NormalForm.{GroupForm, IsNormal}
 
--- The canonical messages of a normal form are within their writer's budget.
+-- Each canonical message of a normal form has at most as many bytes as the writer's budget.
 abbrev pub CanonicalMessagesAreShort : Type 0
 CanonicalMessagesAreShort = (family : AddressFamily) (writing : Writing) (rps : Rps) (form : List GroupForm)
     (messages : List (List ℕ)) → IsWriting family writing → IsNormal family form → HaveRps family rps form →

@@ -1,42 +1,43 @@
-//! What a fresh router is made from, and what comes to it.
+//! A fresh router's configuration and the deliveries to it. The port is a slice, as in a router's
+//! configuration, so that the router can borrow it; `fits` tests that there is one port.
 
 use pim_addr::{Family, Routes};
 use pim_hello::Parameters;
 use pim_router::PortConfig;
 
-/// Another neighbour on the fresh router's port, beside the sender.
+/// A neighbour on the fresh router's port beside the sender.
 #[derive(Clone, Copy, Debug, PartialEq, Eq)]
 pub struct OtherNeighbour<A> {
-    /// The address from which its Hello comes.
+    /// The source address of its Hello.
     pub address: A,
-    /// What its Hello says, which has no Address List.
+    /// The parameters of its Hello. There is no Address List, since a router keeps none.
     pub hello: Parameters,
 }
 
-/// A message that comes to the fresh router.
+/// One delivery of a message to the fresh router.
 #[derive(Clone, Copy, Debug, PartialEq, Eq)]
 pub struct Delivery {
-    /// Which message it is, numbered from 0.
+    /// The number of the message, from 0.
     pub message: usize,
-    /// When it comes, in milliseconds since the router began.
+    /// The time since the router began, in milliseconds.
     pub moment: u64,
 }
 
-/// A fresh router and what comes to it. The sender and the other neighbours are heard at the moment 0, then the
-/// sender's messages come.
+/// A fresh router and what comes to it: at the moment 0 the Hellos of the sender and of the other
+/// neighbours, then the sender's messages.
 #[derive(Drop)]
 pub struct FreshConfig<'a, F: Family> {
-    /// The router's port, one alone: its address, to which the messages are directed, and its own delays.
+    /// The router's only port: the address to which the messages are directed, and its own delays.
     pub ports: &'a [PortConfig<F::Addr>],
-    /// The router's route table, which has to be the sender's.
+    /// The router's route table, which is to equal the sender's.
     pub routes: &'a Routes<F>,
-    /// How many records the port may have: 1 to 100,000.
+    /// The most records that the port may hold: 1 to 100,000.
     pub limit: usize,
-    /// The address from which the messages come.
+    /// The source address of the messages.
     pub sender: F::Addr,
     /// The other neighbours on the port, at most 1,023.
     pub others: &'a [OtherNeighbour<F::Addr>],
-    /// Which message comes when, in the order in which they come: in any order of their numbers, and as often as one
-    /// likes.
+    /// The deliveries in order of their moments. Each message may come more than once, in any order
+    /// of their numbers.
     pub deliveries: &'a [Delivery],
 }

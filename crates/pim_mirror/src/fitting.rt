@@ -1,4 +1,6 @@
-//! When a fresh router mirrors its sender.
+//! The test whether a fresh router and its deliveries meet the conditions of `Fits`. It goes over
+//! the deliveries once for each message, since it can remember neither without memory. A time that
+//! ends exactly at the final moment is too short, and so is a holdtime of 0.
 
 ghost use Rattle.std.specs.Prelude.{◌≡◌, ◌<◌, ◌≤◌, ◌^◌, ◌↔◌, ◌&&◌, ◌==◌, ℕ, true, IsTrue, nat_le, nat_lt, not, length};
 ghost use Rattle.std.specs.Prelude.{map, None, nat_eq};
@@ -19,13 +21,13 @@ use pim_router::PortConfig;
 /// The greatest propagation delay, in milliseconds: 15 bits (RFC 7761, 4.9.2).
 const MOST_PROPAGATION: u16 = 32_767;
 
-/// How many records the port may have at most.
+/// The greatest limit of records for the port.
 const RECORD_LIMIT: usize = 100_000;
 
-/// How many neighbours the port has at most beside the sender.
+/// The greatest number of neighbours beside the sender.
 const OTHERS_LIMIT: usize = 1_023;
 
-/// The last moment at which a message may come, in milliseconds.
+/// The latest moment of a delivery, in milliseconds.
 const LATEST_MOMENT: u64 = 100_000_000_000_000;
 
 /// Whether the messages are for the router's port.
@@ -56,14 +58,14 @@ fn is_limit_in_range(limit: usize) -> bool
     1 <= limit && limit <= RECORD_LIMIT
 }
 
-/// Whether one of them has this address.
+/// Whether one of the neighbours has this address.
 fn has_address<F: Family>(others: &[OtherNeighbour<F::Addr>], address: F::Addr) -> bool
     ensures { result ≡ list_any (λ other. pointwise nat_eq (F.bytes_of address) (F.bytes_of other.address)) others.now }
 {
     others.iter().any(|other| address == other.address)
 }
 
-/// Whether no two of them have one address.
+/// Whether no two of the neighbours have the same address.
 #[tactic(auto, unfolding(crate::specs::Tests::are_different))]
 fn are_different<F: Family>(others: &[OtherNeighbour<F::Addr>]) -> bool
     ensures { result ≡ are_different (map (λ other. F.bytes_of other.address) others.now) }
@@ -78,7 +80,7 @@ fn are_different<F: Family>(others: &[OtherNeighbour<F::Addr>]) -> bool
     true
 }
 
-/// How long a Hello keeps its sender, in milliseconds; none where it is for ever.
+/// How long a Hello keeps its sender, in milliseconds; none is without end (RFC 7761, 4.3.2).
 fn lifetime(holdtime: Option<u16>) -> Option<u64>
     ensures { result ≡ lifetime holdtime }
 {
@@ -89,7 +91,8 @@ fn lifetime(holdtime: Option<u16>) -> Option<u64>
     }
 }
 
-/// How long a message's records last, in milliseconds; none where it is for ever.
+/// How long the records of a message last, in milliseconds, by its holdtime in seconds; none is
+/// without end (RFC 7761, 4.9.5).
 fn expiry_of(holdtime: u16) -> Option<u64>
     ensures { result ≡ expiry_of holdtime }
 {
@@ -99,7 +102,7 @@ fn expiry_of(holdtime: u16) -> Option<u64>
     Some(u64::from(holdtime) * 1_000)
 }
 
-/// Whether so many milliseconds are less than this time.
+/// Whether `passed` milliseconds are less than this time; none is without end.
 fn is_shorter(passed: u64, time: Option<u64>) -> bool
     ensures { result ≡ is_shorter passed time }
 {
@@ -109,7 +112,7 @@ fn is_shorter(passed: u64, time: Option<u64>) -> bool
     }
 }
 
-/// Whether each of them has time left at the end.
+/// Whether each of the neighbours has time left at the end.
 fn stay_until<A>(others: &[OtherNeighbour<A>], end: u64) -> bool
     ensures { result ≡ list_all (λ other. is_shorter end (lifetime other.hello.holdtime)) others.now }
 {
@@ -118,7 +121,7 @@ fn stay_until<A>(others: &[OtherNeighbour<A>], end: u64) -> bool
         .all(|other| is_shorter(end, lifetime(other.hello.holdtime)))
 }
 
-/// Whether each delivery is one of a message with a number below `count`.
+/// Whether each delivery is of a message with a number below `count`.
 fn are_named(deliveries: &[Delivery], count: usize) -> bool
     ensures { result ≡ list_all (λ delivery. nat_lt delivery.message count) deliveries.now }
 {
@@ -162,7 +165,7 @@ fn are_in_order(deliveries: &[Delivery], end: u64) -> bool
     previous <= end
 }
 
-/// Whether a message that came last at this moment, if it came at all, isn't missed at another one.
+/// Whether a message that came last at `last`, if it came at all, hasn't expired at a moment.
 fn is_alive(last: Option<u64>, moment: u64, expiry: Option<u64>) -> bool
     ensures { result ≡ is_alive expiry moment last }
 {
@@ -172,7 +175,7 @@ fn is_alive(last: Option<u64>, moment: u64, expiry: Option<u64>) -> bool
     }
 }
 
-/// When a message came last, this delivery included.
+/// The moment at which a message came last, this delivery included.
 fn last_with(message: usize, last: Option<u64>, delivery: Delivery) -> Option<u64>
     ensures { result ≡ last_with message last (delivery_seen delivery) }
 {
@@ -183,7 +186,7 @@ fn last_with(message: usize, last: Option<u64>, delivery: Delivery) -> Option<u6
     }
 }
 
-/// Whether a message isn't missed at any delivery, nor at the end.
+/// Whether a message hasn't expired at any delivery, nor at the end.
 #[tactic(auto, unfolding(crate::specs::Tests::is_kept))]
 fn is_kept(message: usize, deliveries: &[Delivery], expiry: Option<u64>, end: u64) -> bool
     ensures { result ≡ is_kept expiry end message None (map delivery_seen deliveries.now) }
@@ -198,7 +201,7 @@ fn is_kept(message: usize, deliveries: &[Delivery], expiry: Option<u64>, end: u6
     is_alive(last, end, expiry)
 }
 
-/// Whether no message with a number below `count` is missed.
+/// Whether no message with a number below `count` expires.
 fn each_is_kept(count: usize, deliveries: &[Delivery], expiry: Option<u64>, end: u64) -> bool
     ensures { IsTrue result ↔ ((message : ℕ) → message < count →
         is_kept expiry end message None (map delivery_seen deliveries.now) ≡ true) }
@@ -211,7 +214,7 @@ fn each_is_kept(count: usize, deliveries: &[Delivery], expiry: Option<u64>, end:
     true
 }
 
-/// Whether the messages are for the router and it has the sender's table, and whether it can be made.
+/// Whether the messages are for the router, it has the sender's table, and it can be made.
 fn router_fits<F: Family>(
     writer: &Writer<F>,
     routes: &Routes<F>,
@@ -238,7 +241,7 @@ fn router_fits<F: Family>(
     is_limit_in_range(fresh.limit)
 }
 
-/// Whether the other neighbours are others, and few enough.
+/// Whether the other neighbours have addresses of their own, and there are few enough.
 fn others_fit<F: Family>(fresh: &FreshConfig<'_, F>) -> bool
     requires { length fresh.now.ports.now ≡ 1 }
     ensures { IsTrue result ↔ OthersFit (fresh_seen F.bytes_of fresh.now) }
@@ -255,7 +258,8 @@ fn others_fit<F: Family>(fresh: &FreshConfig<'_, F>) -> bool
     !has_address::<F>(fresh.others, fresh.sender)
 }
 
-/// Whether the deliveries are those of so many messages, and none is too late.
+/// Whether each delivery is of one of `count` messages, each message is delivered, and no delivery
+/// is too late.
 fn deliveries_fit<F: Family>(count: usize, fresh: &FreshConfig<'_, F>) -> bool
     ensures { IsTrue result ↔ DeliveriesFit count (fresh_seen F.bytes_of fresh.now) }
 {
@@ -268,7 +272,7 @@ fn deliveries_fit<F: Family>(count: usize, fresh: &FreshConfig<'_, F>) -> bool
     are_early(fresh.deliveries)
 }
 
-/// Whether nothing ends too soon: no neighbour's time by the end, and no record's before its message comes again.
+/// Whether no neighbour's time is over by the end, and no message expires.
 fn times_fit<F: Family>(count: usize, holdtime: u16, fresh: &FreshConfig<'_, F>) -> bool
     requires one_port { length fresh.now.ports.now ≡ 1 }
     requires deliveries { DeliveriesFit count (fresh_seen F.bytes_of fresh.now) }
@@ -284,11 +288,12 @@ fn times_fit<F: Family>(count: usize, holdtime: u16, fresh: &FreshConfig<'_, F>)
     each_is_kept(count, fresh.deliveries, expiry_of(holdtime), end)
 }
 
-/// Whether a fresh router mirrors its sender, whose messages are those of this writer under this table, where these are
-/// canonical.
+/// Whether the fresh router, its neighbours and its deliveries meet the conditions of `Fits`, for
+/// messages of this writer under this table. It tests neither that the messages are canonical nor
+/// that there is room for their records.
 ///
-/// It takes no memory. The time grows at most with the number of messages times that of deliveries, and with the square
-/// of the number of other neighbours where there are no more than 1,023.
+/// It takes no memory. The time grows with the number of messages times that of deliveries, and
+/// with the square of the number of other neighbours up to 1,023.
 pub fn fits<F: Family>(
     messages: &Messages,
     writer: &Writer<F>,

@@ -1,4 +1,4 @@
-//! A fresh router's port, its override interval, and the moment at which it ends.
+//! The port of a fresh router, its override interval, and its final moment.
 
 ghost use Rattle.std.specs.Prelude.{◌≡◌, ◌≤◌, ◌^◌, ◌+◌, ◌==◌, length, map, reverse, if◌then◌else◌};
 ghost use Rattle.std.specs.List.{list_any};
@@ -11,7 +11,7 @@ use crate::config::{Delivery, FreshConfig};
 use pim_addr::Family;
 use pim_router::PortConfig;
 
-/// The override interval where a neighbour doesn't tell its delays, in milliseconds (RFC 7761, 4.11).
+/// J/P_Override_Interval(I) where lan_delay_enabled(I) is false, in milliseconds (RFC 7761, 4.3.3).
 const DEFAULT_OVERRIDE_INTERVAL: u64 = 3_000;
 
 impl<'a, F: Family> FreshConfig<'a, F> {
@@ -27,7 +27,7 @@ impl<'a, F: Family> FreshConfig<'a, F> {
     }
 }
 
-/// Whether this message is among these, looked for from the newest on.
+/// Whether one of these deliveries is of this message. It starts at the newest one.
 pub(crate) fn is_delivered(message: usize, deliveries: &[Delivery]) -> bool
     ensures { result ≡ list_any (λ delivery. delivery.message == message) deliveries.now }
 {
@@ -37,7 +37,8 @@ pub(crate) fn is_delivered(message: usize, deliveries: &[Delivery]) -> bool
         .any(|delivery| delivery.message == message)
 }
 
-/// The override interval of the router's port, in milliseconds: at most 98,302 where its own delay is in range.
+/// The override interval of the router's port, J/P_Override_Interval(I), in milliseconds (RFC 7761,
+/// 4.3.3).
 #[tactic(auto, using(crate::proofs::Intervals::with_sender))]
 pub(crate) fn interval_of<F: Family>(fresh: &FreshConfig<'_, F>) -> u64
     requires { length fresh.now.ports.now ≡ 1 }
@@ -56,8 +57,8 @@ pub(crate) fn interval_of<F: Family>(fresh: &FreshConfig<'_, F>) -> u64
     u64::from(propagation) + u64::from(override_ms)
 }
 
-/// When the prunes of a delivery behind these have acted, in milliseconds: where its message is new, when the override
-/// interval has passed.
+/// When the prunes of a delivery after the `earlier` ones have acted, in milliseconds: a new
+/// message's after the override interval.
 fn settled_at(delivery: Delivery, earlier: &[Delivery], interval: u64) -> u64
     requires early { delivery.moment ≤ 10 ^ 14 }
     requires interval { interval ≤ 131070 }
@@ -71,7 +72,7 @@ fn settled_at(delivery: Delivery, earlier: &[Delivery], interval: u64) -> u64
     delivery.moment + interval
 }
 
-/// The moment at which a router with this override interval ends.
+/// The final moment of a router with this override interval, in milliseconds.
 fn final_moment(deliveries: &[Delivery], interval: u64) -> u64
     requires early { AreEarly (map delivery_seen deliveries.now) }
     requires interval { interval ≤ 131070 }
@@ -87,7 +88,7 @@ fn final_moment(deliveries: &[Delivery], interval: u64) -> u64
     latest
 }
 
-/// The moment at which the router ends, in milliseconds.
+/// The final moment of the router, in milliseconds.
 pub(crate) fn end_of<F: Family>(fresh: &FreshConfig<'_, F>) -> u64
     requires one_port { length fresh.now.ports.now ≡ 1 }
     requires early { AreEarly (fresh_seen F.bytes_of fresh.now).deliveries }

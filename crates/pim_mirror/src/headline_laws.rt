@@ -1,4 +1,10 @@
-//! The headline, and the laws that carry its timed half. Nothing here is to be called.
+//! The headline, and the laws of its fresh router. These functions do nothing.
+//!
+//! The headline is a law over the definitions, since its first part is of two states; `mirror` has
+//! its last part as a clause. It says nothing of states without canonical messages, of traffic
+//! without a route, or of refused memory. Room is the premise that no message is `Full` on the
+//! course, and `room_is_for_the_units` says when that is so. The other neighbours need to stay only
+//! until the final moment, since the router hears nothing after it that depends on their delays.
 
 ghost use Rattle.pim_mirror.specs.Headline.{NormalisingTwiceIsOnce, FreshRouterMirrors, FreshRouterTellsNoEcho};
 ghost use Rattle.pim_mirror.specs.Headline.{RoomIsForTheUnits, FreshRouterIsThere, FreshRouterKnowsTheWriter};
@@ -17,9 +23,10 @@ pub fn normalising_twice_is_once()
     pim_form::one_normal_form();
 }
 
-/// On the course of a new router over the Hellos of its neighbours and a sender's canonical messages, some message has
-/// no room exactly where the entries of all messages together pass the limit of records; the first such message needs
-/// as many records as the different messages have units up to it. The caller's conditions are those of `fits`.
+/// A new router goes its course over the Hellos of its neighbours and a sender's canonical
+/// messages, and the conditions of `Fits` hold. Some message has no room exactly where the entries
+/// of all messages together pass the limit of records. The first such message needs as many records
+/// as the different messages have units up to it.
 pub fn room_is_for_the_units()
     ensures { RoomIsForTheUnits }
 {
@@ -30,12 +37,15 @@ pub fn room_is_for_the_units()
     course_hears_all();
 }
 
-/// A new router that hears the Hellos of its neighbours, and then a sender's canonical messages alone, each at least
-/// once, in any order and however often, holds exactly the machines of the form that they tell, at every moment from
-/// its final one on and until the first of its records ends: (\*,G) of each star and (S,G) of each source in Join,
-/// (S,G,rpt) of each exception in Prune; left is the holdtime less the time since the message came last, and no
-/// prune-pending timer runs. It wants exactly what the form wants, and asks for it again by the same messages; no echo
-/// is told. The caller's conditions are those of `fits`, and each message has room.
+/// A new router receives the Hellos of its neighbours, and then a sender's canonical messages
+/// alone. Each comes at least once, in any order and however often. The conditions of `Fits` hold,
+/// and each message has room.
+///
+/// From its final moment until the first of its records expires it holds exactly the machines of
+/// the form. (*,G) of each star and (S,G) of each source are in Join, (S,G,rpt) of each exception
+/// is in Prune. Each Expiry Timer has the holdtime less the time since the message came last, and
+/// no Prune-Pending Timer runs. The router wants exactly what the form wants, and asks for it again
+/// by the same messages. From its final moment on it reports no PruneEcho.
 pub fn fresh_router_mirrors()
     ensures { FreshRouterMirrors }
 {
@@ -50,7 +60,8 @@ pub fn fresh_router_mirrors()
     pim_fresh::span_is_of_its_message();
 }
 
-/// Up to its final moment such a router tells no echo either: these messages prune no star and no source.
+/// Up to its final moment such a router reports no PruneEcho either: these messages prune no star
+/// and no source.
 pub fn fresh_router_tells_no_echo()
     ensures { FreshRouterTellsNoEcho }
 {
@@ -67,8 +78,9 @@ pub fn fresh_router_tells_no_echo()
     pim_down::run_has_one_end();
 }
 
-/// At its final moment such a router knows the writer on its one port, with the timing that its neighbours' Hellos
-/// tell; by any later moment up to which the other neighbours stay, the time of none of its neighbours is over.
+/// At its final moment such a router knows the writer on its only port, with the override interval
+/// of its neighbours' Hellos. No neighbour's time is over at any later moment up to which the other
+/// neighbours stay.
 pub fn fresh_router_knows_the_writer()
     ensures { FreshRouterKnowsTheWriter }
 {
@@ -82,8 +94,9 @@ pub fn fresh_router_knows_the_writer()
     pim_down::run_keeps_its_bounds();
 }
 
-/// Where the caller's conditions are met and there is room for the entries of all messages, there is such a router; its
-/// final moment is one of the window, at which it stands, and it goes on to every later one.
+/// Where the conditions of `Fits` hold and there is room for the entries of all messages, there is
+/// such a router. Its final moment is in the window, it is at that moment, and it runs on to every
+/// later one.
 pub fn fresh_router_is_there()
     ensures { FreshRouterIsThere }
 {
@@ -93,11 +106,12 @@ pub fn fresh_router_is_there()
     pim_router::run_goes_on();
 }
 
-/// What `mirror` answers where its messages are the canonical ones of a state by the writer under the table. An Ok
-/// router had room for the entries of all messages, and no echo was told on its course; it stands where the window
-/// begins, and it mirrors the form there and at every moment of the window to which it goes on; it knows the writer as
-/// long as the other neighbours stay. `Full` comes where the entries of all messages pass the limit, and tells as many
-/// records as the different messages have units up to the first delivery at which these do.
+/// The meaning of a result of `mirror` where its messages are the canonical ones of a state. An Ok
+/// router had room for the entries of all messages, and no PruneEcho was reported on its course. It
+/// mirrors the form at its final moment, which is in the window, and at every moment of the window
+/// to which it runs on. It knows the writer as long as the other neighbours stay. `Full` says that
+/// the entries of all messages pass the limit. Its number is that of the units of the different
+/// messages up to the first delivery at which they do.
 pub fn mirror_answers_for_the_form()
     ensures { MirrorAnswersForTheForm }
 {
@@ -110,10 +124,15 @@ pub fn mirror_answers_for_the_form()
     pim_router::run_goes_on();
 }
 
-/// The headline. Two downstream states under one route table want the same traffic of an upstream neighbour, for every
-/// source, group and tree, exactly if their canonical Join/Prune messages to it are byte-equal; normalising twice is
-/// once; and a fresh router that hears these messages alone, in any order and however often, wants exactly that traffic
-/// from the end of its prune-pending times until the first expiry, and writes the same bytes.
+/// The headline. Two downstream states under one route table want the same traffic of an upstream
+/// neighbour exactly if their canonical Join/Prune messages to it are byte-equal. The traffic is
+/// that of every source, group and tree.
+///
+/// Normalizing twice is once.
+///
+/// A fresh router hears these messages alone, in any order and however often. From the end of its
+/// prune-pending times until the first expiry it wants exactly that traffic and writes the same
+/// bytes.
 pub fn headline()
     ensures { Headline }
 {

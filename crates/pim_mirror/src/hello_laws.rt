@@ -1,9 +1,9 @@
-//! What a fresh router knows behind the Hellos of its neighbours. Nothing here is to be called.
+//! Laws of the Hellos of a fresh router's neighbours. These functions do nothing.
 
 ghost use Rattle.pim_mirror.specs.HelloLaws.{WrittenHellosAreRead, HellosAreHeard};
 
-/// Hellos that are written canonically and sealed for ALL-PIM-ROUTERS open without a fault, and are read without one as
-/// what their senders say (RFC 7761, 4.9 and 4.9.2).
+/// Hellos that are written canonically and sealed for ALL-PIM-ROUTERS are opened and read without a
+/// fault, as their senders' parameters (RFC 7761, 4.9 and 4.9.2).
 pub fn written_hellos_are_read()
     ensures { WrittenHellosAreRead }
 {
@@ -11,9 +11,10 @@ pub fn written_hellos_are_read()
     pim_hello::reads_back();
 }
 
-/// A new router of one port that hears, at the moment 0, the Hello of its sender and those of its other neighbours,
-/// holds no records and knows the sender; its override interval is the greatest of its own delays and theirs, and none
-/// of its neighbours' times is over by the final moment, where the caller's conditions are met.
+/// A new router of one port receives the Hellos of its sender and of its other neighbours at the
+/// moment 0. Where the conditions of `Fits` hold, it then holds no records and knows the sender.
+/// Its override interval is that of its own delays and theirs. No neighbour's time is over at any
+/// moment up to which the others stay.
 pub fn hellos_are_heard()
     ensures { HellosAreHeard }
 {}

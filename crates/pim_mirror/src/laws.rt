@@ -1,4 +1,4 @@
-//! What the definitions say together. Nothing here is to be called.
+//! Laws of canonical messages and of a router that hears them. These functions do nothing.
 
 ghost use Rattle.pim_mirror.specs.Laws.{PartIsAsking, CanonicalMessagesTellParts, PartsTellUnitsOnce, MessagesAreRead};
 ghost use Rattle.pim_mirror.specs.Laws.{CanonicalMessagesTellForm, AskedStarsHaveRps, HeardMessagesAreAskedAgain};
@@ -6,35 +6,38 @@ ghost use Rattle.pim_mirror.specs.Laws.{CanonicalPacketIsHeard, RouterLeavesItsP
 ghost use Rattle.pim_mirror.specs.Laws.{WriterStaysHeard, CourseHearsAll, RouterAsksAgain};
 ghost use Rattle.pim_mirror.specs.Laws.{ReadPacketIsHeard, RouterRunsAsItsMachines};
 
-/// The message of a part of a form whose groups, sources and exceptions are each in strictly ascending order, and whose
-/// stars have RPs, asks for traffic: so it tells units (RFC 7761, 4.9.5).
+/// The message of a part of a form asks for traffic, so it announces units (RFC 7761, 4.9.5). The
+/// part's groups, sources and exceptions are each in strictly ascending order, and its stars have
+/// RPs.
 pub fn part_asks()
     ensures { PartIsAsking }
 {}
 
-/// The canonical messages of a normal form tell its parts, one each: these are normal forms, whose stars have RPs, and
-/// each fits its message. Their units, one part after the other, are those of the form.
+/// The canonical messages of a normal form announce its parts, one each. These are normal forms
+/// whose stars have RPs, and each fits its message. Their units, in order, are those of the form.
 pub fn canonical_messages_tell_parts()
     ensures { CanonicalMessagesTellParts }
 {}
 
-/// The messages of the parts of a normal form tell units, no machine is named by two of them, and the machines that
-/// they name are exactly those of the form: (\*,G) of each star, (S,G,rpt) of each exception, (S,G) of each source.
+/// The messages of the parts of a normal form announce units, and no machine is named by two of
+/// them. The machines that they name are exactly those of the form: (*,G) of each star, (S,G,rpt)
+/// of each exception, (S,G) of each source.
 pub fn parts_tell_units_once()
     ensures { PartsTellUnitsOnce }
 {
     pim_fresh::asking_tells_units();
 }
 
-/// The bytes of the messages open without a fault, and are read without one as the messages of the parts (RFC 7761, 4.9
-/// and 4.9.5).
+/// The bytes of the messages are opened and read without a fault, as the messages of the parts (RFC
+/// 7761, 4.9 and 4.9.5).
 pub fn messages_are_read()
     ensures { MessagesAreRead }
 {
     pim_form::sealed_message_is_read();
 }
 
-/// What is read of the bytes of the canonical messages of a normal form tells its units, each machine once.
+/// What is read from the canonical messages of a normal form announces its units, and each machine
+/// is named in one message.
 pub fn canonical_messages_tell_form()
     ensures { CanonicalMessagesTellForm }
 {
@@ -43,17 +46,18 @@ pub fn canonical_messages_tell_form()
     messages_are_read();
 }
 
-/// In the normal form of what is asked of a neighbour each star has an RP by the route table, and it is a valid source.
+/// In the normal form of what is asked of a neighbour each star has an RP by the route table. The
+/// RP is a valid source.
 pub fn asked_stars_have_rps()
     ensures { AskedStarsHaveRps }
 {
     pim_form::test_tells_who_is_asked();
 }
 
-/// A fresh port of one router that heard all the canonical messages of what is asked of a neighbour, in any order and
-/// however often each, wants exactly what the form wants at every moment from the final one of the deliveries on, while
-/// no message is missed for its holdtime: under the same route table the form is again the one normal form of what is
-/// asked of the neighbour, and its canonical messages are again these.
+/// A fresh router's port heard all canonical messages of what is asked of a neighbour, in any order
+/// and however often each. It wants exactly what the form wants, at every moment from the final one
+/// of the deliveries on, while no message expires. Under the same route table the form is again the
+/// only normal form of what it asks of the neighbour. Its canonical messages are again these.
 pub fn heard_messages_are_asked_again()
     ensures { HeardMessagesAreAskedAgain }
 {
@@ -65,17 +69,18 @@ pub fn heard_messages_are_asked_again()
     pim_form::one_list_of_messages();
 }
 
-/// A packet that the writer sends to ALL-PIM-ROUTERS, and whose bytes are opened and read without a fault as a message
-/// (RFC 7761, 4.9 and 4.9.5), is heard by a router that knows the writer and is the neighbour to which it is written.
-/// It is applied where there is room for its records, and is else Full, with the number that is needed. No other cause
-/// refuses it.
+/// The writer sends a packet to ALL-PIM-ROUTERS whose bytes are opened and read without a fault as
+/// a message (RFC 7761, 4.9 and 4.9.5). It comes to a router that knows the writer and is the
+/// neighbour to which it is written. The router applies it where there is room for its records.
+/// Else it is `Full` with the number that it needs. No other cause refuses it.
 pub fn read_packet_is_heard()
     ensures { ReadPacketIsHeard }
 {}
 
-/// The packet of a canonical message, sent by the writer to ALL-PIM-ROUTERS, is heard by a router that knows the writer
-/// and is the neighbour to which it is written. It is applied as the definition of the exchange says where there is
-/// room for its records, and is else Full, with the number that is needed. No other cause refuses it.
+/// The writer sends the packet of a canonical message to ALL-PIM-ROUTERS. It comes to a router that
+/// knows the writer and is the neighbour to which it is written. The router applies it as the
+/// exchange says where there is room for its records. Else it is `Full` with the number that it
+/// needs. No other cause refuses it.
 pub fn canonical_packet_is_heard()
     ensures { CanonicalPacketIsHeard }
 {
@@ -84,16 +89,16 @@ pub fn canonical_packet_is_heard()
     read_packet_is_heard();
 }
 
-/// The runs of a router to a moment, through echoes and refreshes, are for its machines their own runs to that moment,
-/// through the same echoes: refreshes and neighbours whose time is over change nothing of them. Its route table and its
-/// ports stay as they are.
+/// The runs of a router to a moment, through echoes and refreshes, are runs of its machines to that
+/// moment. Refreshes and neighbours whose time is over change nothing of them. Its route table and
+/// its ports stay.
 pub fn router_runs_as_its_machines()
     ensures { RouterRunsAsItsMachines }
 {}
 
-/// A router of one port that holds no records and hears deliveries of the canonical messages, to each of which it runs
-/// until nothing is due, and whose limit the units of the different messages don't pass, leaves the machines of a fresh
-/// port that hears them: its refreshes, its neighbours and their time change nothing of it, and no echo is told.
+/// A router of one port that holds no records hears deliveries of the canonical messages. The units
+/// of the different messages are within its limit. It leaves the machines of a fresh port that
+/// hears them: its refreshes, its neighbours and their time change nothing of that.
 pub fn router_leaves_its_port()
     ensures { RouterLeavesItsPort }
 {
@@ -106,8 +111,8 @@ pub fn router_leaves_its_port()
     pim_down::run_has_one_end();
 }
 
-/// The packet of one more delivery is applied where the units of the different messages up to it are within the limit,
-/// and is else Full, with how many these are.
+/// The packet of one more delivery is applied where the units of the different messages up to it
+/// are within the limit. Else it is `Full` with their number.
 pub fn delivery_is_taken()
     ensures { DeliveryIsTaken }
 {
@@ -118,15 +123,16 @@ pub fn delivery_is_taken()
     pim_down::run_keeps_its_bounds();
 }
 
-/// A router that knows the writer, as its upstream neighbour, knows it still behind runs to a moment by which none of
-/// its neighbours' times is over, with the same override interval, and as many neighbours.
+/// A router that knows the writer, as its upstream neighbour, knows it still after runs to a moment
+/// by which no neighbour's time is over. The override interval is the same, and so is whether the
+/// port has several neighbours.
 pub fn writer_stays_heard()
     ensures { WriterStaysHeard }
 {}
 
-/// The course of a router that is given the moments and the packets of deliveries, the oldest first, and then a moment,
-/// is a hearing of all of them: it knows the writer at each, as it does at first, since none of its neighbours' times
-/// is over by the last moment, and each packet is applied.
+/// A router gets the moments and the packets of deliveries, the oldest first, and then a moment.
+/// Its course hears all of them: each packet is applied, and it knows the writer as at first, since
+/// no neighbour's time is over by the last moment.
 pub fn course_hears_all()
     ensures { CourseHearsAll }
 {
@@ -134,9 +140,10 @@ pub fn course_hears_all()
     writer_stays_heard();
 }
 
-/// A router of one port that knows the writer, holds no records, and hears the packets of its canonical messages alone,
-/// each at least once, in any order and however often, asks again for exactly what they ask for, by the same messages,
-/// at every moment from the final one of the deliveries on, while no message is missed for its holdtime.
+/// A router of one port that knows the writer and holds no records receives the packets of its
+/// canonical messages alone. Each comes at least once, in any order and however often, and there is
+/// room for their units. From the final moment of the deliveries on it asks again for exactly what
+/// they ask for, by the same messages, while no message expires.
 pub fn router_asks_again()
     ensures { RouterAsksAgain }
 {

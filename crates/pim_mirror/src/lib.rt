@@ -1,18 +1,23 @@
-//! The mirror: a fresh router that hears canonical messages alone.
+//! The mirror: a fresh router that hears canonical messages alone and then asks for the same by the
+//! same messages.
 //!
-//! Proved, over the definitions of the crates below: the canonical messages of a normal form tell parts of it, each a
-//! normal form that fits its message. They are read back as these parts, tell units, and name each machine of the form
-//! once and no other. A router of one port that knows the writer, holds no records and hears all their packets, in any
-//! order and however often, applies each where there is room, and asks again for exactly what the form asks for, by the
-//! same messages, from the final moment of the deliveries on and while no message is missed for its holdtime.
+//! `fits` returns whether the conditions of the record `Fits` hold: on the router, its neighbours,
+//! and the deliveries and their times. It says nothing of room for the records. It takes no memory.
 //!
-//! A new router that has heard the Hellos of its neighbours is such a router. The law `headline` says all of it: what
-//! two states want, their messages, and a fresh router that hears them alone.
+//! `mirror` returns the router at its final moment, or `Full`, or `Memory`. The caller has tested
+//! `fits`, and each message has fewer than 2^32 bytes; `are_short` tests this, and canonical
+//! messages are within their budget. Where the messages are a state's canonical ones, an Ok router
+//! mirrors their form from then until the first expiry. `Full` then says that the entries of all
+//! messages together pass the limit of records.
 //!
-//! `fits` is exactly its conditions, under which a fresh router mirrors the sender of its messages. `mirror` answers
-//! that router, as it is at its final moment: the state behind the course of a new router over the Hellos of its
-//! neighbours, the deliveries and the way to that moment. `Full` tells what the first message needed that had no room.
-//! `hear_deliveries` lets a router of one port hear deliveries and go on, as the mirror that goes on behind its end.
+//! `hear_deliveries` lets a router of one port hear deliveries of such messages and go on to a last
+//! moment. Deliveries come by 10^14 ms, the last moment by 10^15 ms. Ok leaves the state after that
+//! course, on which each message had room. The router's ports stay in any case.
+//!
+//! Laws: the canonical messages of a normal form are read as parts of it and name each of its
+//! machines once. A router that knows the writer applies their packets where there is room. The law
+//! `headline` joins what two states want, their messages, and a fresh router that hears the
+//! messages of one of them.
 #![tactic(auto)]
 
 mod config;

@@ -1,4 +1,4 @@
-//! A fresh router that has met its neighbours: their Hellos come at the moment 0.
+//! A fresh router that has received the Hellos of its neighbours at the moment 0 (RFC 7761, 4.3.1).
 
 ghost use Rattle.std.specs.Prelude.{◌≡◌, ◌<◌, ◌≤◌, ◌^◌, ◌+◌, [], length, map};
 ghost use Rattle.std.specs.Result.{OnOk, IfOk};
@@ -19,10 +19,10 @@ use pim_hello::{Addresses, Hello, LanDelay, Parameters};
 use pim_router::{Config, Router, course_goes_on, every_list_has_a_course};
 use std::alloc::{AllocError, Global};
 
-/// How many bytes a Hello without an Address List has at most, its header included.
+/// The greatest length of a Hello without an Address List, in bytes, header included.
 const LONGEST_HELLO: usize = 36;
 
-/// A Hello that says this, without an Address List.
+/// A Hello with these parameters and without an Address List.
 fn hello_of<F: Family>(said: Parameters) -> Hello<'static, F>
     ensures { hello_seen F.family result ≡ record { parameters = parameters_seen said; addresses = [] } }
 {
@@ -35,7 +35,7 @@ fn hello_of<F: Family>(said: Parameters) -> Hello<'static, F>
     }
 }
 
-/// How many bytes a Hello without an Address List has with its header.
+/// The length of a Hello without an Address List, in bytes, header included.
 #[tactic(auto, using(crate::proofs::Hellos::hello_is_short))]
 fn size_of_hello<F: Family>(hello: &Hello<'_, F>) -> usize
     requires { (hello_seen F.family hello.now).addresses ≡ [] }
@@ -45,7 +45,7 @@ fn size_of_hello<F: Family>(hello: &Hello<'_, F>) -> usize
     4 + hello.length()
 }
 
-/// Writes a Hello that comes from this address, sealed for ALL-PIM-ROUTERS.
+/// Writes a Hello from this address, sealed for ALL-PIM-ROUTERS.
 fn put_hello<F: Family>(address: F::Addr, hello: &Hello<'_, F>, frame: &mut [u8])
     requires size { length frame.old ≡ 4 + length (spelling_of F.family (hello_seen F.family hello.now)) }
     requires short { length frame.old ≤ 36 }
@@ -59,7 +59,7 @@ fn put_hello<F: Family>(address: F::Addr, hello: &Hello<'_, F>, frame: &mut [u8]
     seal::<F>(address, all_routers::<F>(), MessageType::Hello, frame);
 }
 
-/// Lets the router take the Hello of a neighbour.
+/// Lets the router receive the Hello of a neighbour.
 fn meet<F: Family>(
     router: &mut Router<'_, F>,
     neighbour: OtherNeighbour<F::Addr>,
@@ -78,7 +78,7 @@ fn meet<F: Family>(
     Ok(())
 }
 
-/// Lets the router take the Hellos of the other neighbours.
+/// Lets the router receive the Hellos of the other neighbours.
 fn meet_others<F: Family>(
     router: &mut Router<'_, F>,
     others: &[OtherNeighbour<F::Addr>],
@@ -96,7 +96,8 @@ fn meet_others<F: Family>(
     Ok(())
 }
 
-/// The sender as a neighbour of the fresh router: for ever, and with the router's own delays.
+/// The sender as a neighbour of the fresh router: with holdtime 65,535, and with the router's own
+/// delays.
 fn sender_of<F: Family>(fresh: &FreshConfig<'_, F>) -> OtherNeighbour<F::Addr>
     requires one_port { length fresh.now.ports.now ≡ 1 }
     requires propagation { (port_of (fresh_seen F.bytes_of fresh.now)).propagation ≤ 32767 }
@@ -122,7 +123,7 @@ fn sender_of<F: Family>(fresh: &FreshConfig<'_, F>) -> OtherNeighbour<F::Addr>
     }
 }
 
-/// A fresh router that has met its neighbours, the sender first.
+/// Makes a fresh router and lets it receive the Hellos of its neighbours, the sender's first.
 pub(crate) fn introduced<'a, F: Family>(
     alloc: Global,
     fresh: &FreshConfig<'a, F>,

@@ -1,4 +1,4 @@
-//! A fresh router that has heard one sender's messages.
+//! The course of a fresh router over one sender's messages.
 
 ghost use Rattle.std.specs.Prelude.{◌≡◌, ◌<◌, ◌≤◌, ◌^◌, ◌↔◌, IsTrue, nat_lt, [], ◌∷◌, ◌++◌, length, map};
 ghost use Rattle.std.specs.Prelude.{slice_index_or};
@@ -25,21 +25,23 @@ use pim_router::{Router, Store, Verdict, course_goes_on, every_list_has_a_course
 use std::alloc::{AllocError, Global};
 use thiserror::Error;
 
-/// Why there is no such router.
+/// Why there is no mirror.
 #[derive(Clone, Copy, Debug, PartialEq, Eq, Error)]
 pub enum MirrorFault {
     /// A message has no room: the port would need more records than its limit.
     #[error("full {needed}")]
     Full {
-        /// The port's records when the first such message came, and those that this would make.
+        /// The records that the first such message needed: those of the port, and those that it
+        /// would make.
         needed: usize,
     },
-    /// A growth was refused.
+    /// Memory was refused.
     #[error("memory")]
     Memory,
 }
 
-/// How many records a message needed for which there was no room; none where it isn't that.
+/// The number of records that a Join/Prune message needed which had no room; none for any other
+/// verdict.
 fn needed_by(verdict: Verdict) -> Option<usize>
     ensures { result ≡ needed_by verdict }
 {
@@ -52,7 +54,8 @@ fn needed_by(verdict: Verdict) -> Option<usize>
     }
 }
 
-/// What a verdict means for the mirror: whether a message had no room.
+/// The result for the mirror of a verdict: an error where a message had no room, or memory was
+/// refused.
 fn passed(verdict: Result<Verdict, AllocError>) -> Result<(), MirrorFault>
     ensures { result ≡ outcome_of verdict }
 {
@@ -65,7 +68,7 @@ fn passed(verdict: Result<Verdict, AllocError>) -> Result<(), MirrorFault>
     }
 }
 
-/// Lets the router take a packet on its only port.
+/// Lets the router receive a packet on its only port.
 fn take<F: Family>(
     router: &mut Router<'_, F>,
     source: F::Addr,
@@ -84,7 +87,7 @@ fn take<F: Family>(
     passed(router.take_packet(0, source, all_routers::<F>(), bytes))
 }
 
-/// Whether nothing is due any more.
+/// Whether nothing is due and the moment is reached.
 fn is_reached<A: Drop>(step: Step<A>) -> bool
     ensures { result ≡ is_reached step }
 {
@@ -117,7 +120,8 @@ fn message_at(messages: &Messages, message: usize) -> &[u8]
     }
 }
 
-/// Whether the message with this number is below 2^32 bytes, as it is where there is no such message.
+/// Whether the message with this number has fewer than 2^32 bytes; true where there is no such
+/// message.
 fn is_short_at(messages: &Messages, message: usize) -> bool
     ensures { result ≡ nat_lt (length (slice_index_or messages.now message [])) (2 ^ 32) }
 {
@@ -127,7 +131,8 @@ fn is_short_at(messages: &Messages, message: usize) -> bool
     }
 }
 
-/// Whether each message is below 2^32 bytes, which `mirror` wants: it reads no others. Canonical messages are.
+/// Whether each message has fewer than 2^32 bytes, as `mirror` and `hear_deliveries` require.
+/// Canonical messages do.
 pub fn are_short(messages: &Messages) -> bool
     ensures { IsTrue result ↔ AllByRecursion (λ message. length message < 2 ^ 32) messages.now }
 {
@@ -181,14 +186,16 @@ fn hear<F: Family>(
     Ok(())
 }
 
-/// Lets a router of one port hear deliveries of these messages from a sender, in the order in which they stand, and
-/// then go on to a last moment. To each delivery's moment, and to the last one, it runs until nothing is due by then; a
-/// moment that has passed is reached at once. Moments are milliseconds: those of deliveries are at most 10^14, the last
-/// one is at most 10^15. A packet that is refused for another cause than want of room changes nothing, and isn't told.
+/// Lets a router of one port hear deliveries of these messages from a sender, in the order of the
+/// list. Then it goes on to a last moment. It runs to each moment until nothing is due; a moment
+/// that has passed is reached at once. Moments are in milliseconds: at most 10^14 for deliveries,
+/// and at most 10^15 for the last one. A packet that is refused for another cause than want of room
+/// changes nothing and isn't reported.
 ///
 /// # Errors
-/// `Full` at the first message for which there was no room, with the number of records that it needed: the router has
-/// heard all deliveries before it, and stands at its moment. `Memory` where a growth was refused.
+/// `Full` with the number of records that the first message without room needed. `Memory` where
+/// memory was refused. After an error the clauses say nothing of the router but that its ports
+/// stay.
 pub fn hear_deliveries<F: Family>(
     router: &mut Router<'_, F>,
     messages: &Messages,
@@ -211,7 +218,8 @@ pub fn hear_deliveries<F: Family>(
     Ok(())
 }
 
-/// Lets a new router go through its whole course: the Hellos, the deliveries, and the way to its final moment.
+/// Lets a new router go through its whole course: the Hellos, the deliveries, and the time up to
+/// its final moment.
 fn go_through<'a, F: Family>(
     alloc: Global,
     messages: &Messages,
@@ -237,19 +245,21 @@ fn go_through<'a, F: Family>(
     Ok(router)
 }
 
-/// The fresh router that has heard these messages, at its final moment. The Hellos of the sender and of the other
-/// neighbours come at the moment 0; before each delivery the router runs to its moment until nothing is due, and behind
-/// the last one to the final moment: that of the last delivery, or the end of the override interval that began with the
-/// latest first delivery of a message, whichever is later. The router is told as it is then, with what is left of each
-/// time.
+/// The fresh router at its final moment, after these messages. At the moment 0 it receives the
+/// Hellos of the sender and of the other neighbours. It runs to the moment of each delivery until
+/// nothing is due and receives its message, and then runs to the final moment. An override interval
+/// begins with the latest first delivery of a message. The final moment is its end, or that of the
+/// last delivery where that is later.
 ///
-/// Where the messages are the canonical ones of a state, by this writer under this table, an Ok router wants exactly
-/// what is asked of it, holds no other machines and writes the same messages, from its final moment on and until the
-/// first of them isn't heard for its holdtime. `Full` comes exactly where their entries together pass the limit, unless
-/// memory is refused, and tells how many units the different messages have up to the first delivery at which they do.
+/// Let the messages be the canonical ones of a state, by this writer under this table. Then an Ok
+/// router wants exactly what the state asks of it, holds no other machines, and writes the same
+/// messages. This lasts from its final moment until the first of them isn't heard for its holdtime.
+/// Unless memory is refused, `Full` comes exactly where their entries together pass the limit. Its
+/// number is that of the units of the different messages up to the first delivery at which they do.
 ///
 /// # Errors
-/// `Full` where a message has no room, with what the first such message needed; `Memory` where a growth was refused.
+/// `Full` with the number of records that the first message without room needed. `Memory` where
+/// memory was refused.
 pub fn mirror<'a, F: Family>(
     alloc: Global,
     messages: &Messages,

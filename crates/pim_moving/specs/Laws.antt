@@ -1,4 +1,4 @@
--- The words of the laws in `src/laws.rt`.
+-- The laws in `src/laws.rt`.
 use Rattle.std.specs.Prelude.{◌≡◌, ℕ, ◌≤◌, List, None}
 use Rattle.pim_addr.specs.declared.family.AddressFamily.{AddressFamily}
 use Rattle.pim_addr.specs.Routes.{RouteTable, IsRouteTable}
@@ -22,8 +22,9 @@ use Rattle.pim_router.specs.State.{RouterState}
 use Rattle.pim_settling.specs.Hearing.{NoneExpires}
 use Rattle.pim_moving.specs.Changing.{StandsAt, LastsUntil, IsGiven, HasMoved}
 
--- A router that is settled at the form which was asked of it last, and hears the messages of the change to another one
--- in any order and however often, is settled at that one from the final moment of these deliveries on, and asks for it.
+-- A router is settled at the form that was last asked of it. It hears the messages of the change to
+-- another form, in any order and however often. From the final moment of these deliveries on it is
+-- settled at the other form, and asks for it.
 abbrev pub ChangeMovesARouter : Type 0
 ChangeMovesARouter = (family : AddressFamily) (writing : Writing) (timing : Timing) (was is : Downstream)
     (old new : List GroupForm) (messages : List (List ℕ)) (deliveries : List Delivery) (moment : ℕ)
@@ -35,8 +36,8 @@ ChangeMovesARouter = (family : AddressFamily) (writing : Writing) (timing : Timi
     IsGiven family writing timing messages deliveries moment start after →
     HasMoved family writing new moment start after
 
--- A mirror of a form is settled at it, and none of its expiry timers ends by a moment before which each message came
--- last less than its holdtime ago.
+-- A mirror of a form is settled at it. None of its Expiry Timers ends by a moment at which each
+-- message came last less than its holdtime ago.
 abbrev pub MirrorIsSettled : Type 0
 MirrorIsSettled = (family : AddressFamily) (table : RouteTable) (writing : Writing) (form : List GroupForm)
     (messages : List (List ℕ)) (fresh : Fresh) (moment last : ℕ) (told : List Telling) (later : RouterState) →
@@ -45,7 +46,7 @@ MirrorIsSettled = (family : AddressFamily) (table : RouteTable) (writing : Writi
     MirrorsForm family table writing form messages fresh moment told later →
     IsSettledAt 0 form later.machines.records × NoneExpires last later.machines
 
--- Where each star of the new form fits a message, so does each star that a change to it tells.
+-- If each star of the new form fits a message alone, so does each star that a change to it says.
 abbrev pub ChangeFits : Type 0
 ChangeFits = (family : AddressFamily) (budget : ℕ) (old new : List GroupForm) →
     form.too_big family budget new ≡ None → changed.too_big family budget (change old new) ≡ None

@@ -1,11 +1,12 @@
-//! What the definitions say together. Nothing here is to be called.
+//! The laws of this crate. Nothing in this module is to be called.
 
 ghost use Rattle.pim_moving.specs.Laws.{ChangeFits, ChangeMovesARouter, MirrorIsSettled};
 
-/// A router of one port that is settled at the form that it was last told, and knows who writes to it, is given the
-/// packets of the change to another form, in any order and however often, each at least once and nothing else, and then
-/// a moment from the final one of these deliveries on. As long as it has room, and no neighbour's time and no expiry
-/// timer ends, it is then settled at the other form, and asks its own upstream neighbour for exactly that.
+/// A router of one port is settled at the form that was last asked of it, and knows the writer. It
+/// is given the packets of the change to another form, in any order, each at least once and nothing
+/// else. Then it is given a moment from the final one of these deliveries on. If it has room, and
+/// no neighbour's time and no Expiry Timer ends, it is then settled at the other form. It asks the
+/// writer's upstream neighbour for exactly that form under its table.
 pub fn change_moves_a_router()
     ensures { ChangeMovesARouter }
 {
@@ -23,13 +24,14 @@ pub fn change_moves_a_router()
     pim_settling::settled_wants();
 }
 
-/// A mirror is settled at the form of the messages that it heard, from its final moment on, and none of its expiry
-/// timers ends as long as each message came less than its holdtime ago.
+/// A mirror is settled, from its final moment on, at the form of the messages that it heard. None
+/// of its Expiry Timers ends while each message came less than its holdtime ago.
 pub fn mirror_is_settled()
     ensures { MirrorIsSettled }
 {}
 
-/// Where each star of a form, with all its exceptions, fits a message alone, so does what a change to that form tells.
+/// If each star of a form, with all its exceptions, fits a message alone, so does what a change to
+/// that form says.
 pub fn change_fits()
     ensures { ChangeFits }
 {}

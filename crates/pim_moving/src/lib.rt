@@ -1,10 +1,17 @@
-//! Laws on a router that hears how the demand of its downstream neighbour changes (RFC 7761, 4.5). Nothing here is to
-//! be called.
+//! Laws on a router that hears how the demand of its downstream neighbour changes (RFC 7761, 4.5).
+//! Nothing in this crate is to be called.
 //!
-//! Proved, over the definitions of the crates below: a router of one port that is settled at one normal form, knows the
-//! writer and is given the packets of the change to another form, in any order and however often each, is settled at
-//! that one behind its final moment, and asks for it in turn; refreshes and echoes on the way change nothing of this.
-//! What `mirror` of `pim_mirror` answers is such a router.
+//! A router of one port is settled at the form that was last asked of it, and knows the writer. It
+//! is given the packets of the change to another form, in any order, each at least once and nothing
+//! else. Then it is given a moment from the final one of these deliveries on. It has room, and no
+//! neighbour's time and no Expiry Timer ends. Then it is settled at the other form, and asks for it
+//! in turn (`change_moves_a_router`).
+//!
+//! A router that `mirror` of `pim_mirror` returns is settled at its form. None of its Expiry Timers
+//! ends while each message came less than its holdtime ago (`mirror_is_settled`).
+//!
+//! If each star of a form fits a message, so does each star that a change to it says
+//! (`change_fits`).
 #![tactic(auto)]
 
 mod laws;

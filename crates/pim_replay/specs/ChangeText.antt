@@ -1,5 +1,6 @@
--- The messages that tell how the demand of one replay's state changes to that of another, and that the fresh router
--- which mirrors the first one then asks for the second.
+-- The messages of the change from one router's demand to that of another (RFC 7761, 4.5). A fresh
+-- router that mirrors the first one hears them, and its messages must then be those of the second
+-- one.
 use Rattle.std.specs.Prelude.{◌≡◌, ◌⊎◌, ℕ, List, Option, None, Some, Result, Ok, Err}
 use Rattle.std.specs.Io.KnownBytes.{Appends, Keeps}
 use Rattle.pim_addr.specs.declared.family.AddressFamily.{AddressFamily}
@@ -20,8 +21,8 @@ use Rattle.pim_replay.specs.MirrorText.{agreed_text}
 use Rattle.pim_replay.specs.Quiet.{RunsAll}
 use Rattle.pim_replay.specs.Report.{StopsAt}
 
--- These messages tell the writer's upstream neighbour how the demand changes from that of one router to that of
--- another.
+-- These messages report to the writer's upstream neighbour how the demand toward it changes from
+-- router `one` to router `other`.
 pub record IsChangeBetween (family : AddressFamily) (writing : Writing) (one other : RouterState)
     (messages : List (List ℕ)) : Type 0 where
   pub form : List GroupForm
@@ -30,11 +31,12 @@ pub record IsChangeBetween (family : AddressFamily) (writing : Writing) (one oth
 
 module _ (family : AddressFamily) (after_ms : ℕ) (writing : Writing) (limit : ℕ) (merge merge' : MergeState)
     (state after : RouterState) (other other' : MergeState) (state_of after_of : RouterState) where
-  -- Both replays came to their end, and this holds of the routers.
+  -- Both replays ended without a fault, and this fact holds.
   abbrev pub Both : Type 0 → Type 0
   Both fact = RunsAll family after_ms merge state after × RunsAll family after_ms other state_of after_of × fact
 
-  -- The first router asks by messages, these others tell the change to the second one, and so they are written.
+  -- The canonical messages of the first router, and the messages of the change to the second one.
+  -- `IsWritten` holds for the two lists.
   pub record Changes (IsWritten : List (List ℕ) → List (List ℕ) → Type 0) : Type 0 where
     pub before : List (List ℕ)
     pub asked : IsAskedBy family writing after before
@@ -42,9 +44,11 @@ module _ (family : AddressFamily) (after_ms : ℕ) (writing : Writing) (limit : 
     pub between : IsChangeBetween family writing after after_of change
     pub written : IsWritten before change
 
-  -- A capture's fault is one of the first router, or one of the other where the first came to its end; so with stars
-  -- that are too big. Full comes behind the messages of the change, where the fresh router has no room for what the
-  -- first router asks, or for the change. Where memory is refused, the text ends before these messages or behind them.
+  -- What `change_into` returns and writes. A fault of a capture is one of the first router, or of
+  -- the second if the first replay ended without a fault. A star that is too big is one of the
+  -- first router, or else of the second. `Full` means that the fresh router has no room for the
+  -- first router's messages or for the change. It comes after the messages of the change were
+  -- written. When memory is refused, the text ends before these messages or after them.
   abbrev pub TellsChange : {F A N : Type 0} → (A → List ℕ) → Option (List ℕ) → Option (List ℕ) →
       Result ℕ (MirrorTextFault F A N) → Type 0
   TellsChange bytes_of old new (Ok status) = (status ≡ 0)
@@ -64,9 +68,9 @@ module _ (family : AddressFamily) (after_ms : ℕ) (writing : Writing) (limit : 
   TellsChange bytes_of old new (Err (Replay Memory)) =
       Keeps old new ⊎ Both (Changes (λ before change. Appends old new (messages_text change)))
 
--- ---- words of private functions
+-- ---- used by private functions only
 
--- by which messages the one's upstream neighbour is told
+-- What the step returns that makes the messages of the change. It fails only if memory is refused.
 abbrev pub TellsBetween : {F A N : Type 0} → AddressFamily → Writing → RouterState → RouterState →
     Result (List (List ℕ)) (MirrorTextFault F A N) → Type 0
 TellsBetween family writing one other (Ok change) = IsChangeBetween family writing one other change
@@ -76,9 +80,9 @@ TellsBetween family writing one other (Err (Replay (Capture told))) = ⊥
 TellsBetween family writing one other (Err (Replay Output)) = ⊥
 TellsBetween family writing one other (Err (Replay Memory)) = Unit {0}
 
--- what is written of a change, and of the fresh router that hears it
 module _ (family : AddressFamily) (table : RouteTable) (writing : Writing) (limit : ℕ)
     (before change : List (List ℕ)) where
+  -- What the step returns and writes that lets the fresh router hear the change.
   abbrev pub TellsMove : {F A N : Type 0} → Option (List ℕ) → Option (List ℕ) → Result ℕ (MirrorTextFault F A N) →
       Type 0
   TellsMove old new (Ok status) =

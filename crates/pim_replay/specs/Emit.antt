@@ -1,4 +1,5 @@
--- The canonical messages of a replay's state, written as bytes: each behind two bytes of its length.
+-- The canonical messages of a replay's final state, written as bytes. Two bytes with its length
+-- precede each message.
 use Rattle.std.specs.Prelude.{◌≡◌, ℕ, ◌+◌, min, List, Option, None, Some, Result, Ok, Err}
 use Rattle.std.specs.Io.KnownBytes.{Keeps}
 use Rattle.pim_addr.specs.declared.family.AddressFamily.{AddressFamily}
@@ -13,28 +14,31 @@ use Rattle.pim_replay.specs.declared.replay.ReplayFault.TheVariants.{Capture, Ou
 use Rattle.pim_replay.specs.Quiet.{RunsAll}
 use Rattle.pim_replay.specs.Report.{StopsAt}
 
--- ---- what goes out for a router
+-- ---- the messages of a router
 
 module _ (family : AddressFamily) (writing : Writing) (router : RouterState) where
-  -- all canonical messages by which the writer's upstream neighbour is asked
+  -- All canonical messages of the router's demand toward the writer's upstream neighbour were
+  -- written.
   abbrev pub AllWentOut : Option (List ℕ) → Option (List ℕ) → Type 0
   AllWentOut old new = (count : ℕ) × HaveGoneOut family writing router.routes router.machines old new count
 
-  -- The least group whose star is too big for a message, in the form of what is asked; `None` where there is none.
+  -- In the normal form of that demand this is the least group whose star doesn't fit a message. It
+  -- is `None` if there is no such group.
   abbrev pub IsTooBigThen : Option (List ℕ) → Type 0
   IsTooBigThen group = IsTooBig family writing router.routes router.machines group
 
-  -- so many of their bytes, where no star is too big
+  -- A prefix of these messages was written, and no star is too big.
   abbrev pub FrontWentOut : Option (List ℕ) → Option (List ℕ) → Type 0
   FrontWentOut old new =
       IsTooBigThen None × (sent : ℕ) × HasGoneOut family writing router.routes router.machines old new sent
 
--- ---- the answer
+-- ---- the result
 
 module _ (family : AddressFamily) (after_ms : ℕ) (writing : Writing) (merge merge' : MergeState)
     (state after : RouterState) where
-  -- Nothing is written where the replay stops, where a star is too big or where memory is refused, and nothing but the
-  -- messages else.
+  -- What `emit_into` returns and writes. Nothing is written if a capture has a fault, a star is too
+  -- big or memory is refused. Otherwise the messages are written, or a prefix of them if the device
+  -- fails.
   abbrev pub Emits : {F A N : Type 0} → (A → List ℕ) → Option (List ℕ) → Option (List ℕ) →
       Result ℕ (EmitFault F A N) → Type 0
   Emits bytes_of old new (Ok status) =
@@ -47,7 +51,8 @@ module _ (family : AddressFamily) (after_ms : ℕ) (writing : Writing) (merge me
       RunsAll family after_ms merge state after × FrontWentOut family writing after old new
   Emits bytes_of old new (Err (Replay Memory)) = Keeps old new
 
--- The device failed once more where its failure is the answer, and else never.
+-- How often the device has failed after the call: once more if the result is `Output`, otherwise as
+-- often as before it.
 abbrev pub failures_of_emission : {T F A N : Type 0} → ℕ → Result T (EmitFault F A N) → ℕ
 failures_of_emission before (Ok done) = before
 failures_of_emission before (Err (TooBig group)) = before
@@ -55,10 +60,10 @@ failures_of_emission before (Err (Replay (Capture told))) = before
 failures_of_emission before (Err (Replay Output)) = min (before + 1) top_count
 failures_of_emission before (Err (Replay Memory)) = before
 
--- ---- words of private functions
+-- ---- used by private functions only
 
--- what is written of a router
 module _ (family : AddressFamily) (writing : Writing) (router : RouterState) where
+  -- What the step returns and writes that sends the messages of a router.
   abbrev pub SendsAsked : {F A N : Type 0} → (A → List ℕ) → Option (List ℕ) → Option (List ℕ) →
       Result ℕ (EmitFault F A N) → Type 0
   SendsAsked bytes_of old new (Ok status) = (status ≡ 0) × AllWentOut family writing router old new

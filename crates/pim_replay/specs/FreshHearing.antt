@@ -1,4 +1,5 @@
--- A fresh router with one neighbour, the sender, that hears each of its messages once, at the moment 0 and in order.
+-- A fresh router with one port and one neighbour, the sender. It hears each message of the sender
+-- once, at moment 0 and in order.
 use Rattle.std.specs.Prelude.{◌≡◌, ℕ, zero, suc, ◌≤◌, ◌<◌, List, [], ◌∷◌, ◌++◌, length, None, Some, Result, Ok, Err}
 use Rattle.pim_addr.specs.declared.family.AddressFamily.{AddressFamily}
 use Rattle.pim_addr.specs.Routes.{RouteTable}
@@ -16,21 +17,26 @@ use Rattle.pim_router.specs.declared.config.PortConfig.{PortConfig}
 use Rattle.pim_router.specs.Canonical.{IsAskedBy}
 use Rattle.pim_router.specs.State.{Port, RouterState}
 
+-- The delivery of the message with this index at this moment.
 abbrev pub delivered_at : ℕ → ℕ → Delivery
 delivered_at moment message = record { message = message; moment = moment }
 
--- each of so many messages once, at this moment and in order
+-- The deliveries of the first `count` messages, each once, at this moment and in order.
 unfoldable pub each_at : ℕ → ℕ → List Delivery
 each_at moment zero = []
 each_at moment (suc count) = each_at moment count ++ delivered_at moment count ∷ []
 
--- the port to which the messages are directed, with the delays of RFC 7761, 4.11, in milliseconds
+-- The port to which the messages are addressed. Its delays are the defaults of RFC 7761, 4.11, in
+-- milliseconds: Propagation_delay_default and t_override_default.
 abbrev pub fresh_port : List ℕ → Port
 fresh_port address = record { address = address; propagation = 500; override_ms = 2500 }
 
+-- The configuration of that port.
 abbrev pub fresh_config : {A : Type 0} → A → PortConfig A
 fresh_config address = record { address = address; propagation = 500; override_ms = 2500 }
 
+-- The fresh router's configuration: its port, the table, the limit on records, the sender, and the
+-- deliveries of all messages.
 abbrev pub fresh_of : RouteTable → Writing → ℕ → List (List ℕ) → Fresh
 fresh_of table writing limit messages = record {
   ports = fresh_port writing.upstream ∷ [];
@@ -42,44 +48,49 @@ fresh_of table writing limit messages = record {
 }
 
 module _ (family : AddressFamily) (table : RouteTable) (writing : Writing) where
-  -- The writer sends them under this table: they are the canonical messages of a state, each of whose stars fits a
-  -- message.
+  -- The writer sends these messages under this table. They are the canonical messages of the demand
+  -- of some state, and each star of it fits a message.
   pub record AreSent (messages : List (List ℕ)) : Type 0 where
     pub state : Downstream
     pub asked : AreMessagesOf family table writing state messages
     pub fitting : too_big family writing.budget asked.form ≡ None
 
-  -- the entries of all messages have room
+  -- The entries of all messages together are at most `limit`, the number of records that the port
+  -- may hold.
   abbrev pub HaveRoom : ℕ → List (List ℕ) → Type 0
   HaveRoom limit messages = all_entries family table writing messages (fresh_of table writing limit messages) ≤ limit
 
-  -- They haven't: so many units the messages have up to the first one that passes the limit.
+  -- The entries of all messages are more than `limit`. `needed` is the number of entries of the
+  -- messages up to the first one that passes it.
   pub record IsFull (limit : ℕ) (messages : List (List ℕ)) (needed : ℕ) : Type 0 where
     pub over : limit < all_entries family table writing messages (fresh_of table writing limit messages)
     pub first : first_over (fresh_exchange family table writing messages (fresh_of table writing limit messages)) limit
         (newest_first (fresh_of table writing limit messages)) ≡ Some needed
 
-  -- by these messages, and no others, a router asks again
+  -- The canonical messages of this router's demand are these and no others, under this table.
   pub record IsAgain (messages : List (List ℕ)) (router : RouterState) : Type 0 where
     pub form : List GroupForm
     pub fitting : too_big family writing.budget form ≡ None
     pub routes : router.routes ≡ table
     pub asks : AsksAgain family table writing form messages router.machines
 
-  -- ---- what the steps answer
+  -- ---- what private steps return
 
+  -- What the step returns that makes the fresh router and lets it hear the messages.
   abbrev pub Mirrored : ℕ → List (List ℕ) → Result RouterState MirrorFault → Type 0
   Mirrored limit messages (Ok router) = HaveRoom limit messages × IsAgain messages router
   Mirrored limit messages (Err (fault.Full needed)) = IsFull limit messages needed
   Mirrored limit messages (Err fault.Memory) = Unit {0}
 
-  -- the messages that the fresh router writes
+  -- What the step returns that makes the messages of the fresh router. At Ok they are those that it
+  -- heard.
   abbrev pub HeardAgain : ℕ → List (List ℕ) → Result (List (List ℕ)) MirrorFault → Type 0
   HeardAgain limit messages (Ok again) = HaveRoom limit messages × (again ≡ messages)
   HeardAgain limit messages (Err (fault.Full needed)) = IsFull limit messages needed
   HeardAgain limit messages (Err fault.Memory) = Unit {0}
 
--- by which messages a router asks
+-- What the step returns that makes the canonical messages of a router each of whose stars fits a
+-- message.
 abbrev pub Asks : AddressFamily → Writing → RouterState → Result (List (List ℕ)) MirrorFault → Type 0
 Asks family writing router (Ok messages) = IsAskedBy family writing router messages
 Asks family writing router (Err (fault.Full needed)) = ⊥

@@ -1,4 +1,4 @@
--- What the definitions mean together.
+-- Laws of the report.
 use Rattle.std.specs.Prelude.{◌≡◌, ℕ, Bool, List, ◌++◌}
 use Rattle.pim_addr.specs.declared.family.AddressFamily.{AddressFamily}
 use Rattle.pim_capture.specs.Capture.{Answer}
@@ -8,19 +8,20 @@ use Rattle.pim_router.specs.State.{RouterState}
 use Rattle.pim_replay.specs.Turn.{Account}
 use Rattle.pim_replay.specs.Report.{TellsFirst, TellsAll, IsReport}
 
--- A report, and the router behind the replay, are a function of what the captures answer.
+-- The report, and the router after the replay, are a function of the answers of the captures.
 abbrev pub ReportHasOneText : Type 0
 ReportHasOneText = (family : AddressFamily) (tells_via : Bool) (after_ms : ℕ) (merge : MergeState)
     (captures : List (List Answer)) (state one other : RouterState) (text more : List ℕ) →
     IsComing merge.lanes captures → IsReport family tells_via after_ms merge state one text →
     IsReport family tells_via after_ms merge state other more → (text ≡ more) × (one ≡ other)
 
--- the text begins with these lines
+-- The text begins with these lines.
 pub record BeginsWith (text lines : List ℕ) : Type 0 where
   pub rest : List ℕ
   pub is : text ≡ lines ++ rest
 
--- A report begins with the lines of any first turns of its merge, and with those of all.
+-- The text begins with the lines of any first turns of the merge. It also begins with the lines of
+-- all turns and the time after them.
 pub record BeginsWithItsLines (family : AddressFamily) (after_ms : ℕ) (merge : MergeState) (state : RouterState)
     (text : List ℕ) : Type 0 where
   pub first : (account : Account) (after : RouterState) → TellsFirst family merge account state after →
@@ -28,6 +29,7 @@ pub record BeginsWithItsLines (family : AddressFamily) (after_ms : ℕ) (merge :
   pub all : (account : Account) (after : RouterState) → TellsAll family after_ms merge account state after →
       BeginsWith text account.lines
 
+-- Each report begins with the lines of its replay in this sense.
 abbrev pub ReportBeginsWithItsLines : Type 0
 ReportBeginsWithItsLines = (family : AddressFamily) (tells_via : Bool) (after_ms : ℕ) (merge : MergeState)
     (captures : List (List Answer)) (state after : RouterState) (text : List ℕ) → IsComing merge.lanes captures →

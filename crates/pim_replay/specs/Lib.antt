@@ -1,3 +1,4 @@
+-- The definitions of `pim_replay`.
 pub mod Pieces
 pub mod Said
 pub mod Malformed

@@ -1,4 +1,5 @@
--- The canonical messages of a replay's state, and that a fresh router which hears them writes the same.
+-- The canonical messages of a replay's final state, and the check that a fresh router that hears
+-- them has the same messages.
 use Rattle.std.specs.Prelude.{◌≡◌, ◌≢◌, ◌⊎◌, ℕ, ◌+◌, min, List, ◌++◌, codes, Option, None, Some, Result, Ok, Err}
 use Rattle.std.specs.Io.KnownBytes.{Appends, Keeps}
 use Rattle.pim_addr.specs.declared.family.AddressFamily.{AddressFamily}
@@ -21,32 +22,34 @@ use Rattle.pim_replay.specs.Report.{StopsAt}
 
 -- ---- the text
 
+-- The line that says that two lists of messages are the same.
 abbrev pub agrees_line : List ℕ
 agrees_line = line (codes "agrees")
 
--- The messages are the same, or they aren't.
+-- The text is `agrees` if the messages are the same, and `differs` if they aren't.
 pub record Judges (one other : List (List ℕ)) (text : List ℕ) : Type 0 where
   pub same : one ≡ other → text ≡ agrees_line
   pub different : one ≢ other → text ≡ line (codes "differs")
 
--- the lines of the messages, and that a fresh router writes them again
+-- The lines of the messages, then `agrees`.
 abbrev pub agreed_text : List (List ℕ) → List ℕ
 agreed_text messages = messages_text messages ++ agrees_line
 
--- ---- the answer
+-- ---- the result
 
 module _ (family : AddressFamily) (after_ms : ℕ) (writing : Writing) (limit : ℕ) (merge merge' : MergeState)
     (state after : RouterState) where
-  -- The replay came to its end, these are the messages by which its router asks the writer's upstream neighbour, and
-  -- they are written so.
+  -- The replay ended without a fault. These are the canonical messages of its router's demand
+  -- toward the writer's upstream neighbour, and `IsWritten` holds for them.
   pub record Asks (IsWritten : List (List ℕ) → Type 0) : Type 0 where
     pub runs : RunsAll family after_ms merge state after
     pub messages : List (List ℕ)
     pub asked : IsAskedBy family writing after messages
     pub written : IsWritten messages
 
-  -- Full comes where the fresh router has no room for all messages, behind their lines. Where memory is refused, the
-  -- text ends before these or behind them.
+  -- What `mirror_into` returns and writes. `Full` means that the fresh router has no room for all
+  -- messages. It comes after their lines were written. When memory is refused, the text ends before
+  -- these lines or after them.
   abbrev pub TellsMirror : {F A N : Type 0} → (A → List ℕ) → Option (List ℕ) → Option (List ℕ) →
       Result ℕ (MirrorTextFault F A N) → Type 0
   TellsMirror bytes_of old new (Ok status) = (status ≡ 0)
@@ -62,7 +65,8 @@ module _ (family : AddressFamily) (after_ms : ℕ) (writing : Writing) (limit : 
   TellsMirror bytes_of old new (Err (Replay Memory)) =
       Keeps old new ⊎ Asks (λ messages. Appends old new (messages_text messages))
 
--- The device failed once more where its failure is the answer, and else never.
+-- How often the device has failed after the call: once more if the result is `Output`, otherwise as
+-- often as before it.
 abbrev pub failures_of_mirror : {T F A N : Type 0} → ℕ → Result T (MirrorTextFault F A N) → ℕ
 failures_of_mirror before (Ok done) = before
 failures_of_mirror before (Err (TooBig group)) = before
@@ -71,14 +75,14 @@ failures_of_mirror before (Err (Replay (Capture told))) = before
 failures_of_mirror before (Err (Replay Output)) = min (before + 1) top_count
 failures_of_mirror before (Err (Replay Memory)) = before
 
--- ---- words of private functions
+-- ---- used by private functions only
 
--- why there is no fresh router
+-- Why the call fails when there is no fresh router.
 abbrev pub of_mirror : {F A N : Type 0} → MirrorFault → MirrorTextFault F A N
 of_mirror (mirror.Full needed) = Full needed
 of_mirror mirror.Memory = Replay Memory
 
--- by which messages a router asks
+-- What the step returns that makes the canonical messages of a router.
 abbrev pub AsksBy : {F A N : Type 0} → (A → List ℕ) → AddressFamily → Writing → RouterState →
     Result (List (List ℕ)) (MirrorTextFault F A N) → Type 0
 AsksBy bytes_of family writing router (Ok messages) =
@@ -89,8 +93,8 @@ AsksBy bytes_of family writing router (Err (Replay (Capture told))) = ⊥
 AsksBy bytes_of family writing router (Err (Replay Output)) = ⊥
 AsksBy bytes_of family writing router (Err (Replay Memory)) = Unit {0}
 
--- what is written of these messages, and of a fresh router that hears them
 module _ (family : AddressFamily) (table : RouteTable) (writing : Writing) (limit : ℕ) (messages : List (List ℕ)) where
+  -- What the step returns and writes that lets a fresh router hear these messages.
   abbrev pub TellsExchange : {F A N : Type 0} → Option (List ℕ) → Option (List ℕ) → Result ℕ (MirrorTextFault F A N) →
       Type 0
   TellsExchange old new (Ok status) =

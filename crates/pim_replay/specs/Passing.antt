@@ -1,4 +1,5 @@
--- What is told on the way to a moment: the lines of echoes, and Refreshes.
+-- What a router reports while time passes up to a moment: the lines of its echoes, and its
+-- Refreshes. A Refresh comes each t_periodic (RFC 7761, 4.11).
 use Rattle.std.specs.Prelude.{◌≡◌, ℕ, suc, ◌+◌, min, List, [], ◌∷◌, ◌++◌, Option}
 use Rattle.std.specs.Io.KnownBytes.{Appends}
 use Rattle.pim_addr.specs.declared.family.AddressFamily.{AddressFamily}
@@ -9,8 +10,8 @@ use Rattle.pim_router.specs.State.{RouterState}
 use Rattle.pim_router.specs.Time.{Runs}
 use Rattle.pim_replay.specs.EchoLine.{echo_line}
 
--- Runs to the moment, each from where the one before stopped, until nothing is due: they tell this, in these lines, with
--- so many Refreshes. An echo has the moment where it falls.
+-- The router runs to the moment, each run continuing where the last one stopped, until nothing is
+-- due. Each echo is a line with the moment at which it falls, and each Refresh counts as one.
 unfoldable pub Passes : AddressFamily → ℕ → List Telling → List ℕ → ℕ → RouterState → RouterState → Type 0
 Passes family moment [] lines refreshes state after =
     Runs moment state Reached after × (lines ≡ []) × (refreshes ≡ 0)
@@ -23,13 +24,14 @@ Passes family moment (refresh ∷ more) lines refreshes state after =
     × (refreshes ≡ suc others) × Passes family moment more lines others between after
 Passes family moment (verdict of_packet ∷ more) lines refreshes state after = ⊥
 
--- On the way to the moment these lines are told and so many Refreshes.
+-- On the way to the moment the router reports these lines and this number of Refreshes.
 pub record PassesTime (family : AddressFamily) (moment : ℕ) (lines : List ℕ) (refreshes : ℕ)
     (state after : RouterState) : Type 0 where
   pub told : List Telling
   pub passes : Passes family moment told lines refreshes state after
 
--- The time has passed: its lines went out, and its Refreshes were counted, up to 2^64 - 1.
+-- The time has passed. The lines were written, and the Refreshes were added to a count that stops
+-- at 2^64 - 1.
 pub record HasPassed (family : AddressFamily) (moment : ℕ) (state after : RouterState) (old new : Option (List ℕ))
     (count count' : ℕ) : Type 0 where
   pub lines : List ℕ
@@ -38,7 +40,7 @@ pub record HasPassed (family : AddressFamily) (moment : ℕ) (state after : Rout
   pub written : Appends old new lines
   pub counted : count' ≡ min (count + refreshes) top_count
 
--- A front of the lines went out that are told on the way to the moment.
+-- A prefix of the lines on the way to the moment was written.
 pub record HasStopped (family : AddressFamily) (moment : ℕ) (state : RouterState) (old new : Option (List ℕ)) :
     Type 0 where
   pub lines : List ℕ

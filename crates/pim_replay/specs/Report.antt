@@ -1,5 +1,5 @@
--- The report of a replay: the lines of its turns, and the state behind the last of them. It is a function of what the
--- captures answer (`ReportHasOneText` in `Laws.antt`).
+-- The report of a replay: the lines of its turns, then the router's state after the last one. The
+-- law `ReportHasOneText` in `Laws.antt` says that the captures determine the report.
 use Rattle.std.specs.Prelude.{◌≡◌, ◌≢◌, ◌⊎◌, ⊤, ℕ, ◌+◌, min, Bool, List, [], ◌∷◌, ◌++◌, Option, None, Some, Result, Ok, Err}
 use Rattle.std.specs.Io.KnownBytes.{Appends}
 use Rattle.pim_addr.specs.declared.family.AddressFamily.{AddressFamily}
@@ -25,15 +25,16 @@ use Rattle.pim_replay.specs.Turn.{Account, nothing, joined, on_the_way, counted,
 
 -- ---- the turns of a merge
 
--- one turn after the other
+-- The turns follow one another and lead the router from `state` to `after`. `account` is what they
+-- report together.
 unfoldable pub TellsTurns : AddressFamily → List Taken → Account → RouterState → RouterState → Type 0
 TellsTurns family [] account state after = (account ≡ nothing) × (after ≡ state)
 TellsTurns family (first ∷ others) account state after =
     (one : Account) × (more : Account) × (between : RouterState) × TellsTurn family first one state between
     × TellsTurns family others more between after × (account ≡ joined one more)
 
--- These are the records that a merge takes first, in this order; behind them its clock is that, and the captures still
--- answer the rest.
+-- The merge takes exactly these records first, in this order. Its clock is then `clock'`, and
+-- `rest` is what the captures still have to give.
 unfoldable pub Takes : Option Clock → List (List Answer) → List Taken → Option Clock → List (List Answer) → Type 0
 Takes clock captures [] clock' rest = (clock' ≡ clock) × (rest ≡ captures)
 Takes clock captures (first ∷ others) clock' rest =
@@ -41,14 +42,15 @@ Takes clock captures (first ∷ others) clock' rest =
     × (first.moment ≡ moment_of (clock_after clock (time_told first.told)))
     × Takes (clock_after clock (time_told first.told)) (after_turn first.capture captures) others clock' rest
 
--- ---- which turns they are, for all lists that the captures may still answer
+-- ---- the turns, for all answers that the captures can still give
 
--- all the turns of the merge, which ends with this fault of this capture, or with none
+-- These are all turns of the merge. It ends with this fault of this capture, or without a fault if
+-- there is none.
 abbrev pub AreAll : MergeState → Option (ℕ × CaptureFault) → List Taken → Type 0
 AreAll merge fault taken =
     (captures : List (List Answer)) → IsComing merge.lanes captures → IsMerge merge.clock captures taken fault
 
--- turns that the merge takes first, and what holds of the rest
+-- The merge takes these records first, and `IsRest` holds for what the captures then have left.
 pub record GoesOn (clock : Option Clock) (captures : List (List Answer)) (taken : List Taken)
     (IsRest : List (List Answer) → Type 0) : Type 0 where
   pub clock_then : Option Clock
@@ -56,25 +58,28 @@ pub record GoesOn (clock : Option Clock) (captures : List (List Answer)) (taken 
   pub takes_them : Takes clock captures taken clock_then rest
   pub is_rest : IsRest rest
 
+-- These are some first turns of the merge.
 abbrev pub AreFirst : MergeState → List Taken → Type 0
 AreFirst merge taken = (captures : List (List Answer)) → IsComing merge.lanes captures →
     GoesOn merge.clock captures taken (λ rest. ⊤)
 
--- the turns before this fault, which stands in the place of what its capture still answered
+-- These are the turns of the merge before a fault. The bytes of a capture don't say when its reader
+-- fails. So the fault takes the place of everything that its capture has left.
 abbrev pub AreBefore : MergeState → MergeFault → List Taken → Type 0
 AreBefore merge told taken = (captures : List (List Answer)) → IsComing merge.lanes captures →
     GoesOn merge.clock captures taken (λ rest. turn (with_fault told rest) ≡ fails told.capture told.fault)
 
--- ---- the lines of these turns, and then those up to the end
+-- ---- the lines of these turns, and of the time after the last one
 
--- the lines of some first turns
+-- Some first turns of the merge report this account and lead the router from `state` to `after`.
 pub record TellsFirst (family : AddressFamily) (merge : MergeState) (account : Account) (state after : RouterState)
     : Type 0 where
   pub taken : List Taken
   pub are : AreFirst merge taken
   pub tells : TellsTurns family taken account state after
 
--- The lines of all turns; then the router runs on, for so many milliseconds.
+-- All turns of the merge, and `after_ms` milliseconds after the last one, report this account. The
+-- merge ends without a fault, and `after` is the router at the end.
 pub record TellsAll (family : AddressFamily) (after_ms : ℕ) (merge : MergeState) (account : Account)
     (state after : RouterState) : Type 0 where
   pub taken : List Taken
@@ -89,10 +94,12 @@ pub record TellsAll (family : AddressFamily) (after_ms : ℕ) (merge : MergeStat
 
 -- ---- the report
 
+-- The counts at the start of a replay.
 abbrev pub none_yet : Counts
 none_yet = record { skipped = 0; refreshes = 0 }
 
--- The lines of the replay, and then the state that the router holds behind it, with the counts.
+-- The report: the lines of the whole replay, then the router's final state with its demand and the
+-- counts. If `tells_via` is set, each line of the demand has its upstream neighbour.
 pub record IsReport (family : AddressFamily) (tells_via : Bool) (after_ms : ℕ) (merge : MergeState)
     (state after : RouterState) (text : List ℕ) : Type 0 where
   pub account : Account
@@ -101,17 +108,18 @@ pub record IsReport (family : AddressFamily) (tells_via : Bool) (after_ms : ℕ)
   pub demand : IsFormOf family (wants after.machines) form
   pub text_is : text ≡ account.lines ++ text_with family tells_via after form (counted none_yet account)
 
--- ---- what an engine answers and writes
+-- ---- what a replay returns and writes
 
--- this report, written so
+-- This text is the report, and `IsWritten` holds for it.
 pub record Reports (family : AddressFamily) (tells_via : Bool) (after_ms : ℕ) (merge : MergeState)
     (state after : RouterState) (IsWritten : List ℕ → Type 0) : Type 0 where
   pub text : List ℕ
   pub is_report : IsReport family tells_via after_ms merge state after text
   pub written : IsWritten text
 
--- Exactly the lines of the turns before a capture's fault were written. The fault is what the captures answer, or a read
--- failed in the call.
+-- A fault of a capture ended the replay, and exactly the lines of the turns before it were written.
+-- The fault is the next answer of its capture, or a read of that capture failed in the call. It is
+-- never a lack of memory.
 pub record StopsAt (family : AddressFamily) (merge merge' : MergeState) (told : MergeFault) (state : RouterState)
     (old new : Option (List ℕ)) : Type 0 where
   pub taken : List Taken
@@ -124,8 +132,8 @@ pub record StopsAt (family : AddressFamily) (merge merge' : MergeState) (told : 
   pub cause : IsRefusal {A = ⊤} (lane_at told.capture merge.lanes).failures (lane_at told.capture merge'.lanes).failures
       (Err told.fault) ⊎ AreAll merge (Some (told.capture, told.fault)) taken
 
--- Where the device failed or memory was refused, a front of the report was written: of the lines of its first turns, or
--- of the lines of all, or of all of it.
+-- A prefix of the report was written. That is, of the lines of some first turns, of all turns and
+-- the time after them, or of the whole text.
 abbrev pub BeginsReport : AddressFamily → Bool → ℕ → MergeState → RouterState → Option (List ℕ) → Option (List ℕ) →
     Type 0
 BeginsReport family tells_via after_ms merge state old new =
@@ -133,6 +141,9 @@ BeginsReport family tells_via after_ms merge state old new =
     ⊎ HasBegun (λ account after. TellsAll family after_ms merge account state after) old new
     ⊎ (after : RouterState) × Reports family tells_via after_ms merge state after (AppendsFront old new)
 
+-- What `replay_into` returns and writes. At Ok the status is 0 and the whole report was written.
+-- After a fault of a capture, the lines of the turns before it were. After any other fault, a
+-- prefix of the report was.
 abbrev pub Replays : AddressFamily → Bool → ℕ → MergeState → MergeState → RouterState → RouterState →
     Option (List ℕ) → Option (List ℕ) → Result ℕ ReplayFault → Type 0
 Replays family tells_via after_ms merge merge' state after old new (Ok status) =
@@ -144,7 +155,8 @@ Replays family tells_via after_ms merge merge' state after old new (Err Output) 
 Replays family tells_via after_ms merge merge' state after old new (Err Memory) =
     BeginsReport family tells_via after_ms merge state old new
 
--- The device failed once more where its failure is the answer, and else never.
+-- How often the device has failed after the call: once more if the result is `Output`, otherwise as
+-- often as before it. The count stops at 2^64 - 1.
 abbrev pub failures_of_device : {A : Type 0} → ℕ → Result A ReplayFault → ℕ
 failures_of_device before (Ok done) = before
 failures_of_device before (Err (Capture told)) = before

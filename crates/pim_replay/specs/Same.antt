@@ -1,4 +1,5 @@
--- Whether two routers whose captures are replayed want the same of an upstream neighbour.
+-- The comparison of two routers after their replays: whether they want the same of an upstream
+-- neighbour.
 use Rattle.std.specs.Prelude.{◌≡◌, ◌↔◌, ◌⊎◌, ℕ, Bool, true, false, IsTrue, List, Option, None, Some, Result, Ok, Err, codes, min, ◌+◌}
 use Rattle.std.specs.Io.KnownBytes.{Appends, Keeps}
 use Rattle.pim_addr.specs.declared.family.AddressFamily.{AddressFamily}
@@ -17,21 +18,23 @@ use Rattle.pim_replay.specs.Pieces.{line}
 use Rattle.pim_replay.specs.Quiet.{RunsAll}
 use Rattle.pim_replay.specs.Report.{StopsAt}
 
--- the word that tells it, and the status
+-- The line of the result: `same` or `different`.
 abbrev pub answer_line : Bool → List ℕ
 answer_line true = line (codes "same")
 answer_line false = line (codes "different")
 
+-- The status of the result: 0 if the demands are the same, 1 if they differ.
 abbrev pub answer_status : Bool → ℕ
 answer_status true = 0
 answer_status false = 1
 
--- what the two routers want of the neighbour is the same for each valid source, each group and both trees
+-- For each valid source, each group and both trees, the two routers want the same of the writer's
+-- upstream neighbour.
 abbrev pub WantTheSame : AddressFamily → Writing → RouterState → RouterState → Type 0
 WantTheSame family writing one other =
     Agree family (asked family writing.upstream one) (asked family writing.upstream other)
 
--- the answer, written so
+-- `same` says whether the two routers want the same, and `IsWritten` holds for it.
 pub record Answers (family : AddressFamily) (writing : Writing) (one other : RouterState) (IsWritten : Bool → Type 0)
     : Type 0 where
   pub same : Bool
@@ -40,11 +43,13 @@ pub record Answers (family : AddressFamily) (writing : Writing) (one other : Rou
 
 module _ (family : AddressFamily) (after_ms : ℕ) (writing : Writing) (merge merge' : MergeState)
     (state after : RouterState) (other other' : MergeState) (state_of after_of : RouterState) where
-  -- Both replays came to their end, and this holds of the routers.
+  -- Both replays ended without a fault, and this fact holds.
   abbrev pub Both : Type 0 → Type 0
   Both fact = RunsAll family after_ms merge state after × RunsAll family after_ms other state_of after_of × fact
 
-  -- A capture's fault is one of the first router, or one of the other where the first came to its end.
+  -- What `same_into` returns and writes. A fault of a capture is one of the first router, or of the
+  -- second if the first replay ended without a fault. A star that is too big is one of the first
+  -- router, or else of the second.
   abbrev pub Compares : {F A N : Type 0} → (A → List ℕ) → Option (List ℕ) → Option (List ℕ) →
       Result ℕ (SameFault F A N) → Type 0
   Compares bytes_of old new (Ok status) =
@@ -60,7 +65,8 @@ module _ (family : AddressFamily) (after_ms : ℕ) (writing : Writing) (merge me
       Both (Answers family writing after after_of (λ same. AppendsFront old new (answer_line same)))
   Compares bytes_of old new (Err (Replay Memory)) = Keeps old new
 
--- The device failed once more where its failure is the answer, and else never.
+-- How often the device has failed after the call: once more if the result is `Output`, otherwise as
+-- often as before it.
 abbrev pub failures_of_answer : {T F A N : Type 0} → ℕ → Result T (SameFault F A N) → ℕ
 failures_of_answer before (Ok status) = before
 failures_of_answer before (Err (TooBig group)) = before
@@ -68,15 +74,15 @@ failures_of_answer before (Err (Replay (Capture told))) = before
 failures_of_answer before (Err (Replay Output)) = min (before + 1) top_count
 failures_of_answer before (Err (Replay Memory)) = before
 
--- ---- words of private functions
+-- ---- used by private functions only
 
--- why two replays aren't compared, where their demands aren't
+-- Why the call fails when the demands can't be compared.
 abbrev pub of_form : {F A N : Type 0} → FormFault F A N → SameFault F A N
 of_form (form.TooBig group) = TooBig group
 of_form form.Memory = Replay Memory
 of_form form.Tables = Replay Memory
 
--- what a comparison of two routers answers
+-- What the step returns that compares the demands of two routers.
 abbrev pub Judges : {F A N : Type 0} → (A → List ℕ) → AddressFamily → Writing → RouterState → RouterState →
     Result Bool (SameFault F A N) → Type 0
 Judges bytes_of family writing one other (Ok same) = IsTrue same ↔ WantTheSame family writing one other
@@ -86,7 +92,7 @@ Judges bytes_of family writing one other (Err (Replay (Capture told))) = ⊥
 Judges bytes_of family writing one other (Err (Replay Output)) = ⊥
 Judges bytes_of family writing one other (Err (Replay Memory)) = Unit {0}
 
--- what writing the answer leaves
+-- What the step returns and writes that writes the result.
 abbrev pub Says : {F A N : Type 0} → Bool → Option (List ℕ) → Option (List ℕ) → Result ℕ (SameFault F A N) → Type 0
 Says same old new (Ok status) = (status ≡ answer_status same) × Appends old new (answer_line same)
 Says same old new (Err (TooBig group)) = ⊥

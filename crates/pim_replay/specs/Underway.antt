@@ -1,4 +1,4 @@
--- A replay on its way: words of private functions.
+-- A replay in progress. These definitions serve private functions only.
 use Rattle.std.specs.Prelude.{◌≡◌, ◌⊎◌, ℕ, List, Option, None, Some, Result, Ok, Err}
 use Rattle.std.specs.Io.KnownBytes.{Appends}
 use Rattle.pim_addr.specs.declared.family.AddressFamily.{AddressFamily}
@@ -19,19 +19,23 @@ use Rattle.pim_replay.specs.declared.state_text.TextFault.TheVariants as text
 use Rattle.pim_replay.specs.Turn.{Account, HasTold, HasBegun, counted}
 use Rattle.pim_replay.specs.Report.{TellsTurns, Takes, AreAll, TellsFirst, TellsAll, StopsAt, none_yet}
 
--- why a replay ends, where a merge answers this fault
+-- Why a replay ends at this fault of its merge: `Memory` if memory was refused, otherwise
+-- `Capture`.
 abbrev pub stop_by : MergeFault → CaptureFault → ReplayFault
 stop_by told fault.Memory = Memory
 stop_by told _ = Capture told
 
+-- The same, by the fault that the merge returned.
 abbrev pub stopped_by : MergeFault → ReplayFault
 stopped_by told = stop_by told told.fault
 
+-- Why a replay ends when a text isn't written.
 abbrev pub of_text : TextFault → ReplayFault
 of_text text.Output = Output
 of_text text.Memory = Memory
 
--- These turns are behind: the captures still answer this, and their clock is that.
+-- These turns were taken. `merge` is the merge after them, and `rest` is what the captures still
+-- have to give.
 pub record IsBehind (clock : Option Clock) (captures : List (List Answer)) (taken : List Taken) (merge : MergeState)
     : Type 0 where
   pub rest : List (List Answer)
@@ -39,7 +43,8 @@ pub record IsBehind (clock : Option Clock) (captures : List (List Answer)) (take
   pub coming : IsComing merge.lanes rest
 
 module _ (family : AddressFamily) (merge : MergeState) (state : RouterState) (old : Option (List ℕ)) where
-  -- Some turns of the merge were taken; they are written and counted, and no read has failed.
+  -- Some first turns of the merge were taken. Their lines were written, their counts were added,
+  -- and no read has failed.
   pub record IsUnderway (merge' : MergeState) (now : RouterState) (new : Option (List ℕ)) (counts : Counts)
       : Type 0 where
     pub taken : List Taken
@@ -51,7 +56,7 @@ module _ (family : AddressFamily) (merge : MergeState) (state : RouterState) (ol
     pub is_counted : counts ≡ counted none_yet account
     pub reads : failures_of merge'.lanes ≡ failures_of merge.lanes
 
-  -- All its turns were taken.
+  -- All turns of the merge were taken, their lines were written and their counts were added.
   pub record HasAll (now : RouterState) (new : Option (List ℕ)) (counts : Counts) : Type 0 where
     pub taken : List Taken
     pub account : Account
@@ -60,11 +65,12 @@ module _ (family : AddressFamily) (merge : MergeState) (state : RouterState) (ol
     pub written : Appends old new account.lines
     pub is_counted : counts ≡ counted none_yet account
 
-  -- some of its lines were written, and a front of the next one
+  -- A prefix of the lines of some first turns was written.
   abbrev pub HasSome : Option (List ℕ) → Type 0
   HasSome new = HasBegun (λ account after. TellsFirst family merge account state after) old new
 
-  -- what one turn more leaves, where these were counted before
+  -- What one more turn returns and leaves, where `counts` were counted before it. It returns `None`
+  -- if there is no further turn.
   abbrev pub Steps : Counts → MergeState → RouterState → Option (List ℕ) → Result (Option Counts) ReplayFault → Type 0
   Steps counts merge' now new (Ok None) = HasAll now new counts
   Steps counts merge' now new (Ok (Some more)) = IsUnderway merge' now new more
@@ -72,14 +78,14 @@ module _ (family : AddressFamily) (merge : MergeState) (state : RouterState) (ol
   Steps counts merge' now new (Err Output) = HasSome new
   Steps counts merge' now new (Err Memory) = HasSome new
 
-  -- what all turns leave
+  -- What the run over all turns returns and leaves.
   abbrev pub RunsTurns : MergeState → RouterState → Option (List ℕ) → Result Counts ReplayFault → Type 0
   RunsTurns merge' now new (Ok counts) = HasAll now new counts
   RunsTurns merge' now new (Err (Capture told)) = StopsAt family merge merge' told state old new
   RunsTurns merge' now new (Err Output) = HasSome new
   RunsTurns merge' now new (Err Memory) = HasSome new
 
-  -- what all turns and the time behind them leave
+  -- What the run over all turns and the time after them returns and leaves.
   abbrev pub RunsOn : ℕ → MergeState → RouterState → Option (List ℕ) → Result Counts ReplayFault → Type 0
   RunsOn after_ms merge' now new (Ok counts) =
       HasTold (λ account. TellsAll family after_ms merge account state now) old new none_yet counts
@@ -88,7 +94,7 @@ module _ (family : AddressFamily) (merge : MergeState) (state : RouterState) (ol
       HasSome new ⊎ HasBegun (λ account after. TellsAll family after_ms merge account state after) old new
   RunsOn after_ms merge' now new (Err Memory) = HasSome new
 
--- a fact where there was one turn more
+-- This fact holds if there was one more turn.
 abbrev pub IfMore : {A : Type 0} → Result (Option A) ReplayFault → Type 0 → Type 0
 IfMore (Ok (Some more)) fact = fact
 IfMore (Ok None) fact = Unit {0}

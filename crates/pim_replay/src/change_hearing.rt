@@ -1,4 +1,4 @@
-//! What a fresh router writes that heard canonical messages, and then those of a change.
+//! The messages of a fresh router that has heard canonical messages, and then those of a change.
 
 ghost use Rattle.std.specs.Prelude.{◌≡◌, ◌≤◌, ◌<◌, ◌^◌, List, ℕ, length};
 ghost use Rattle.std.specs.List.{AllByRecursion};
@@ -14,11 +14,12 @@ use pim_moving::{change_moves_a_router, mirror_is_settled};
 use pim_router::{Router, every_list_has_a_course};
 use std::alloc::Global;
 
-/// The override interval of the fresh router's port, in milliseconds.
+/// The override interval of the fresh router's port, in milliseconds (RFC 7761, 4.3.3:
+/// J/P_Override_Interval(I)).
 const OVERRIDE_INTERVAL: u64 = 3_000;
 
-/// Lets a router hear each of these messages once, at the moment at which it stands and in order, and go on until the
-/// override interval is over.
+/// Lets a router hear each of these messages once, in order and at its present moment. Then it runs
+/// on until the override interval is over.
 fn hear_change<F: Family>(
     alloc: Global,
     router: &mut Router<'_, F>,
@@ -45,9 +46,10 @@ fn hear_change<F: Family>(
     )
 }
 
-/// The messages by which a fresh router asks its upstream neighbours that heard the first of these messages, each once,
-/// at the moment 0 and in order, and at its final moment those of a change, each once and in order, and went on until
-/// the override interval was over. It knows no other neighbour than their sender, and may hold so many records.
+/// The canonical messages of a fresh router that has heard the messages `before`, and then those of
+/// a change. It hears each message once and in order: the former at moment 0, the latter at its
+/// final moment. Then its override interval passes. It knows no neighbour but the sender, and may
+/// hold `limit` records.
 pub(crate) fn move_again<F: Family>(
     alloc: Global,
     before: &Messages,

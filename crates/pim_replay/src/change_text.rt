@@ -1,5 +1,10 @@
-//! The messages that tell how the demand of one replay's state changes to that of another, and that the fresh router
-//! which mirrors the first one then asks for the second.
+//! The messages of the change between the final states of two replays, and the check by a fresh
+//! router.
+//!
+//! The fresh router first mirrors router `a`. It hears the change at its final moment and runs on
+//! for its override interval, even if the change has no message. So the moment of comparison is the
+//! same for each change. The check compares two lists of messages that are proved to be the same,
+//! as `mirror_into` does.
 
 ghost use Rattle.std.specs.Prelude.{◌≡◌, ◌≤◌, length, None};
 ghost use Rattle.pim_capture.specs.Next.{latest_moment};
@@ -20,8 +25,8 @@ use pim_moving::change_fits;
 use pim_router::Router;
 use std::alloc::Global;
 
-/// By which messages the writer's upstream neighbour is told how the demand changes from that of one router to that of
-/// another, each of whose stars fits a message.
+/// The messages that report the change from the demand of one router to that of another. They go to
+/// the writer's upstream neighbour, and each star of the demand of `other` must fit a message.
 fn tell<F: Family>(
     alloc: Global,
     one: &Router<'_, F>,
@@ -46,8 +51,8 @@ fn tell<F: Family>(
     }
 }
 
-/// Writes the messages of a change, lets the fresh router that heard the messages before hear them, and writes whether
-/// it writes those that are wanted.
+/// Writes the messages of a change, and lets the fresh router that heard the messages `before` hear
+/// them. Then it writes whether that router has the messages `wanted`.
 fn move_on<F: Family, W: Drain>(
     alloc: Global,
     before: &Messages,
@@ -78,23 +83,30 @@ fn move_on<F: Family, W: Drain>(
     Ok(0)
 }
 
-/// Replays the captures of two routers, one capture a port and each until `after_ms` milliseconds behind its last
-/// record, and writes the messages that tell the upstream neighbour of `by` how what it is asked for changes from what
-/// the router `a` asks to what `b` asks (RFC 7761, 4.5): each as `message`, its length in bytes and its bytes in
-/// hexadecimal, and how many there are. Then a fresh router of one port, which may hold `limit` records and knows no
-/// neighbour but their sender, hears the canonical messages of `a`, each once and in order at the moment 0, at its final
-/// moment those of the change, each once and in order, and goes on for its override interval; what it asks its own
-/// upstream neighbours for is compared with what `b` asks for, and `agrees` is written. The answer is the status, 0.
-/// Both routers have one table.
+/// Replays the captures of two routers, one for each port, each until `after_ms` milliseconds after
+/// the last record of its captures. It writes the messages that report the change of demand, from
+/// that of router `a` to that of `b`. They go to the upstream neighbour of `by` (RFC 7761, 4.5).
+/// Each is a line `message LENGTH HEX`, with the length in bytes; a line with their number follows.
+/// Both routers must have one table.
 ///
-/// Beside the routers it takes the memory of one buffer a capture, of the canonical messages of both and twice the
-/// second ones, of the messages of the change, and that of a router which holds their entries.
+/// Then a fresh router of one port hears the canonical messages of `a`, each once, at moment 0 and
+/// in order. It may hold `limit` records and knows no neighbour but the sender. At its final moment
+/// it hears those of the change, each once and in order, and its override interval passes. Its
+/// canonical messages are compared with those of `b`, and `agrees` is written. Returns the status,
+/// 0.
+///
+/// Besides the routers, it needs memory for one buffer for each capture and for a router that holds
+/// the entries. It also needs memory for the canonical messages of `a`, two copies of those of `b`,
+/// and those of the change.
 ///
 /// # Errors
-/// What ends the replay of `a`, and else that of `b`. Then `TooBig` of `a`, and else of `b`. After these nothing was
-/// written. `Full` where the fresh router has no room for the messages of `a`, or for one of the change, with what the
-/// first such message needed: the lines of the change's messages and their number were. `Output`: a front of the text
-/// was. `Memory`: nothing was, or all but `agrees`.
+/// - A capture's fault of `a`, or else of `b`; then `TooBig` of `a`, or else of `b`: nothing was
+///   written.
+/// - `Full`: the fresh router has no room for the messages of `a` or for one of the change.
+///   `needed` is what the first message without room needed. The lines of the change's messages and
+///   their number were written.
+/// - `Output`: a prefix of the text was written.
+/// - `Memory`: nothing was written, or everything but `agrees`.
 pub fn change_into<F: Family, R: Feed + Drop, W: Drain>(
     alloc: Global,
     merge_a: &mut Merge<R>,

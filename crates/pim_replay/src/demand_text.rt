@@ -1,4 +1,4 @@
-//! The lines of what is wanted.
+//! The lines of a router's demand.
 
 ghost use Rattle.std.specs.Prelude.{◌≡◌, ◌++◌, true, map, option_map};
 ghost use Rattle.std.specs.List.{flat_map};
@@ -13,19 +13,19 @@ use pim_addr::{Drain, Failed, Family, Routes};
 use pim_down::What;
 use pim_form::{GroupView, NormalForm, Tree, upstream_of};
 
-/// Of which upstream neighbour something is asked, as it is told.
+/// The end of a line of the demand: the upstream neighbour to which it is sent, or nothing.
 #[derive(Drop)]
 struct ShownVia {
-    /// The word that leads to the neighbour, or nothing.
+    /// The word before the neighbour, or nothing.
     mark: &'static [u8],
     /// The neighbour, or nothing.
     neighbour: Shown,
-    /// What stands in the neighbour's place where nobody is asked, or nothing.
+    /// The dash if there is no neighbour, otherwise nothing.
     nobody: &'static [u8],
 }
 
 impl ShownVia {
-    /// The word that leads to the neighbour, or nothing.
+    /// The word before the neighbour, or nothing.
     fn mark(&self) -> &[u8]
         ensures { result.now ≡ self.now.mark.now }
     {
@@ -39,7 +39,7 @@ impl ShownVia {
         self.neighbour.text()
     }
 
-    /// What stands in the neighbour's place where nobody is asked, or nothing.
+    /// The dash if there is no neighbour, otherwise nothing.
     fn nobody(&self) -> &[u8]
         ensures { result.now ≡ self.now.nobody.now }
     {
@@ -47,7 +47,7 @@ impl ShownVia {
     }
 }
 
-/// Of which upstream neighbour something is asked, `None` where nobody is; nothing where that isn't to be told.
+/// The end of a line of the demand with this upstream neighbour; empty if `tells_via` isn't set.
 fn show_via<F: Family>(tells_via: bool, asked: Option<F::Addr>) -> ShownVia
     ensures { result.mark.now ++ (result.neighbour ++ result.nobody.now)
         ≡ via_words F.family tells_via (option_map F.bytes_of asked) }
@@ -73,7 +73,7 @@ fn show_via<F: Family>(tells_via: bool, asked: Option<F::Addr>) -> ShownVia
     }
 }
 
-/// Writes the line of what is wanted of a group: of its star or of one source.
+/// Writes the line of the (*,G) or (S,G) demand of a group.
 fn write_want_line<F: Family, W: Drain>(
     writer: &mut W,
     tells_via: bool,
@@ -183,7 +183,7 @@ fn write_source_line<F: Family, W: Drain>(
     write_want_line::<F, W>(writer, tells_via, group, What::Source(source), asked)
 }
 
-/// Writes the lines of a star and of its exceptions, of which the same neighbour is asked.
+/// Writes the lines of a star and of its exceptions, which all have the same upstream neighbour.
 fn write_starred<F: Family, W: Drain>(
     writer: &mut W,
     tells_via: bool,
@@ -200,7 +200,7 @@ fn write_starred<F: Family, W: Drain>(
     write_exceptions::<F, W>(writer, tells_via, group, asked, exceptions)
 }
 
-/// Writes the lines of a group's star, if it has one, and of its exceptions.
+/// Writes the lines of a group's star and of its exceptions, if the group has a star.
 fn write_star<F: Family, W: Drain>(
     writer: &mut W,
     tells_via: bool,
@@ -234,7 +234,8 @@ fn write_group<F: Family, W: Drain>(
     write_sources::<F, W>(writer, tells_via, routes, this.group(), this.sources())
 }
 
-/// Writes the lines of what a form wants, group by group. Where the device fails, a front of them went out.
+/// Writes the lines of a demand in its normal form, group by group. If the device fails, a prefix
+/// of them was written.
 pub(crate) fn write_demand<F: Family, W: Drain>(
     writer: &mut W,
     tells_via: bool,

@@ -11,15 +11,15 @@ use itoa::Buffer;
 use pim_addr::{Drain, Failed, Family};
 use pim_down::What;
 
-/// Which of a group's machines it is, in words, with the source of one that has a source. Contracts see all of it but
-/// the group.
+/// A machine of a group in words, with its source if it has one. Contracts see everything but the
+/// group.
 #[derive(Drop)]
 pub(crate) struct ShownWhat {
     /// `star`, `source` or `rpt`, and a space.
     kind: &'static [u8],
     /// The source, or nothing.
     source: Shown,
-    /// What parts the source from the group: a space, or nothing.
+    /// A space if there is a source, otherwise nothing.
     gap: &'static [u8],
 }
 
@@ -38,7 +38,7 @@ impl ShownWhat {
         self.source.text()
     }
 
-    /// What parts the source from the group: a space, or nothing.
+    /// A space if there is a source, otherwise nothing.
     pub(crate) fn gap(&self) -> &[u8]
         ensures { result.now ≡ self.now.gap.now }
     {
@@ -46,7 +46,7 @@ impl ShownWhat {
     }
 }
 
-/// Which of a group's machines it is.
+/// The words of a machine.
 pub(crate) fn show_what<F: Family>(what: What<F::Addr>) -> ShownWhat
     ensures kind { result.kind.now ≡ kind_of (what_seen F.bytes_of what) }
     ensures source { result.source ++ result.gap.now ≡ source_words F.family (what_seen F.bytes_of what) }
@@ -70,8 +70,10 @@ pub(crate) fn show_what<F: Family>(what: What<F::Addr>) -> ShownWhat
     }
 }
 
-/// Writes the line of an echo that is told at this moment, in milliseconds, of this port's machine. Where the device
-/// fails, a front of the line went out.
+/// Writes the line of an echo of this port's machine at this moment, in milliseconds.
+///
+/// # Errors
+/// The device failed: a prefix of the line was written.
 pub fn write_echo_line<F: Family, W: Drain>(
     writer: &mut W,
     moment: u64,

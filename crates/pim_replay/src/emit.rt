@@ -1,4 +1,4 @@
-//! The canonical messages of a replay's state, written as bytes.
+//! The canonical messages of a replay's final state, written as bytes.
 
 ghost use Rattle.std.specs.Prelude.{◌≡◌, ◌≤◌, IfOk, length};
 ghost use Rattle.pim_capture.specs.Next.{latest_moment};
@@ -13,23 +13,25 @@ use pim_merge::Merge;
 use pim_router::Router;
 use std::alloc::{AllocError, Global};
 
-/// Why the messages of a replay's state aren't written, or not all of them.
+/// Why the messages of a replay's final state aren't written, or not all of them.
 #[derive(Debug, Drop, PartialEq, Eq)]
 pub enum EmitFault<F: Family> {
-    /// The replay ended before its end, or memory was refused, or the device failed.
+    /// The replay stopped, memory was refused, or the device failed.
     Replay(ReplayFault),
-    /// The star of this group, with all its exceptions, is too big for a message of the writer's budget.
+    /// The star of this group, with all its exceptions, doesn't fit a message of the writer's
+    /// budget.
     TooBig(F::Addr),
 }
 
-/// Room for one message.
+/// A buffer for one message.
 fn blank(alloc: Global, budget: usize) -> Result<Vec<u8>, AllocError>
     ensures { IfOk result (λ buffer. length buffer.items ≡ budget) }
 {
     vec![in alloc; 0u8; budget]
 }
 
-/// Writes the canonical messages by which the router asks the writer's upstream neighbour, each behind its length.
+/// Writes the canonical messages of the router's demand toward the writer's upstream neighbour,
+/// each after its length.
 fn send_asked<F: Family, W: Drain>(
     alloc: Global,
     router: &Router<'_, F>,
@@ -50,14 +52,17 @@ fn send_asked<F: Family, W: Drain>(
     }
 }
 
-/// Replays the captures of a router's ports, one for each port and in their order, until `after_ms` milliseconds behind
-/// the last record, and writes the canonical messages by which it then asks the upstream neighbour of `by`, as bytes:
-/// each behind two bytes of its length, big-endian, and nothing else. The answer is the status, 0.
+/// Replays the captures of a router's ports, one for each port and in their order, until `after_ms`
+/// milliseconds after the last record. It writes the canonical messages of the router's demand
+/// toward the upstream neighbour of `by`, as bytes. Two bytes with the length, big-endian, precede
+/// each message; nothing else is written. Returns the status, 0.
 ///
-/// Beside the router it takes the memory of one buffer a capture, and in the end that of one message.
+/// Besides the router, it needs memory for one buffer for each capture, and at the end for one
+/// message.
 ///
 /// # Errors
-/// What ends the replay, `TooBig` and `Memory`: nothing was written. `Output`: a front of the messages was.
+/// - A capture's fault, `TooBig` and `Memory`: nothing was written.
+/// - `Output`: a prefix of the messages was written.
 pub fn emit_into<F: Family, R: Feed + Drop, W: Drain>(
     alloc: Global,
     merge: &mut Merge<R>,

@@ -1,4 +1,8 @@
-//! What a fresh router writes that hears canonical messages alone.
+//! The messages of a fresh router that has heard canonical messages alone.
+//!
+//! Its port has the default delays of RFC 7761, 4.11. The caller gives the limit on records, since
+//! a router doesn't report its own. The messages of several ports can have more entries than one
+//! port may hold.
 
 ghost use Rattle.std.specs.Prelude.{◌≡◌, ◌≤◌, [], ◌∷◌, map, IfOk, None};
 ghost use Rattle.pim_mirror.specs.Config.{delivery_seen, fresh_seen};
@@ -14,13 +18,15 @@ use pim_mirror::{
 use pim_router::{PortConfig, Router};
 use std::alloc::{AllocError, Global};
 
-/// The propagation delay of the fresh router's port, in milliseconds (RFC 7761, 4.11).
+/// The propagation delay of the fresh router's port, in milliseconds (RFC 7761, 4.11:
+/// Propagation_delay_default).
 const PROPAGATION: u16 = 500;
 
-/// The override delay of the fresh router's port, in milliseconds.
+/// The override delay of the fresh router's port, in milliseconds (RFC 7761, 4.11:
+/// t_override_default).
 const OVERRIDE: u16 = 2_500;
 
-/// Each of so many messages comes once, at this moment and in order.
+/// The deliveries of the first `count` messages, each once, at this moment and in order.
 pub(crate) fn each_at(alloc: Global, count: usize, moment: u64) -> Result<Vec<Delivery>, AllocError>
     ensures { IfOk result (λ deliveries. map delivery_seen deliveries.items ≡ each_at moment count) }
 {
@@ -47,7 +53,7 @@ pub(crate) fn only_port<A: Copy>(
     Ok(ports)
 }
 
-/// The fresh router that has heard each message once.
+/// The fresh router after it has heard each message once.
 pub(crate) fn mirror_once<'a, F: Family>(
     alloc: Global,
     messages: &Messages,
@@ -71,7 +77,8 @@ pub(crate) fn mirror_once<'a, F: Family>(
     mirror(alloc, messages, by, fresh)
 }
 
-/// By which messages a router asks the writer's upstream neighbour, where each star fits one.
+/// The canonical messages of the router's demand toward the writer's upstream neighbour. Each star
+/// must fit a message.
 pub(crate) fn ask_again<F: Family>(
     alloc: Global,
     router: &Router<'_, F>,
@@ -88,8 +95,8 @@ pub(crate) fn ask_again<F: Family>(
     }
 }
 
-/// The messages by which a fresh router asks its upstream neighbours that has heard each of these once, at the moment 0
-/// and in order. It knows no other neighbour than their sender, and may hold so many records.
+/// The canonical messages of a fresh router that has heard each of these messages once, at moment 0
+/// and in order. It knows no neighbour but the sender, and may hold `limit` records.
 pub(crate) fn hear_again<F: Family>(
     alloc: Global,
     messages: &Messages,

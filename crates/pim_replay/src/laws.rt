@@ -1,8 +1,8 @@
-//! Laws of the definitions. Nothing here is to be called.
+//! Laws of the definitions. These functions have no effect; their clauses are the laws.
 
 ghost use Rattle.pim_replay.specs.Laws.{ReportHasOneText, ReportBeginsWithItsLines};
 
-/// The report of a replay, and the router behind it, are a function of what the captures answer.
+/// The report of a replay, and the router after it, are a function of the answers of the captures.
 pub fn report_has_one_text()
     ensures { ReportHasOneText }
 {
@@ -11,7 +11,8 @@ pub fn report_has_one_text()
     pim_form::one_normal_form();
 }
 
-/// A report begins with the lines of any first turns of its merge, and with those of all.
+/// A report begins with the lines of any first turns of its merge. It also begins with the lines of
+/// all turns and the time after them.
 pub fn report_begins_with_its_lines()
     ensures { ReportBeginsWithItsLines }
 {

@@ -1,14 +1,28 @@
-//! The lines of a replay's report: what became of each packet of a router's captures, the echoes that were to be sent,
-//! and the state that the router held at the end.
+//! The replay of a router's captures, and what is written of it: a report, a comparison, or
+//! messages.
 //!
-//! Proved: each line is written as `specs` spell it, whole or, where the device fails, a front of it. The state is told
-//! by its moment, its records in key order, the groups of the one normal form of what they want, and two counts. A
-//! replay of captures (`replay_into`) writes exactly the report of their merge, which `specs/Report.antt` defines: the
-//! lines of its turns, and the state behind the last; where a capture has a fault, the lines of the turns before it.
-//! Two routers are compared by their replays (`same_into`). `mirror_into` writes the canonical messages of a replay's
-//! state and that a fresh router which hears them writes the same; it compares them, and they are proved to be.
-//! `emit_into` writes the bytes of these messages alone, each behind its length. `change_into` writes the messages that
-//! tell the change between the states of two replays, and that the fresh router which hears them asks as the second.
+//! `specs/` defines each text byte by byte. At Ok the whole text was written. If the device fails,
+//! a prefix of it was, and only then does the device's count of failures rise.
+//! - `replay_into` writes the report of the captures' merge: the lines of its turns, then the final
+//!   state.
+//! - `same_into` says whether two routers want the same of the writer's upstream neighbour.
+//! - `mirror_into` writes the canonical messages of the final state, then `agrees`.
+//! - `emit_into` writes the bytes of these messages alone, each after two bytes with its length.
+//! - `change_into` writes the messages of the change between two routers' final states, then
+//!   `agrees`.
+//! - `replay_quietly` writes nothing and only moves the router on.
+//!
+//! After a fault of a capture, `replay_into` has written exactly the lines of the turns before it;
+//! the other calls have written nothing. They also write nothing if a star is too big (`TooBig`).
+//! `agrees` says that a fresh router that heard the messages has the messages it should have. It
+//! comes only if that router has room; otherwise the result is `Full`, after the messages.
+//!
+//! The caller gives a merge with one capture for each port, and a router not later than
+//! `latest_moment`. The router runs on for at most 10^9 ms after the last record. Two routers have
+//! one table. A fresh router may hold 1 to 100,000 records.
+//!
+//! A replay needs one buffer for each capture. Lines need no memory, since they are written in
+//! pieces. Writing a final state or messages needs more.
 #![tactic(auto)]
 
 mod change_hearing;

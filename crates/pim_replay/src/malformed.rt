@@ -1,4 +1,5 @@
-//! The words of what is wrong with a message.
+//! The words of a message's fault, used in a packet's line and in the line of a fault of the
+//! program.
 
 ghost use Rattle.std.specs.Prelude.{◌≡◌};
 ghost use Rattle.pim_device.specs.Device.{AppendsAll, failures_after};
@@ -13,7 +14,7 @@ use pim_hello::{HelloFault, HelloKind};
 use pim_jp::{JpFault, JpKind};
 use pim_router::Malformed;
 
-/// The name of what is wrong with the body of a Join/Prune.
+/// The name of a fault in the body of a Join/Prune message.
 fn kind_name(kind: JpKind) -> &'static [u8]
     ensures { result.now ≡ kind_name kind }
 {
@@ -31,7 +32,7 @@ fn kind_name(kind: JpKind) -> &'static [u8]
     }
 }
 
-/// The name of what is wrong with the body of a Hello.
+/// The name of a fault in the body of a Hello.
 fn hello_kind_name(kind: HelloKind) -> &'static [u8]
     ensures { result.now ≡ hello_kind_name kind }
 {
@@ -42,7 +43,7 @@ fn hello_kind_name(kind: HelloKind) -> &'static [u8]
     }
 }
 
-/// What is said of a header's fault.
+/// The words of a fault in the header, the checksum or the destination.
 fn frame_said(fault: FrameFault) -> Said
     ensures { said_text result ≡ frame_words fault }
 {
@@ -54,7 +55,7 @@ fn frame_said(fault: FrameFault) -> Said
     }
 }
 
-/// What is said of a fault in the body of a Hello.
+/// The words of a fault in the body of a Hello.
 fn hello_said(fault: HelloFault) -> Said
     ensures { said_text result ≡ hello_words fault }
 {
@@ -66,7 +67,7 @@ fn hello_said(fault: HelloFault) -> Said
     )
 }
 
-/// What is said of a fault in the body of a Join/Prune.
+/// The words of a fault in the body of a Join/Prune message.
 fn join_prune_said(fault: JpFault) -> Said
     ensures { said_text result ≡ join_prune_words fault }
 {
@@ -78,7 +79,7 @@ fn join_prune_said(fault: JpFault) -> Said
     )
 }
 
-/// What is said of a malformed message.
+/// The words of any fault of a message.
 pub(crate) fn malformed_said(fault: Malformed) -> Said
     ensures { said_text result ≡ malformed_words fault }
 {
@@ -89,8 +90,10 @@ pub(crate) fn malformed_said(fault: Malformed) -> Said
     }
 }
 
-/// Writes the words of what is wrong with a message, without a line feed. Where the device fails, a front of them went
-/// out.
+/// Writes the words of a message's fault, without a line feed.
+///
+/// # Errors
+/// The device failed: a prefix of the words was written.
 pub fn write_malformed_words<W: Drain>(writer: &mut W, fault: Malformed) -> Result<(), Failed>
     ensures bytes { AppendsAll (W.contents writer.old) (W.contents writer.new) result (malformed_words fault) }
     ensures count { W.failures writer.new ≡ failures_after (W.failures writer.old) result }

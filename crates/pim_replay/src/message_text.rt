@@ -20,14 +20,14 @@ fn hex_digit(value: u8) -> u8
     if value < 10 { value + 48 } else { value + 87 }
 }
 
-/// The digits of a byte.
+/// The two hexadecimal digits of a byte.
 fn hex_of(byte: u8) -> [u8; 2]
     ensures { result ≡ hex_of byte }
 {
     [hex_digit(byte / 16), hex_digit(byte % 16)]
 }
 
-/// Writes bytes as digits, two for each.
+/// Writes bytes in hexadecimal.
 fn write_hex<W: Drain>(writer: &mut W, bytes: &[u8]) -> Result<(), Failed>
     ensures bytes { AppendsAll (W.contents writer.old) (W.contents writer.new) result (flat_map hex_of bytes.now) }
     ensures count { W.failures writer.new ≡ failures_after (W.failures writer.old) result }
@@ -38,7 +38,7 @@ fn write_hex<W: Drain>(writer: &mut W, bytes: &[u8]) -> Result<(), Failed>
     Ok(())
 }
 
-/// Writes bytes as digits, and ends the line.
+/// Writes bytes in hexadecimal, then a line feed.
 fn write_hex_line<W: Drain>(writer: &mut W, bytes: &[u8]) -> Result<(), Failed>
     ensures bytes { AppendsAll (W.contents writer.old) (W.contents writer.new) result
         (line (flat_map hex_of bytes.now)) }
@@ -48,7 +48,7 @@ fn write_hex_line<W: Drain>(writer: &mut W, bytes: &[u8]) -> Result<(), Failed>
     write_all(writer, b"\n")
 }
 
-/// Writes what stands before the digits of a message of this length.
+/// Writes what precedes the digits of a message of this length in bytes.
 fn write_length<W: Drain>(writer: &mut W, length: usize) -> Result<(), Failed>
     ensures bytes { AppendsAll (W.contents writer.old) (W.contents writer.new) result (length_words length) }
     ensures count { W.failures writer.new ≡ failures_after (W.failures writer.old) result }
@@ -67,7 +67,7 @@ fn write_message<W: Drain>(writer: &mut W, message: &[u8]) -> Result<(), Failed>
     write_hex_line(writer, message)
 }
 
-/// Writes the line of the message with this number, if there is one.
+/// Writes the line of the message with this index, if there is one.
 fn write_message_at<W: Drain>(
     writer: &mut W,
     messages: &Messages,
@@ -95,7 +95,7 @@ fn write_each<W: Drain>(writer: &mut W, messages: &Messages) -> Result<(), Faile
     Ok(())
 }
 
-/// Writes how many messages there are.
+/// Writes the line with the number of messages.
 fn write_count<W: Drain>(writer: &mut W, count: usize) -> Result<(), Failed>
     ensures bytes { AppendsAll (W.contents writer.old) (W.contents writer.new) result (count_line count) }
     ensures count { W.failures writer.new ≡ failures_after (W.failures writer.old) result }
@@ -105,7 +105,7 @@ fn write_count<W: Drain>(writer: &mut W, count: usize) -> Result<(), Failed>
     write_pieces(writer, &pieces)
 }
 
-/// Writes the lines of the messages, and how many there are.
+/// Writes the lines of the messages, then their number.
 pub(crate) fn write_messages<W: Drain>(writer: &mut W, messages: &Messages) -> Result<(), Failed>
     ensures bytes { AppendsAll (W.contents writer.old) (W.contents writer.new) result (messages_text messages.now) }
     ensures count { W.failures writer.new ≡ failures_after (W.failures writer.old) result }

@@ -1,4 +1,9 @@
-//! The canonical messages of a replay's state, and that a fresh router which hears them writes the same.
+//! The canonical messages of a replay's final state, and the check by a fresh router that hears
+//! them.
+//!
+//! The check compares the fresh router's messages with those it heard, though they are proved to be
+//! the same. The contract of the comparison covers any two lists of messages, so a body that
+//! doesn't compare is refused.
 
 ghost use Rattle.std.specs.Prelude.{◌≡◌, ◌≤◌, length};
 ghost use Rattle.pim_capture.specs.Next.{latest_moment};
@@ -17,21 +22,23 @@ use pim_mirror::MirrorFault;
 use pim_router::Router;
 use std::alloc::Global;
 
-/// Why the messages of a replay's state aren't told, or why no fresh router hears them.
+/// Why the messages aren't written, or why the fresh router can't hear them.
 #[derive(Debug, Drop, PartialEq, Eq)]
 pub enum MirrorTextFault<F: Family> {
-    /// The replay ended before its end, or memory was refused, or the device failed.
+    /// A replay stopped, memory was refused, or the device failed.
     Replay(ReplayFault),
-    /// The star of this group, with all its exceptions, is too big for a message of the writer's budget.
+    /// The star of this group, with all its exceptions, doesn't fit a message of the writer's
+    /// budget.
     TooBig(F::Addr),
     /// The fresh router has no room for all messages.
     Full {
-        /// How many units the messages have, up to the first one that passes the limit.
+        /// In `mirror_into`: the number of entries of the messages up to the first one that passes
+        /// the limit. In `change_into`: what the first message without room needed.
         needed: usize,
     },
 }
 
-/// Why no fresh router hears the messages.
+/// Why the call fails when the fresh router doesn't hear the messages.
 pub(crate) fn of_mirror<F: Family>(fault: MirrorFault) -> MirrorTextFault<F>
     ensures { result ≡ of_mirror fault }
 {
@@ -41,7 +48,7 @@ pub(crate) fn of_mirror<F: Family>(fault: MirrorFault) -> MirrorTextFault<F>
     }
 }
 
-/// By which messages the router asks the writer's upstream neighbour.
+/// The canonical messages of the router's demand toward the writer's upstream neighbour.
 pub(crate) fn ask<F: Family>(
     alloc: Global,
     router: &Router<'_, F>,
@@ -58,7 +65,7 @@ pub(crate) fn ask<F: Family>(
     }
 }
 
-/// The line that tells whether the messages are the same.
+/// The line that says whether the messages are the same.
 pub(crate) fn judgement(one: &Messages, other: &Messages) -> &'static [u8]
     ensures { Judges one.now other.now result.now }
 {
@@ -69,7 +76,7 @@ pub(crate) fn judgement(one: &Messages, other: &Messages) -> &'static [u8]
     }
 }
 
-/// Writes the messages, lets a fresh router hear them, and writes whether it writes the same.
+/// Writes the messages, lets a fresh router hear them, and writes whether it has the same messages.
 fn exchange<F: Family, W: Drain>(
     alloc: Global,
     messages: &Messages,
@@ -98,20 +105,24 @@ fn exchange<F: Family, W: Drain>(
     Ok(0)
 }
 
-/// Replays the captures of a router's ports, one for each port and in their order, until `after_ms` milliseconds behind
-/// the last record, and writes the canonical messages by which it then asks the upstream neighbour of `by`, each as
-/// `message`, its length in bytes and its bytes in hexadecimal, and how many there are. Then a fresh router of one port,
-/// which may hold `limit` records and knows no neighbour but their sender, hears each once, at the moment 0 and in
-/// order; what it asks its own upstream neighbours for is compared with them, and `agrees` is written. The answer is the
-/// status, 0.
+/// Replays the captures of a router's ports, one for each port and in their order, until `after_ms`
+/// milliseconds after the last record. It writes the canonical messages of the router's demand
+/// toward the upstream neighbour of `by`. Each is a line `message LENGTH HEX`, with the length in
+/// bytes; a line with their number follows.
 ///
-/// Beside the router it takes the memory of one buffer a capture, twice that of the messages, and that of a router which
-/// holds their entries.
+/// Then a fresh router of one port hears each message once, at moment 0 and in order. It may hold
+/// `limit` records and knows no neighbour but the sender. Its canonical messages are compared with
+/// those it heard, and `agrees` is written. Returns the status, 0.
+///
+/// Besides the router, it needs memory for one buffer for each capture and for two copies of the
+/// messages. It also needs memory for a router that holds their entries.
 ///
 /// # Errors
-/// What ends the replay, and `TooBig`: nothing was written. `Full` where the entries of all messages together pass the
-/// limit: the lines of the messages and their number were. `Output`: a front of the text was. `Memory`: nothing was, or
-/// all but `agrees`.
+/// - A capture's fault and `TooBig`: nothing was written.
+/// - `Full`: the entries of all messages exceed `limit`. The lines of the messages and their number
+///   were written.
+/// - `Output`: a prefix of the text was written.
+/// - `Memory`: nothing was written, or everything but `agrees`.
 pub fn mirror_into<F: Family, R: Feed + Drop, W: Drain>(
     alloc: Global,
     merge: &mut Merge<R>,

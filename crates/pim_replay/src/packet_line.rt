@@ -13,7 +13,7 @@ use pim_addr::{Drain, Failed, Family};
 use pim_hello::Heard;
 use pim_router::{Store, Verdict};
 
-/// What a Hello means for its port.
+/// What a Hello means for its sender on the port.
 fn heard_words(heard: Heard) -> &'static [u8]
     ensures { result.now ≡ heard_words heard }
 {
@@ -25,7 +25,7 @@ fn heard_words(heard: Heard) -> &'static [u8]
     }
 }
 
-/// What has no room for more.
+/// Which store has no room.
 fn full_said(store: Store) -> Said
     ensures { said_text result ≡ full_words store }
 {
@@ -35,7 +35,7 @@ fn full_said(store: Store) -> Said
     }
 }
 
-/// What became of a packet, but for the word that a malformed one begins with.
+/// The words of a verdict without the mark of a malformed message.
 fn verdict_said(verdict: Verdict) -> Said
     ensures { said_text result ≡ told_words verdict }
 {
@@ -51,7 +51,7 @@ fn verdict_said(verdict: Verdict) -> Said
     }
 }
 
-/// The word that a malformed packet begins with.
+/// The mark of a malformed message, or nothing.
 fn mark_of(verdict: &Verdict) -> &[u8]
     ensures { result.now ≡ mark_of verdict.now }
 {
@@ -61,8 +61,11 @@ fn mark_of(verdict: &Verdict) -> &[u8]
     }
 }
 
-/// Writes the line of a packet that came at this moment, in milliseconds, on this port and from this sender. Where the
-/// device fails, a front of the line went out.
+/// Writes the line of a packet that came at this moment, in milliseconds, on this port and from
+/// this sender.
+///
+/// # Errors
+/// The device failed: a prefix of the line was written.
 pub fn write_packet_line<F: Family, W: Drain>(
     writer: &mut W,
     moment: u64,

@@ -1,4 +1,8 @@
-//! Time that passes between the records of captures: the lines of echoes, and the count of Refreshes.
+//! Time that passes between the records of captures: the lines of echoes, and the count of
+//! Refreshes.
+//!
+//! The router counts the Refreshes up to the next echo by a division, since a long pause has very
+//! many.
 
 ghost use Rattle.std.specs.Prelude.{◌≡◌, ◌≤◌, ◌^◌, max, IfOk, OnOk, OnErr};
 ghost use Rattle.pim_device.specs.Device.{failures_after};
@@ -9,11 +13,12 @@ use pim_addr::{Drain, Failed, Family};
 use pim_down::Step;
 use pim_router::{Router, every_list_has_a_course};
 
-/// Lets a router run to this moment, in milliseconds. Each echo is a line, written where it falls. The answer is the
-/// count of Refreshes, these and those before, which stops at 2^64 - 1.
+/// Lets a router run to this moment, in milliseconds, and writes each echo as a line with the
+/// moment at which it falls. Returns the count of Refreshes: `refreshes` and those on the way. It
+/// stops at 2^64 - 1.
 ///
 /// # Errors
-/// Where the device fails: a front of the lines went out.
+/// The device failed: a prefix of the lines was written.
 pub fn pass_time<F: Family, W: Drain>(
     writer: &mut W,
     router: &mut Router<'_, F>,

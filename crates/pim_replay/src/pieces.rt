@@ -1,4 +1,7 @@
-//! The pieces of which lines are made.
+//! The pieces that lines are made of.
+//!
+//! A line is written piece by piece and needs no memory. A device that buffers makes blocks of
+//! them.
 
 ghost use Rattle.std.specs.Prelude.{◌≡◌, decimal, option_map};
 ghost use Rattle.std.specs.List.{flat_map};
@@ -58,7 +61,7 @@ impl Shown {
     }
 }
 
-/// A number in decimal, or these words where there is none.
+/// The number in decimal, or the given words if there is none.
 pub(crate) fn number_or<'a>(
     buffer: &'a mut Buffer,
     number: Option<u64>,
@@ -72,7 +75,7 @@ pub(crate) fn number_or<'a>(
     }
 }
 
-/// Writes the pieces, one after the other.
+/// Writes the pieces one after the other.
 pub(crate) fn write_pieces<W: Drain>(writer: &mut W, pieces: &[&[u8]]) -> Result<(), Failed>
     ensures bytes { AppendsAll (W.contents writer.old) (W.contents writer.new) result
         (flat_map (λ piece. piece.now) pieces.now) }

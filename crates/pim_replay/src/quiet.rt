@@ -1,4 +1,4 @@
-//! A replay of which nothing is written.
+//! A replay that writes nothing.
 
 ghost use Rattle.std.specs.Prelude.{◌≡◌, ◌≤◌, length};
 ghost use Rattle.pim_capture.specs.Next.{latest_moment};
@@ -9,7 +9,7 @@ use pim_addr::{Drain, Failed, Family, Feed};
 use pim_merge::Merge;
 use pim_router::Router;
 
-/// A device that takes all and keeps nothing.
+/// A device that takes everything and keeps nothing.
 #[derive(Drop)]
 struct Nowhere;
 
@@ -25,13 +25,14 @@ impl Drain for Nowhere {
     }
 }
 
-/// Replays the captures of a router's ports, one for each port and in their order, until `after_ms` milliseconds behind
-/// the last record, and writes nothing: the router is then as `replay_into` leaves it.
+/// Replays the captures of a router's ports, one for each port and in their order, until `after_ms`
+/// milliseconds after the last record, and writes nothing. The router is then in the same state as
+/// after `replay_into`.
 ///
-/// Beside the router it takes the memory of one buffer a capture.
+/// Besides the router, it needs memory for one buffer for each capture.
 ///
 /// # Errors
-/// `Capture` where the head of a capture is a fault, and `Memory` where a growth is refused; never `Output`.
+/// `Capture` if a capture has a fault, and `Memory` if memory is refused; never `Output`.
 pub fn replay_quietly<F: Family, R: Feed + Drop>(
     merge: &mut Merge<R>,
     router: &mut Router<'_, F>,

@@ -1,4 +1,7 @@
 //! The line of a downstream record.
+//!
+//! No record is in a Tmp state between calls. These states still have names, so that each record
+//! has a line.
 
 ghost use Rattle.std.specs.Prelude.{◌≡◌, codes};
 ghost use Rattle.pim_device.specs.Device.{AppendsAll, failures_after};
@@ -24,7 +27,7 @@ fn state_name(state: &State) -> &[u8]
     }
 }
 
-/// What is left of a prune-pending timer, if one runs.
+/// The time left on a prune-pending timer, if it runs.
 fn time_left(pending: Option<Pending>) -> Option<u64>
     ensures { result ≡ time_left pending }
 {
@@ -34,8 +37,10 @@ fn time_left(pending: Option<Pending>) -> Option<u64>
     }
 }
 
-/// Writes the line of a record, with what is left of its timers in milliseconds. Where the device fails, a front of the
-/// line went out.
+/// Writes the line of a record, with the time left on its timers in milliseconds.
+///
+/// # Errors
+/// The device failed: a prefix of the line was written.
 pub fn write_record_line<F: Family, W: Drain>(
     writer: &mut W,
     told: Record<F::Addr>,

@@ -1,4 +1,8 @@
-//! A replay: the captures of a router's ports, from the first record to the state behind the last.
+//! A replay writes the report of a router's captures: from the first record to the state after the
+//! last.
+//!
+//! The caller makes the merge and the router. So it can refuse a configuration before it opens a
+//! file, and open all files before any record is read.
 
 ghost use Rattle.std.specs.Prelude.{◌≡◌, ◌<◌, ◌≤◌, ℕ, List, Option, length, Some, OnOk, OnErr};
 ghost use Rattle.pim_capture.specs.Next.{latest_moment};
@@ -17,18 +21,19 @@ use pim_merge::{Merge, MergeFault};
 use pim_router::Router;
 use std::alloc::Global;
 
-/// Why a replay ended before its end.
+/// Why a replay stopped.
 #[derive(Clone, Copy, Debug, PartialEq, Eq)]
 pub enum ReplayFault {
-    /// The head of a capture is this fault, or can't be read; of several the first capture's. It is never `Memory`.
+    /// The next answer of a capture is this fault, or a read of it failed. It is never `Memory`. If
+    /// several captures have a fault, it is that of the first one.
     Capture(MergeFault),
     /// The device failed.
     Output,
-    /// A growth was refused.
+    /// Memory was refused.
     Memory,
 }
 
-/// Why a replay ends where its merge answers this fault.
+/// Why a replay stops at this fault of its merge.
 fn stopped_by(told: MergeFault) -> ReplayFault
     ensures { result ≡ stopped_by told }
 {
@@ -38,7 +43,7 @@ fn stopped_by(told: MergeFault) -> ReplayFault
     }
 }
 
-/// Why a replay ends where a text isn't told.
+/// Why a replay stops when a text isn't written.
 fn of_text(fault: TextFault) -> ReplayFault
     ensures { result ≡ of_text fault }
 {
@@ -48,7 +53,7 @@ fn of_text(fault: TextFault) -> ReplayFault
     }
 }
 
-/// Takes the next turn, if there is one. The answer is the counts behind it.
+/// Takes the next turn, if there is one. Returns the counts after it.
 fn step<F: Family, R: Feed + Drop, W: Drain>(
     merge: &mut Merge<R>,
     router: &mut Router<'_, F>,
@@ -79,7 +84,7 @@ fn step<F: Family, R: Feed + Drop, W: Drain>(
     }
 }
 
-/// Takes all turns. The answer is what was counted.
+/// Takes all turns. Returns the counts after them.
 fn run_turns<F: Family, R: Feed + Drop, W: Drain>(
     merge: &mut Merge<R>,
     router: &mut Router<'_, F>,
@@ -102,7 +107,7 @@ fn run_turns<F: Family, R: Feed + Drop, W: Drain>(
     Ok(counts)
 }
 
-/// Takes all turns, and lets the last time pass. The answer is what was counted.
+/// Takes all turns, then lets `after_ms` milliseconds pass. Returns the counts.
 pub(crate) fn run_on<F: Family, R: Feed + Drop, W: Drain>(
     merge: &mut Merge<R>,
     router: &mut Router<'_, F>,
@@ -127,15 +132,19 @@ pub(crate) fn run_on<F: Family, R: Feed + Drop, W: Drain>(
     })
 }
 
-/// Replays the captures of a router's ports, one for each port and in their order, and writes the report: a line for
-/// each packet of the router's family and for each echo, where they fall, and then the state that the router holds
-/// `after_ms` milliseconds behind the last record. The answer is the status, 0.
+/// Replays the captures of a router's ports, one for each port and in their order, and writes the
+/// report. The report has a line for each packet of the router's family and for each echo, in order
+/// of time. The state that the router holds `after_ms` milliseconds after the last record follows.
+/// If `tells_via` is set, each line of the demand names the upstream neighbour. Returns the status,
+/// 0.
 ///
-/// Beside the router it takes the memory of one buffer a capture, and in the end that of `write_state`.
+/// Besides the router, it needs memory for one buffer for each capture, and at the end that of
+/// `write_state`.
 ///
 /// # Errors
-/// `Capture` where the head of a capture is a fault: exactly the lines of the turns before it were written. `Output`
-/// and `Memory`: a front of the report was.
+/// - `Capture`: a capture has a fault, and exactly the lines of the turns before it were written.
+/// - `Output` if the device fails, `Memory` if memory is refused: a prefix of the report was
+///   written.
 pub fn replay_into<F: Family, R: Feed + Drop, W: Drain>(
     alloc: Global,
     merge: &mut Merge<R>,

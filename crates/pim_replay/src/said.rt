@@ -1,4 +1,4 @@
-//! What is said of something, in few words and a number.
+//! A short text that is put together without memory: words, a name, more words, and a number.
 
 ghost use Rattle.std.specs.Prelude.{◌≡◌, ◌++◌, [], decimal};
 ghost use Rattle.pim_replay.specs.Pieces.{number_or};
@@ -9,21 +9,21 @@ use crate::pieces::{number_or, write_pieces};
 use itoa::Buffer;
 use pim_addr::{Drain, Failed};
 
-/// Words, a name, more words, and a number, each of which may be missing.
+/// Words, a name, more words, and a number. Each of them may be missing.
 #[derive(Clone, Copy, Debug)]
 pub(crate) struct Said {
     /// The first words.
     words: &'static [u8],
     /// A name.
     name: &'static [u8],
-    /// The words behind the name.
+    /// The words after the name.
     more: &'static [u8],
-    /// The number behind all of them.
+    /// The number at the end.
     number: Option<u64>,
 }
 
 impl Said {
-    /// Words alone.
+    /// A text of words alone.
     pub(crate) fn plain(words: &'static [u8]) -> Self
         ensures { said_text result ≡ words.now }
     {
@@ -35,7 +35,7 @@ impl Said {
         }
     }
 
-    /// Words and a number.
+    /// A text of words and a number.
     pub(crate) fn numbered(words: &'static [u8], number: u64) -> Self
         ensures { said_text result ≡ words.now ++ decimal number }
     {
@@ -47,7 +47,7 @@ impl Said {
         }
     }
 
-    /// Words, a name, more words and a number.
+    /// A text of words, a name, more words and a number.
     pub(crate) fn named(
         words: &'static [u8],
         name: &'static [u8],
@@ -78,14 +78,14 @@ impl Said {
         self.name
     }
 
-    /// The words behind the name.
+    /// The words after the name.
     pub(crate) fn more(&self) -> &[u8]
         ensures { result.now ≡ self.now.more.now }
     {
         self.more
     }
 
-    /// The number behind all of them, in digits, if there is one.
+    /// The number at the end in decimal, if there is one.
     pub(crate) fn digits<'a>(&self, buffer: &'a mut Buffer) -> &'a [u8]
         ensures { result.now ≡ number_or [] self.now.number }
     {
@@ -93,7 +93,7 @@ impl Said {
     }
 }
 
-/// Writes what is said.
+/// Writes the text.
 pub(crate) fn write_said<W: Drain>(writer: &mut W, said: &Said) -> Result<(), Failed>
     ensures bytes { AppendsAll (W.contents writer.old) (W.contents writer.new) result (said_text said.now) }
     ensures count { W.failures writer.new ≡ failures_after (W.failures writer.old) result }

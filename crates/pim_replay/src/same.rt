@@ -1,4 +1,8 @@
-//! Whether two routers whose captures are replayed want the same.
+//! The comparison of two routers after their replays: whether they want the same of an upstream
+//! neighbour.
+//!
+//! Only the demand toward the writer's upstream neighbour counts. If the table leads every address
+//! to that neighbour, this is the whole demand, as far as groups have an RP.
 
 ghost use Rattle.std.specs.Prelude.{◌≡◌, ◌≤◌, length};
 ghost use Rattle.pim_capture.specs.Next.{latest_moment};
@@ -16,9 +20,10 @@ use std::alloc::Global;
 /// Why two replays aren't compared.
 #[derive(Debug, Drop, PartialEq, Eq)]
 pub enum SameFault<F: Family> {
-    /// A replay ended before its end, or memory was refused, or the device failed.
+    /// A replay stopped, memory was refused, or the device failed.
     Replay(ReplayFault),
-    /// The star of this group, with all its exceptions, is too big for a message of the writer's budget.
+    /// The star of this group, with all its exceptions, doesn't fit a message of the writer's
+    /// budget.
     TooBig(F::Addr),
 }
 
@@ -32,7 +37,8 @@ impl<F: Family> From<ReplayFault> for SameFault<F> {
     }
 }
 
-/// Why two replays aren't compared, where their demands aren't. Their tables don't differ.
+/// Why the call fails when the demands can't be compared. The tables are the same, so `Tables`
+/// can't occur.
 fn of_form<F: Family>(fault: FormFault<F>) -> SameFault<F>
     ensures { result ≡ of_form fault }
 {
@@ -58,21 +64,21 @@ fn judge<F: Family>(
     }
 }
 
-/// The line that tells the answer.
+/// The line of the result.
 fn answer_line(same: bool) -> &'static [u8]
     ensures { result.now ≡ answer_line same }
 {
     if same { b"same\n" } else { b"different\n" }
 }
 
-/// The status that tells the answer.
+/// The status of the result.
 fn answer_status(same: bool) -> u8
     ensures { result ≡ answer_status same }
 {
     if same { 0 } else { 1 }
 }
 
-/// Writes the answer, and answers the status.
+/// Writes the result, and returns the status.
 fn say<F: Family, W: Drain>(same: bool, writer: &mut W) -> Result<u8, SameFault<F>>
     ensures said { Says same (W.contents writer.old) (W.contents writer.new) result }
     ensures count { W.failures writer.new ≡ failures_of_answer (W.failures writer.old) result }
@@ -83,15 +89,20 @@ fn say<F: Family, W: Drain>(same: bool, writer: &mut W) -> Result<u8, SameFault<
     Ok(answer_status(same))
 }
 
-/// Replays the captures of two routers, one capture a port and each until `after_ms` milliseconds behind its last
-/// record, and writes whether the routers then want the same of the upstream neighbour of `by`, for every source, group
-/// and tree: `same`, with the answer 0, or `different`, with the answer 1. Nothing else is written. Both have one table.
+/// Replays the captures of two routers, one for each port, each until `after_ms` milliseconds after
+/// the last record of its captures. It writes whether the routers then want the same of the
+/// upstream neighbour of `by`, for each valid source, each group and both trees. The line is
+/// `same`, with the status 0 as the result, or `different`, with the status 1. Both routers must
+/// have one table.
 ///
-/// Beside the routers it takes the memory of one buffer a capture, and in the end that of `same_wants`.
+/// Besides the routers, it needs memory for one buffer for each capture, and at the end that of
+/// `same_wants`.
 ///
 /// # Errors
-/// What ends the replay of `a`, and else that of `b`. Then `TooBig` of `a`, and else of `b`. `Memory` where a growth is
-/// refused, and `Output` where the device fails: a front of the line was written. After any other nothing was.
+/// - A capture's fault of `a`, or else of `b`; then `TooBig` of `a`, or else of `b`: nothing was
+///   written.
+/// - `Memory` if memory is refused: nothing was written.
+/// - `Output` if the device fails: a prefix of the line was written.
 pub fn same_into<F: Family, R: Feed + Drop, W: Drain>(
     alloc: Global,
     merge_a: &mut Merge<R>,

@@ -1,4 +1,4 @@
-//! The end of a report: the state that a router holds.
+//! The end of a report: the state of a router.
 
 ghost use Rattle.std.specs.Prelude.{◌≡◌};
 ghost use Rattle.std.specs.List.{flat_map};
@@ -17,21 +17,21 @@ use pim_form::NormalForm;
 use pim_router::Router;
 use std::alloc::Global;
 
-/// What a replay counts.
+/// The counts of a replay. Each stops at 2^64 - 1.
 #[derive(Clone, Copy, Debug, PartialEq, Eq)]
 pub struct Counts {
-    /// How many records of the captures held no packet of the router's family.
+    /// The number of records of the captures that hold no packet of the router's family.
     pub skipped: u64,
-    /// How often the router was to refresh what it asks for.
+    /// The number of Refreshes: how often the router was to send its demand again.
     pub refreshes: u64,
 }
 
-/// Why a state wasn't told.
+/// Why a text isn't written.
 #[derive(Clone, Copy, Debug, PartialEq, Eq)]
 pub enum TextFault {
     /// The device failed.
     Output,
-    /// A growth was refused.
+    /// Memory was refused.
     Memory,
 }
 
@@ -74,7 +74,7 @@ fn write_records<F: Family, W: Drain>(writer: &mut W, records: Records<'_, F>) -
     Ok(())
 }
 
-/// Writes the moment of machines, and the lines of all that are held.
+/// Writes the line of the machines' moment, and the lines of all their records.
 fn write_machines<F: Family, W: Drain>(writer: &mut W, machines: &Ports<F>) -> Result<(), Failed>
     ensures bytes { AppendsAll (W.contents writer.old) (W.contents writer.new) result
         (machines_text F.family machines.now) }
@@ -84,7 +84,7 @@ fn write_machines<F: Family, W: Drain>(writer: &mut W, machines: &Ports<F>) -> R
     write_records::<F, W>(writer, machines.records())
 }
 
-/// Writes the lines of what a form wants, and of the counts.
+/// Writes the lines of a demand with this normal form, then the counts.
 fn write_wants<F: Family, W: Drain>(
     writer: &mut W,
     tells_via: bool,
@@ -100,7 +100,7 @@ fn write_wants<F: Family, W: Drain>(
     write_counts(writer, counts)
 }
 
-/// Writes a state whose demand has this form.
+/// Writes a state whose demand has this normal form.
 fn write_with<F: Family, W: Drain>(
     writer: &mut W,
     router: &Router<'_, F>,
@@ -116,13 +116,15 @@ fn write_with<F: Family, W: Drain>(
     write_wants::<F, W>(writer, tells_via, router.routes(), form, counts)
 }
 
-/// Writes the state that a router holds: its moment, its records in key order, what they want, with the upstream
-/// neighbour of each want where that is to be told, and these counts.
+/// Writes the state of a router: its moment, its records in key order, the normal form of its
+/// demand, and the counts. If `tells_via` is set, each line of the demand names the upstream
+/// neighbour.
 ///
-/// Beside the text it takes memory in proportion to the records that want something, and gives it back.
+/// It needs memory in proportion to the records that want something, and gives it back.
 ///
 /// # Errors
-/// `Memory` before anything is written, and `Output` behind a front of the text.
+/// - `Memory` if memory is refused: nothing was written.
+/// - `Output` if the device fails: a prefix of the text was written.
 pub fn write_state<F: Family, W: Drain>(
     alloc: Global,
     writer: &mut W,

@@ -1,4 +1,5 @@
-//! A turn of a replay: time passes to the moment of a record, and then a port takes the record.
+//! A turn of a replay: the router runs to the moment of a record, then the port of its capture
+//! takes the record.
 
 ghost use Rattle.std.specs.Prelude.{◌≡◌, ◌<◌, ◌≤◌, ◌^◌, List, ℕ, length, max, option_map, IfOk, OnOk, OnErr};
 ghost use Rattle.std.specs.Prelude.{if◌then◌else◌, Some, None};
@@ -18,7 +19,7 @@ use pim_capture::{Event, Ip};
 use pim_merge::Turn;
 use pim_router::Router;
 
-/// Where a packet came from, and where it went.
+/// The source and the destination of a packet.
 #[derive(Clone, Copy, Debug, PartialEq, Eq)]
 struct Ends<A> {
     source: A,
@@ -36,7 +37,7 @@ fn is_of<F: Family>(family: AddressFamily) -> bool
     }
 }
 
-/// The two ends of a packet of this family, if it is the router's.
+/// The source and the destination of a packet of this family, if it is the router's.
 fn ends_in<F: Family>(
     family: AddressFamily,
     source: &[u8],
@@ -56,7 +57,7 @@ fn ends_in<F: Family>(
     })
 }
 
-/// Where a packet came from, and where it went, if it is of the router's family.
+/// The source and the destination of a packet, if it is of the router's family.
 fn ends_of<F: Family>(ip: &Ip) -> Option<Ends<F::Addr>>
     ensures { (bytes : List ℕ) → option_map (ends_seen F.bytes_of) result ≡ ends_in F.family (ip_seen bytes ip.now) }
 {
@@ -99,8 +100,8 @@ fn hear_packet<F: Family, W: Drain>(
     Ok(())
 }
 
-/// Lets a port take a packet of the router's family, and writes its line. A packet of the other family is counted as
-/// skipped. The answer is that count.
+/// Lets a port take a packet of the router's family, and writes its line. A packet of the other
+/// family is counted as skipped. Returns the count of skipped records.
 fn take_datagram<F: Family, W: Drain>(
     writer: &mut W,
     router: &mut Router<'_, F>,
@@ -126,7 +127,7 @@ fn take_datagram<F: Family, W: Drain>(
     }
 }
 
-/// Lets a port take the record of a turn.
+/// Lets a port take the record of a turn. Returns the count of skipped records.
 fn take_record<F: Family, W: Drain>(
     writer: &mut W,
     router: &mut Router<'_, F>,
@@ -147,13 +148,14 @@ fn take_record<F: Family, W: Drain>(
     take_datagram::<F, W>(writer, router, turn.capture, ip, bytes, skipped)
 }
 
-/// Takes a turn of a merge whose record has these bytes: lets the router run to its moment, writes the echoes on the
-/// way, lets the port of its capture take the packet, and writes its line. A record that holds no packet of the
-/// router's family is counted as skipped. The answer is the counts, these and those before, which stop at 2^64 - 1.
+/// Takes a turn of a merge whose record has these bytes: lets the router run to its moment, writes
+/// the echoes on the way, lets the port of its capture take the packet, and writes its line.
+/// A record without a packet of the router's family is counted as skipped. Returns the counts after
+/// the turn, which stop at 2^64 - 1.
 ///
 /// # Errors
-/// `Output` where the device fails, and `Memory` where the packet can't be taken for want of it: a front of the turn's
-/// lines was written.
+/// - `Output` if the device fails: a prefix of the turn's lines was written.
+/// - `Memory` if memory for the packet is refused: likewise.
 pub fn take_turn<F: Family, W: Drain>(
     writer: &mut W,
     router: &mut Router<'_, F>,

@@ -1,4 +1,5 @@
--- By which messages a router tells an upstream neighbour what became of what it is asked for.
+-- The Join/Prune messages that announce a change of demand to an upstream neighbour (RFC 7761, 4.5
+-- and 4.9.5).
 use Rattle.std.specs.Prelude.{◌≡◌, ℕ, List, Option}
 use Rattle.pim_addr.specs.declared.family.AddressFamily.{AddressFamily}
 use Rattle.pim_down.specs.Known.{known_in}
@@ -10,16 +11,16 @@ use Rattle.pim_change.specs.Told.{TellChange}
 use Rattle.pim_router.specs.State.{RouterState}
 use Rattle.pim_router.specs.Canonical.{asked}
 
--- The writer's upstream neighbour, which was last told this form, is told of the change by these messages: they are those
--- of the change from it to the normal form of what is asked of the neighbour now.
+-- The messages are those of the change from the form `last` to the normal form of what is asked of
+-- the writer's upstream neighbour. `last` is the form that was last announced to it.
 pub record IsToldOf (family : AddressFamily) (writing : Writing) (last : List GroupForm) (state : RouterState)
     (messages : List (List ℕ)) : Type 0 where
   pub form : List GroupForm
   pub is : IsFormOf family (asked family writing.upstream state) form
   pub told : TellChange family writing (known_in family state.routes) last form messages
 
--- In that change this is the least group whose star is told anew and, with all its exceptions, is too big for a message
--- alone; `None` where there is no such group.
+-- `group` is the least group of that change whose star is announced anew and, with all its
+-- exceptions, is too big for a message alone; `None` where there is no such group.
 pub record IsTooBigToTell (family : AddressFamily) (writing : Writing) (last : List GroupForm) (state : RouterState)
     (group : Option (List ℕ)) : Type 0 where
   pub form : List GroupForm

@@ -1,4 +1,4 @@
--- What is wrong with what a router is made from.
+-- The faults of a router's configuration.
 use Rattle.std.specs.Prelude.{◌≡◌, ℕ, Bool, ◌||◌, ◌==◌, not, nat_lt, List, [], ◌∷◌, ◌++◌, length, Option, None, Some}
 use Rattle.std.specs.Prelude.{Result, Ok, Err}
 use Rattle.std.specs.List.{position}
@@ -9,21 +9,22 @@ use Rattle.pim_router.specs.declared.config.ConfigFault.{ConfigFault}
 use Rattle.pim_router.specs.declared.config.ConfigFault.TheVariants.{Ports, Address, Delay, Limit, Memory}
 use Rattle.pim_router.specs.State.{Port, Setup}
 
--- no port, or more than 64
+-- There is no port, or there are more than 64.
 abbrev pub has_bad_count : ℕ → Bool
 has_bad_count count = count == 0 || nat_lt 64 count
 
--- not 1 to 100,000 records a port
+-- The limit of records for each port isn't 1 to 100,000.
 abbrev pub has_bad_limit : ℕ → Bool
 has_bad_limit limit = limit == 0 || nat_lt 100000 limit
 
--- a fault of a port, if there is such a port
+-- The fault of the port with this number; no fault where there is no number.
 abbrev pub fault_at : (ℕ → ConfigFault) → Option ℕ → List ConfigFault
 fault_at fault None = []
 fault_at fault (Some port) = fault port ∷ []
 
--- The faults in the order in which they are told: of several ports with a wrong address, or a too long propagation
--- delay, the first.
+-- The faults of a configuration in the order of their report: number of ports, address, propagation
+-- delay above 15 bits (RFC 7761, 4.9.2), limit of records. A fault of ports names the first port
+-- that has it.
 abbrev pub config_faults : AddressFamily → Setup → List ConfigFault
 config_faults family setup =
     fault_if (has_bad_count (length setup.ports)) Ports
@@ -31,7 +32,8 @@ config_faults family setup =
     ++ fault_at Delay (position (λ (port : Port). nat_lt 32767 port.propagation) setup.ports)
     ++ fault_if (has_bad_limit setup.limit) Limit
 
--- The call that makes a value tells the first fault; where there is none, only memory may be wanting.
+-- The result of a call that makes a value: the first fault of the list. Where the list is empty it
+-- is the value, or `Memory`.
 abbrev pub IsMadeUnless : {A : Type 0} → List ConfigFault → A → Result A ConfigFault → Type 0
 IsMadeUnless [] value (Ok made) = made ≡ value
 IsMadeUnless [] value (Err told) = told ≡ Memory

@@ -1,4 +1,4 @@
--- A run that goes on past the Refreshes on its way, and tells how many there were.
+-- A run that passes the refreshes on its way and counts them (RFC 7761, 4.11: t_periodic).
 use Rattle.std.specs.Prelude.{ℕ, zero, suc, ◌+◌, List}
 use Rattle.pim_down.specs.declared.step.Step.{Step as Fires}
 use Rattle.pim_down.specs.declared.step.Step.TheVariants as fires
@@ -7,20 +7,21 @@ use Rattle.pim_router.specs.declared.step.Step.TheVariants.{Echo, Refresh, Reach
 use Rattle.pim_router.specs.State.{RouterState}
 use Rattle.pim_router.specs.Time.{Runs}
 
--- Runs up to the moment, each from where the one before stopped: so many tell a Refresh, and the one behind them tells
--- this and leaves that.
+-- Consecutive runs up to the moment: the first `refreshes` of them end at a refresh, and the one
+-- after them ends with this step and leaves this state.
 unfoldable pub RunsPast : ℕ → ℕ → RouterState → Step (List ℕ) → RouterState → Type 0
 RunsPast zero moment state answer after = Runs moment state answer after
 RunsPast (suc refreshes) moment state answer after =
     (between : RouterState) × Runs moment state Refresh between × RunsPast refreshes moment between answer after
 
--- what such a run tells behind its Refreshes: an echo, or that the moment is reached
+-- The end of such a run as the end of a router's run: an echo, or the moment is reached.
 abbrev pub told_behind : Fires (List ℕ) → Step (List ℕ)
 told_behind (fires.Echo port group what) = Echo port group what
 told_behind fires.Reached = Reached
 
--- The first moment of which no Refresh is told by a run that stopped so, then: that of an echo, which comes before the
--- Refresh of its millisecond, and else the next one.
+-- The first moment whose refresh a run that stopped at `moment` hasn't counted. At an echo it is
+-- that moment, since an echo comes before the refresh of its millisecond; else it is the next
+-- moment.
 abbrev pub first_untold : {A : Type 0} → Fires A → ℕ → ℕ
 first_untold (fires.Echo port group what) moment = moment
 first_untold fires.Reached moment = moment + 1

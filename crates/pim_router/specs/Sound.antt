@@ -1,19 +1,20 @@
--- What is true of a router between calls, whatever was called.
+-- The invariant of a router between calls.
 use Rattle.std.specs.Prelude.{◌≡◌, ℕ, ◌≤◌, false, List, length}
 use Rattle.std.specs.List.{AllByRecursion}
 use Rattle.pim_hello.specs.Neighbours.{Neighbour, Table, is_over}
 use Rattle.pim_router.specs.State.{Port, RouterState, refresh_period}
 
--- the neighbour's time isn't over
+-- The neighbour's time isn't over: its Neighbor Liveness Timer hasn't ended (RFC 7761, 4.3.2).
 abbrev pub HasTime : List ℕ × Neighbour → Type 0
 HasTime entry = is_over entry.1.left ≡ false
 
--- A port's neighbours stand at the router's moment, and nobody's time is over.
+-- The table has this moment, and no neighbour's time is over.
 pub record IsCurrent (moment : ℕ) (table : Table) : Type 0 where
   pub moment_now : table.moment ≡ moment
   pub none_ended : AllByRecursion HasTime table.entries
 
--- There are machines and neighbours for each port, and the next Refresh comes within its period.
+-- There are machines and a neighbour table for each port, all at one moment, and no neighbour's
+-- time is over. Each propagation delay has 15 bits. The next refresh comes within t_periodic.
 pub record IsRouter (state : RouterState) : Type 0 where
   pub ports : length state.ports ≡ state.machines.ports
   pub tables : length state.tables ≡ state.machines.ports

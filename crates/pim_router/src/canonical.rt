@@ -1,4 +1,6 @@
-//! By which messages a router asks its upstream neighbours, and whether two routers ask for the same.
+//! The messages by which a router asks an upstream neighbour, and the comparison of two routers by
+//! them. `pim_emit` writes them straight from the records, so no normal form is made. `same_wants`
+//! compares the route tables first, and stops at a fault of the first router.
 
 ghost use Rattle.std.specs.Prelude.{◌≡◌, ◌≢◌, ◌↔◌, IsTrue, Err, IfOk};
 ghost use Rattle.pim_form.specs.NormalForm.{Agree};
@@ -11,16 +13,16 @@ use pim_form::{FormFault, Messages, Writer, same_messages_same_asked};
 use std::alloc::Global;
 
 impl<'a, F: Family> Router<'a, F> {
-    /// The canonical messages by which the writer's upstream neighbour is asked for what the machines of all ports want
-    /// of it (RFC 7761, 4.1 and 4.9.5): the traffic whose RP or source the router's table leads to that neighbour.
-    /// There are none where nothing is wanted of it.
+    /// The canonical messages that ask the writer's upstream neighbour for what the machines of all
+    /// ports want of it (RFC 7761, 4.1 and 4.9.5). That is the traffic whose RP or source the route
+    /// table leads to this neighbour. There are no messages where nothing is wanted of it.
     ///
-    /// They are written straight from the records, as `write_canonical` of `pim_emit` writes them, whose time it takes:
-    /// no normal form is made. Beside the messages it takes memory for one of the writer's budget, and gives that back.
+    /// Beside the messages it takes memory for one of the writer's budget, and gives that back.
     ///
     /// # Errors
-    /// `TooBig` of the least group whose star, with all its exceptions, is too big for a message of the writer's budget
-    /// alone; it is looked for before any growth. `Memory` where a growth is refused.
+    /// `TooBig` with the least group whose star, with all its exceptions, is too big for a message
+    /// of the writer's budget alone. `Memory` where memory is refused; the clauses also allow it in
+    /// place of `TooBig`.
     pub fn canonical(&self, alloc: Global, writer: &Writer<F>) -> Result<Messages, FormFault<F>>
         ensures canonical { IfOk result (IsAskedBy F.family writer.now self.now) }
         ensures too_big { ToldTooBig F.bytes_of (IsTooBig F.family writer.now self.now) result }
@@ -32,15 +34,13 @@ impl<'a, F: Family> Router<'a, F> {
     }
 }
 
-/// Whether two routers want the same of the writer's upstream neighbour: for every valid source, every group and both
-/// trees, what the one's machines want of it the other's want too (RFC 7761, 4.1). It compares their canonical messages
-/// byte for byte.
-///
-/// It takes the time and the memory of `canonical` for both, and the time of one walk through both tables.
+/// Whether two routers want the same of the writer's upstream neighbour, for every valid source,
+/// every group and both trees (RFC 7761, 4.1). It compares their canonical messages byte for byte,
+/// which takes the time and the memory of `canonical` for both.
 ///
 /// # Errors
-/// `Tables` exactly where the routers' tables differ, which is told first. Then `TooBig`, of `a` and else of `b`, and
-/// `Memory`, as `canonical` tells them of each.
+/// `Tables` exactly where the route tables differ. Else `TooBig` of `a`, or where `a` has no such
+/// group, of `b`; or `Memory`, as `canonical` returns them.
 pub fn same_wants<F: Family>(
     alloc: Global,
     a: &Router<'_, F>,

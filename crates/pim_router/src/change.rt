@@ -1,4 +1,4 @@
-//! By which messages a router tells an upstream neighbour what became of what it is asked for.
+//! The messages by which a router announces a change of demand to an upstream neighbour.
 
 ghost use Rattle.std.specs.Prelude.{◌≢◌, Err, IfOk};
 ghost use Rattle.pim_router.specs.Canonical.{ToldTooBig};
@@ -11,18 +11,20 @@ use pim_form::{FormFault, Messages, NormalForm, Writer};
 use std::alloc::Global;
 
 impl<'a, F: Family> Router<'a, F> {
-    /// The messages that move the writer's upstream neighbour from what it was last told to what the machines of all
-    /// ports want of it now (RFC 7761, 4.5), so that it needn't wait for the next refresh. `told` is a form of which
-    /// that neighbour is asked for all, as `is_toward` tells by the router's table. There are none where nothing has
-    /// changed.
+    /// The messages that announce a change to the writer's upstream neighbour, so that it needn't
+    /// wait for the next refresh (RFC 7761, 4.5 and 4.9.5). The change is that from `told` to what
+    /// the machines of all ports want of it. There are no messages where nothing changes.
     ///
-    /// The time is that of the form that is wanted, as for `canonical`, and linear in both forms and in the bytes that
-    /// are written. Beside the messages it takes memory in proportion to the records that want something, and to the
-    /// change, and gives it back.
+    /// `told` is the form that was last announced to it. `is_toward` tests whether such a form asks
+    /// for nothing that the route table leads elsewhere.
+    ///
+    /// The wanted form is made first. Beside the messages it takes memory in proportion to the
+    /// records that want something and to the change, and gives it back.
     ///
     /// # Errors
-    /// `TooBig` of the least group whose star is told anew and, with all its exceptions, is too big for a message of
-    /// the writer's budget alone; it is told before the change grows. `Memory` where a growth is refused.
+    /// `TooBig` with the least group whose star is announced anew and is too big for a message of
+    /// the writer's budget alone, with all its exceptions. `Memory` where memory is refused, also
+    /// in place of `TooBig`.
     pub fn triggered(
         &self,
         alloc: Global,

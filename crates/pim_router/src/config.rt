@@ -1,4 +1,5 @@
-//! What a router is made from, and what may be wrong with it.
+//! The configuration of a router, and its faults. Delays are plain numbers, so that a propagation
+//! delay that is out of range is a fault that names its port.
 
 ghost use Rattle.std.specs.Prelude.{◌≡◌, not, nat_lt, ◌||◌, ◌==◌, length};
 ghost use Rattle.pim_router.specs.Seen.{setup_seen};
@@ -10,38 +11,38 @@ ghost use Rattle.pim_router.specs.Config.{config_faults, has_bad_count, has_bad_
 use pim_addr::{Family, Routes};
 use thiserror::Error;
 
-/// How many ports a router has at most.
+/// The greatest number of ports.
 const PORT_LIMIT: usize = 64;
 
-/// How many records a port has at most, whatever the configuration says.
+/// The greatest limit of records for each port.
 const RECORD_LIMIT: usize = 100_000;
 
 /// The greatest propagation delay, in milliseconds: 15 bits (RFC 7761, 4.9.2).
 const MOST_PROPAGATION: u16 = 32_767;
 
-/// One port: its address, and its own delays, which its Hellos tell (RFC 7761, 4.3.3).
+/// One port: its address, and its own delays, which its Hellos announce (RFC 7761, 4.3.3).
 #[derive(Clone, Copy, Debug, PartialEq, Eq)]
 pub struct PortConfig<A> {
     /// The port's own address: a valid source.
     pub address: A,
-    /// The propagation delay, in milliseconds: 0 to 32,767, and 500 unless there is a reason.
+    /// Propagation_Delay, in milliseconds: 0 to 32,767. The default of the RFC is 500.
     pub propagation: u16,
-    /// The override delay, in milliseconds: the other part of the override interval. 2,500 unless there is a reason.
+    /// Override_Interval, in milliseconds. The default of the RFC is 2,500.
     pub override_ms: u16,
 }
 
-/// What a router is made from. The router borrows the ports and the route table.
+/// The configuration of a router. The router borrows the ports and the route table.
 #[derive_where(Clone, Copy)]
 pub struct Config<'a, F: Family> {
-    /// The ports, 1 to 64, which are numbered from 0.
+    /// The ports, 1 to 64, numbered from 0.
     pub ports: &'a [PortConfig<F::Addr>],
-    /// The RP of each group, and the upstream neighbour by which each address is reached.
+    /// The RP of each group, and the upstream neighbour on the way to each address.
     pub routes: &'a Routes<F>,
-    /// How many records each port may have: 1 to 100,000.
+    /// The most records that each port may hold: 1 to 100,000.
     pub limit: usize,
 }
 
-/// Why there is no such router. Of several causes the first in this order is told.
+/// Why there is no router. Of several faults the first in this order is returned.
 #[derive(Clone, Copy, Debug, PartialEq, Eq, Error)]
 pub enum ConfigFault {
     /// There is no port, or there are more than 64.
@@ -62,7 +63,7 @@ pub enum ConfigFault {
     /// The limit of records isn't 1 to 100,000.
     #[error("limit")]
     Limit,
-    /// A growth was refused.
+    /// Memory was refused.
     #[error("memory")]
     Memory,
 }
@@ -74,7 +75,7 @@ fn bad_address<F: Family>(ports: &[PortConfig<F::Addr>]) -> Option<usize>
     ports.iter().position(|port| !F::is_source(port.address))
 }
 
-/// The first port whose propagation delay is too long.
+/// The first port whose propagation delay is out of range.
 fn bad_delay<A>(ports: &[PortConfig<A>]) -> Option<usize>
     ensures { result ≡ position (λ port. nat_lt 32767 port.propagation) ports.now }
 {
@@ -90,14 +91,14 @@ fn has_bad_count<A>(ports: &[PortConfig<A>]) -> bool
     ports.is_empty() || ports.len() > PORT_LIMIT
 }
 
-/// Whether the limit of records is out of its range.
+/// Whether the limit of records is out of range.
 fn has_bad_limit(limit: usize) -> bool
     ensures { result ≡ has_bad_limit limit }
 {
     limit == 0 || limit > RECORD_LIMIT
 }
 
-/// Tells the first fault of a configuration.
+/// Returns the first fault of a configuration other than `Memory`.
 pub(crate) fn check<F: Family>(config: &Config<'_, F>) -> Result<(), ConfigFault>
     ensures { result ≡ judged (config_faults F.family
         (setup_seen F.bytes_of config.now.ports.now config.now.routes.now config.now.limit)) tt }

@@ -1,38 +1,39 @@
-//! Laws of the definitions: what runs mean together. Nothing here is to be called.
+//! Laws of the definitions: runs and courses. These functions do nothing.
 
 ghost use Rattle.pim_router.specs.Laws.{RunHasOneEnd, RunGoesOn, RunsComeNearer, CourseHasOneEnd, CourseGoesOn};
 ghost use Rattle.pim_router.specs.Laws.{EveryListHasACourse};
 
 use pim_down::timers_run_out;
 
-/// A run has one end.
+/// A run up to a moment has at most one end.
 pub fn run_has_one_end()
     ensures { RunHasOneEnd }
 {}
 
-/// Running to a moment until nothing is due, and then to a later one, is running to the later one.
+/// A run that reaches a moment, and then a run up to a later one, are one run up to the later
+/// moment.
 pub fn run_goes_on()
     ensures { RunGoesOn }
 {}
 
-/// A run that tells something before the moment is reached comes nearer to it.
+/// A run that stops at an echo or a refresh comes nearer to its moment: `turns_left` falls.
 pub fn runs_come_nearer()
     ensures { RunsComeNearer }
 {
     timers_run_out();
 }
 
-/// What a router tells over a list of packets and moments, and the state behind it, are a function of the list.
+/// The reports and the final state of a course are determined by its inputs and its first state.
 pub fn course_has_one_end()
     ensures { CourseHasOneEnd }
 {}
 
-/// The course over a list and then over another is the course over both joined.
+/// A course over one list and then a course over another are one course over both lists joined.
 pub fn course_goes_on()
     ensures { CourseGoesOn }
 {}
 
-/// From every state there is a course over every list of packets and moments.
+/// From every state there is a course over every list of inputs.
 pub fn every_list_has_a_course()
     ensures { EveryListHasACourse }
 {

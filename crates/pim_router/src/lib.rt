@@ -1,13 +1,27 @@
-//! A router's part in PIM sparse mode (RFC 7761): one call for each packet, which tells what became of it, and one for
-//! time, which tells the echoes and the periodic refreshes that are to be sent.
+//! A router of PIM sparse mode (RFC 7761) as far as it receives packets: its ports, their
+//! neighbours and downstream machines, and its time. It sends nothing: calls return what the caller
+//! is to send.
 //!
-//! Proved: a router is made exactly where its configuration has no fault, or else the first fault is told. A packet has
-//! the first verdict that applies, and only a Hello or a Join/Prune that is taken changes anything. Time is one machine
-//! of milliseconds over the neighbours, the downstream machines and the refreshes; a run stops at an echo and at a
-//! refresh, or goes on past refreshes and counts them, and between calls no neighbour's time is over. What a router
-//! tells over a list of packets and moments, its course, is a function of the list. `canonical` gives the messages by
-//! which an upstream neighbour is asked for what the ports want of it, `triggered` those that move it there from what
-//! it was last told, and `same_wants` tells whether two routers under one table want the same of it.
+//! `Router::new` makes a router at the moment 0, without records and neighbours, where the
+//! configuration has no fault; else it returns the first fault. Without a fault it may return
+//! `Memory`.
+//!
+//! `take_packet` returns the first verdict that applies. Only a Hello or a Join/Prune message that
+//! is taken changes the state. Refused memory is an error of such a packet alone, and then nothing
+//! has changed. The port exists, and the packet has fewer than 2^32 bytes.
+//!
+//! `run_to` lets time pass up to a moment of at most 10^15 ms and stops at each PruneEcho and each
+//! refresh. `run_past_refreshes` stops at a PruneEcho alone and counts the refreshes. Neither takes
+//! memory. Packets and time leave the ports, the route table and the limit of records unchanged.
+//! Between calls no neighbour's time is over.
+//!
+//! `canonical` returns the messages that ask an upstream neighbour for what the ports want of it.
+//! `triggered` returns those of the change from the form that was last announced to it.
+//! `same_wants` returns whether two routers under one route table want the same of it. Each refuses
+//! a star that is too big for a message, or returns `Memory`.
+//!
+//! Laws: a run has at most one end, runs and courses can be joined, and every list of inputs has
+//! exactly one course.
 #![tactic(auto)]
 
 mod canonical;

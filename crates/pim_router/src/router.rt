@@ -1,4 +1,11 @@
 //! The router: its ports with their machines and neighbours, and its time.
+//!
+//! It borrows the configuration of its ports and its route table, so that several routers can share
+//! them. Neighbors whose time is over are removed when time passes, so the override interval is
+//! that of the neighbours that are left.
+//!
+//! In one millisecond neighbours go first, then timers fire, then the refresh comes: a refresh
+//! doesn't ask for a star whose time ends with it.
 
 ghost use Rattle.std.specs.Prelude.{◌≡◌, ◌≢◌, ◌<◌, ◌≤◌, ◌+◌, ◌*◌, ◌^◌, length, replicate, map, max};
 ghost use Rattle.std.specs.Prelude.{IfOk, OnErr, IsTrue, not, nat_lt};
@@ -35,18 +42,19 @@ use pim_jp::JpView;
 use std::alloc::{AllocError, Global};
 use std::marker::Model;
 
-/// From one Refresh to the next, in milliseconds (RFC 7761, 4.11: t_periodic).
+/// The period of the refreshes, in milliseconds (RFC 7761, 4.11: t_periodic).
 const REFRESH_PERIOD: u64 = 60_000;
 
-/// A router: the downstream machines and the neighbours of its ports, and its time. It begins at the moment 0.
+/// A router: the downstream machines and the neighbours of its ports, and its time. It begins at
+/// the moment 0.
 #[derive(Drop)]
 pub struct Router<'a, F: Family> {
     ports: &'a [PortConfig<F::Addr>],
     routes: &'a Routes<F>,
     machines: Ports<F>,
-    /// Those of each port, at the moment of the machines.
+    /// The neighbours of each port, at the moment of the machines.
     neighbours: Vec<Neighbours<F>>,
-    /// The moment of the next Refresh, in milliseconds.
+    /// The moment of the next refresh, in milliseconds.
     next_refresh: u64,
 }
 
@@ -65,7 +73,7 @@ impl<'a, F: Family> Model for Router<'a, F> {
         × IsRouter (router_seen F.bytes_of r.ports.now r.routes.now r.machines r.neighbours.items r.next_refresh) };
 }
 
-/// No neighbours, for each of so many ports.
+/// A table without neighbours for each of `ports` ports.
 fn no_neighbours<F: Family>(alloc: Global, ports: usize) -> Result<Vec<Neighbours<F>>, AllocError>
     ensures { IfOk result (λ tables. tables.items ≡ replicate ports no_neighbours) }
 {
@@ -76,7 +84,8 @@ fn no_neighbours<F: Family>(alloc: Global, ports: usize) -> Result<Vec<Neighbour
     Ok(tables)
 }
 
-/// Lets time pass for the neighbours of each port, up to this moment, and removes those whose time has ended.
+/// Lets time pass up to this moment for the neighbours of each port, and removes those whose time
+/// is over.
 fn expire_all<F: Family>(tables: &mut [Neighbours<F>], now: u64)
     requires { now ≤ 10 ^ 15 }
     ensures { tables.new ≡ map (expired_at now) tables.old }
@@ -86,7 +95,7 @@ fn expire_all<F: Family>(tables: &mut [Neighbours<F>], now: u64)
     }
 }
 
-/// What is told of a Hello that was heard.
+/// The verdict on a Hello, from the result of the neighbour table.
 fn hello_verdict(heard: Result<Heard, NeighbourFault>) -> Result<Verdict, AllocError>
     ensures { result ≡ hello_verdict heard }
 {
@@ -97,7 +106,7 @@ fn hello_verdict(heard: Result<Heard, NeighbourFault>) -> Result<Verdict, AllocE
     }
 }
 
-/// What is told of a Join/Prune that was heard.
+/// The verdict on a Join/Prune message, from the result of the machines.
 fn message_verdict(heard: Result<(), HearFault>) -> Result<Verdict, AllocError>
     ensures { result ≡ message_verdict heard }
 {
@@ -108,8 +117,8 @@ fn message_verdict(heard: Result<(), HearFault>) -> Result<Verdict, AllocError>
     }
 }
 
-/// The first moment of which a run of the machines that stopped so, then, tells no Refresh: an echo comes before the
-/// Refresh of its millisecond.
+/// The first moment whose refresh isn't counted by a run of the machines that stopped with this
+/// step at `now`: a PruneEcho comes before the refresh of its millisecond.
 fn first_untold<A: Copy>(step: Fires<A>, now: u64) -> u64
     requires { now ≤ 10 ^ 15 }
     ensures { result ≡ first_untold step now }
@@ -120,7 +129,7 @@ fn first_untold<A: Copy>(step: Fires<A>, now: u64) -> u64
     }
 }
 
-/// How many Refreshes come from the next one on before a moment.
+/// The number of refreshes before the moment `end`, where the next one comes at `next`.
 fn refreshes_before(next: u64, end: u64) -> u64
     ensures all { end ≤ next + 60000 * result }
     ensures no_more { next + 60000 * result < max end next + 60000 }
@@ -129,10 +138,11 @@ fn refreshes_before(next: u64, end: u64) -> u64
 }
 
 impl<'a, F: Family> Router<'a, F> {
-    /// A router as this configuration says: with no records and no neighbours, at the moment 0.
+    /// Makes a router from this configuration: with no records and no neighbours, at the moment 0.
     ///
     /// # Errors
-    /// The first fault of the configuration, in the order of `ConfigFault`; `Memory` only where there is none.
+    /// The first fault of the configuration, in the order of `ConfigFault`; `Memory` only where
+    /// there is no other.
     pub fn new(alloc: Global, config: &Config<'a, F>) -> Result<Self, ConfigFault>
         ensures { IsMadeUnless
             (config_faults F.family (setup_seen F.bytes_of config.now.ports.now config.now.routes.now config.now.limit))
@@ -151,8 +161,9 @@ impl<'a, F: Family> Router<'a, F> {
         })
     }
 
-    /// A law: what is true of a router between calls. There are machines and neighbours for each port, all at one
-    /// moment, nobody's time is over, and the next Refresh comes within 60 s. It does nothing.
+    /// A law: the invariant of a router between calls. There are machines and neighbours for each
+    /// port, all at one moment, no neighbour's time is over, and the next refresh comes within 60
+    /// s. It does nothing.
     pub fn is_router(&self)
         ensures { IsRouter self.now }
     {
@@ -180,14 +191,14 @@ impl<'a, F: Family> Router<'a, F> {
         self.routes
     }
 
-    /// How many ports there are.
+    /// The number of ports.
     pub fn port_count(&self) -> usize
         ensures { result ≡ length self.now.ports }
     {
         self.ports.len()
     }
 
-    /// The configuration of a port.
+    /// The configuration of the port with this number, from 0.
     pub fn port(&self, port: usize) -> PortConfig<F::Addr>
         requires { port < length self.now.ports }
         ensures { port_seen F.bytes_of result ≡ port_at port self.now }
@@ -198,7 +209,8 @@ impl<'a, F: Family> Router<'a, F> {
         }
     }
 
-    /// The neighbours of a port, in address order, with what the last Hello of each said and the time that is left.
+    /// The neighbours of a port in address order, with the parameters of the last Hello of each and
+    /// the time that is left.
     pub fn neighbours(&self, port: usize) -> KnownNeighbours<'_, F>
         requires { port < length self.now.ports }
         ensures { result ≡ (table_at port self.now).entries }
@@ -224,7 +236,7 @@ impl<'a, F: Family> Router<'a, F> {
         }
     }
 
-    /// The neighbours of a port, all of whom have time left.
+    /// The neighbours of a port, each of which has time left.
     fn table(&self, port: usize) -> &Neighbours<F>
         requires { port < length self.now.ports }
         ensures { result.now ≡ neighbours_on port self.now }
@@ -232,7 +244,7 @@ impl<'a, F: Family> Router<'a, F> {
         &self.neighbours[port]
     }
 
-    /// Whether a sender is a neighbour on a port.
+    /// Whether `src` is a neighbour on a port.
     fn knows(&self, port: usize, src: F::Addr) -> bool
         requires { port < length self.now.ports }
         ensures { result ≡ knows port (F.bytes_of src) self.now }
@@ -240,7 +252,8 @@ impl<'a, F: Family> Router<'a, F> {
         self.table(port).knows(src)
     }
 
-    /// What a port knows of its neighbours when a Join/Prune comes.
+    /// The override interval of a port, J/P_Override_Interval(I), and whether it has several
+    /// neighbours (RFC 7761, 4.3.3 and 4.5.1).
     fn timing(&self, port: usize) -> Timing
         requires { port < length self.now.ports }
         ensures timing { result ≡ timing_on port self.now }
@@ -253,7 +266,8 @@ impl<'a, F: Family> Router<'a, F> {
         }
     }
 
-    /// Goes through the neighbours of a port where `timing` would, so that it need not.
+    /// Gathers the delays of a port's neighbours ahead of `timing`, which then needn't look at each
+    /// of them.
     fn gather_delays(&mut self, port: usize)
         requires { port < length self.old.ports }
         ensures { self.new ≡ self.old }
@@ -261,7 +275,7 @@ impl<'a, F: Family> Router<'a, F> {
         self.neighbours[port].gather_delays();
     }
 
-    /// Lets a port hear a Hello that came from `src`.
+    /// Applies a Hello from `src` to the neighbours of a port.
     fn hear_hello(
         &mut self,
         port: usize,
@@ -282,7 +296,7 @@ impl<'a, F: Family> Router<'a, F> {
         hello_verdict(heard)
     }
 
-    /// Takes the body of a Hello that came from `src`.
+    /// Receives the body of a Hello from `src`.
     fn take_hello(&mut self, port: usize, src: F::Addr, body: &[u8]) -> Result<Verdict, AllocError>
         requires { port < length self.old.ports }
         ensures told { Receives (body_causes F.family port (F.bytes_of src) self.old (hello body.now))
@@ -296,7 +310,7 @@ impl<'a, F: Family> Router<'a, F> {
         }
     }
 
-    /// Lets the machines of a port hear a message that is for it.
+    /// Applies a Join/Prune message that is for this port to its machines.
     fn apply(&mut self, port: usize, message: &JpView<'_, F>) -> Result<Verdict, AllocError>
         requires { port < length self.old.ports }
         ensures told { Receives (room_causes F.family port self.old message.now)
@@ -310,7 +324,7 @@ impl<'a, F: Family> Router<'a, F> {
         message_verdict(heard)
     }
 
-    /// Takes a Join/Prune that came from `src`.
+    /// Receives a Join/Prune message from `src`.
     fn take_message(
         &mut self,
         port: usize,
@@ -332,7 +346,7 @@ impl<'a, F: Family> Router<'a, F> {
         self.apply(port, message)
     }
 
-    /// Takes the body of a Join/Prune that came from `src`.
+    /// Receives the body of a Join/Prune message from `src`.
     fn take_join_prune(
         &mut self,
         port: usize,
@@ -351,18 +365,19 @@ impl<'a, F: Family> Router<'a, F> {
         }
     }
 
-    /// Takes a packet that a port received: its IP source and destination, and its PIM message.
+    /// Receives a packet on a port: its IP source and destination, and its PIM message. Returns the
+    /// verdict.
     ///
-    /// What it costs goes by the packet's length: n entries are read, and put in order where they come in none, in n log n
-    /// steps at worst, and each takes a few look-ups then. There are two exceptions. A Join(*,G) ends the
-    /// (S,G,rpt) machines of its group that the same message doesn't prune again (RFC 7761, 4.5.3), a step or a look-up for
-    /// each: at most as many as the port holds, each of which an entry of an earlier message made. And the first Join/Prune
-    /// behind a Hello that lowers a delay, or tells some where there were none, or behind a neighbour that went, looks at
-    /// each neighbour of its port, 1,024 at most.
+    /// The cost depends on the length of the packet: reading and ordering n entries takes at most n
+    /// log n steps, and each entry takes a few look-ups. There are two exceptions. A Join(*,G) ends
+    /// the (S,G,rpt) machines of its group that the same message doesn't prune again (RFC 7761,
+    /// 4.5.3). After a Hello that changes the port's delays, or a removed neighbour, the first
+    /// Join/Prune message may look at each neighbour of its port.
     ///
     /// # Errors
-    /// Where memory is refused, which is told only of a packet that would be taken: of a Hello whose sender is new or
-    /// whose time ends, and that is no goodbye, or of a Join/Prune that makes a record. Then nothing has changed.
+    /// Memory was refused. This comes only of a packet that no cause refuses: a Hello that is no
+    /// goodbye and whose sender is new or gets a time that ends, or a Join/Prune message that makes
+    /// a record. Nothing has changed then.
     pub fn take_packet(
         &mut self,
         port: usize,
@@ -382,7 +397,7 @@ impl<'a, F: Family> Router<'a, F> {
         self.receive(port, src, dst, bytes)
     }
 
-    /// Takes a packet that a port received.
+    /// Receives a packet on a port.
     fn receive(
         &mut self,
         port: usize,
@@ -409,14 +424,14 @@ impl<'a, F: Family> Router<'a, F> {
         }
     }
 
-    /// Runs to this moment, in milliseconds, at most 10^15, or until an echo or a Refresh is told; an earlier moment
-    /// counts as now. What is still due stays due, and the next call goes on. A caller who only counts Refreshes calls
-    /// `run_past_refreshes`, for which a jump of years costs no more than one of a minute.
+    /// Lets time pass up to this moment, in milliseconds, at most 10^15, or until the next
+    /// PruneEcho or refresh. An earlier moment counts as the present one. What is still due stays
+    /// due, and the next call goes on.
     ///
-    /// It takes no memory. Of the machines it looks at the timer that fires first alone, once for each timer that fires
-    /// and once more, so that a quiet minute costs the same however many records are held; and it walks through no
-    /// neighbour whose time isn't over. A loop of calls that goes on until
-    /// `Reached` comes to its end, since `turns_left` falls.
+    /// It takes no memory. It looks at the machines' first timer alone, once for each timer that
+    /// fires and once more, and at no neighbour whose time isn't over. A loop of calls until
+    /// `Reached` ends, since `turns_left` falls. A caller who only counts refreshes calls
+    /// `run_past_refreshes`.
     pub fn run_to(&mut self, moment: u64) -> Step<F::Addr>
         requires { moment ≤ 10 ^ 15 }
         ensures run { Runs moment self.old (step_seen F.bytes_of result) self.new }
@@ -430,7 +445,8 @@ impl<'a, F: Family> Router<'a, F> {
         self.run_until(moment)
     }
 
-    /// Lets the machines run to this moment or to the next Refresh, whichever is sooner, and time pass for all.
+    /// Runs the machines to this moment or to the next refresh, whichever is sooner, and lets time
+    /// pass for the neighbours.
     fn run_until(&mut self, moment: u64) -> Step<F::Addr>
         requires { moment ≤ 10 ^ 15 }
         ensures run { Runs moment self.old (step_seen F.bytes_of result) self.new }
@@ -453,12 +469,13 @@ impl<'a, F: Family> Router<'a, F> {
         Step::Refresh
     }
 
-    /// Runs to this moment, in milliseconds, at most 10^15, or until an echo is told, and goes on past the Refreshes on
-    /// its way; an earlier moment counts as now. Beside what is told stands how many Refreshes came before it. What is
-    /// still due stays due, and the next call goes on.
+    /// Lets time pass up to this moment, in milliseconds, at most 10^15, or until the next
+    /// PruneEcho. It passes the refreshes on its way and returns the number of those before its
+    /// end. An earlier moment counts as the present one. What is still due stays due, and the next
+    /// call goes on.
     ///
-    /// It does what `run_to` does again and again until that tells no Refresh, and costs as much as one such call: it
-    /// counts the Refreshes by a division, however many there are. It takes no memory.
+    /// It equals calls of `run_to` until one returns no refresh. It counts the refreshes by a
+    /// division, so a jump of years costs no more than one of a minute. It takes no memory.
     pub fn run_past_refreshes(&mut self, moment: u64) -> (Fires<F::Addr>, u64)
         requires { moment ≤ 10 ^ 15 }
         ensures run { RunsPast result.1 moment self.old (told_behind (fires_seen F.bytes_of result.0)) self.new }
@@ -473,7 +490,7 @@ impl<'a, F: Family> Router<'a, F> {
         self.run_machines(moment)
     }
 
-    /// Lets the machines run to this moment, and time pass for all.
+    /// Runs the machines to this moment, and lets time pass for the neighbours.
     fn run_machines(&mut self, moment: u64) -> (Fires<F::Addr>, u64)
         requires { moment ≤ 10 ^ 15 }
         ensures run { RunsPast result.1 moment self.old (told_behind (fires_seen F.bytes_of result.0)) self.new }

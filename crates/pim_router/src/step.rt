@@ -1,12 +1,12 @@
-//! What a run tells.
+//! The end of a run.
 
 use pim_down::What;
 
 /// How a run up to a moment ended.
 #[derive(Clone, Copy, Debug, PartialEq, Eq)]
 pub enum Step<A> {
-    /// A prune-pending timer of (*,G) or (S,G) fired, and a PruneEcho is to be sent on the port (RFC 7761, 4.5.1
-    /// and 4.5.2). What is still due stays so.
+    /// A Prune-Pending Timer of (*,G) or (S,G) ended, and a PruneEcho is to be sent on the port
+    /// (RFC 7761, 4.5.1 and 4.5.2). What is still due stays due.
     Echo {
         /// The port.
         port: usize,
@@ -15,8 +15,9 @@ pub enum Step<A> {
         /// (*,G) or (S,G).
         what: What<A>,
     },
-    /// 60 s have passed, and what is asked for is to be told to the upstream neighbours again (RFC 7761, 4.11:
-    /// t_periodic). All other timers of this millisecond have fired.
+    /// A refresh is due: each upstream neighbour is to be asked again for what is wanted of it, 60
+    /// s after the last refresh (RFC 7761, 4.11: t_periodic). All other timers of this millisecond
+    /// have fired.
     Refresh,
     /// Nothing is due, and the moment is reached.
     Reached,

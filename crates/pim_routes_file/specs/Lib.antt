@@ -1,2 +1,3 @@
+-- The definitions of files of routes.
 pub mod RoutesFile
 pub mod Seen

@@ -1,17 +1,17 @@
-//! Why a file of routes isn't read to its end.
+//! The errors of reading a file of routes.
 
 use thiserror::Error;
 
-/// What is wrong with a file of routes, or what was wanting to read it.
+/// Why a file of routes is not read to its end.
 #[derive(Clone, Copy, Debug, PartialEq, Eq, Error)]
 pub enum RoutesFault {
     /// The file has more than 1,048,576 bytes.
     #[error("routes too-long")]
     TooLong,
-    /// The file can't be read.
+    /// The reader failed.
     #[error("routes read")]
     Read,
-    /// The line of this number, from 1, has another form, or the table refuses its row.
+    /// The line with this number, from 1, has another form, or the table refuses its row.
     #[error("routes line {0}")]
     Line(usize),
     /// Memory ran out.

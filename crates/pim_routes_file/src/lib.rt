@@ -1,7 +1,20 @@
-//! Files of rows of a route table: `rp ADDRESS/LENGTH ADDRESS` and `via ADDRESS/LENGTH ADDRESS`, a row a line.
+//! Files of routes: each line states a row of a route table, `rp ADDRESS/LENGTH ADDRESS` or
+//! `via ADDRESS/LENGTH ADDRESS`.
 //!
-//! Proved: reading one adds the rows of its lines, in order, and nothing else, or tells the first thing that is wrong
-//! and how far it came.
+//! `read_routes` reads a file from any `Feed` and adds its rows to a table. Where the bytes of the
+//! feed are known:
+//! - Ok: the file has at most 1,048,576 bytes, and the rows of all its lines were added in order,
+//!   and nothing else.
+//! - `Line(n)`: line n, from 1, has another form, or the table refuses its row. Only the rows of
+//!   the lines before it were added.
+//! - `TooLong`: the file has more bytes. The table is unchanged.
+//! - `Memory`: the rows of some first lines were added, possibly of none.
+//!
+//! For any feed: `TooLong` and `Read` leave the table unchanged, at most 1,048,577 bytes are taken,
+//! and the feed has failed once more exactly at `Read`.
+//!
+//! The crate is separate from the program and knows only tables and devices, so that it is checked
+//! soon.
 #![tactic(auto)]
 
 mod fault;

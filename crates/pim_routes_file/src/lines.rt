@@ -8,8 +8,8 @@ ghost use Rattle.pim_routes_file.specs.Seen.{lines_left};
 
 use std::marker::Model;
 
-/// The lines that are left, without their line feeds: what stands before, between and behind these. Behind a last line
-/// feed stands an empty line.
+/// The lines that are left, without their line feeds: the pieces between them. An empty line
+/// follows a final line feed.
 #[derive(Drop)]
 pub(crate) struct Lines<'a> {
     left: Option<&'a [u8]>,
@@ -24,14 +24,14 @@ impl<'a> Model for Lines<'a> {
     ghost view = { λ lines. lines_left lines.left };
 }
 
-/// Where the first line feed stands, if there is one.
+/// Returns the place of the first line feed, if any.
 fn first_line_feed(text: &[u8]) -> Option<usize>
     ensures { result ≡ position (λ byte. byte == 10) text.now }
 {
     text.iter().position(|byte| *byte == b'\n')
 }
 
-/// The first line, and what stands behind its line feed, if it has one.
+/// Returns the first line, and the text after its line feed, if it has one.
 fn cut_line(text: &[u8]) -> (&[u8], Option<&[u8]>)
     ensures { lines_of text.now ≡ result.0.now ∷ lines_left result.1 }
 {
@@ -46,7 +46,7 @@ fn cut_line(text: &[u8]) -> (&[u8], Option<&[u8]>)
 }
 
 impl<'a> Lines<'a> {
-    /// The lines of this text.
+    /// Returns a walk over the lines of this text.
     pub(crate) fn new(text: &'a [u8]) -> Self
         ensures { result ≡ lines_of text.now }
     {

@@ -13,10 +13,10 @@ use crate::row::{FileRow, read_row};
 use pim_addr::{Family, Feed, Route, RouteFault, Routes, read_up_to};
 use std::alloc::Global;
 
-/// The most bytes that a file may have.
+/// The greatest length of a file, in bytes.
 const FILE_LIMIT: usize = 1_048_576;
 
-/// A buffer of so many bytes.
+/// Returns a buffer of `length` zero bytes.
 fn blank(alloc: Global, length: usize) -> Result<Vec<u8>, RoutesFault>
     ensures length { IfOk result (λ buffer. vec_len buffer ≡ length) }
     ensures memory { IfErr result (λ fault. fault ≡ RoutesFault.Memory) }
@@ -43,7 +43,7 @@ fn read_file<R: Feed>(alloc: Global, reader: &mut R) -> Result<Vec<u8>, RoutesFa
     Ok(file)
 }
 
-/// Whether a line says nothing.
+/// Returns whether a line has no row: it is empty or begins with `#`.
 fn is_passed_over(line: &[u8]) -> bool
     ensures { result ≡ is_passed_over line.now }
 {
@@ -68,7 +68,7 @@ fn add_row<F: Family>(
     }
 }
 
-/// Adds the row of the line of this number, if it has one.
+/// Adds the row of the line with this number, if the line has one.
 fn add_line<F: Family>(
     line: &[u8],
     number: usize,
@@ -91,7 +91,7 @@ fn add_line<F: Family>(
     }
 }
 
-/// Adds the rows of the lines of a file.
+/// Adds the rows of the lines of a file, up to the first one that is wrong.
 fn add_lines<F: Family>(file: &[u8], routes: &mut Routes<F>) -> Result<(), RoutesFault>
     requires { length file.now ≤ file_limit }
     ensures ok { OnOk result (Adds F.family (lines_of file.now) routes.old routes.new) }
@@ -105,20 +105,22 @@ fn add_lines<F: Family>(file: &[u8], routes: &mut Routes<F>) -> Result<(), Route
     Ok(())
 }
 
-/// Reads a file of routes to its end and adds the rows of its lines to the table, in order. A line is
-/// `rp ADDRESS/LENGTH ADDRESS` or `via ADDRESS/LENGTH ADDRESS`, with one space between words and LENGTH a decimal
-/// without leading zeros; empty lines and lines that begin with `#` are passed over. Lines are parted by line feeds,
-/// and the last one may lack its own. Of a file at most 1,048,577 bytes are read: the last one shows that it is too
-/// long.
+/// Reads a file of routes to its end and adds the rows of its lines to the table, in order.
 ///
-/// It takes a buffer of 1,048,577 bytes and what the table grows by. The time grows with the bytes, each of which is
-/// looked at a few times, and for each row that is added with the rows of its kind that are there, at most 4,096; so a
-/// file costs at most about 100 million steps, whatever it holds.
+/// A line is `rp ADDRESS/LENGTH ADDRESS` or `via ADDRESS/LENGTH ADDRESS`, with one space between
+/// words. LENGTH is a decimal without leading zeros. Empty lines and lines that begin with `#` have
+/// no row. Line feeds separate lines, and the last line may lack its own.
+///
+/// At most 1,048,577 bytes are read: the last one shows that the file is too long. The call takes a
+/// buffer of that size and the memory by which the table grows. For each row the time grows with
+/// the number of rows in its map, at most 4,096. So a file costs at most about 100 million steps.
 ///
 /// # Errors
-/// `TooLong` (above 1,048,576 bytes) and `Read`, after which the table is as before; `Line` of the first line that has
-/// another form or whose row the table refuses, after which the rows of the lines before it are there; `Memory` at any
-/// time, after which those of some first lines are. The reader doesn't fail without the answer `Read`.
+/// - `TooLong`: the file has more than 1,048,576 bytes. The table is unchanged.
+/// - `Read`: the reader failed. The table is unchanged.
+/// - `Line`: the first line that has another form or whose row the table refuses. The rows of the
+///   lines before it were added.
+/// - `Memory`: memory ran out. The rows of some first lines were added, possibly of none.
 pub fn read_routes<F: Family, R: Feed>(
     alloc: Global,
     reader: &mut R,

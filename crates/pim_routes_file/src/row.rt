@@ -1,4 +1,4 @@
-//! The row that a line spells.
+//! The row that a line states.
 
 ghost use Rattle.std.specs.Prelude.{◌≡◌, ◌<◌, ℕ, IfSome, IfNone};
 ghost use Rattle.pim_addr.specs.Routes.{Row};
@@ -9,16 +9,16 @@ ghost use Rattle.pim_routes_file.specs.Seen.{file_row_seen};
 use pim_addr::{Family, Route, read_text, text_names_one_address};
 use std::str;
 
-/// A row with the map of the table that it is for.
+/// A row with the map of the table that it belongs to.
 #[derive(Clone, Copy, Debug, PartialEq, Eq)]
 pub enum FileRow<R> {
-    /// It leads groups to their RP.
+    /// A row that leads groups to their RP.
     Rp(R),
-    /// It leads addresses to their upstream neighbour.
+    /// A row that leads addresses to an upstream neighbour.
     Via(R),
 }
 
-/// The number of a decimal without leading zeros, up to 255.
+/// Returns the number of a decimal without leading zeros, up to 255.
 fn read_length(text: &str) -> Option<u8>
     ensures read { IfSome result (λ number. IsDecimal text.now number) }
     ensures unread { IfNone result ((number : ℕ) → IsDecimal text.now number → 255 < number) }
@@ -36,7 +36,7 @@ fn read_length(text: &str) -> Option<u8>
     }
 }
 
-/// The row of `ADDRESS/LENGTH ADDRESS`.
+/// Returns the row of `ADDRESS/LENGTH ADDRESS`, if the text states one with at most 255 bits.
 fn read_led<F: Family>(text: &str) -> Option<Route<F::Addr>>
     ensures read { IfSome result (λ route. Leads F.family text.now (row_seen F.bytes_of route)) }
     ensures only { IfSome result (λ route. (row : Row) → Leads F.family text.now row
@@ -53,7 +53,8 @@ fn read_led<F: Family>(text: &str) -> Option<Route<F::Addr>>
     })
 }
 
-/// The row that a line spells, if it spells one whose prefix has at most 255 bits.
+/// Returns the row that a line states, if it states one with at most 255 bits. LENGTH may be
+/// greater than an address allows: the table then refuses the row.
 pub(crate) fn read_row<F: Family>(line: &[u8]) -> Option<FileRow<Route<F::Addr>>>
     ensures read { IfSome result (λ row. IsRow F.family line.now (file_row_seen F.bytes_of row)) }
     ensures only { IfSome result (λ row. (other : FileRow Row) → IsRow F.family line.now other

@@ -1,4 +1,4 @@
--- What becomes of machines that hear messages.
+-- Where machines end that hear messages: the laws in `src/laws.rt`.
 use Rattle.std.specs.Prelude.{◌≡◌, ℕ, ◌≤◌, List}
 use Rattle.std.specs.List.{flat_map}
 use Rattle.pim_addr.specs.declared.family.AddressFamily.{AddressFamily}
@@ -19,7 +19,7 @@ use Rattle.pim_settling.specs.Hearing.{Hears, course_of}
 use Rattle.pim_settling.specs.Runs.{AreHeard, AllCame, KnowRps, AreEventsOf, EachCame}
 use Rattle.pim_settling.specs.Telling.{TellsChange}
 
--- Each machine goes the course that the deliveries make of its own.
+-- Each machine goes the course that the deliveries make of its own course.
 abbrev pub CoursesAreKept : Type 0
 CoursesAreKept = (exchange : Exchange) (start after : Downstream) (deliveries : List Delivery) (moment : ℕ)
     (courses : Key (List ℕ) → Course) → IsAscending start.records →
@@ -29,8 +29,9 @@ CoursesAreKept = (exchange : Exchange) (start after : Downstream) (deliveries : 
     × ((key : Key (List ℕ)) → IsPast key.what moment (course_of exchange key (courses key) deliveries)
     (machine_at key after.records))
 
--- A port that is settled at one form and hears the messages that tell the change to another one, in any order and
--- however often each comes, is settled at the other one from the final moment of these deliveries on.
+-- A port is settled at one form and hears messages that say exactly the change to another form, in
+-- any order and any number of times. From the final moment of these deliveries on it is settled at
+-- the other form.
 abbrev pub ChangeSettles : Type 0
 ChangeSettles = (family : AddressFamily) (exchange : Exchange) (old new : List GroupForm) (start after : Downstream)
     (deliveries : List Delivery) (moment : ℕ) → IsSound family start → IsSettledAt exchange.port old start.records →
@@ -38,15 +39,16 @@ ChangeSettles = (family : AddressFamily) (exchange : Exchange) (old new : List G
     final_moment exchange.timing.override_ms deliveries ≤ moment →
     (after.moment ≡ moment) × IsSettledAt exchange.port new after.records
 
--- The messages of the units of a change, in runs as they are packed, tell exactly that change, each once or more often.
+-- If each message of a change came and the RPs of all stars are known, the messages say exactly
+-- that change, cut into any runs.
 abbrev pub RunsTellTheChange : Type 0
 RunsTellTheChange = (rps : Rps) (old new : List GroupForm) (runs : List (List ChangeUnit)) (exchange : Exchange)
     (deliveries : List Delivery) → flat_map (λ run. run) runs ≡ change old new → KnowRps rps old → KnowRps rps new →
     AreHeard rps runs exchange → AllCame runs deliveries → TellsChange exchange old new deliveries
 
--- A neighbour of one port, settled at the form that it was last told, that hears the messages of the change to another
--- one, in any order and however often, each at least once, and nothing else, is settled at the other one from the final
--- moment of these deliveries on, as long as no expiry timer ends; echoes may be told.
+-- A port is settled at one normal form and hears the messages of the change to another one. Their
+-- bytes are read, each comes at least once and nothing else, and no Expiry Timer ends. From the
+-- final moment of these deliveries on it is settled at the other form.
 abbrev pub ToldChangeSettles : Type 0
 ToldChangeSettles = (family : AddressFamily) (writing : Writing) (rps : Rps) (old new : List GroupForm)
     (messages : List (List ℕ)) (exchange : Exchange) (start after : Downstream) (deliveries : List Delivery)
@@ -57,8 +59,7 @@ ToldChangeSettles = (family : AddressFamily) (writing : Writing) (rps : Rps) (ol
     Hears exchange start deliveries moment after → final_moment exchange.timing.override_ms deliveries ≤ moment →
     (after.moment ≡ moment) × IsSettledAt exchange.port new after.records
 
--- A router of one port that is settled at a normal form wants exactly what the form means: it is the form of its
--- demand.
+-- A router of one port that is settled at a normal form wants exactly what the form means.
 abbrev pub SettledWants : Type 0
 SettledWants = (family : AddressFamily) (form : List GroupForm) (state : Downstream) → IsNormal family form →
     state.ports ≡ 1 → IsSettledAt 0 form state.records → IsFormOf family (wants state) form

@@ -1,4 +1,4 @@
--- The messages of a change as what a port hears: one for each run of its units.
+-- The messages of a change as what a port hears: one message for each run of its units.
 use Rattle.std.specs.Prelude.{◌≡◌, ℕ, zero, suc, ◌<◌, true, List, [], ◌∷◌, length}
 use Rattle.std.specs.Option.{is_some}
 use Rattle.std.specs.List.{flat_map}
@@ -14,25 +14,25 @@ use Rattle.pim_change.specs.Told.{told_sets}
 use Rattle.pim_fresh.specs.Exchange.{Exchange}
 use Rattle.pim_fresh.specs.Deliveries.{Delivery, is_delivered}
 
--- the events of the message that tells a run, where the port knows the same RPs
+-- The events of the message of a run, for a port that knows the same RPs.
 abbrev pub run_events : Rps → List ChangeUnit → List Event
 run_events rps run = flat_map (set_events rps) (told_sets rps run)
 
--- the run of this number; none behind the last one
+-- The run of this number; an empty one after the last run.
 unfoldable pub run_at : ℕ → List (List ChangeUnit) → List ChangeUnit
 run_at number [] = []
 run_at zero (run ∷ runs) = run
 run_at (suc number) (run ∷ runs) = run_at number runs
 
--- each message has the events of its run
+-- Each message has the events of its run.
 abbrev pub AreHeard : Rps → List (List ChangeUnit) → Exchange → Type 0
 AreHeard rps runs exchange = (number : ℕ) → exchange.messages number ≡ run_events rps (run_at number runs)
 
--- the message of each run came
+-- The message of each run came.
 abbrev pub AllCame : List (List ChangeUnit) → List Delivery → Type 0
 AllCame runs deliveries = (number : ℕ) → number < length runs → is_delivered number deliveries ≡ true
 
--- an RP is known of the group of each star
+-- An RP is known for the group of each star in the form.
 abbrev pub KnowRps : Rps → List GroupForm → Type 0
 KnowRps rps form = (group : List ℕ) → is_some (group_in group form).star ≡ true → is_some (rps group) ≡ true
 
@@ -45,6 +45,6 @@ AreEventsOf family source rps (bytes ∷ messages) events =
     ((said : Message) → IsReadAs family source bytes said → events 0 ≡ events_of rps said)
     × AreEventsOf family source rps messages (λ number. events (suc number))
 
--- each message came
+-- Each message came.
 abbrev pub EachCame : List (List ℕ) → List Delivery → Type 0
 EachCame messages deliveries = (number : ℕ) → number < length messages → is_delivered number deliveries ≡ true

@@ -1,4 +1,5 @@
--- What messages tell that move a neighbour from one form to another, machine by machine (RFC 7761, 4.5).
+-- The Joins and Prunes that move a neighbour from one form to another, machine by machine (RFC
+-- 7761, 4.5 and 4.9.5.1).
 use Rattle.std.specs.Prelude.{◌≡◌, ℕ, Bool, true, false, if◌then◌else◌, List, [], ◌∷◌, Option, None, Some}
 use Rattle.std.specs.Option.{is_some}
 use Rattle.pim_down.specs.declared.key.What.{What}
@@ -11,23 +12,25 @@ use Rattle.pim_form.specs.Settled.{group_in}
 use Rattle.pim_fresh.specs.Exchange.{Exchange, is_named}
 use Rattle.pim_fresh.specs.Deliveries.{Delivery, is_delivered}
 
--- ---- what is told of a machine: `Some true` a Join, `Some false` a Prune, `None` nothing
+-- ---- what a change says of a machine: `Some true` a Join, `Some false` a Prune, `None` nothing
 
--- by whether it was asked for and whether it is
+-- A Join of what only the new form asks for, a Prune of what only the old form asks for, else
+-- nothing.
 abbrev pub told_if : Bool → Bool → Option Bool
 told_if false false = None
 told_if false true = Some true
 told_if true false = Some false
 told_if true true = None
 
--- An exception is pruned where it comes, under a star that stays or with a new one, and joined where it goes under a
--- star that stays.
+-- An exception that is new, or whose star is new, is pruned. An exception that goes is joined if
+-- its star stays.
 abbrev pub rpt_told : Option (List (List ℕ)) → Option (List (List ℕ)) → List ℕ → Option Bool
 rpt_told None None source = None
 rpt_told None (Some exceptions) source = if is_listed source exceptions then Some false else None
 rpt_told (Some excepted) None source = None
 rpt_told (Some excepted) (Some exceptions) source = told_if (is_listed source exceptions) (is_listed source excepted)
 
+-- What the change of a group from the old to the new form says of a machine.
 abbrev pub told_of : GroupForm → GroupForm → What (List ℕ) → Option Bool
 told_of old new Star = told_if (is_some old.star) (is_some new.star)
 told_of old new (Source source) = told_if (is_listed source old.sources) (is_listed source new.sources)
@@ -35,18 +38,22 @@ told_of old new (Rpt source) = rpt_told old.star new.star source
 
 -- ---- the events of a message
 
+-- The event is what the change says of its machine.
 abbrev pub IsTold : List GroupForm → List GroupForm → Event → Type 0
 IsTold old new event = told_of (group_in event.group old) (group_in event.group new) event.what ≡ Some event.joins
 
+-- The (S,G,rpt) machine of a source and a group on the port.
 abbrev pub rpt_at : ℕ → List ℕ → List ℕ → Key (List ℕ)
 rpt_at port group source = record { port = port; group = group; what = Rpt source }
 
--- behind a Join(*,G) a Prune(S,G,rpt) of each exception of the new star
+-- After a Join(*,G) each exception of the new star is named by a later event of the message.
 abbrev pub ExceptionsFollow : ℕ → List GroupForm → Event → List Event → Type 0
 ExceptionsFollow port new event events = (source : List ℕ) → is_star_join event ≡ true →
     is_listed source (exceptions_of (group_in event.group new).star) ≡ true →
     is_named port (rpt_at port event.group source) events ≡ true
 
+-- Each event of a message is what the change says, and the exceptions of a new star follow its
+-- Join(*,G).
 unfoldable pub TellsOnly : ℕ → List GroupForm → List GroupForm → List Event → Type 0
 TellsOnly port old new [] = Unit {0}
 TellsOnly port old new (event ∷ events) =
@@ -54,13 +61,13 @@ TellsOnly port old new (event ∷ events) =
 
 -- ---- all messages
 
--- a message that came names the machine
+-- A message that came names the machine.
 pub record Came (exchange : Exchange) (deliveries : List Delivery) (key : Key (List ℕ)) : Type 0 where
   pub message : ℕ
   pub delivered : is_delivered message deliveries ≡ true
   pub named : is_named exchange.port key (exchange.messages message) ≡ true
 
--- No message tells anything else, and what is told of each machine came.
+-- No message says anything else than the change, and all that the change says came.
 pub record TellsChange (exchange : Exchange) (old new : List GroupForm) (deliveries : List Delivery) : Type 0 where
   pub only : (message : ℕ) → TellsOnly exchange.port old new (exchange.messages message)
   pub all : (group : List ℕ) (what : What (List ℕ)) (joins : Bool) →

@@ -1,10 +1,10 @@
-//! What the definitions say together. Nothing here is to be called.
+//! The laws of this crate. Nothing in this module is to be called.
 
 ghost use Rattle.pim_settling.specs.Laws.{CoursesAreKept, ChangeSettles, RunsTellTheChange, ToldChangeSettles};
 ghost use Rattle.pim_settling.specs.Laws.{SettledWants};
 
-/// A port whose machines each go some course hears messages, and no expiry timer ends meanwhile: then each machine goes
-/// the course that these make of its own, and no prune-pending timer is due.
+/// A port whose machines each go some course hears messages, and no Expiry Timer ends. Then each
+/// machine goes the course that the messages make of its own, and no Prune-Pending Timer is due.
 pub fn courses_are_kept()
     ensures { CoursesAreKept }
 {
@@ -13,8 +13,9 @@ pub fn courses_are_kept()
     pim_down::hearing_acts_at_each_key();
 }
 
-/// A port that is settled at one form hears the messages of the change to another one, in any order and however often
-/// each comes, while no expiry timer ends: from the final moment of these deliveries on it is settled at the other form.
+/// A port is settled at one form and hears messages that say exactly the change to another form.
+/// They come in any order and any number of times, and no Expiry Timer ends. From the final moment
+/// of these deliveries on the port is settled at the other form.
 pub fn change_settles()
     ensures { ChangeSettles }
 {
@@ -23,16 +24,18 @@ pub fn change_settles()
     pim_down::hearing_acts_at_each_key();
 }
 
-/// The messages of a change, however its units are cut into runs, tell exactly the change.
+/// If each message of a change came and the RPs of all stars are known, the messages say exactly
+/// that change, cut into any runs.
 pub fn runs_tell_the_change()
     ensures { RunsTellTheChange }
 {
     pim_down::keys_are_told_apart();
 }
 
-/// A neighbour of one port that is settled at the form which it was last told hears the messages of the change to
-/// another one, as `triggered` of `pim_change` gives them, in any order and however often, each at least once and
-/// nothing else, while no expiry timer ends: from the final moment of these deliveries on it is settled at the other.
+/// A port that is settled at one normal form hears the messages of the change to another one, as
+/// `triggered` of `pim_change` gives them. They come in any order, each at least once and nothing
+/// else, and no Expiry Timer ends. From the final moment of these deliveries on the port is settled
+/// at the other form.
 pub fn told_change_settles()
     ensures { ToldChangeSettles }
 {
@@ -42,7 +45,7 @@ pub fn told_change_settles()
     pim_change::change_is_read();
 }
 
-/// A port that is settled at a normal form, the only one of its router, wants exactly what the form means.
+/// A router of one port that is settled at a normal form wants exactly what the form means.
 pub fn settled_wants()
     ensures { SettledWants }
 {}

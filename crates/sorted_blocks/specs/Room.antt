@@ -1,7 +1,8 @@
--- The room of one block.
+-- The memory of one block.
 use Rattle.std.specs.Prelude.{ℕ, ◌+◌, ◌≤◌}
 
--- a block has at most twice `half` items, with those before `start` that are left over, and memory for as many
+-- The items of a block, with those before `start` that were taken out, number at most twice `half`.
+-- The block has memory for twice `half` items.
 pub record IsRoomy (half start len capacity : ℕ) : Type 0 where
   pub small : half ≤ 65536
   pub begins : start ≤ len

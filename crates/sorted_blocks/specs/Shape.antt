@@ -2,78 +2,83 @@
 use Rattle.std.specs.Prelude.{ℕ, ◌+◌, ◌-◌, ◌*◌, ◌/◌, List, [], ◌∷◌, ◌++◌, length, take, drop, slice_index_or, slice_set}
 use Rattle.std.specs.List.{flat_map, insert, remove}
 
--- the blocks in use, in order, and how many others stand ready
+-- The value of a list: its blocks in use, in order, and the number of spare blocks, which have
+-- memory and no items.
 pub record Shape (A : Type 0) : Type 0 where
   pub blocks : List (List A)
   pub spare : ℕ
 
--- a list without so many items from an index on
+-- The list without the `count` items from index `at` on.
 unfoldable pub cut : {A : Type 0} → List A → ℕ → ℕ → List A
 cut xs at count = take at xs ++ drop (at + count) xs
 
 module _ {A : Type 0} where
-  -- the block of this number
+  -- The block with this number.
   abbrev pub block_at : List (List A) → ℕ → List A
   block_at blocks block = slice_index_or blocks block []
 
-  -- how many items it has together with the next one
+  -- The number of items of this block and the next one.
   abbrev pub together : List (List A) → ℕ → ℕ
   together blocks block = length (block_at blocks block) + length (block_at blocks (block + 1))
 
-  -- an item put into a block, and one taken out
+  -- The blocks with an item put into one of them.
   abbrev pub put_into : List (List A) → ℕ → ℕ → A → List (List A)
   put_into blocks block at item = slice_set blocks block (insert (block_at blocks block) at item)
 
+  -- The blocks with an item taken out of one of them.
   abbrev pub taken_out : List (List A) → ℕ → ℕ → List (List A)
   taken_out blocks block at = slice_set blocks block (remove (block_at blocks block) at)
 
-  -- so many items taken out of a block
+  -- The blocks with `count` items of one of them taken out.
   abbrev pub cut_from : List (List A) → ℕ → ℕ → ℕ → List (List A)
   cut_from blocks block at count = slice_set blocks block (cut (block_at blocks block) at count)
 
-  -- a block in two, and two as one
+  -- The blocks with one of them split into its first `half` items and the others.
   abbrev pub split : ℕ → List (List A) → ℕ → List (List A)
   split half blocks block =
       let row = block_at blocks block in insert (slice_set blocks block (take half row)) (block + 1) (drop half row)
 
+  -- The blocks with one of them and the next made one block.
   abbrev pub merged : List (List A) → ℕ → List (List A)
   merged blocks block =
       let row = block_at blocks block ++ block_at blocks (block + 1) in slice_set (remove blocks (block + 1)) block row
 
-  -- the blocks, one after another
+  -- The items of all blocks, in order.
   abbrev pub joined : List (List A) → List A
   joined blocks = flat_map (λ block. block) blocks
 
-  -- the list that is kept
+  -- The list of items that the blocks hold.
   abbrev pub items : Shape A → List A
   items shape = joined shape.blocks
 
-  -- the first items of the blocks
+  -- The first item of each block that has one.
   unfoldable pub firsts : List (List A) → List A
   firsts [] = []
   firsts ([] ∷ blocks) = firsts blocks
   firsts ((item ∷ _) ∷ blocks) = item ∷ firsts blocks
 
-  -- how many items stand beyond their block's first half
+  -- The number of items that exceed `half` in their blocks, summed over the blocks.
   unfoldable pub beyond : ℕ → List (List A) → ℕ
   beyond half [] = 0
   beyond half (block ∷ blocks) = (length block - half) + beyond half blocks
 
-  -- what is used up of the spare blocks' worth; where there is no block, the first item takes one
+  -- The number of inserts that the blocks in use have used up: the items that exceed `half`. Where
+  -- no block is in use, it is `half`, since the first insert takes a block.
   abbrev pub used_up : ℕ → List (List A) → ℕ
   used_up half [] = half
   used_up half (block ∷ blocks) = beyond half (block ∷ blocks)
 
-  -- so many inserts succeed without memory: each spare block is worth `half` of them, since a block that is
-  -- split was full, and is so again only after as many inserts
+  -- The number of inserts that take no memory. Each spare block counts for `half` inserts: a block
+  -- that is split was full, and its halves are full again only after as many inserts.
   unfoldable pub room : ℕ → Shape A → ℕ
   room half shape = shape.spare * half - used_up half shape.blocks
 
-  -- the blocks in use and those that stand ready
+  -- The number of all blocks, in use and spare.
   abbrev pub block_total : Shape A → ℕ
   block_total shape = length shape.blocks + shape.spare
 
-  -- So many items fit into these blocks, wherever they are put in and whichever are taken out between: where no block
-  -- stands ready, all are in use, and neighbours have more than `half` items together.
+  -- A number of items below which every insert takes no memory, for any inserts and removals in
+  -- between. Without a spare block all blocks are in use. Neighboring blocks have more than `half`
+  -- items together, so the list has at least this number of items.
   unfoldable pub capacity : ℕ → Shape A → ℕ
   capacity half shape = (block_total shape - 1) * (half + 1) / 2

@@ -1,4 +1,4 @@
--- What a search in one row, or over the first items of rows, answers.
+-- The results of searches in one row, or over the first items of the blocks.
 use Rattle.std.specs.Prelude.{◌≡◌, ℕ, suc, ◌-◌, ◌<◌, ◌≤◌, List, length, slice_index_or, Result, Ok, Err}
 use Rattle.std.specs.declared.cmp.Ordering.{Ordering}
 use Rattle.std.specs.declared.cmp.Ordering.TheVariants.{Less, Equal, Greater}
@@ -6,23 +6,23 @@ use Rattle.sorted_blocks.specs.Shape.{block_at}
 use Rattle.sorted_blocks.specs.Found.{IsGap, IsEqualAt}
 
 module _ {A : Type 0} where
-  -- the item of a row at this index is less than what is sought
+  -- The item of the row at this index is less than what is sought.
   abbrev pub IsLessAt : (A → Ordering) → List A → ℕ → Type 0
   IsLessAt order row at = (d : A) → order (slice_index_or row at d) ≡ Less
 
-  -- an item of the row that compares equal, or else a gap from `low` on
+  -- The result of a search in a row: an item that compares equal, or a gap at `low` or after it.
   abbrev pub IsSought : (A → Ordering) → List A → ℕ → Result ℕ ℕ → Type 0
   IsSought order row low (Ok at) = IsEqualAt order row at
   IsSought order row low (Err at) = (low ≤ at) × (at ≤ length row) × IsGap order row at
 
-  -- a row of the first items of blocks that all have some
+  -- The row has the first items of the blocks, none of which is empty.
   pub record IsLead (blocks : List (List A)) (row : List A) : Type 0 where
     pub long : length row ≡ length blocks
     pub some : (block : ℕ) → block < length blocks → 0 < length (block_at blocks block)
     pub same : (block : ℕ) (d : A) → block < length blocks →
         slice_index_or row block d ≡ slice_index_or (block_at blocks block) 0 d
 
-  -- the first item of the block before `low` is less than what is sought, and that of the block `high` is greater
+  -- The block before `low` begins with a lesser item, and the block `high` with a greater one.
   pub record IsBlockGap (order : A → Ordering) (blocks : List (List A)) (low high : ℕ) : Type 0 where
     pub low_high : low ≤ high
     pub high_end : high ≤ length blocks
@@ -31,17 +31,20 @@ module _ {A : Type 0} where
     pub greater : (d : A) → high < length blocks → order (slice_index_or (block_at blocks high) 0 d) ≡ Greater
     pub some_behind : high < length blocks → 0 < length (block_at blocks high)
 
-  -- a block whose first item compares equal
+  -- The block begins with an item that compares equal.
   pub record IsBlockAt (order : A → Ordering) (blocks : List (List A)) (block : ℕ) : Type 0 where
     pub within : block < length blocks
     pub some : 0 < length (block_at blocks block)
     pub equal : (d : A) → order (slice_index_or (block_at blocks block) 0 d) ≡ Equal
 
+  -- The result of a search over the blocks. It is a block whose first item compares equal, or the
+  -- number of blocks that begin with a lesser item.
   abbrev pub IsBlockSought : (A → Ordering) → List (List A) → Result ℕ ℕ → Type 0
   IsBlockSought order blocks (Ok block) = IsBlockAt order blocks block
   IsBlockSought order blocks (Err count) = IsBlockGap order blocks count count
 
-  -- what stands before `low` in a block is less, and the next block begins with a greater item
+  -- The search may go on in this block from `low` on. The item before `low` is less, and the next
+  -- block begins with a greater item.
   pub record IsRowLeft (order : A → Ordering) (blocks : List (List A)) (block low : ℕ) : Type 0 where
     pub within : block < length blocks
     pub from_low : low ≤ length (block_at blocks block)

@@ -1,4 +1,8 @@
-//! One block: a piece of memory of its own for twice `HALF` items.
+//! One block: memory of its own for twice `HALF` items.
+//!
+//! Items are taken out at the front without a move. They are left over before the first item until
+//! the memory of the block is full. All items then move down once. Lists of timers lose their items
+//! from the front, and each removal there would move half a block.
 
 ghost use Rattle.std.specs.Prelude.{◌≡◌, ℕ, ◌+◌, ◌<◌, ◌≤◌, [], ◌++◌, length, take, drop, slice_index_or, vec_len, vec_capacity, IfOk};
 ghost use Rattle.std.specs.List.{insert, remove};
@@ -7,17 +11,18 @@ ghost use Rattle.sorted_blocks.specs.Shape.{cut};
 use std::alloc::{AllocError, Global};
 use std::marker::Model;
 
-/// Items are at the front where at most one in so many of a block's items stand before them: they are taken out by moving these,
-/// and others by moving those behind.
+/// An item is near the front where at most one in `FRONT` of the items of its block are before it.
+/// Items near the front are taken out by moving those before them, others by moving those after
+/// them.
 const FRONT: usize = 2;
 
-/// Up to twice `HALF` items, with room for all of them. Taking out the first one moves no other, and nor does putting one where
-/// it stood: lists are emptied from the front, and are used as queues. Taking out one behind a few moves these alone.
+/// Up to twice `HALF` items, with memory for all of them. Taking out the first item moves no other,
+/// and nor does putting one in its place.
 #[derive(Drop)]
 pub(crate) struct Block<T: Copy, const HALF: usize> {
-    /// What stands before `start` is left over from items that were taken out at the front.
+    /// Items before `start` are left over from removals at the front.
     pub(crate) items: Vec<T>,
-    /// Where the block's items begin.
+    /// The index of the first item of the block.
     pub(crate) start: usize,
 }
 
@@ -35,7 +40,7 @@ impl<T: Copy, const HALF: usize> Model for Block<T, HALF> {
 }
 
 impl<T: Copy, const HALF: usize> Block<T, HALF> {
-    /// A block with no item.
+    /// Returns a block without items.
     pub(crate) fn new(alloc: Global) -> Result<Self, AllocError>
         requires { HALF ≤ 65536 }
         ensures { IfOk result (λ b. b ≡ []) }
@@ -44,7 +49,7 @@ impl<T: Copy, const HALF: usize> Block<T, HALF> {
         Ok(Block { items, start: 0 })
     }
 
-    /// How many items the block has.
+    /// Returns the number of items of the block.
     pub(crate) fn len(&self) -> usize
         ensures len { result ≡ length self.now }
         ensures most { result ≤ HALF + HALF }
@@ -53,7 +58,7 @@ impl<T: Copy, const HALF: usize> Block<T, HALF> {
         self.items.len() - self.start
     }
 
-    /// The items in order.
+    /// Returns the items in order.
     pub(crate) fn as_slice(&self) -> &[T]
         ensures { result.now ≡ self.now }
     {
@@ -61,7 +66,7 @@ impl<T: Copy, const HALF: usize> Block<T, HALF> {
         row
     }
 
-    /// The item at this place in the block.
+    /// Returns the item at this place in the block.
     pub(crate) fn get(&self, at: usize) -> &T
         requires { at < length self.now }
         ensures { result.now ≡ slice_index_or self.now at result.now }
@@ -69,7 +74,7 @@ impl<T: Copy, const HALF: usize> Block<T, HALF> {
         &self.items[self.start + at]
     }
 
-    /// Puts an item at this place of a block that isn't full.
+    /// Inserts an item at this place of a block that is not full.
     #[tactic(auto, using(crate::proofs::LeftOver::insert_beyond))]
     pub(crate) fn put(&mut self, at: usize, item: T)
         requires within { at ≤ length self.old }
@@ -98,8 +103,9 @@ impl<T: Copy, const HALF: usize> Block<T, HALF> {
         item
     }
 
-    /// Takes out so many items from this place on. Those before it are moved where they are few, else those behind.
-    // Inlined, so that taking one item out costs no more than it has to.
+    /// Takes out `count` items from this place on. It moves the items before them where these are
+    /// few, else the items after them.
+    // It is inlined, so that taking out one item costs no more than necessary.
     #[inline(always)]
     pub(crate) fn cut_out(&mut self, at: usize, count: usize)
         requires { at + count ≤ length self.old }
@@ -114,7 +120,7 @@ impl<T: Copy, const HALF: usize> Block<T, HALF> {
         cut_out(&mut self.items, start + at, count);
     }
 
-    /// Lets go of all items.
+    /// Removes all items.
     pub(crate) fn clear(&mut self)
         ensures { self.new ≡ [] }
     {
@@ -122,7 +128,7 @@ impl<T: Copy, const HALF: usize> Block<T, HALF> {
         self.start = 0;
     }
 
-    /// Moves what stands beyond the first half into another block, in place of what that had.
+    /// Moves the items after the first `HALF` into another block, which loses its own.
     #[tactic(auto, using(crate::proofs::LeftOver::take_beyond))]
     pub(crate) fn split_into(&mut self, other: &mut Self)
         requires { HALF ≤ length self.old }
@@ -138,7 +144,7 @@ impl<T: Copy, const HALF: usize> Block<T, HALF> {
         self.items.truncate(self.start + HALF);
     }
 
-    /// Puts another block's items behind these.
+    /// Appends the items of another block.
     pub(crate) fn absorb(&mut self, other: &Self)
         requires { length self.old + length other.now ≤ HALF + HALF }
         ensures { self.new ≡ self.old ++ other.now }
@@ -151,8 +157,9 @@ impl<T: Copy, const HALF: usize> Block<T, HALF> {
     }
 }
 
-/// Makes room for one more behind the items from `start` on, and answers where these begin then. They are moved only where there is
-/// none, so that a move of the whole block pays for all that were taken out at the front before.
+/// Makes room for one more item after the items from `start` on, and returns where these then
+/// begin. They move only where there is no room, so that one move of the whole block pays for all
+/// removals at its front.
 fn make_room<T: Copy>(items: &mut Vec<T>, start: usize, most: usize) -> usize
     requires begins { start ≤ vec_len items.old }
     requires few { vec_len items.old < start + most }
@@ -169,7 +176,7 @@ fn make_room<T: Copy>(items: &mut Vec<T>, start: usize, most: usize) -> usize
     0
 }
 
-/// Lets go of the first `count` items, and moves the others to the beginning.
+/// Removes the first `count` items, and moves the others to the beginning.
 #[tactic(auto, using(crate::proofs::Cuts::cut_first))]
 fn move_down<T: Copy>(items: &mut Vec<T>, count: usize)
     requires { count ≤ vec_len items.old }
@@ -180,8 +187,8 @@ fn move_down<T: Copy>(items: &mut Vec<T>, count: usize)
     cut_out(items, 0, count);
 }
 
-/// Lets go of so many items from this one on, and moves those behind them up.
-// Inlined, as the block's own.
+/// Removes `count` items from `at` on, and moves those after them down.
+// It is inlined for the same reason as `Block::cut_out`.
 #[inline(always)]
 pub(crate) fn cut_out<T: Copy>(items: &mut Vec<T>, at: usize, count: usize)
     requires { at + count ≤ vec_len items.old }

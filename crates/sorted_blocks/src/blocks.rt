@@ -1,4 +1,4 @@
-//! The list: its public calls, and the bound on its blocks.
+//! The list with its public calls, and the bound on the number of its blocks.
 
 ghost use Rattle.std.specs.Prelude.{◌≡◌, ◌+◌, ◌-◌, ◌*◌, ◌<◌, ◌≤◌, [], length, drop, slice_index_or};
 ghost use Rattle.std.specs.Prelude.{OnOk, IsOk, IsTrue, IfSome, IfNone, ◌↔◌};
@@ -15,8 +15,8 @@ use crate::store::Store;
 use std::alloc::{AllocError, Global};
 use std::marker::Model;
 
-/// A list of items in order, in blocks of up to twice `HALF` items. Neighbouring blocks have more than `HALF` items
-/// together, after whatever edits.
+/// A list of items in order, in blocks of up to twice `HALF` items. Each two neighbouring blocks
+/// have more than `HALF` items together.
 #[derive(Drop)]
 pub struct Blocks<T: Copy, const HALF: usize> {
     store: Store<T, HALF>,
@@ -35,7 +35,7 @@ impl<T: Copy, const HALF: usize> Model for Blocks<T, HALF> {
 }
 
 impl<T: Copy, const HALF: usize> Blocks<T, HALF> {
-    /// A list with no item, in blocks of up to twice `HALF` items; it takes no memory.
+    /// Returns a list without items, in blocks of up to twice `HALF` items. It takes no memory.
     pub fn new(alloc: Global) -> Self
         requires some { 1 ≤ HALF }
         requires small { HALF ≤ 65536 }
@@ -46,15 +46,15 @@ impl<T: Copy, const HALF: usize> Blocks<T, HALF> {
         }
     }
 
-    /// How many items there are.
+    /// Returns the number of items.
     pub fn len(&self) -> usize
         ensures { result ≡ length (items self.now) }
     {
         self.store.len()
     }
 
-    /// How many blocks are in use: for n items in blocks of up to B at most 4 n / B + 1. The clause is a little
-    /// sharper, since neighbouring blocks have more than half of B items together.
+    /// Returns the number of blocks in use: for n items in blocks of up to B at most 4 n / B + 1.
+    /// The clause is slightly sharper.
     pub fn block_count(&self) -> usize
         ensures count { result ≡ length self.now.blocks }
         ensures few { (result - 1) * (HALF + 1) ≤ 2 * length (items self.now) }
@@ -62,7 +62,7 @@ impl<T: Copy, const HALF: usize> Blocks<T, HALF> {
         self.store.block_count()
     }
 
-    /// How many inserts succeed without memory.
+    /// Returns the number of inserts that take no memory.
     pub fn room(&self) -> usize
         ensures room { result ≡ room HALF self.now }
         ensures half { 1 ≤ HALF }
@@ -70,8 +70,11 @@ impl<T: Copy, const HALF: usize> Blocks<T, HALF> {
         self.store.room()
     }
 
-    /// Takes memory for so many inserts: at `Ok` they succeed, whatever blocks they split. The blocks in use, and so
-    /// every place, stay, at an `Err` too, and the room is never less than it was.
+    /// Takes memory for `inserts` inserts: at Ok they succeed, for any blocks that they split. The
+    /// items and all places stay, also on an error, and the room never shrinks.
+    ///
+    /// # Errors
+    /// Memory ran out, or the list would have more than 2^32 blocks.
     pub fn reserve(&mut self, inserts: usize) -> Result<(), AllocError>
         ensures ok { OnOk result (inserts ≤ room HALF self.new) }
         ensures items { items self.new ≡ items self.old }
@@ -82,17 +85,20 @@ impl<T: Copy, const HALF: usize> Blocks<T, HALF> {
         self.store.reserve(inserts)
     }
 
-    /// How many items fit without memory, wherever they are put in and whichever are taken out between. No edit
-    /// changes it.
+    /// Returns the number of items that fit without memory, for any inserts and removals in
+    /// between. `insert_within`, `remove` and `remove_run` keep it.
     pub fn capacity(&self) -> usize
         ensures { result ≡ capacity HALF self.now }
     {
         self.store.capacity()
     }
 
-    /// Takes memory for so many more items: at `Ok` they fit, whatever is taken out between. The blocks in use, and so
-    /// every place, stay, at an `Err` too, and the capacity is never less than it was. Where they fit already it
-    /// takes none.
+    /// Takes memory for `additional` more items: at Ok they fit, for any removals in between. The
+    /// items and all places stay, also on an error, and the capacity never shrinks. Where the items
+    /// fit already, the call returns Ok.
+    ///
+    /// # Errors
+    /// Memory ran out, or the list would have more than 2^32 blocks.
     pub fn reserve_capacity(&mut self, additional: usize) -> Result<(), AllocError>
         ensures ok { OnOk result (length (items self.new) + additional ≤ capacity HALF self.new) }
         ensures fits { length (items self.old) + additional ≤ capacity HALF self.old → IsOk result }
@@ -105,8 +111,8 @@ impl<T: Copy, const HALF: usize> Blocks<T, HALF> {
         self.store.reserve_capacity(additional)
     }
 
-    /// Puts an item at this place, within the capacity; it moves the items of one block. The answer is where the item
-    /// stands then.
+    /// Inserts an item at this place, below the capacity, and returns its place. It moves at most
+    /// the items of one block, and on a split a record and an item of each later block.
     pub fn insert_within(&mut self, place: Place, item: T) -> Place
         requires place { IsPlace self.old place }
         requires within { length (items self.old) < capacity HALF self.old }
@@ -118,8 +124,8 @@ impl<T: Copy, const HALF: usize> Blocks<T, HALF> {
         self.store.insert_reserved(place, item)
     }
 
-    /// Puts an item at this place, within what was reserved; it moves the items of one block. The answer is where the
-    /// item stands then.
+    /// Inserts an item at this place, within the room, and returns its place. It moves at most the
+    /// items of one block, and on a split a record and an item of each later block.
     pub fn insert_reserved(&mut self, place: Place, item: T) -> Place
         requires place { IsPlace self.old place }
         requires room { 0 < room HALF self.old }
@@ -131,8 +137,9 @@ impl<T: Copy, const HALF: usize> Blocks<T, HALF> {
         self.store.insert_reserved(place, item)
     }
 
-    /// Takes out the item at this place; it moves the items of one block. Beside it stands the place of the item that
-    /// came next.
+    /// Takes out the item at this place, and returns it with the place of the item that followed.
+    /// It moves at most the items of one block. Where blocks merge or go, it also moves the items
+    /// of another block, and a record and an item of each later block.
     pub fn remove(&mut self, place: Place) -> (T, Place)
         requires { IsItem self.old place }
         ensures item { result.0 ≡ slice_index_or (items self.old) (before self.old place) result.0 }
@@ -145,9 +152,9 @@ impl<T: Copy, const HALF: usize> Blocks<T, HALF> {
         self.store.remove(place)
     }
 
-    /// Takes out so many items from this place on. It takes a step for each block that they stand in, moves the items of a few
-    /// blocks, whatever their number, and for each block that goes as a whole a record and an item for each block behind
-    /// them all. The answer is the place of the item that came behind them.
+    /// Takes out `count` items from this place on, and returns the place of the item that followed
+    /// them. It takes a step for each of their blocks and moves the items of a few blocks. For each
+    /// block that goes as a whole, it moves a record and an item of each later block.
     pub fn remove_run(&mut self, place: Place, count: usize) -> Place
         requires place { IsPlace self.old place }
         requires within { before self.old place + count ≤ length (items self.old) }
@@ -160,7 +167,7 @@ impl<T: Copy, const HALF: usize> Blocks<T, HALF> {
         self.store.remove_run(place, count)
     }
 
-    /// Whether no item stands before this place.
+    /// Returns whether no item is before this place.
     pub fn is_first(&self, place: Place) -> bool
         requires { IsPlace self.now place }
         ensures { IsTrue result ↔ before self.now place ≡ 0 }
@@ -168,14 +175,14 @@ impl<T: Copy, const HALF: usize> Blocks<T, HALF> {
         self.store.is_first(place)
     }
 
-    /// Whether an item stands at this place.
+    /// Returns whether the place is that of an item.
     pub fn is_item(&self, place: Place) -> bool
         ensures { IsTrue result ↔ IsItem self.now place }
     {
         self.store.is_item(place)
     }
 
-    /// The item at this place.
+    /// Returns the item at this place.
     pub fn get(&self, place: Place) -> &T
         requires { IsItem self.now place }
         ensures { result.now ≡ slice_index_or (items self.now) (before self.now place) result.now }
@@ -183,7 +190,7 @@ impl<T: Copy, const HALF: usize> Blocks<T, HALF> {
         self.store.get(place)
     }
 
-    /// The place before all items: the first one's, where there is any.
+    /// Returns the place before all items: that of the first item, if there is one.
     pub fn first(&self) -> Place
         ensures place { IsPlace self.now result }
         ensures before { before self.now result ≡ 0 }
@@ -192,7 +199,7 @@ impl<T: Copy, const HALF: usize> Blocks<T, HALF> {
         self.store.first()
     }
 
-    /// The place behind this item: the next one's, where there is any.
+    /// Returns the place after this item: that of the next item, if there is one.
     pub fn next(&self, place: Place) -> Place
         requires { IsItem self.now place }
         ensures place { IsPlace self.now result }
@@ -202,7 +209,8 @@ impl<T: Copy, const HALF: usize> Blocks<T, HALF> {
         self.store.next(place)
     }
 
-    /// The same place, before the item behind it where that begins the next block.
+    /// Returns the same place. For the end of a block that is not the last, it returns the place of
+    /// the first item of the next block.
     pub fn settled(&self, place: Place) -> Place
         requires { IsPlace self.now place }
         ensures place { IsPlace self.now result }
@@ -212,8 +220,8 @@ impl<T: Copy, const HALF: usize> Blocks<T, HALF> {
         self.store.settled(place)
     }
 
-    /// The place of the item so many further on than this place, where there is one. It takes a step for each block between
-    /// them.
+    /// Returns the place of the item with `count` more items before it than this place, or `None`
+    /// where the list has no item there. It takes a step for each block in between.
     pub fn onward(&self, place: Place, count: usize) -> Option<Place>
         requires { IsPlace self.now place }
         ensures item { IfSome result (λ there. IsItem self.now there × before self.now there ≡ before self.now place + count) }
@@ -222,15 +230,15 @@ impl<T: Copy, const HALF: usize> Blocks<T, HALF> {
         self.store.onward(place, count)
     }
 
-    /// The items in order, from the first one on. The walk takes no memory; a step reads within a block, and at its end
-    /// looks at the next one.
+    /// Returns a walk over all items, in order. It takes no memory. A step reads within a block,
+    /// and looks at the next block only at the end of one.
     pub fn iter(&self) -> Items<'_, T, HALF>
         ensures { result ≡ items self.now }
     {
         self.store.iter_from(Place::START)
     }
 
-    /// The items in order from this place on, in the same way; beginning costs no search.
+    /// Returns a walk over the items from this place on. It starts without a search.
     pub fn iter_from(&self, place: Place) -> Items<'_, T, HALF>
         requires { IsPlace self.now place }
         ensures { result ≡ drop (before self.now place) (items self.now) }
@@ -238,9 +246,10 @@ impl<T: Copy, const HALF: usize> Blocks<T, HALF> {
         self.store.iter_from(place)
     }
 
-    /// Where an item stands that compares equal, or else a gap: the item before it is less than what is sought, and
-    /// the one behind it is greater. Where the list has the probe's order, that is where the item belongs. It costs as
-    /// many comparisons as the number of items has bits, and a few.
+    /// Returns the place of an item that compares equal, or else a gap. The item before a gap is
+    /// less than what is sought, and the item at it is greater. In a list in the order of the
+    /// probe, the gap is where the item belongs. It then costs about as many comparisons as the
+    /// number of items has bits.
     pub fn find<P: Probe<T>>(&self, probe: &P) -> Result<Place, Place>
         requires { All (P.can_compare probe.now) (items self.now) }
         ensures { IsFound (P.order probe.now) self.now result }
@@ -248,8 +257,8 @@ impl<T: Copy, const HALF: usize> Blocks<T, HALF> {
         self.store.find(probe)
     }
 
-    /// The same, beginning at a place near which it may stand; whatever place that is, the answer is right. Where it
-    /// stands at that place, right behind, or in the gap right before, it costs a few comparisons.
+    /// Returns the same as `find`, for any place `near`, at which the search begins. It costs a few
+    /// comparisons where the item is at that place, right after it, or in the gap right before it.
     pub fn find_near<P: Probe<T>>(&self, near: Place, probe: &P) -> Result<Place, Place>
         requires { All (P.can_compare probe.now) (items self.now) }
         ensures { IsFound (P.order probe.now) self.now result }

@@ -1,4 +1,8 @@
-//! Inserts and removals, at places of the list.
+//! Inserts and removals at places of the list.
+//!
+//! Two neighbouring blocks become one at a removal, as soon as they have at most `HALF` items
+//! together. They do not become one sooner, so that alternating inserts and removals at one place
+//! do not split and merge each time.
 
 ghost use Rattle.std.specs.Prelude.{◌≡◌, ℕ, ◌+◌, ◌-◌, ◌<◌, ◌≤◌, [], ◌∷◌, ◌++◌, length, slice_index_or, IsTrue, ◌↔◌};
 ghost use Rattle.std.specs.List.{insert, remove};
@@ -10,8 +14,7 @@ use crate::place::Place;
 use crate::store::Store;
 
 impl<T: Copy, const HALF: usize> Store<T, HALF> {
-    /// Puts an item at this place, within what was reserved; it moves the items of one block. The answer is where the
-    /// item stands then.
+    /// Inserts an item at this place, and returns its place. The caller has a spare block.
     pub(crate) fn insert_reserved(&mut self, place: Place, item: T) -> Place
         requires place { IsPlace self.old place }
         requires spare { 0 < self.old.spare }
@@ -31,7 +34,7 @@ impl<T: Copy, const HALF: usize> Store<T, HALF> {
         place
     }
 
-    /// The same place in a block that isn't full: a full one is split.
+    /// Returns the same place in a block that is not full: a full block is split.
     fn make_way(&mut self, place: Place) -> Place
         requires some { 0 < length self.old.blocks }
         requires place { IsPlace self.old place }
@@ -58,8 +61,7 @@ impl<T: Copy, const HALF: usize> Store<T, HALF> {
         }
     }
 
-    /// Takes out the item at this place; it moves the items of one block. Beside it stands the place of the item that
-    /// came next.
+    /// Takes out the item at this place, and returns it with the place of the item that followed.
     pub(crate) fn remove(&mut self, place: Place) -> (T, Place)
         requires { IsItem self.old place }
         ensures item { result.0 ≡ slice_index_or (items self.old) (before self.old place) result.0 }
@@ -79,7 +81,8 @@ impl<T: Copy, const HALF: usize> Store<T, HALF> {
         (item, self.join_before(place))
     }
 
-    /// The place before the items of the block of this number; behind all items where there is no such block.
+    /// Returns the place before the items of this block, or after all items where the list has no
+    /// block with this number.
     pub(crate) fn start_of(&self, block: usize) -> Place
         requires { block ≤ length self.now.blocks }
         ensures place { IsPlace self.now result }
@@ -94,7 +97,7 @@ impl<T: Copy, const HALF: usize> Store<T, HALF> {
         }
     }
 
-    /// Whether two neighbours are half a block together.
+    /// Returns whether this block and the next one have at most `HALF` items together.
     fn are_short(&self, block: usize) -> bool
         requires { block + 1 < length self.now.blocks }
         ensures { IsTrue result ↔ together self.now.blocks block ≤ HALF }
@@ -102,7 +105,8 @@ impl<T: Copy, const HALF: usize> Store<T, HALF> {
         self.block_len(block) + self.block_len(block + 1) <= HALF
     }
 
-    /// Makes one of the place's block and the one behind it where both are short.
+    /// Merges the block of the place with the next one, where both have at most `HALF` items
+    /// together. Returns the same place.
     pub(crate) fn join_behind(&mut self, place: Place) -> Place
         requires block { place.block < length self.old.blocks }
         requires at { place.at ≤ length (block_at self.old.blocks place.block) }
@@ -123,7 +127,8 @@ impl<T: Copy, const HALF: usize> Store<T, HALF> {
         place
     }
 
-    /// Makes one of the place's block and the one before it where both are short.
+    /// Merges the block of the place with the one before it, where both have at most `HALF` items
+    /// together. Returns the same place.
     pub(crate) fn join_before(&mut self, place: Place) -> Place
         requires block { place.block < length self.old.blocks }
         requires at { place.at ≤ length (block_at self.old.blocks place.block) }

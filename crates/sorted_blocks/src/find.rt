@@ -1,4 +1,12 @@
-//! Looking up an item by the caller's comparison.
+//! Lookup of an item by the comparison of the caller.
+//!
+//! No branch of the search depends on an item: the search guesses a place, then checks the item
+//! there and the one before it. So its contract needs no order of the items. Where the check fails,
+//! a binary search decides.
+//!
+//! A lookup near a place first tries the stride: the distance at which the last one found its item.
+//! Items are often sought at even distances. A wrong stride costs a comparison or two, and bounds
+//! the search where the item is nearer.
 
 ghost use Rattle.std.specs.Prelude.{◌≡◌, ℕ, ◌+◌, ◌-◌, ◌<◌, ◌≤◌, List, [], length, slice_index_or, IsTrue, IfSome, IfNone};
 ghost use Rattle.std.specs.List.{All};
@@ -12,14 +20,15 @@ use crate::probe::Probe;
 use crate::store::Store;
 use std::cmp::Ordering;
 
-/// So many blocks behind a place are looked at before all are.
+/// The number of next blocks that a lookup near a place tries before it searches all blocks.
 const NEAR_BLOCKS: usize = 4;
 
-/// A guess where in a row what is sought stands, at the answer or right behind, where the items before `from` are less and those
-/// behind `count` more are not: right where the row has the probe's order.
+/// Returns a guess of the place in the row of what is sought: the right place, or the one before
+/// it. It is right where the row has the order of the probe, and the right place is from `from` to
+/// `from + count`.
 ///
-/// No branch goes by an item, so that a processor has none to guess: what is left is as long as a power of two, and
-/// whether an item is less is shifted into its place.
+/// No branch depends on an item, so that branch prediction cannot fail. The length of the part that
+/// is left is a power of two, and the result of each comparison is shifted into its place.
 fn guess<T: Copy, P: Probe<T>>(probe: &P, row: &[T], from: usize, count: usize) -> usize
     requires can { All (P.can_compare probe.now) row.now }
     requires within { from + count ≤ length row.now }
@@ -42,8 +51,9 @@ fn guess<T: Copy, P: Probe<T>>(probe: &P, row: &[T], from: usize, count: usize) 
     base
 }
 
-/// The same guess for what mostly stands soon behind `low`. It looks twice as far ahead each time, so that it reads few
-/// items, which lie near one another in memory, and which the next search from there reads again.
+/// Returns the same guess for an item that is mostly soon after `low`. It doubles its distance each
+/// time. So it reads few items, which are near one another in memory and which the next search from
+/// there reads again.
 fn guess_soon<T: Copy, P: Probe<T>>(probe: &P, row: &[T], low: usize) -> usize
     requires can { All (P.can_compare probe.now) row.now }
     requires low { low ≤ length row.now }
@@ -61,7 +71,8 @@ fn guess_soon<T: Copy, P: Probe<T>>(probe: &P, row: &[T], low: usize) -> usize
     guess(probe, row, from, row.len() - from)
 }
 
-/// The same guess, where it may stand about so far behind `low`: nearer, or soon behind.
+/// Returns the same guess for an item that may be about `stride` after `low`, nearer, or soon after
+/// that.
 fn guess_by<T: Copy, P: Probe<T>>(probe: &P, row: &[T], low: usize, stride: usize) -> usize
     requires can { All (P.can_compare probe.now) row.now }
     requires low { low ≤ length row.now }
@@ -76,7 +87,8 @@ fn guess_by<T: Copy, P: Probe<T>>(probe: &P, row: &[T], low: usize, stride: usiz
     guess(probe, row, low, stride)
 }
 
-/// Whether the item before this place of a row is less than what is sought, or there is none.
+/// Returns whether the item before this place of a row is less than what is sought; true where
+/// there is none.
 fn is_behind_lesser<T: Copy, P: Probe<T>>(probe: &P, row: &[T], at: usize) -> bool
     requires can { All (P.can_compare probe.now) row.now }
     requires at { at ≤ length row.now }
@@ -91,7 +103,8 @@ fn is_behind_lesser<T: Copy, P: Probe<T>>(probe: &P, row: &[T], at: usize) -> bo
     }
 }
 
-/// Where in a row of items what is sought stands, or would stand; the items before `low` are less.
+/// Returns the place in a row of an item that compares equal, or a gap. The items before `low` are
+/// less.
 fn seek<T: Copy, P: Probe<T>>(probe: &P, row: &[T], low: usize) -> Result<usize, usize>
     requires can { All (P.can_compare probe.now) row.now }
     requires low { low ≤ length row.now }
@@ -101,7 +114,7 @@ fn seek<T: Copy, P: Probe<T>>(probe: &P, row: &[T], low: usize) -> Result<usize,
     seek_at(probe, row, low, guess(probe, row, 0, row.len()))
 }
 
-/// The same, where it mostly stands soon behind those before `low`, or so far behind.
+/// Returns the same, for an item that is mostly soon after `low` or `stride` after it.
 fn seek_soon<T: Copy, P: Probe<T>>(
     probe: &P,
     row: &[T],
@@ -124,8 +137,8 @@ fn seek_soon<T: Copy, P: Probe<T>>(
     seek_at(probe, row, low, guess_by(probe, row, low, stride))
 }
 
-/// The same by a guess: it mostly stands right behind this place, or there. That is looked at, so that the answer is right
-/// for any probe.
+/// Returns the same by a guess: the item is mostly at `at` or right after it. The guess is checked,
+/// so that the result is right for any probe.
 fn seek_at<T: Copy, P: Probe<T>>(
     probe: &P,
     row: &[T],
@@ -150,7 +163,8 @@ fn seek_at<T: Copy, P: Probe<T>>(
     seek_in_any(probe, row, low)
 }
 
-/// The same, where it mostly stands at this place, before which a lesser item stands, or none.
+/// Returns the same, for an item that is mostly at `at`; the item before `at` is less, or there is
+/// none.
 fn seek_behind<T: Copy, P: Probe<T>>(
     probe: &P,
     row: &[T],
@@ -174,7 +188,7 @@ fn seek_behind<T: Copy, P: Probe<T>>(
     }
 }
 
-/// The same for a row that may be in no order.
+/// Returns the same by a binary search, for a row in any order.
 fn seek_in_any<T: Copy, P: Probe<T>>(probe: &P, row: &[T], low: usize) -> Result<usize, usize>
     requires can { All (P.can_compare probe.now) row.now }
     requires low { low ≤ length row.now }
@@ -195,9 +209,10 @@ fn seek_in_any<T: Copy, P: Probe<T>>(probe: &P, row: &[T], low: usize) -> Result
 }
 
 impl<T: Copy, const HALF: usize> Store<T, HALF> {
-    /// Where an item stands that compares equal, or else a gap: the item before it is less than what is sought, and
-    /// the one behind it is greater. Where the list has the probe's order, that is where the item belongs. It costs as
-    /// many comparisons as the number of items has bits, and a few.
+    /// Returns the place of an item that compares equal, or else a gap. The item before a gap is
+    /// less than what is sought, and the item at it is greater. In a list in the order of the
+    /// probe, the gap is where the item belongs. It then costs about as many comparisons as the
+    /// number of items has bits.
     pub(crate) fn find<P: Probe<T>>(&self, probe: &P) -> Result<Place, Place>
         requires { All (P.can_compare probe.now) (items self.now) }
         ensures { IsFound (P.order probe.now) self.now result }
@@ -208,8 +223,8 @@ impl<T: Copy, const HALF: usize> Store<T, HALF> {
         }
     }
 
-    /// The same, beginning at a place near which it may stand; whatever place that is, the answer is right. Where it
-    /// stands at that place, right behind or in the gap right before, it costs a comparison or two.
+    /// Returns the same, for any place `near`, at which the search begins. It costs a few
+    /// comparisons where the item is at that place, right after it, or in the gap right before it.
     pub(crate) fn find_near<P: Probe<T>>(&self, near: Place, probe: &P) -> Result<Place, Place>
         requires { All (P.can_compare probe.now) (items self.now) }
         ensures { IsFound (P.order probe.now) self.now result }
@@ -224,8 +239,8 @@ impl<T: Copy, const HALF: usize> Store<T, HALF> {
         }
     }
 
-    /// The answer, beginning at the item before this place: what is sought next after a gap mostly stands in the same
-    /// gap.
+    /// Returns the same, beginning at the item before this place: what is sought after a gap is
+    /// mostly in the same gap.
     fn find_before<P: Probe<T>>(&self, near: Place, probe: &P) -> Result<Place, Place>
         requires { All (P.can_compare probe.now) (items self.now) }
         ensures { IsFound (P.order probe.now) self.now result }
@@ -247,7 +262,8 @@ impl<T: Copy, const HALF: usize> Store<T, HALF> {
         }
     }
 
-    /// The block whose first item compares equal, or else how many blocks begin with a lesser one.
+    /// Returns the block whose first item compares equal, or the number of blocks that begin with a
+    /// lesser item.
     fn seek_block<P: Probe<T>>(&self, probe: &P) -> Result<usize, usize>
         requires { All (P.can_compare probe.now) (items self.now) }
         ensures { IsBlockSought (P.order probe.now) self.now.blocks result }
@@ -255,7 +271,7 @@ impl<T: Copy, const HALF: usize> Store<T, HALF> {
         seek(probe, self.firsts(), 0)
     }
 
-    /// The answer where so many blocks begin with a lesser item.
+    /// Returns the result where `count` blocks begin with a lesser item.
     fn find_after<P: Probe<T>>(&self, probe: &P, count: usize) -> Result<Place, Place>
         requires can { All (P.can_compare probe.now) (items self.now) }
         requires gap { IsBlockGap (P.order probe.now) self.now.blocks count count }
@@ -267,7 +283,7 @@ impl<T: Copy, const HALF: usize> Store<T, HALF> {
         self.find_in(probe, count - 1, 1)
     }
 
-    /// The answer where it is in this block, or behind its items.
+    /// Returns the result where it is in this block, at `low` or after it, or after its items.
     fn find_in<P: Probe<T>>(&self, probe: &P, block: usize, low: usize) -> Result<Place, Place>
         requires can { All (P.can_compare probe.now) (items self.now) }
         requires row { IsRowLeft (P.order probe.now) self.now.blocks block low }
@@ -279,7 +295,8 @@ impl<T: Copy, const HALF: usize> Store<T, HALF> {
         }
     }
 
-    /// The same, where it mostly stands soon behind the items that are known to be less, or as far behind as what was sought last.
+    /// Returns the same, for an item that is mostly soon after `low`, or at the stride of the last
+    /// lookup.
     fn find_soon<P: Probe<T>>(&self, probe: &P, block: usize, low: usize) -> Result<Place, Place>
         requires can { All (P.can_compare probe.now) (items self.now) }
         requires row { IsRowLeft (P.order probe.now) self.now.blocks block low }
@@ -291,7 +308,8 @@ impl<T: Copy, const HALF: usize> Store<T, HALF> {
         }
     }
 
-    /// The answer behind an item that is less than what is sought.
+    /// Returns the result after an item that is less than what is sought. It also keeps the stride
+    /// for the next lookup.
     fn find_behind<P: Probe<T>>(&self, near: Place, probe: &P) -> Result<Place, Place>
         requires can { All (P.can_compare probe.now) (items self.now) }
         requires item { IsItem self.now near }
@@ -316,7 +334,8 @@ impl<T: Copy, const HALF: usize> Store<T, HALF> {
         found
     }
 
-    /// The answer behind an item that is less. What is sought next mostly stands in the same block or in one of the next few.
+    /// Returns the result after an item that is less. What is sought is mostly in the same block or
+    /// in one of the next few.
     fn find_rest<P: Probe<T>>(&self, near: Place, probe: &P) -> Result<Place, Place>
         requires can { All (P.can_compare probe.now) (items self.now) }
         requires item { IsItem self.now near }
@@ -338,7 +357,8 @@ impl<T: Copy, const HALF: usize> Store<T, HALF> {
         self.find(probe)
     }
 
-    /// The answer behind an item that is less, where the next block begins with no lesser item.
+    /// Returns the result after an item that is less, or `None` where the next block begins with a
+    /// lesser item.
     fn find_to_next<P: Probe<T>>(&self, near: Place, probe: &P) -> Option<Result<Place, Place>>
         requires can { All (P.can_compare probe.now) (items self.now) }
         requires item { IsItem self.now near }

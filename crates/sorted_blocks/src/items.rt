@@ -1,4 +1,4 @@
-//! The items, one after another.
+//! A walk over the items.
 
 ghost use Rattle.std.specs.Prelude.{◌≡◌, ◌≤◌, ◌++◌, drop};
 ghost use Rattle.std.specs.Iterator.{YieldsFirst, item_count};
@@ -10,11 +10,11 @@ use crate::place::Place;
 use crate::store::Store;
 use std::marker::Model;
 
-/// The items from a place on, in order. Contracts see those that are left. A step reads within a block; only at its
-/// end does it look at the next one.
+/// The items from a place on, in order. Contracts see the items that remain. A step reads within a
+/// block, and looks at the next block only at the end of one.
 #[derive(Drop)]
 pub struct Items<'a, T: Copy, const HALF: usize> {
-    /// What is left of the block before `next_block`.
+    /// The items that remain of the block before `next_block`.
     row: &'a [T],
     all_blocks: &'a [Block<T, HALF>],
     next_block: usize,
@@ -33,7 +33,7 @@ impl<'a, T: Copy, const HALF: usize> Model for Items<'a, T, HALF> {
 }
 
 impl<T: Copy, const HALF: usize> Store<T, HALF> {
-    /// The items from this place on.
+    /// Returns a walk over the items from this place on.
     pub(crate) fn iter_from(&self, place: Place) -> Items<'_, T, HALF>
         requires { IsPlace self.now place }
         ensures { result ≡ drop (before self.now place) (items self.now) }
@@ -72,7 +72,8 @@ impl<'a, T: Copy, const HALF: usize> Iterator for Items<'a, T, HALF> {
             return None;
         }
         let opened = &self.all_blocks[block];
-        // The fields: a method's borrow of the block would have to outlive `HALF`, and no bound can say that it does.
+        // The code reads the fields, since a method's borrow of the block would have to outlive
+        // `HALF`, which no bound can state.
         let (_left_over, row) = opened.items.as_slice().split_at(opened.start);
         let (item, rest) = row.split_first()?;
         self.row = rest;

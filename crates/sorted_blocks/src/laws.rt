@@ -1,25 +1,24 @@
-//! What an insert in a gap and a removal do to the order of a list, what an item's place is, and that places
-//! are within the list. Nothing here is to be called.
+//! Laws for callers. The functions have no effect.
 
 ghost use Rattle.sorted_blocks.specs.Laws.{GapKeepsTheOrder, RemovalKeepsTheOrder, ItemHasAPlace, PlaceIsWithin};
 
-/// An item that is put into the gap that was found for it keeps the list in order.
+/// A law: an item that is inserted in its gap keeps the strict order. The comparison must make y
+/// less than x wherever x is greater than y.
 pub fn gap_keeps_the_order<T>()
     ensures { GapKeepsTheOrder T }
 {}
 
-/// A removal keeps the list in order.
+/// A law: a removal keeps the strict order of a list, where the comparison is transitive.
 pub fn removal_keeps_the_order<T>()
     ensures { RemovalKeepsTheOrder T }
 {}
 
-/// An item's place is one from which a walk may begin and before which an item may be put, and it stands before the
-/// list's end.
+/// A law: the place of an item is a place, and precedes the end of the list.
 pub fn item_has_a_place<T>()
     ensures { ItemHasAPlace T }
 {}
 
-/// No place stands behind the list's end.
+/// A law: no place is after the end of the list.
 pub fn place_is_within<T>()
     ensures { PlaceIsWithin T }
 {}

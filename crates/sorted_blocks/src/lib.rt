@@ -1,16 +1,22 @@
-//! A list in order, kept in blocks: an insert or a removal moves the items of one block, not half of the list.
+//! A list in order, kept in blocks of up to B = 2 * `HALF` items; `HALF` is 1 to 65,536. It knows
+//! nothing of PIM, and of its items only that they are `Copy`, since edits copy items.
 //!
-//! Proved: contracts see the list of the items. An insert is std's `insert` on it, a removal its `remove`, and so many items
-//! that stand side by side can go at once; after
-//! `reserve(n)` n inserts succeed without memory, whatever blocks they split; below the capacity, which no edit
-//! changes, every insert does, however many removals stand between; a look-up by the caller's comparison answers an
-//! item that compares equal, or a gap between a lesser and a greater one; a walk yields the items from a place on.
-//! Neighbouring blocks have more than half a block's items together, so that n items stand in at most 4 n / B + 1
-//! blocks of up to B.
+//! Contracts see the list of the items, and a place as the number of items before it.
+//! - `insert_within` and `insert_reserved` are `insert` of std on the list, `remove` is its
+//!   `remove`, and `remove_run` takes out `count` items. Each returns a place with as many items
+//!   before it.
+//! - `reserve(n)` at Ok leaves a room of n inserts. `insert_reserved` lowers the room by at most
+//!   one, and removals never lower it.
+//! - `reserve_capacity(n)` at Ok leaves a capacity for n more items, which `insert_within`,
+//!   `remove` and `remove_run` keep. Below it `insert_within` always succeeds.
+//! - Only the two reserving calls can run out of memory. The list and its places then stay.
+//! - `find` and `find_near` return an item that compares equal, or a gap between a lesser and a
+//!   greater item. They require no order of the list.
+//! - The clause of `block_count`: n items are in at most 4 n / B + 1 blocks.
 //!
-//! A change of n items in blocks of up to B costs about log n comparisons, and moves up to B items and, where it
-//! splits or merges blocks, a record and an item for each block behind. Taking out the first item of a block moves none
-//! of its others, and one behind a few these alone. A walk costs a step an item, and takes no memory.
+//! One long vector would move half of its items for an insert. A tree would cost a node at each
+//! lookup, and memory at each insert. A change costs about log n comparisons and moves the items of
+//! one block or two. A split or a merge also moves a record and an item of each later block.
 #![tactic(auto)]
 
 mod block;

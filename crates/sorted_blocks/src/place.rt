@@ -1,16 +1,17 @@
-//! Where an item stands, or a new one would stand.
+//! Places in a list. An edit can make a place wrong, so calls require that a place is one, and
+//! `is_item` tests it; only `find_near` takes any place.
 
-/// A place in a list of blocks: before an item, or at a block's end. An edit of the list may move places; an answer
-/// says where the place is that it speaks of.
+/// A place in a list in blocks: before an item, or at the end of a block. An edit may move places,
+/// and returns where its own place is.
 #[derive(Clone, Copy, Drop)]
 pub struct Place {
-    /// The block's number.
+    /// The number of the block.
     pub(crate) block: usize,
-    /// How many items of the block stand before it.
+    /// The number of items of the block before the place.
     pub(crate) at: usize,
 }
 
 impl Place {
-    /// The place before all items.
+    /// The place before all items of a list.
     pub const START: Place = Place { block: 0, at: 0 };
 }

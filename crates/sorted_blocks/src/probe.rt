@@ -1,19 +1,19 @@
-//! What a look-up asks of an item.
+//! Comparisons that callers supply for lookups.
 
 ghost use Rattle.std.specs.Prelude.{◌≡◌};
 ghost use Rattle.std.specs.declared.cmp.Ordering.{Ordering};
 
 use std::cmp::Ordering;
 
-/// What is sought, as a comparison with an item.
+/// What is sought in a list, as a comparison with an item.
 pub trait Probe<T> {
-    /// At which items it can be asked.
+    /// The items that it can be compared with.
     ghost can_compare: { Self → T → Type 0 };
 
-    /// How the item stands to what is sought.
+    /// The result of the comparison with an item.
     ghost order: { Self → T → Ordering };
 
-    /// How the item stands to what is sought: `Less` where it belongs before it.
+    /// The result of the comparison with an item.
     fn compare(&self, item: &T) -> Ordering
         requires { can_compare self.now item.now }
         ensures { result ≡ order self.now item.now };

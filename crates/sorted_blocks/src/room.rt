@@ -1,4 +1,10 @@
-//! Memory for inserts to come.
+//! Memory for inserts to come. Only `reserve` (for a number of inserts) and `reserve_capacity` (for
+//! a number of items) take memory. Both vectors then have memory for all blocks, so that no edit
+//! takes any.
+//!
+//! Each insert may use up room, so that a list of constant length would need new room from time to
+//! time. The capacity depends on the number of all blocks alone, so that a caller that only
+//! replaces items needs no memory.
 
 ghost use Rattle.std.specs.Prelude.{◌≡◌, ◌+◌, ◌≤◌, ◌<◌, length, OnOk, IsOk, IsTrue, ◌↔◌};
 ghost use Rattle.sorted_blocks.specs.Shape.{items, joined, room, capacity};
@@ -9,8 +15,8 @@ use crate::store::Store;
 use std::alloc::AllocError;
 
 impl<T: Copy, const HALF: usize> Store<T, HALF> {
-    /// Takes memory for so many inserts: at `Ok` they succeed, whatever blocks they split. The blocks in use, and so
-    /// every place, stay, at an `Err` too, and the room is never less than it was.
+    /// Takes memory for `inserts` inserts: at Ok they succeed, for any blocks that they split. The
+    /// blocks in use and all places stay, also on an error, and the room never shrinks.
     pub(crate) fn reserve(&mut self, inserts: usize) -> Result<(), AllocError>
         ensures ok { OnOk result (inserts ≤ room HALF self.new) }
         ensures blocks { self.new.blocks ≡ self.old.blocks }
@@ -24,14 +30,15 @@ impl<T: Copy, const HALF: usize> Store<T, HALF> {
         }
         Ok(())
     }
-    /// How many items fit without memory, wherever they are put in and whichever are taken out between.
+    /// Returns the number of items that fit without memory, for any inserts and removals in
+    /// between.
     pub(crate) fn capacity(&self) -> usize
         ensures { result ≡ capacity HALF self.now }
     {
         self.block_total().saturating_sub(1) * (HALF + 1) / 2
     }
 
-    /// Whether so many more items may not fit.
+    /// Returns whether `additional` more items exceed the capacity.
     fn lacks(&self, additional: usize) -> bool
         ensures { IsTrue result ↔ capacity HALF self.now < length (joined self.now.blocks) + additional }
     {
@@ -39,9 +46,9 @@ impl<T: Copy, const HALF: usize> Store<T, HALF> {
         capacity < count || capacity - count < additional
     }
 
-    /// Takes memory for so many more items: at `Ok` they fit, whatever is taken out between. The blocks in use, and so
-    /// every place, stay, at an `Err` too, and the capacity is never less than it was. Where they fit already it
-    /// takes none.
+    /// Takes memory for `additional` more items: at Ok they fit, for any removals in between. The
+    /// blocks in use and all places stay, also on an error, and the capacity never shrinks. Where
+    /// the items fit already, the call returns Ok.
     pub(crate) fn reserve_capacity(&mut self, additional: usize) -> Result<(), AllocError>
         ensures ok { OnOk result (length (items self.new) + additional ≤ capacity HALF self.new) }
         ensures fits { length (items self.old) + additional ≤ capacity HALF self.old → IsOk result }

@@ -1,4 +1,4 @@
-//! Removals of items that stand side by side.
+//! Removals of several items in a row.
 
 ghost use Rattle.std.specs.Prelude.{◌≡◌, ◌+◌, ◌<◌, ◌≤◌, length, take};
 ghost use Rattle.sorted_blocks.specs.Shape.{items, joined, room, block_total, block_at, cut};
@@ -9,8 +9,9 @@ use crate::place::Place;
 use crate::store::Store;
 
 impl<T: Copy, const HALF: usize> Store<T, HALF> {
-    /// Takes out so many items from this place on: those of the first block, all blocks that go as a whole, and those of
-    /// the last. The answer is the place of the item that came behind them.
+    /// Takes out `count` items from this place on, and returns the place of the item that followed
+    /// them. It goes step by step: items of the first block, all blocks that go as a whole, and
+    /// items of the last block.
     pub(crate) fn remove_run(&mut self, place: Place, count: usize) -> Place
         requires place { IsPlace self.old place }
         requires within { before self.old place + count ≤ length (items self.old) }
@@ -32,8 +33,8 @@ impl<T: Copy, const HALF: usize> Store<T, HALF> {
         place
     }
 
-    /// Takes out at least one item from this place on, and at most so many: whole blocks, or items of one block. The
-    /// answer is how many, and the place of the item that came behind them.
+    /// Takes out at least one and at most `most` items from this place on: whole blocks, or items
+    /// of one block. Returns their number, and the place of the item that followed them.
     fn remove_some(&mut self, place: Place, most: usize) -> (usize, Place)
         requires item { IsItem self.old place }
         requires some { 1 ≤ most }
@@ -57,7 +58,8 @@ impl<T: Copy, const HALF: usize> Store<T, HALF> {
         (gone, behind)
     }
 
-    /// Takes out so many items of a block that keeps others.
+    /// Takes `count` items out of a block that keeps others. Returns the place of the item that
+    /// followed them.
     fn remove_within(&mut self, place: Place, count: usize) -> Place
         requires item { IsItem self.old place }
         requires within { place.at + count ≤ length (block_at self.old.blocks place.block) }
@@ -74,7 +76,7 @@ impl<T: Copy, const HALF: usize> Store<T, HALF> {
         self.join_before(place)
     }
 
-    /// Lets go of so many blocks from this one on. The answer is the place of the item that came behind them.
+    /// Removes `count` blocks from this one on. Returns the place of the item that followed them.
     fn remove_blocks(&mut self, block: usize, count: usize) -> Place
         requires { block + count ≤ length self.old.blocks }
         ensures items { items self.new ≡ joined (cut self.old.blocks block count) }
@@ -91,7 +93,8 @@ impl<T: Copy, const HALF: usize> Store<T, HALF> {
         self.start_of(block)
     }
 
-    /// How many blocks from this one on have at most so many items together, and how many they have.
+    /// Returns a number of blocks from this one on that have at most `most` items together, and the
+    /// number of those items.
     fn whole_blocks(&self, block: usize, most: usize) -> (usize, usize)
         requires { block < length self.now.blocks }
         ensures blocks { block + result.0 ≤ length self.now.blocks }

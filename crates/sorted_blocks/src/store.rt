@@ -1,4 +1,8 @@
-//! The blocks in use and the spare ones, and the edits of them that the list's calls are made of.
+//! The blocks in use and the spare ones, with the edits that the calls of the list are made of.
+//!
+//! The first items of the blocks are in one row beside the blocks, so that a search over the blocks
+//! opens none of them. A spare block counts for `HALF` inserts, since a full block that is split
+//! becomes two halves. Spare blocks are freed only with the list.
 
 ghost use Rattle.std.specs.Prelude.{◌≡◌, ◌+◌, ◌-◌, ◌<◌, ◌≤◌, [], ◌∷◌, ◌++◌, length, take, drop, slice_index_or, vec_len, vec_capacity, OnOk, OnErr};
 ghost use Rattle.std.specs.List.{remove};
@@ -13,23 +17,26 @@ use std::alloc::{AllocError, Global};
 use std::cell::Cell;
 use std::marker::Model;
 
-/// How many blocks there can be; beyond them there is no memory.
+/// The greatest number of blocks. Past it, taking memory fails. The counts of items then stay far
+/// below 2^64.
 const MOST_BLOCKS: usize = 1 << 32;
 
-/// A list of items in blocks of up to twice `HALF` items. Between two edits of one call a block may be short.
+/// A list of items in blocks of up to twice `HALF` items. Within a call, neighbouring blocks may
+/// have few items together.
 #[derive(Drop)]
 pub(crate) struct Store<T: Copy, const HALF: usize> {
     alloc: Global,
-    /// None of them empty; with memory for the spare ones too.
+    /// The blocks in use, none of them empty; with memory for the spare ones too.
     used: Vec<Block<T, HALF>>,
-    /// The first items of the blocks in use, in one row for the search; with memory for the spare ones too.
+    /// The first items of the blocks in use; with memory for those of the spare ones too.
     firsts: Vec<T>,
-    /// With memory for those in use too.
+    /// The spare blocks; with memory for those in use too.
     spare: Vec<Block<T, HALF>>,
-    /// How many items stand beyond their block's first half.
+    /// The number of items that exceed `HALF` in their blocks.
     over: usize,
     count: usize,
-    /// How far on the last look-up found its item: a hint for the next one, of which no contract knows.
+    /// How far ahead the last lookup found its item: a hint for the next one, which no contract
+    /// uses.
     stride: Cell<usize>,
 }
 
@@ -47,21 +54,21 @@ impl<T: Copy, const HALF: usize> Model for Store<T, HALF> {
         × IsLed b.used.items b.spare.len b.firsts.items b.firsts.cap };
 }
 
-/// By how much more a block of so many items stands beyond its half with one item more.
+/// Returns by how much the excess of a block with `len` items grows with one item more.
 fn grown<const HALF: usize>(len: usize) -> usize
     ensures { result ≡ (len + 1 - HALF) - (len - HALF) }
 {
     if len < HALF { 0 } else { 1 }
 }
 
-/// How many of a block's items stand beyond its half.
+/// Returns how many of `len` items of a block exceed `HALF`.
 fn excess<const HALF: usize>(len: usize) -> usize
     ensures { result ≡ len - HALF }
 {
     len.saturating_sub(HALF)
 }
 
-/// Moves so many items from this one on to the end.
+/// Moves `count` items from `at` on to the end, in order.
 fn turn_to_end<X>(items: &mut [X], at: usize, count: usize)
     requires { at + count ≤ length items.old }
     ensures { items.new ≡ take at items.old ++ (drop count (drop at items.old) ++ take count (drop at items.old)) }
@@ -70,8 +77,8 @@ fn turn_to_end<X>(items: &mut [X], at: usize, count: usize)
     behind.rotate_left(count);
 }
 
-/// Moves so many items from the end of a vector to that of another one, which has memory for them. They come there the
-/// other way round.
+/// Moves `count` items from the end of a vector to the end of another one, which has memory for
+/// them. Their order is reversed.
 fn move_last<X>(from: &mut Vec<X>, to: &mut Vec<X>, count: usize)
     requires within { count ≤ length from.old.items }
     requires memory { vec_len to.old + count ≤ vec_capacity to.old }
@@ -88,7 +95,7 @@ fn move_last<X>(from: &mut Vec<X>, to: &mut Vec<X>, count: usize)
 }
 
 impl<T: Copy, const HALF: usize> Store<T, HALF> {
-    /// A list with no item.
+    /// Returns a list without items.
     pub(crate) fn new(alloc: Global) -> Self
         requires some { 1 ≤ HALF }
         requires small { HALF ≤ 65536 }
@@ -105,14 +112,14 @@ impl<T: Copy, const HALF: usize> Store<T, HALF> {
         }
     }
 
-    /// How many items there are.
+    /// Returns the number of items.
     pub(crate) fn len(&self) -> usize
         ensures { result ≡ length (joined self.now.blocks) }
     {
         self.count
     }
 
-    /// How many blocks are in use.
+    /// Returns the number of blocks in use.
     pub(crate) fn block_count(&self) -> usize
         ensures count { result ≡ length self.now.blocks }
         ensures few { result ≤ 4294967296 }
@@ -120,7 +127,7 @@ impl<T: Copy, const HALF: usize> Store<T, HALF> {
         self.used.len()
     }
 
-    /// How many blocks there are, those that stand ready too.
+    /// Returns the number of all blocks, in use and spare.
     pub(crate) fn block_total(&self) -> usize
         ensures total { result ≡ block_total self.now }
         ensures few { result ≤ 4294967296 }
@@ -130,7 +137,7 @@ impl<T: Copy, const HALF: usize> Store<T, HALF> {
         self.spare.len() + self.used.len()
     }
 
-    /// How many items the block of this number has.
+    /// Returns the number of items of this block.
     pub(crate) fn block_len(&self, block: usize) -> usize
         requires { block < length self.now.blocks }
         ensures len { result ≡ length (block_at self.now.blocks block) }
@@ -143,7 +150,7 @@ impl<T: Copy, const HALF: usize> Store<T, HALF> {
         self.used[block].len()
     }
 
-    /// The item at this place of the block of this number.
+    /// Returns the item at this place of this block.
     pub(crate) fn item_of(&self, block: usize, at: usize) -> &T
         requires block { block < length self.now.blocks }
         requires at { at < length (block_at self.now.blocks block) }
@@ -152,7 +159,7 @@ impl<T: Copy, const HALF: usize> Store<T, HALF> {
         self.used[block].get(at)
     }
 
-    /// The items of the block of this number.
+    /// Returns the items of this block.
     pub(crate) fn row(&self, block: usize) -> &[T]
         requires { block < length self.now.blocks }
         ensures { result.now ≡ block_at self.now.blocks block }
@@ -160,7 +167,7 @@ impl<T: Copy, const HALF: usize> Store<T, HALF> {
         self.used[block].as_slice()
     }
 
-    /// The blocks in use, in order.
+    /// Returns the blocks in use, in order.
     pub(crate) fn all_blocks(&self) -> &[Block<T, HALF>]
         ensures all { result.now ≡ self.now.blocks }
         ensures filled { AllFilled HALF result.now }
@@ -168,12 +175,13 @@ impl<T: Copy, const HALF: usize> Store<T, HALF> {
         self.used.as_slice()
     }
 
-    /// How far on what is sought next may stand.
+    /// Returns how far ahead the next item may be.
     pub(crate) fn stride(&self) -> usize {
         self.stride.get()
     }
 
-    /// A look-up from behind an item found this. What stands in another block, or right behind, is found without a stride.
+    /// Keeps the distance from `from` to the place that a lookup found, as a hint for the next one.
+    /// An item in another block or next to `from` is found without the hint.
     pub(crate) fn keep_stride(&self, from: Place, found: Result<Place, Place>) {
         let Ok(place) = found else {
             return;
@@ -184,14 +192,14 @@ impl<T: Copy, const HALF: usize> Store<T, HALF> {
         }
     }
 
-    /// The first items of the blocks in use.
+    /// Returns the first items of the blocks in use.
     pub(crate) fn firsts(&self) -> &[T]
         ensures { IsLead self.now.blocks result.now }
     {
         self.firsts.as_slice()
     }
 
-    /// The first item of the block of this number.
+    /// Returns the first item of this block.
     pub(crate) fn first_of(&self, block: usize) -> &T
         requires { block < length self.now.blocks }
         ensures item { result.now ≡ slice_index_or (block_at self.now.blocks block) 0 result.now }
@@ -201,7 +209,7 @@ impl<T: Copy, const HALF: usize> Store<T, HALF> {
         &self.firsts[block]
     }
 
-    /// Puts an item into a block that isn't full.
+    /// Inserts an item in a block that is not full.
     pub(crate) fn put(&mut self, block: usize, at: usize, item: T)
         requires block { block < length self.old.blocks }
         requires at { at ≤ length (block_at self.old.blocks block) }
@@ -217,7 +225,7 @@ impl<T: Copy, const HALF: usize> Store<T, HALF> {
         self.count += 1;
     }
 
-    /// Puts the first item into a spare block.
+    /// Puts the first item of the list into a spare block.
     pub(crate) fn begin(&mut self, item: T)
         requires none { self.old.blocks ≡ [] }
         requires spare { 0 < self.old.spare }
@@ -233,7 +241,7 @@ impl<T: Copy, const HALF: usize> Store<T, HALF> {
         self.count += 1;
     }
 
-    /// Makes two of a full block.
+    /// Splits a full block into two halves.
     pub(crate) fn split(&mut self, block: usize)
         requires block { block < length self.old.blocks }
         requires full { length (block_at self.old.blocks block) ≡ HALF + HALF }
@@ -274,7 +282,7 @@ impl<T: Copy, const HALF: usize> Store<T, HALF> {
         item
     }
 
-    /// Takes out the only item of a block, which is spare from then on.
+    /// Takes out the only item of a block, which becomes spare.
     pub(crate) fn take_whole(&mut self, block: usize) -> T
         requires block { block < length self.old.blocks }
         requires alone { length (block_at self.old.blocks block) ≡ 1 }
@@ -291,7 +299,7 @@ impl<T: Copy, const HALF: usize> Store<T, HALF> {
         item
     }
 
-    /// Takes so many items out of a block that keeps others.
+    /// Takes `count` items out of a block that keeps others.
     pub(crate) fn cut_out(&mut self, block: usize, at: usize, count: usize)
         requires block { block < length self.old.blocks }
         requires within { at + count ≤ length (block_at self.old.blocks block) }
@@ -307,7 +315,8 @@ impl<T: Copy, const HALF: usize> Store<T, HALF> {
         self.count -= count;
     }
 
-    /// How many items so many blocks from this one on have, and how many of these stand beyond their block's half.
+    /// Returns the number of items of `count` blocks from this one on, and how many of these items
+    /// exceed `HALF` in their blocks.
     fn weight(&self, block: usize, count: usize) -> (usize, usize)
         requires { block + count ≤ length self.now.blocks }
         ensures items { result.0 ≡ length (joined (take count (drop block self.now.blocks))) }
@@ -322,8 +331,8 @@ impl<T: Copy, const HALF: usize> Store<T, HALF> {
         (items, over)
     }
 
-    /// Lets go of so many blocks from this one on, with all their items. They are spare from then on, and those behind
-    /// them move once.
+    /// Removes `count` blocks from this one on with all their items; the blocks become spare. They
+    /// are moved to the end of the row and taken from there, so that the later blocks move once.
     pub(crate) fn let_go_all(&mut self, block: usize, count: usize)
         requires { block + count ≤ length self.old.blocks }
         ensures blocks { self.new.blocks ≡ cut self.old.blocks block count }
@@ -338,7 +347,7 @@ impl<T: Copy, const HALF: usize> Store<T, HALF> {
         self.count -= items;
     }
 
-    /// Makes one of two neighbours that are half a block together.
+    /// Merges this block and the next one, which have at most `HALF` items together.
     pub(crate) fn merge(&mut self, block: usize)
         requires block { block + 1 < length self.old.blocks }
         requires few { together self.old.blocks block ≤ HALF }
@@ -353,7 +362,7 @@ impl<T: Copy, const HALF: usize> Store<T, HALF> {
         self.spare.push_reserved(behind);
     }
 
-    /// How many inserts succeed without memory.
+    /// Returns the number of inserts that take no memory.
     pub(crate) fn room(&self) -> usize
         ensures room { result ≡ room HALF self.now }
         ensures half { 1 ≤ HALF }
@@ -366,7 +375,7 @@ impl<T: Copy, const HALF: usize> Store<T, HALF> {
         worth.saturating_sub(self.over)
     }
 
-    /// Takes memory for one more block; for want of it nothing changes.
+    /// Takes memory for one more block. On an error the blocks are unchanged.
     pub(crate) fn add_spare(&mut self) -> Result<(), AllocError>
         ensures blocks { self.new.blocks ≡ self.old.blocks }
         ensures spare { OnOk result (self.new.spare ≡ self.old.spare + 1) }

@@ -1,4 +1,4 @@
-//! Looking at items: at a place, and from one place to the next.
+//! Reading of items: at a place, and from one place to the next.
 
 ghost use Rattle.std.specs.Prelude.{◌≡◌, ◌+◌, ◌<◌, ◌≤◌, [], length, slice_index_or, IsTrue, IfSome, IfNone, ◌↔◌};
 ghost use Rattle.sorted_blocks.specs.Shape.{items};
@@ -8,7 +8,7 @@ use crate::place::Place;
 use crate::store::Store;
 
 impl<T: Copy, const HALF: usize> Store<T, HALF> {
-    /// Whether an item stands at this place.
+    /// Returns whether the place is that of an item.
     #[tactic(auto, unfolding(crate::specs::Places::IsItem))]
     pub(crate) fn is_item(&self, place: Place) -> bool
         ensures { IsTrue result ↔ IsItem self.now place }
@@ -19,7 +19,7 @@ impl<T: Copy, const HALF: usize> Store<T, HALF> {
         place.at < self.block_len(place.block)
     }
 
-    /// The item at this place.
+    /// Returns the item at this place.
     #[tactic(auto, unfolding(crate::specs::Places::IsItem))]
     pub(crate) fn get(&self, place: Place) -> &T
         requires { IsItem self.now place }
@@ -28,7 +28,7 @@ impl<T: Copy, const HALF: usize> Store<T, HALF> {
         self.item_of(place.block, place.at)
     }
 
-    /// Whether no item stands before this place.
+    /// Returns whether no item is before this place.
     pub(crate) fn is_first(&self, place: Place) -> bool
         requires { IsPlace self.now place }
         ensures { IsTrue result ↔ before self.now place ≡ 0 }
@@ -40,7 +40,7 @@ impl<T: Copy, const HALF: usize> Store<T, HALF> {
         false
     }
 
-    /// The place before all items: the first one's, where there is any.
+    /// Returns the place before all items: that of the first item, if there is one.
     pub(crate) fn first(&self) -> Place
         ensures place { IsPlace self.now result }
         ensures before { before self.now result ≡ 0 }
@@ -49,7 +49,7 @@ impl<T: Copy, const HALF: usize> Store<T, HALF> {
         self.settled(Place::START)
     }
 
-    /// The place behind this item: the next one's, where there is any.
+    /// Returns the place after this item: that of the next item, if there is one.
     #[tactic(auto, unfolding(crate::specs::Places::IsItem))]
     pub(crate) fn next(&self, place: Place) -> Place
         requires { IsItem self.now place }
@@ -64,7 +64,8 @@ impl<T: Copy, const HALF: usize> Store<T, HALF> {
         })
     }
 
-    /// The same place, before the item behind it where that begins the next block.
+    /// Returns the same place. For the end of a block that is not the last, it returns the place of
+    /// the first item of the next block.
     pub(crate) fn settled(&self, place: Place) -> Place
         requires { IsPlace self.now place }
         ensures place { IsPlace self.now result }
@@ -85,8 +86,8 @@ impl<T: Copy, const HALF: usize> Store<T, HALF> {
         }
     }
 
-    /// The place of the item so many further on than this place, where there is one. It takes a step for each block between
-    /// them.
+    /// Returns the place of the item with `count` more items before it than this place, or `None`
+    /// where the list has no item there. It takes a step for each block in between.
     pub(crate) fn onward(&self, place: Place, count: usize) -> Option<Place>
         requires { IsPlace self.now place }
         ensures item { IfSome result (λ there. IsItem self.now there × before self.now there ≡ before self.now place + count) }

@@ -1,10 +1,19 @@
-//! A list in order whose items stand in a slab: an insert or a removal moves numbers of items within one block, and no
-//! item.
+//! A list in order whose items are in a slab, each with a number. The numbers are in blocks, in the
+//! order of the list. An edit moves numbers within blocks, and no item. The crate knows nothing of
+//! PIM, and of its items only that they are `Copy`.
 //!
-//! Proved: contracts see the list of the items. An insert is std's `insert` on it, a removal its `remove`, a change
-//! its `set`; below the capacity an insert takes no memory, and no edit changes the capacity; a look-up by the caller's
-//! comparison answers an item that compares equal, or a gap between a lesser and a greater one; a walk yields so many
-//! items from a place on. Each item stands under a number of its own, and the slab holds nothing else.
+//! Contracts see the list of the items, and a place as the number of items before it.
+//! - `insert_within` is `insert` of std on the list, `remove` its `remove`, `set` replaces an item,
+//!   and `remove_run` takes out `count` items. The edits keep the capacity, and return a place with
+//!   as many items before it, except `set`, which keeps all places.
+//! - `reserve(n)` at Ok leaves a capacity for n more items. Below the capacity `insert_within`
+//!   takes no memory. Only `reserve` can run out of memory; the items and all places then stay.
+//! - `find` and `find_near` return an item that compares equal, or a gap between a lesser and a
+//!   greater item. They require no order of the list.
+//! - `walk` yields a number of items from a place on.
+//!
+//! The numbers of items are as wide as addresses: the contract of the slab bounds a number only by
+//! its capacity.
 #![tactic(auto)]
 
 mod probe;

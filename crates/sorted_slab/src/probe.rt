@@ -1,4 +1,4 @@
-//! A comparison with the item under a number.
+//! Comparison with the item that has a number.
 
 ghost use Rattle.std.specs.Prelude.{◌≡◌};
 
@@ -6,7 +6,7 @@ use slab::Slab;
 use sorted_blocks::Probe;
 use std::cmp::Ordering;
 
-/// What is sought among the items of a slab.
+/// A probe for items of a slab, as a probe for their numbers.
 #[derive(Drop)]
 pub(crate) struct ByNumber<'a, T: Copy, P: Probe<T>> {
     pub(crate) slab: &'a Slab<T>,

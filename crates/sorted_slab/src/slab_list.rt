@@ -1,4 +1,4 @@
-//! The list: its calls.
+//! The list with its public calls.
 
 ghost use Rattle.std.specs.Prelude.{◌≡◌, ℕ, ◌+◌, ◌<◌, ◌≤◌, [], length, take, drop};
 ghost use Rattle.std.specs.Prelude.{slice_index_or, slice_set, OnOk, IsOk, IsTrue, ◌↔◌};
@@ -17,8 +17,8 @@ use sorted_blocks::{Blocks, Place, Probe, item_has_a_place, place_is_within};
 use std::alloc::{AllocError, Global};
 use std::marker::Model;
 
-/// A list of items in order. The items stand in a slab, each under a number; their numbers stand in the list's order,
-/// in blocks of up to twice `HALF`.
+/// A list of items in order. The items are in a slab, each with a number. The numbers are in the
+/// order of the list, in blocks of up to twice `HALF`.
 #[derive(Drop)]
 pub struct SortedSlab<T: Copy, const HALF: usize> {
     index: Blocks<usize, HALF>,
@@ -39,7 +39,8 @@ impl<T: Copy, const HALF: usize> Model for SortedSlab<T, HALF> {
 }
 
 impl<T: Copy, const HALF: usize> SortedSlab<T, HALF> {
-    /// A list with no item, its numbers in blocks of up to twice `HALF`; it takes no memory.
+    /// Returns a list without items, its numbers in blocks of up to twice `HALF`. It takes no
+    /// memory.
     pub fn new(alloc: Global) -> Self
         requires some { 1 ≤ HALF }
         requires small { HALF ≤ 65536 }
@@ -51,7 +52,7 @@ impl<T: Copy, const HALF: usize> SortedSlab<T, HALF> {
         }
     }
 
-    /// How many items there are.
+    /// Returns the number of items.
     pub fn len(&self) -> usize
         ensures items { result ≡ length self.now.items }
         ensures numbers { result ≡ length (numbers self.now) }
@@ -59,15 +60,19 @@ impl<T: Copy, const HALF: usize> SortedSlab<T, HALF> {
         self.index.len()
     }
 
-    /// How many items fit without memory. No edit changes it.
+    /// Returns the number of items that fit without memory. No edit changes it.
     pub fn capacity(&self) -> usize
         ensures { result ≡ self.now.capacity }
     {
         self.slab.capacity().min(self.index.capacity())
     }
 
-    /// Takes memory for so many more items: at `Ok` they fit, whatever is taken out between. The items, and every
-    /// place, stay, at an `Err` too, and the capacity is never less than it was. Where they fit already it takes none.
+    /// Takes memory for `additional` more items: at Ok they fit, for any removals in between. The
+    /// items and all places stay, also on an error, and the capacity never shrinks. Where the items
+    /// fit already, the call returns Ok.
+    ///
+    /// # Errors
+    /// Memory ran out, or the index would have more than 2^32 blocks.
     pub fn reserve(&mut self, additional: usize) -> Result<(), AllocError>
         ensures ok { OnOk result (length self.new.items + additional ≤ self.new.capacity) }
         ensures fits { length self.old.items + additional ≤ self.old.capacity → IsOk result }
@@ -82,7 +87,7 @@ impl<T: Copy, const HALF: usize> SortedSlab<T, HALF> {
         self.index.reserve_capacity(additional)
     }
 
-    /// Puts an item at this place, within the capacity. The answer is where it stands then.
+    /// Inserts an item at this place, below the capacity, and returns its place.
     pub fn insert_within(&mut self, place: Place, item: T) -> Place
         requires place { IsPlace self.old place }
         requires within { length self.old.items < self.old.capacity }
@@ -97,7 +102,7 @@ impl<T: Copy, const HALF: usize> SortedSlab<T, HALF> {
         self.index.insert_within(place, number)
     }
 
-    /// Takes out the item at this place. Beside it stands the place of the item that came next.
+    /// Takes out the item at this place, and returns it with the place of the item that followed.
     pub fn remove(&mut self, place: Place) -> (T, Place)
         requires { IsItem self.old place }
         ensures item { result.0 ≡ slice_index_or self.old.items (at self.old place) result.0 }
@@ -111,8 +116,8 @@ impl<T: Copy, const HALF: usize> SortedSlab<T, HALF> {
         (item, behind)
     }
 
-    /// Takes out so many items from this place on, a step for each; their numbers go all at once. The answer is the place of
-    /// the item that came behind them.
+    /// Takes out `count` items from this place on, and returns the place of the item that followed
+    /// them. It takes a step for each item; their numbers leave the index at once.
     pub fn remove_run(&mut self, place: Place, count: usize) -> Place
         requires place { IsPlace self.old place }
         requires within { at self.old place + count ≤ length self.old.items }
@@ -125,7 +130,7 @@ impl<T: Copy, const HALF: usize> SortedSlab<T, HALF> {
         self.index.remove_run(place, count)
     }
 
-    /// Puts this item in the place of the one that stands there.
+    /// Replaces the item at this place.
     pub fn set(&mut self, place: Place, item: T)
         requires { IsItem self.old place }
         ensures items { self.new.items ≡ slice_set self.old.items (at self.old place) item }
@@ -136,7 +141,7 @@ impl<T: Copy, const HALF: usize> SortedSlab<T, HALF> {
         self.slab[number] = item;
     }
 
-    /// The item at this place.
+    /// Returns the item at this place.
     pub fn get(&self, place: Place) -> &T
         requires { IsItem self.now place }
         ensures { result.now ≡ slice_index_or self.now.items (at self.now place) result.now }
@@ -145,7 +150,7 @@ impl<T: Copy, const HALF: usize> SortedSlab<T, HALF> {
         &self.slab[number]
     }
 
-    /// Whether an item stands at this place.
+    /// Returns whether the place is that of an item.
     pub fn is_item(&self, place: Place) -> bool
         ensures { IsTrue result ↔ IsItem self.now place }
     {
@@ -153,7 +158,7 @@ impl<T: Copy, const HALF: usize> SortedSlab<T, HALF> {
         self.index.is_item(place)
     }
 
-    /// The place before all items: the first one's, where there is any.
+    /// Returns the place before all items: that of the first item, if there is one.
     pub fn first(&self) -> Place
         ensures place { IsPlace self.now result }
         ensures at { at self.now result ≡ 0 }
@@ -162,7 +167,7 @@ impl<T: Copy, const HALF: usize> SortedSlab<T, HALF> {
         self.index.first()
     }
 
-    /// The place behind this item: the next one's, where there is any.
+    /// Returns the place after this item: that of the next item, if there is one.
     pub fn next(&self, place: Place) -> Place
         requires { IsItem self.now place }
         ensures place { IsPlace self.now result }
@@ -172,7 +177,8 @@ impl<T: Copy, const HALF: usize> SortedSlab<T, HALF> {
         self.index.next(place)
     }
 
-    /// The same place, before the item behind it where that begins the next block.
+    /// Returns the same place. For the end of a block that is not the last, it returns the place of
+    /// the first item of the next block.
     pub fn settled(&self, place: Place) -> Place
         requires { IsPlace self.now place }
         ensures place { IsPlace self.now result }
@@ -182,7 +188,8 @@ impl<T: Copy, const HALF: usize> SortedSlab<T, HALF> {
         self.index.settled(place)
     }
 
-    /// So many items from this place on, in order, or those that there are.
+    /// Returns a walk over `count` items from this place on, or over all that follow it where these
+    /// are fewer.
     pub fn walk(&self, place: Place, count: usize) -> Walk<'_, T, HALF>
         requires { IsPlace self.now place }
         ensures { result ≡ take count (drop (at self.now place) self.now.items) }
@@ -194,8 +201,8 @@ impl<T: Copy, const HALF: usize> SortedSlab<T, HALF> {
         }
     }
 
-    /// Where an item stands that compares equal, or else a gap: the item before it is less than what is sought, and
-    /// the one behind it is greater.
+    /// Returns the place of an item that compares equal, or else a gap. The item before a gap is
+    /// less than what is sought, and the item at it is greater.
     pub fn find<P: Probe<T>>(&self, probe: &P) -> Result<Place, Place>
         requires { All (P.can_compare probe.now) self.now.items }
         ensures { IsFound (P.order probe.now) self.now result }
@@ -207,7 +214,7 @@ impl<T: Copy, const HALF: usize> SortedSlab<T, HALF> {
         })
     }
 
-    /// The same, beginning at a place near which it may stand; whatever place that is, the answer is right.
+    /// Returns the same as `find`, for any place `near`, at which the search begins.
     pub fn find_near<P: Probe<T>>(&self, near: Place, probe: &P) -> Result<Place, Place>
         requires { All (P.can_compare probe.now) self.now.items }
         ensures { IsFound (P.order probe.now) self.now result }
@@ -223,7 +230,7 @@ impl<T: Copy, const HALF: usize> SortedSlab<T, HALF> {
     }
 }
 
-/// Lets go of the items under so many of the numbers from this place on.
+/// Removes from the slab the items of `count` numbers from this place on.
 fn free_run<T: Copy, const HALF: usize>(
     index: &Blocks<usize, HALF>,
     slab: &mut Slab<T>,

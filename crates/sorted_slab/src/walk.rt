@@ -1,4 +1,4 @@
-//! The items, one after another.
+//! A walk over the items.
 
 ghost use Rattle.std.specs.Iterator.{YieldsFirstBy, item_count};
 
@@ -6,7 +6,7 @@ use slab::Slab;
 use sorted_blocks::Items;
 use std::marker::Model;
 
-/// So many items from a place on, in order. Contracts see those that are left.
+/// A number of items from a place on, in order. Contracts see the items that remain.
 #[derive(Drop)]
 pub struct Walk<'a, T: Copy, const HALF: usize> {
     pub(crate) numbers: Items<'a, usize, HALF>,
