@@ -1,0 +1,12 @@
+#!/bin/sh
+# Builds pimtree, or the Rattle program of a bench, without any proof, in some minutes.
+#
+#   tools/quick_build.sh [NAME] [OUT]      NAME is pimtree (the default) or a folder of benches/;
+#                                          OUT is the program to write, out/NAME unless given
+set -eu
+top=$(cd "$(dirname "$0")/.." && pwd)
+name=${1:-pimtree}
+out=${2:-$top/out/$name}
+mkdir -p "$(dirname "$out")"
+python3 "$top/tools/unproved_build.py" "$name" "$out"
+echo "built $out: not proved"
