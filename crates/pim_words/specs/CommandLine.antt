@@ -1,4 +1,4 @@
--- The command line: the commands that `clap` reads the words by.
+-- The command line that `clap` reads the words by.
 use Rattle.std.specs.Prelude.{ℕ, [], ◌∷◌, Some, true, codes}
 use Rattle.clap.specs.Words.{App, Rule, Shape, Text, new_app, new_rule, with_rule, with_subcommand}
 use Rattle.clap.specs.Simple.{new_shape}
@@ -7,35 +7,35 @@ use Rattle.clap.specs.declared.builder.value_parser.ValueParser.TheVariants.{Uns
 
 -- ---- options
 
--- an option that takes one text
+-- An option that takes one text.
 abbrev pub text_option : Text → Rule
 text_option name = record (new_rule name) { long = Some name; value_names = 1 }
 
--- one that has to be given
+-- An option that must be given.
 abbrev pub required_option : Text → Rule
 required_option name = record (text_option name) { required = true }
 
--- an option that takes a number between these two, which it may be
+-- An option that takes a number from `low` to `high`.
 abbrev pub number_option : Text → ℕ → ℕ → Rule
 number_option name low high = record (text_option name) { parser = Some (Unsigned low high) }
 
--- the words that are no options
+-- The words that aren't options.
 abbrev pub words_rule : Rule
 words_rule = record (new_rule (codes "words")) { action = Some Append; value_names = 1 }
 
--- `[--limit N] [--after MS] WORD...`
+-- The options of a run: `[--limit N] [--after MS] WORD...`.
 abbrev pub with_run_options : App → App
 with_run_options command =
     with_rule (with_rule (with_rule command (number_option (codes "limit") 1 100000))
     (number_option (codes "after") 0 1000000000)) words_rule
 
--- `--rp A --upstream A --own A`
+-- The addresses of a command that writes messages: `--rp A --upstream A --own A`.
 abbrev pub with_addresses : App → App
 with_addresses command =
     with_rule (with_rule (with_rule command (required_option (codes "rp"))) (required_option (codes "upstream")))
     (required_option (codes "own"))
 
--- `[--routes FILE] [--holdtime S] [--budget N]`
+-- The other options of such a command: `[--routes FILE] [--holdtime S] [--budget N]`.
 abbrev pub with_writing : App → App
 with_writing command =
     with_rule (with_rule (with_rule command (text_option (codes "routes"))) (number_option (codes "holdtime") 99 65535))
@@ -43,22 +43,22 @@ with_writing command =
 
 -- ---- commands
 
--- `check [--src A] [--dst A]`
+-- `check [--src A] [--dst A]`.
 abbrev pub check : Shape
 check = record (new_shape (codes "check")) {
   rules = text_option (codes "src") ∷ text_option (codes "dst") ∷ [];
 }
 
--- `replay [--rp A] [--routes FILE]` and the options of a run
+-- `replay [--rp A] [--routes FILE]`, and the options of a run.
 abbrev pub replay : Shape
 replay = (with_run_options (with_rule (with_rule (new_app (codes "replay")) (text_option (codes "rp")))
     (text_option (codes "routes")))).top
 
--- a command that writes messages, with the options of that and those of a run
+-- A command that writes messages: `same`, `mirror`, `emit` or `change`.
 abbrev pub writing : Text → Shape
 writing name = (with_run_options (with_writing (with_addresses (new_app name)))).top
 
--- the program without its commands: one of them has to be given, and `--version` is known
+-- The program without its commands. One command must be given, and `--version` is known.
 abbrev pub bare : Shape
 bare = record (new_shape (codes "pimtree")) {
   has_version = true;
@@ -66,11 +66,11 @@ bare = record (new_shape (codes "pimtree")) {
   subcommand_required = true;
 }
 
--- with the two commands that write no messages
+-- The program with the two commands that write no messages.
 abbrev pub reading_commands : App
 reading_commands = with_subcommand (with_subcommand (record { top = bare; subs = [] }) check) replay
 
--- with all six commands
+-- The program with all its commands.
 abbrev pub pimtree : App
 pimtree =
     with_subcommand (with_subcommand (with_subcommand (with_subcommand reading_commands (writing (codes "same")))

@@ -1,4 +1,4 @@
--- What is wrong with a task whose texts were all read, in the order in which it is told.
+-- The faults of a task whose texts were all read, in the order in which they are reported.
 use Rattle.std.specs.Prelude.{ℕ, Bool, true, false, not, List, [], ◌++◌, ◌&&◌, ◌||◌, ◌==◌, nat_lt, count_by, bytes_eq}
 use Rattle.std.specs.List.{list_all, list_any}
 use Rattle.std.specs.Option.{option_map_or}
@@ -21,16 +21,19 @@ use Rattle.pim_words.specs.declared.task.Task.TheVariants.{Check, Replay, Same, 
 
 -- ---- addresses
 
+-- Whether the address is of this family.
 abbrev pub is_in : AddressFamily → Address → Bool
 is_in Ipv4 (V4 address) = true
 is_in Ipv4 (V6 address) = false
 is_in Ipv6 (V4 address) = false
 is_in Ipv6 (V6 address) = true
 
+-- Whether the address is a valid source.
 abbrev pub is_valid : Address → Bool
 is_valid (V4 address) = is_source Ipv4 address
 is_valid (V6 address) = is_source Ipv6 address
 
+-- Whether two addresses are the same.
 abbrev pub is_same : Address → Address → Bool
 is_same (V4 this) (V4 that) = bytes_eq this that
 is_same (V6 this) (V6 that) = bytes_eq this that
@@ -38,13 +41,16 @@ is_same this that = false
 
 -- ---- all addresses of a task
 
+-- Whether the RP and the addresses of all ports are of this family.
 abbrev pub are_captures_in : AddressFamily → Captures Address → Bool
 are_captures_in family captures =
     option_map_or (is_in family) captures.rp true && list_all (λ port. is_in family port.address) captures.ports.items
 
+-- Whether the addresses of the writer are of this family.
 abbrev pub is_writing_in : AddressFamily → Writing Address → Bool
 is_writing_in family writing = is_in family writing.upstream && is_in family writing.own
 
+-- Whether all addresses of the task are of this family.
 abbrev pub are_in : AddressFamily → Task Address → Bool
 are_in family (Check source destination) = is_in family source && is_in family destination
 are_in family (Replay captures) = are_captures_in family captures
@@ -53,35 +59,39 @@ are_in family (Mirror captures writing) = are_captures_in family captures && is_
 are_in family (Emit captures writing) = are_captures_in family captures && is_writing_in family writing
 are_in family (Change captures writing) = are_captures_in family captures && is_writing_in family writing
 
--- ---- what is wrong
+-- ---- faults
 
+-- The fault of addresses that aren't all of one family.
 abbrev pub family_faults : Task Address → List Fault
 family_faults task = fault_if (not (are_in Ipv4 task || are_in Ipv6 task)) Family
 
+-- Whether the two are the same router.
 abbrev pub is_side : Side → Side → Bool
 is_side A A = true
 is_side B B = true
 is_side this that = false
 
--- the port is one of this router
+-- Whether the port belongs to this router.
 abbrev pub is_of : Side → Port Address → Bool
 is_of side port = is_side side port.side
 
+-- The number of ports of this router.
 abbrev pub port_count : Side → Captures Address → ℕ
 port_count side captures = count_by (is_of side) captures.ports.items
 
--- no word is a port of a, or of b
+-- The faults of words without a port of router a, or of router b.
 abbrev pub no_port_faults : Captures Address → List Fault
 no_port_faults captures =
     fault_if (port_count A captures == 0) (NoPort A) ++ fault_if (port_count B captures == 0) (NoPort B)
 
--- the addresses that are written with aren't two different valid sources
+-- The fault of a writer whose addresses aren't two different valid sources.
 abbrev pub writer_faults : Writing Address → List Fault
 writer_faults writing =
     fault_if (not (is_valid writing.upstream) || not (is_valid writing.own) || is_same writing.own writing.upstream)
     WriterAddress
 
--- a router has no port, or more than 64; the address of one of its ports isn't a valid source; the RP isn't one
+-- The faults of a router: it has no port or more than 64, a port's address isn't a valid source, or
+-- the RP isn't.
 abbrev pub router_faults : Side → Captures Address → List Fault
 router_faults side captures =
     fault_if (port_count side captures == 0 || nat_lt 64 (port_count side captures)) (Config config.Ports)
@@ -89,12 +99,12 @@ router_faults side captures =
     (Config config.Address)
     ++ fault_if (option_map_or (λ rp. not (is_valid rp)) captures.rp false) (Config config.Rp)
 
--- the same of two routers and of a writer
+-- The faults of a task with two routers and a writer.
 abbrev pub faults_of_two : Captures Address → Writing Address → List Fault
 faults_of_two captures writing =
     no_port_faults captures ++ (writer_faults writing ++ (router_faults A captures ++ router_faults B captures))
 
--- the same of the routers and the writer of a task
+-- The faults of a task's routers and writer.
 abbrev pub setting_faults : Task Address → List Fault
 setting_faults (Check source destination) = []
 setting_faults (Replay captures) = router_faults A captures
@@ -103,5 +113,6 @@ setting_faults (Mirror captures writing) = writer_faults writing ++ router_fault
 setting_faults (Emit captures writing) = writer_faults writing ++ router_faults A captures
 setting_faults (Change captures writing) = faults_of_two captures writing
 
+-- The faults of a task: of its family, then of its routers and its writer.
 abbrev pub task_faults : Task Address → List Fault
 task_faults task = family_faults task ++ setting_faults task

@@ -5,34 +5,35 @@ use Rattle.clap.specs.Words.{Row, Text, first_of, all_of}
 use Rattle.pim_words.specs.declared.task.Kind.{Kind}
 use Rattle.pim_words.specs.declared.task.Kind.TheVariants.{Check, Replay, Same, Mirror, Emit, Change}
 
--- the value of an option, or its default where the words have none
+-- The value of an option, or its default if the words have none.
 abbrev pub option_or : Text → Text → List Row → Text
 option_or default name rows = unwrap_or (first_of name rows) default
 
--- the value of an option that has to be given: `clap` takes no words that lack it
+-- The value of an option that must be given. `clap` refuses words without it.
 abbrev pub required : Text → List Row → Text
 required name rows = option_or [] name rows
 
--- the words that are no options
+-- The words that aren't options.
 abbrev pub words_of : List Row → List Text
 words_of rows = unwrap_or (all_of (codes "words") rows) []
 
 -- ---- numbers
 
--- The text spells the number, in decimal digits behind which nothing stands and before which a plus may, and it lies
--- between these two.
+-- The text spells this number in decimal digits, with an optional plus sign, and it is from `low`
+-- to `high`.
 pub record IsNumber (low high : ℕ) (text : Text) (number : ℕ) : Type 0 where
   pub digits : IsNumeral 10 (without_leading_plus text)
   pub value : digits_value 10 (without_leading_plus text) ≡ number
   pub least : low ≤ number
   pub most : number ≤ high
 
--- The text spells no number between these two.
+-- The text spells no number from `low` to `high`.
 abbrev pub IsNoNumber : ℕ → ℕ → Text → Type 0
 IsNoNumber low high text = (number : ℕ) → IsNumber low high text number → ⊥
 
 -- ---- commands
 
+-- The name of a command.
 abbrev pub kind_name : Kind → Text
 kind_name Check = codes "check"
 kind_name Replay = codes "replay"
@@ -41,23 +42,23 @@ kind_name Mirror = codes "mirror"
 kind_name Emit = codes "emit"
 kind_name Change = codes "change"
 
--- a name that a command has
+-- The name of some command.
 abbrev pub IsKnown : Text → Type 0
 IsKnown name = (kind : Kind) × (name ≡ kind_name kind)
 
--- The command has two routers, so that each word is marked with its own.
+-- Whether the command has two routers, so that each word has the mark of its router.
 abbrev pub is_sided : Kind → Bool
 is_sided Same = true
 is_sided Change = true
 is_sided other = false
 
--- the text of the RP, where one is given
+-- The text of the RP, if one is given.
 abbrev pub rp_text : Kind → List Row → Option Text
 rp_text Check rows = None
 rp_text Replay rows = first_of (codes "rp") rows
 rp_text kind rows = Some (required (codes "rp") rows)
 
--- the texts of the options that are addresses, in order, each where it is given
+-- The texts of the options that are addresses, in order, each if it is given or has a default.
 abbrev pub address_texts : Kind → List Row → List (Option Text)
 address_texts Check rows =
     Some (option_or (codes "0.0.0.0") (codes "src") rows)

@@ -1,3 +1,4 @@
+-- The definitions of `pim_words`.
 pub mod CommandLine
 pub mod Addresses
 pub mod Faults

@@ -1,4 +1,4 @@
--- What is to be done, by the words.
+-- What is to be done, by the words of the command line.
 use Rattle.std.specs.Prelude.{◌≡◌, ◌≤◌, ◌⊎◌, List, [], ◌∷◌, ⊤, true, IsSomeAnd, Result, Ok, Err}
 use Rattle.std.specs.declared.alloc.AllocError.{AllocError}
 use Rattle.std.specs.declared.alloc.Global.{Global}
@@ -21,77 +21,79 @@ use Rattle.pim_words.specs.Given.{kind_name}
 use Rattle.pim_words.specs.Reading.{IsTask, IsUnreadable}
 use Rattle.pim_words.specs.Typed.{IsPlanFor}
 
--- ---- what a command that was met asks for: its name, and what was found for its options and words
+-- ---- what a command asks for: its name, and what was found for its options and words
 
--- It was given this task.
+-- The command was given this task.
 abbrev pub IsTaskOf : Text × List Row → Task Address → Type 0
 IsTaskOf met task = (kind : Kind) × (met.0 ≡ kind_name kind) × IsTask kind met.1 task
 
--- This is told of the texts that it was given, where one can't be read.
+-- The fault of a text that the command was given and that can't be read.
 abbrev pub IsUnreadableOf : Text × List Row → Fault → Type 0
 IsUnreadableOf met fault = (kind : Kind) × (met.0 ≡ kind_name kind) × IsUnreadable kind met.1 fault
 
 -- ---- the plan of a task
 
--- Nothing is wrong with the task, and this is its plan.
+-- The task has no fault, and this is its plan.
 abbrev pub IsPlanOfTask : Task Address → Plan → Type 0
 IsPlanOfTask task plan = (task_faults task ≡ []) × IsPlanFor plan task
 
+-- The fault is the first of a list.
 abbrev pub IsFirstOf : List Fault → Fault → Type 0
 IsFirstOf [] fault = ⊥
 IsFirstOf (first ∷ others) fault = fault ≡ first
 
--- The first thing that is wrong with the task; memory may run out at any time.
+-- The fault of the task is the first one that it has, or memory is refused.
 abbrev pub IsWrongTask : Task Address → Fault → Type 0
 IsWrongTask task cause.Memory = ⊤
 IsWrongTask task fault = IsFirstOf (task_faults task) fault
 
--- ---- the plan of words, the first of which is the program's name, by a command line
+-- ---- the plan of words by a command line; the first word is the program's name
 
--- `clap` finds nothing wrong with the words, the command that it meets in them was given a task, with which nothing is
--- wrong either, and this is its plan.
+-- `clap` accepts the words, the command in them has a task without a fault, and this is its plan.
 abbrev pub Plans : App → List Text → Plan → Type 0
 Plans app words plan =
     (fault_of app words ≡ [])
     × IsSomeAnd (subcommand_of app words) (λ met.
     (task : Task Address) × IsTaskOf met task × IsPlanOfTask task plan)
 
--- `clap` finds nothing wrong with the words, but this is told of what they ask for: of the texts that can't be read,
--- and where all are read, of the task.
+-- `clap` accepts the words, but what they ask for has this fault: a text that can't be read, or a
+-- fault of the task.
 abbrev pub HasWrong : App → List Text → Fault → Type 0
 HasWrong app words fault =
     (fault_of app words ≡ [])
     × IsSomeAnd (subcommand_of app words) (λ met.
     IsUnreadableOf met fault ⊎ ((task : Task Address) × IsTaskOf met task × IsWrongTask task fault))
 
--- `clap` doesn't take the words, and this is a kind of error that it finds in them.
+-- `clap` doesn't accept the words, and this is a kind of error that it finds in them.
 abbrev pub IsRefusedBy : App → List Text → ErrorKind → Type 0
 IsRefusedBy app words kind = (takes app words ≡ true → ⊥) × IsAmong kind (fault_of app words)
 
--- `clap`'s refusal
+-- The fault is a refusal of `clap`.
 abbrev pub IsRefusal : App → List Text → Fault → Type 0
 IsRefusal app words (cause.Clap refusal) = IsRefusedBy app words refusal.kind
 IsRefusal app words fault = ⊥
 
--- Why there is no plan.
+-- Why there is no plan: a refusal of `clap`, or a fault of what the words ask for. Or memory is
+-- refused.
 abbrev pub HasCause : App → List Text → Fault → Type 0
 HasCause app words cause.Memory = ⊤
 HasCause app words fault = IsRefusal app words fault ⊎ HasWrong app words fault
 
 -- ---- the ranges of a plan's numbers
 
--- the router runs on for at most 10^9 milliseconds
+-- A router runs on for at most 10^9 milliseconds after its last record.
 abbrev pub IsBounded : {A : Type 0} → Captures A → Type 0
 IsBounded captures = captures.after_ms ≤ 1000000000
 
--- a port holds at least one record and at most 100,000
+-- A port holds at least one record and at most 100,000.
 abbrev pub IsLimited : {A : Type 0} → Captures A → Type 0
 IsLimited captures = (1 ≤ captures.limit) × (captures.limit ≤ 100000)
 
--- the holdtime and the budget of messages that can be written
+-- The holdtime is at least 99 seconds, and the budget is 70 to 65,000 bytes.
 abbrev pub IsWritable : {A : Type 0} → Writing A → Type 0
 IsWritable writing = (99 ≤ writing.holdtime) × (70 ≤ writing.budget) × (writing.budget ≤ 65000)
 
+-- The numbers of the task are in their ranges.
 abbrev pub IsInRange : {A : Type 0} → Task A → Type 0
 IsInRange (Check source destination) = ⊤
 IsInRange (Replay captures) = IsBounded captures × IsLimited captures
@@ -107,8 +109,8 @@ IsPlanInRange (V6 task) = IsInRange task
 
 -- ---- refusals
 
--- A refusal of this kind, with `clap`'s text of it: want of memory, where that is its kind or where there was none for
--- the text, and else the refusal itself.
+-- The fault of a refusal of `clap`, with its text. It is `Memory` if memory was refused, in `clap`
+-- or for the text.
 abbrev pub refusal_fault : ErrorKind → Result (String Global) AllocError → Fault
 refusal_fault OutOfMemory text = cause.Memory
 refusal_fault kind (Ok text) = cause.Clap (record { kind = kind; text = text })

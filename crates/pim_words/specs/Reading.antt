@@ -1,4 +1,5 @@
--- The task that a command's options and words give, with addresses of either family; or what isn't read of them.
+-- The task that the options and words of a command give, with addresses of either family, or what
+-- can't be read.
 use Rattle.std.specs.Prelude.{◌≡◌, ◌⊎◌, ⊤, Bool, List, [], ◌∷◌, Option, Some, None, codes, option_map}
 use Rattle.std.specs.Prelude.{IfSome, IsSomeAnd}
 use Rattle.std.specs.List.{AllZip}
@@ -18,27 +19,27 @@ use Rattle.pim_words.specs.Ports.{IsPort, IsFirstWrongOf}
 
 -- ---- what is read
 
--- An option that is given names this address; one that isn't names none.
+-- An option that is given names this address; an option that isn't given names none.
 abbrev pub IsNamed : Option Text → Option Address → Type 0
 IsNamed None None = ⊤
 IsNamed (Some text) (Some address) = Names text address
 IsNamed given read = ⊥
 
--- the options of a run, but for the RP, and the ports
+-- The options of a run other than the RP, and the ports that the words name.
 pub record AreCaptures (is_sided : Bool) (rows : List Row) (captures : Captures Address) : Type 0 where
   pub routes : option_map (λ name. name.now) captures.routes ≡ first_of (codes "routes") rows
   pub limit : IsNumber 1 100000 (option_or (codes "100000") (codes "limit") rows) captures.limit
   pub after : IsNumber 0 1000000000 (option_or (codes "0") (codes "after") rows) captures.after_ms
   pub ports : AllZip (IsPort is_sided) (words_of rows) captures.ports.items
 
--- the options of what is written, but for the RP
+-- The options of the writer.
 pub record IsWriting (rows : List Row) (writing : Writing Address) : Type 0 where
   pub upstream : Names (required (codes "upstream") rows) writing.upstream
   pub own : Names (required (codes "own") rows) writing.own
   pub holdtime : IsNumber 99 65535 (option_or (codes "210") (codes "holdtime") rows) writing.holdtime
   pub budget : IsNumber 70 65000 (option_or (codes "1460") (codes "budget") rows) writing.budget
 
--- A command with captures was given these.
+-- The options and ports of a command with captures.
 abbrev pub AreCapturesOf : Kind → List Row → Captures Address → Type 0
 AreCapturesOf command rows captures =
     IsNamed (rp_text command rows) captures.rp × AreCaptures (is_sided command) rows captures
@@ -55,28 +56,29 @@ IsTask kind.Emit rows (Emit captures writing) = AreCapturesOf kind.Emit rows cap
 IsTask kind.Change rows (Change captures writing) = AreCapturesOf kind.Change rows captures × IsWriting rows writing
 IsTask command rows task = ⊥
 
--- ---- what isn't read
+-- ---- what can't be read
 
--- The text, which is the value of an option, names no address, as which it is told.
+-- The text is the value of an option and names no address; the fault has the text.
 abbrev pub IsUnreadText : Text → Fault → Type 0
 IsUnreadText text (cause.Address told) = (told.now ≡ text) × IsUnread text
 IsUnreadText text other = ⊥
 
+-- The option is given and names no address.
 abbrev pub IsUnreadValue : Option Text → Fault → Type 0
 IsUnreadValue value fault = IsSomeAnd value (λ text. IsUnreadText text fault)
 
--- The first of these values that names no address is told.
+-- The fault is that of the first of these values that names no address.
 abbrev pub IsFirstUnread : List (Option Text) → Fault → Type 0
 IsFirstUnread [] fault = ⊥
 IsFirstUnread (value ∷ values) fault = IsUnreadValue value fault ⊎ (IfSome value IsRead × IsFirstUnread values fault)
 
--- All values that are given name addresses.
+-- Each of these values that is given names an address.
 abbrev pub AreRead : List (Option Text) → Type 0
 AreRead [] = ⊤
 AreRead (value ∷ values) = IfSome value IsRead × AreRead values
 
--- What is told of the texts that a command was given, where one can't be read: the first option, and then the first
--- word. Memory may run out at any time.
+-- The fault of texts that can't be read: of the first such option, otherwise of the first such
+-- word. Or memory is refused.
 abbrev pub IsUnreadable : Kind → List Row → Fault → Type 0
 IsUnreadable command rows cause.Memory = ⊤
 IsUnreadable command rows fault =

@@ -1,4 +1,4 @@
--- What contracts see of the steps.
+-- What contracts say of the steps of `plan`.
 use Rattle.std.specs.Prelude.{◌≡◌, ◌==◌, ◌&&◌, ◌||◌, not, ℕ, Bool, true, false, List, Option, Some, ⊤, codes}
 use Rattle.std.specs.List.{AllByRecursion, list_all}
 use Rattle.std.specs.Str.{bytes_eq}
@@ -14,47 +14,48 @@ use Rattle.pim_words.specs.Addresses.{Names}
 use Rattle.pim_words.specs.Given.{IsKnown, option_or, required}
 use Rattle.pim_words.specs.Ports.{IsCut, IsCutWord}
 
--- want of memory, or a fault of this kind
+-- A fault of this kind, or memory is refused.
 abbrev pub OrMemory : (Fault → Type 0) → Fault → Type 0
 OrMemory Is Memory = ⊤
 OrMemory Is fault = Is fault
 
--- The text, for this router, is so cut.
+-- The text of a port of this router is cut into its address and its file.
 abbrev pub IsCutFor : Side → Text → Cut → Type 0
 IsCutFor side text cut = (cut.side ≡ side) × IsCut text cut.address.now cut.file.now
 
--- The word is so cut.
+-- The word is cut into its router, its address and its file.
 abbrev pub IsCutOf : Bool → Text → Cut → Type 0
 IsCutOf is_sided word cut = IsCutWord is_sided word cut.side cut.address.now cut.file.now
 
--- The addresses are those that a command that writes messages was given.
+-- These are the addresses of a command that writes messages.
 pub record AreWritten (rows : List Row) (addresses : Addresses) : Type 0 where
   pub rp : Names (required (codes "rp") rows) addresses.rp
   pub upstream : Names (required (codes "upstream") rows) addresses.upstream
   pub own : Names (required (codes "own") rows) addresses.own
 
--- Not all addresses are of one family, by this test; or memory ran out.
+-- The test for one family failed, or memory is refused.
 abbrev pub IsForeign : Bool → Fault → Type 0
 IsForeign test Memory = ⊤
 IsForeign test Family = test ≡ false
 IsForeign test fault = ⊥
 
--- ---- what `clap` looks at by itself
+-- ---- what `clap` checks by itself
 
--- an option tests its values for numbers between these two
+-- Whether an option takes only numbers between `low` and `high`.
 abbrev pub has_range : ℕ → ℕ → Option ValueParser → Bool
 has_range low high (Some (Unsigned least most)) = (least == low) && (most == high)
 has_range low high other = false
 
--- so does each option of this name, of each command
+-- Whether an option, if it has this name, takes only numbers between `low` and `high`.
 abbrev pub is_tested : ℕ → ℕ → Text → Rule → Bool
 is_tested low high name option = not (bytes_eq option.id name) || has_range low high option.parser
 
+-- Whether each option of this name, of each command, takes only numbers between `low` and `high`.
 abbrev pub are_tested : ℕ → ℕ → Text → List Shape → Bool
 are_tested low high name commands = list_all (λ (s : Shape). list_all (is_tested low high name) s.rules) commands
 
--- A command line of which one command has to be given, whose commands are known, and whose options of numbers test
--- them.
+-- A command line that requires one of its commands. It has known commands only, and its options for
+-- numbers check their ranges.
 pub record IsOffered (app : App) : Type 0 where
   pub required : app.top.subcommand_required ≡ true
   pub simple : is_simple app ≡ true
@@ -65,13 +66,13 @@ pub record IsOffered (app : App) : Type 0 where
   pub holdtime : are_tested 99 65535 (codes "holdtime") (built app).subs ≡ true
   pub budget : are_tested 70 65000 (codes "budget") (built app).subs ≡ true
 
--- The numbers that were found for the options of a command, or their defaults, lie in their ranges.
+-- The numbers that a command was given, or their defaults, are in their ranges.
 pub record HasNumbers (rows : List Row) : Type 0 where
   pub limit : IsUnsignedIn 1 100000 (option_or (codes "100000") (codes "limit") rows)
   pub after : IsUnsignedIn 0 1000000000 (option_or (codes "0") (codes "after") rows)
   pub holdtime : IsUnsignedIn 99 65535 (option_or (codes "210") (codes "holdtime") rows)
   pub budget : IsUnsignedIn 70 65000 (option_or (codes "1460") (codes "budget") rows)
 
--- The command that was met is known, and its numbers lie in their ranges.
+-- The command is known, and its numbers are in their ranges.
 abbrev pub IsGiven : Text × List Row → Type 0
 IsGiven met = IsKnown met.0 × HasNumbers met.1

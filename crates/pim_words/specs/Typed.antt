@@ -1,4 +1,5 @@
--- A task whose addresses are of one family, beside the same with addresses of either.
+-- A task whose addresses are of one family, compared to the same task with addresses of either
+-- family.
 use Rattle.std.specs.Prelude.{◌≡◌, ℕ, List, option_map, map}
 use Rattle.pim_addr.specs.declared.family.AddressFamily.{AddressFamily}
 use Rattle.pim_addr.specs.declared.family.AddressFamily.TheVariants.{Ipv4, Ipv6}
@@ -12,18 +13,21 @@ use Rattle.pim_words.specs.declared.task.Plan.TheVariants.{V4, V6}
 use Rattle.pim_words.specs.declared.task.Task.{Task}
 use Rattle.pim_words.specs.declared.task.Task.TheVariants.{Check, Replay, Same, Mirror, Emit, Change}
 
--- the address of this family that has these bytes
+-- The address of this family with these bytes.
 abbrev pub address_in : AddressFamily → List ℕ → Address
 address_in Ipv4 bytes = either.V4 bytes
 address_in Ipv6 bytes = either.V6 bytes
 
 module _ {A : Type 0} (family : AddressFamily) (bytes_of : A → List ℕ) where
+  -- An address of the family, as one of either family.
   abbrev pub address_seen : A → Address
   address_seen address = address_in family (bytes_of address)
 
+  -- A port of the family, with an address of either family.
   abbrev pub port_seen : Port A → Port Address
   port_seen port = record { side = port.side; address = address_seen port.address; file = port.file; word = port.word }
 
+  -- The two have the same RP, file of routes, limit, time and ports.
   pub record SameCaptures (typed : Captures A) (captures : Captures Address) : Type 0 where
     pub rp : option_map address_seen typed.rp ≡ captures.rp
     pub routes : typed.routes ≡ captures.routes
@@ -31,13 +35,14 @@ module _ {A : Type 0} (family : AddressFamily) (bytes_of : A → List ℕ) where
     pub after : typed.after_ms ≡ captures.after_ms
     pub ports : map port_seen typed.ports.items ≡ captures.ports.items
 
+  -- The two have the same addresses, holdtime and budget.
   pub record SameWriting (typed : Writing A) (writing : Writing Address) : Type 0 where
     pub upstream : address_seen typed.upstream ≡ writing.upstream
     pub own : address_seen typed.own ≡ writing.own
     pub holdtime : typed.holdtime ≡ writing.holdtime
     pub budget : typed.budget ≡ writing.budget
 
-  -- the same task
+  -- The two tasks are the same.
   abbrev pub SameTask : Task A → Task Address → Type 0
   SameTask (Check source destination) (Check from to) =
       (address_seen source ≡ from) × (address_seen destination ≡ to)

@@ -1,4 +1,4 @@
-//! Addresses of either family, as words give them.
+//! An address of either family, and its text.
 
 ghost use Rattle.std.specs.Prelude.{MatchOption};
 ghost use Rattle.pim_words.specs.Addresses.{Names, IsUnread};
@@ -14,7 +14,7 @@ pub enum Address {
     V6([u8; 16]),
 }
 
-/// The address that a text names, if it names one.
+/// The address that a text names. `None` if it names none of either family.
 #[tactic(auto, using(crate::proofs::Unread::unread))]
 pub fn read_address(text: &str) -> Option<Address>
     ensures { MatchOption result (IsUnread text.now) (Names text.now) }

@@ -1,4 +1,7 @@
-//! The commands and their options, as `clap` knows them.
+//! The command line by which `clap` reads the words: commands, options and help texts.
+//!
+//! The parser of an option refuses a number out of range, so that `clap` reports it like its other
+//! faults. `clap`'s `help` command is disabled, since it would be one more command without a task.
 
 ghost use Rattle.std.specs.Prelude.{◌≡◌, IfOk, true, false, []};
 ghost use Rattle.clap.specs.declared.builder.command.Command.TheViews.{out-Command};
@@ -11,143 +14,215 @@ use clap::builder::ValueParser;
 use clap::{Arg, ArgAction, Command};
 use std::alloc::{AllocError, Global};
 
-/// What the program is for.
+/// The texts of a command with captures.
+#[derive(Clone, Copy)]
+struct Texts<'a> {
+    /// What the command does, in one line.
+    about: &'a str,
+    /// The usage line.
+    usage: &'a str,
+    /// The name of a word in help.
+    word: &'a str,
+    /// The help of a word.
+    word_help: &'a str,
+    /// What the command prints, and an example.
+    after_help: &'a str,
+}
+
+/// The purpose of the program, as help prints it.
 const ABOUT: &str = "Reads PIM sparse mode messages (RFC 7761) and says what they mean";
 
-/// How a run ends.
+/// The end of the program's help: a first command, common faults, and the exit statuses.
 const AFTER_HELP: &str =
-    "Exit status: 0 where all went well, 1 where `same` tells that the routers differ, 2 for a
-fault, which one line on standard error tells.";
+    "Begin with a capture of a link, on which 10.0.0.2 is the address of a router:
+  pimtree replay 10.0.0.2@lan.pcap
+`pimtree COMMAND --help` explains each line that a command prints.
 
-/// What `check` does.
+Faults that are often met first, on standard error:
+  capture magic      FILE isn't classic pcap: `editcap -F pcap IN OUT` makes one
+  capture link-type  FILE is neither Ethernet nor raw IP: `tcpdump -i any` makes
+                     cooked captures, so name an interface
+  config ports       no word ADDRESS@FILE was given, or more than 64 were
+
+Exit status: 0 for success, 1 where `same` prints `different`, 2 for a fault.";
+
+/// The help of `check`, in one line.
 const CHECK_ABOUT: &str = "What does this message say, or where is it wrong?";
 
-/// What `--src` is.
+/// The help of `--src`.
 const SRC_HELP: &str =
-    "IP source address of the message; over IPv6 the checksum covers it{n}[default: 0.0.0.0]";
+    "IP source address of the message, which the checksum of{n}IPv6 covers [default: 0.0.0.0]";
 
-/// What `--dst` is.
+/// The help of `--dst`.
 const DST_HELP: &str =
-    "IP destination address of the message; a Hello or Join/Prune has to go to{n}224.0.0.13 or \
-ff02::d [default: 224.0.0.13]";
+    "IP destination address; 224.0.0.13 or ff02::d for a Hello{n}or Join/Prune [default: 224.0.0.13]";
 
-/// What is to be known of input and addresses, and an example.
+/// The end of the help of `check`: its input, its addresses, a fault and an example.
 const CHECK_AFTER_HELP: &str =
-    "The message is read from standard input. It begins with its PIM header, so it has no IP
-header, and has at most 65536 bytes.
+    "The message is read from standard input, at most 65536 bytes. It begins with
+its PIM header, so no IP header comes before it.
 
-An ADDRESS is IPv4, four decimals of 0 to 255 joined by dots, or IPv6, groups of one to four
-hexadecimal digits joined by colons, in which :: may stand once for zero groups. Both addresses are
-of one family, which is the message's, so for IPv6 both options are given.
+Both addresses are of one family, IPv4 (10.0.0.1) or IPv6 (fe80::1), which is
+the message's. So a message over IPv6 needs both options.
 
-Example:
+A fault is printed with its offset in the body, which begins after the four
+bytes of the header: `pimtree: join/prune short at 22`.
+
+Example, at the top of the repository:
   pimtree check < examples/join-star.pim";
 
-/// What `replay` does.
-const REPLAY_ABOUT: &str = "What state did this router hold, and why?";
+/// The help of `--rp` where it is required.
+const RP_HELP: &str = "Rendezvous point of all groups [required]";
 
-/// What `same` does.
-const SAME_ABOUT: &str = "Do these two routers want the same traffic?";
-
-/// What `mirror` does.
-const MIRROR_ABOUT: &str = "Which messages make a fresh router want what this router wants?";
-
-/// What `emit` does.
-const EMIT_ABOUT: &str = "By which messages does this router ask its upstream neighbour?";
-
-/// What `change` does.
-const CHANGE_ABOUT: &str =
-    "Which messages tell the upstream neighbour of the change from what a wants to what b wants?";
-
-/// What `--rp` is, where it has to be given.
-const RP_HELP: &str = "Address of the rendezvous point of all groups";
-
-/// What `--rp` is, where it may be missing.
+/// The help of `--rp` where it is optional.
 const REPLAY_RP_HELP: &str =
-    "Address of the rendezvous point of all groups; Joins of a whole group count only{n}where they \
-name it [default: none]";
+    "Rendezvous point of all groups. A Join(*,G) counts only{n}where it names the RP of G: without \
+--rp and --routes{n}none does";
 
-/// What `--upstream` is.
-const UPSTREAM_HELP: &str = "Address of the upstream neighbour, to whom the messages go";
+/// The help of `--upstream`.
+const UPSTREAM_HELP: &str = "Upstream neighbour the messages go to [required]";
 
-/// What `--own` is.
-const OWN_HELP: &str = "Address that the messages come from; another than the upstream neighbour's";
+/// The help of `--own`.
+const OWN_HELP: &str = "Address the messages come from [required]";
 
-/// What `--routes` is.
+/// The help of `--routes`.
 const ROUTES_HELP: &str =
-    "File of routes, at most 1048576 bytes of lines `rp ADDRESS/LENGTH ADDRESS` and{n}`via \
-ADDRESS/LENGTH ADDRESS`: the rendezvous points of groups, and the upstream{n}neighbours of addresses [default: none]";
+    "File of lines, at most 1048576 bytes, of two forms:{n}`rp PREFIX/LENGTH ADDRESS`, the RP of \
+these groups,{n}and `via PREFIX/LENGTH ADDRESS`, the upstream{n}neighbour toward these addresses \
+[default: none]";
 
-/// What `--holdtime` is.
+/// The help of `--holdtime`.
 const HOLDTIME_HELP: &str =
-    "Holdtime of the messages in seconds, 99 to 65535, which is for ever [default: 210]";
+    "Holdtime of the messages in seconds, 99 to 65535;{n}65535 is forever [default: 210]";
 
-/// What `--budget` is.
+/// The help of `--budget`.
 const BUDGET_HELP: &str = "Most bytes of a message, 70 to 65000 [default: 1460]";
 
-/// What `--limit` is.
-const LIMIT_HELP: &str = "Most records of a port, 1 to 100000 [default: 100000]";
+/// The help of `--limit`.
+const LIMIT_HELP: &str = "Most records of a port, 1 to 100000{n}[default: 100000]";
 
-/// What `--after` is.
+/// The help of `--after`.
 const AFTER_MS_HELP: &str =
-    "How long to run behind the last packet, in milliseconds, 0 to 1000000000{n}[default: 0]";
+    "Time to run after the last packet, in milliseconds,{n}0 to 1000000000 [default: 0]";
 
-/// What a word of a command for one router is.
+/// The name in help of a word of a command with one router.
+const PORT: &str = "ADDRESS@FILE";
+
+/// The help of a word of a command with one router.
 const PORT_HELP: &str =
-    "ADDRESS@FILE: a port, with the router's address on it and the capture of its{n}packets; \
-1 to 64";
+    "A port: the router's address on its link, and a capture{n}of that link; 1 to 64 ports";
 
-/// What a word of a command for two routers is.
+/// The name in help of a word of a command with two routers.
+const SIDED: &str = "a|b=ADDRESS@FILE";
+
+/// The help of a word of a command with two routers.
 const SIDED_HELP: &str =
-    "a=ADDRESS@FILE or b=ADDRESS@FILE: a port of router a or b, with its address on{n}it and the \
-capture of its packets; 1 to 64 of each";
+    "A port of router a or b: its address on a link, and{n}a capture of that link; 1 to 64 of each";
 
-/// What is to be known of `replay`, and an example.
-const REPLAY_AFTER_HELP: &str =
-    "A FILE is a classic pcap file of the packets on one port. Each PIM packet has a line, which says
-what became of it; the state at the end follows. Times are milliseconds, and the first record's is 0.
-All addresses are of one family, and packets of the other are counted as skipped.
+/// The texts of `replay`.
+const REPLAY: Texts<'static> = Texts {
+    about: "What state did this router hold, and why?",
+    usage: "pimtree replay [OPTIONS] ADDRESS@FILE...",
+    word: PORT,
+    word_help: PORT_HELP,
+    after_help: "FILE is a classic pcap file of Ethernet or raw IP. `editcap -F pcap IN OUT`
+makes one of a pcapng file. `tcpdump -i any` makes cooked captures, so name an
+interface. A FIFO, /dev/stdin and <(zcat x.pcap.gz) work as FILE, too; each line
+is then written as soon as it is complete. `pimtree --help` explains faults.
 
-Example:
-  pimtree replay --rp 10.9.9.9 10.0.0.2@examples/lan.pcap";
+Each PIM packet has a line `MS port P from A VERDICT`. MS is milliseconds since
+the first record, P the place of the port's word, from 0. VERDICT is
+  hello new          first Hello of a neighbour
+  hello same         Hello of a neighbour that is known
+  hello restarted    Hello with another Generation ID: the neighbour restarted
+  hello gone         Hello with holdtime 0: the neighbour leaves
+  applied            Join/Prune to this router, which acts on it
+  not-for-us         Join/Prune to another upstream neighbour
+  unknown-neighbour  Join/Prune of a sender that sent no Hello
+  mine               packet from the port's own address
+  type N             message of another PIM type, which is ignored
+  malformed FAULT    message that is refused as a whole, and its first fault
+  full neighbours    new neighbour that is refused: there are 1024 already
+  full N             Join/Prune that is refused: N records, more than --limit
+`MS port P echo star G` or `.. source S G`: a prune took effect, and the router
+repeats it to itself (PruneEcho).
 
-/// What is to be known of `same`, and an example.
-const SAME_AFTER_HELP: &str =
-    "A FILE is a classic pcap file of the packets on one port. `same` is printed, with status 0, or
-`different`, with status 1. All addresses are of one family.
+After `state at MS` each (*,G), (S,G) and (S,G,rpt) that a port holds has a line
+`star G`, `source S G` or `rpt S G` with its state and timers:
+  et N         expiry timer: the state ends in N milliseconds, or `never`
+  ppt N        prune-pending timer: the prune takes effect in N milliseconds
+Then come the demand toward upstream, and two counts:
+  want star G      the group's shared tree, but for the sources of `except S G`
+  want source S G  the tree of one source
+  skipped N        records without a PIM packet of the addresses' family
+  refreshes N      times that the router sent its Join/Prune messages: each 60 s
 
-Example:
-  pimtree same --rp 10.9.9.9 --upstream 10.0.0.3 --own 10.0.0.1 a=10.0.0.2@examples/lan.pcap \
-b=10.0.0.2@examples/lost.pcap";
+Example, at the top of the repository:
+  pimtree replay --rp 10.9.9.9 10.0.0.2@examples/lan.pcap",
+};
 
-/// What is to be known of `mirror`, and an example.
-const MIRROR_AFTER_HELP: &str =
-    "A FILE is a classic pcap file of the packets on one port. Each message is a line of hexadecimal
-digits. All addresses are of one family.
+/// The texts of `same`.
+const SAME: Texts<'static> = Texts {
+    about: "Do these two routers want the same traffic?",
+    usage: "pimtree same [OPTIONS] a=ADDRESS@FILE... b=ADDRESS@FILE...",
+    word: SIDED,
+    word_help: SIDED_HELP,
+    after_help: "Prints `same`, with status 0, where both routers ask the upstream neighbour for
+the same traffic at the end, or `different`, with status 1.
+`pimtree replay --help` explains what a FILE is.
 
-Example:
-  pimtree mirror --rp 10.9.9.9 --upstream 10.0.0.3 --own 10.0.0.1 10.0.0.2@examples/lan.pcap";
+Example, at the top of the repository:
+  pimtree same --rp 10.9.9.9 --upstream 10.0.0.3 --own 10.0.0.1 \\
+    a=10.0.0.2@examples/lan.pcap b=10.0.0.2@examples/lost.pcap",
+};
 
-/// What is to be known of `emit`, and an example.
-const EMIT_AFTER_HELP: &str =
-    "A FILE is a classic pcap file of the packets on one port. The messages are written as bytes, each
-behind two bytes of its length, of which the first counts 256 times, and nothing else is. All
-addresses are of one family.
+/// The texts of `mirror`.
+const MIRROR: Texts<'static> = Texts {
+    about: "Which messages make a fresh router want what this router wants?",
+    usage: "pimtree mirror [OPTIONS] ADDRESS@FILE...",
+    word: PORT,
+    word_help: PORT_HELP,
+    after_help: "Prints `message N HEX` for each Join/Prune message, N bytes long, then
+`messages N`, and `agrees` where a fresh router that hears them writes the same.
+`pimtree replay --help` explains what a FILE is.
 
-Example:
-  pimtree emit --rp 10.9.9.9 --upstream 10.0.0.3 --own 10.0.0.1 10.0.0.2@examples/lan.pcap > messages";
+Example, at the top of the repository:
+  pimtree mirror --rp 10.9.9.9 --upstream 10.0.0.3 --own 10.0.0.1 \\
+    10.0.0.2@examples/lan.pcap",
+};
 
-/// What is to be known of `change`, and an example.
-const CHANGE_AFTER_HELP: &str =
-    "A FILE is a classic pcap file of the packets on one port. Each message is a line of hexadecimal
-digits. `agrees` tells that a fresh router which wants what a wants, and hears them, wants what b
-wants. All addresses are of one family.
+/// The texts of `emit`.
+const EMIT: Texts<'static> = Texts {
+    about: "By which messages does this router ask its upstream neighbour?",
+    usage: "pimtree emit [OPTIONS] ADDRESS@FILE...",
+    word: PORT,
+    word_help: PORT_HELP,
+    after_help: "Writes the Join/Prune messages as bytes, each after its length, which is two
+bytes, big-endian. Nothing else is written.
+`pimtree replay --help` explains what a FILE is.
 
-Example:
-  pimtree change --rp 10.9.9.9 --upstream 10.0.0.3 --own 10.0.0.1 a=10.0.0.2@examples/lan.pcap \
-b=10.0.0.2@examples/lost.pcap";
+Example, at the top of the repository:
+  pimtree emit --rp 10.9.9.9 --upstream 10.0.0.3 --own 10.0.0.1 \\
+    10.0.0.2@examples/lan.pcap | xxd",
+};
 
-/// An option that takes one text, which help calls by this name.
+/// The texts of `change`.
+const CHANGE: Texts<'static> = Texts {
+    about: "Which messages move the upstream neighbour from a's demand to b's?",
+    usage: "pimtree change [OPTIONS] a=ADDRESS@FILE... b=ADDRESS@FILE...",
+    word: SIDED,
+    word_help: SIDED_HELP,
+    after_help: "Prints `message N HEX` for each Join/Prune message, N bytes long, then
+`messages N`, and `agrees` where a fresh router that wants what a wants, and
+then hears them, wants what b wants.
+`pimtree replay --help` explains what a FILE is.
+
+Example, at the top of the repository:
+  pimtree change --rp 10.9.9.9 --upstream 10.0.0.3 --own 10.0.0.1 \\
+    a=10.0.0.2@examples/lan.pcap b=10.0.0.2@examples/lost.pcap",
+};
+
+/// An option that takes one text. `value` is the name of the text in help.
 fn text_option<'a>(alloc: Global, name: &'a str, value: &'a str, help: &'a str) -> Arg<'a>
     ensures rule { rule_of result ≡ text_option name.entry.now }
     ensures local { result.global ≡ false }
@@ -158,7 +233,7 @@ fn text_option<'a>(alloc: Global, name: &'a str, value: &'a str, help: &'a str) 
         .help(help)
 }
 
-/// An option that takes one text and has to be given.
+/// An option that takes one text and must be given.
 fn required_option<'a>(alloc: Global, name: &'a str, value: &'a str, help: &'a str) -> Arg<'a>
     ensures rule { rule_of result ≡ required_option name.entry.now }
     ensures local { result.global ≡ false }
@@ -181,14 +256,14 @@ fn number_option<'a>(
     text_option(alloc, name, value, help).value_parser(ValueParser::unsigned(low, high))
 }
 
-/// The words behind the options, any number of them.
-fn words<'a>(alloc: Global, help: &'a str) -> Arg<'a>
+/// The words that aren't options, any number of them.
+fn words<'a>(alloc: Global, name: &'a str, help: &'a str) -> Arg<'a>
     ensures rule { rule_of result ≡ words_rule }
     ensures local { result.global ≡ false }
 {
     Arg::new(alloc, "words")
         .action(ArgAction::Append)
-        .value_name("WORD")
+        .value_name(name)
         .help(help)
 }
 
@@ -212,11 +287,11 @@ fn with_command<'a>(whole: Command<'a>, command: Command<'a>) -> Result<Command<
     whole.subcommand(command)
 }
 
-/// Adds the options that each command with captures ends with, and its words.
+/// Adds `--limit`, `--after` and the words, which each command with captures has.
 fn with_run_options<'a>(
     alloc: Global,
     command: Command<'a>,
-    word_help: &'a str,
+    texts: Texts<'a>,
 ) -> Result<Command<'a>, AllocError>
     requires { (out-Command command).has_globals ≡ false }
     ensures app { IfOk result (λ c. app_of c ≡ with_run_options (app_of command.entry)) }
@@ -230,10 +305,10 @@ fn with_run_options<'a>(
         command,
         number_option(alloc, "after", "MS", 0, 1_000_000_000, AFTER_MS_HELP),
     )?;
-    with_option(command, words(alloc, word_help))
+    with_option(command, words(alloc, texts.word, texts.word_help))
 }
 
-/// Adds the options of addresses that are written.
+/// Adds the addresses of a command that writes messages: `--rp`, `--upstream` and `--own`.
 fn with_addresses<'a>(alloc: Global, command: Command<'a>) -> Result<Command<'a>, AllocError>
     requires { (out-Command command).has_globals ≡ false }
     ensures app { IfOk result (λ c. app_of c ≡ with_addresses (app_of command.entry)) }
@@ -247,7 +322,8 @@ fn with_addresses<'a>(alloc: Global, command: Command<'a>) -> Result<Command<'a>
     with_option(command, required_option(alloc, "own", "ADDRESS", OWN_HELP))
 }
 
-/// Adds the options of how messages are written.
+/// Adds the other options of a command that writes messages: `--routes`, `--holdtime` and
+/// `--budget`.
 fn with_writing<'a>(alloc: Global, command: Command<'a>) -> Result<Command<'a>, AllocError>
     requires { (out-Command command).has_globals ≡ false }
     ensures app { IfOk result (λ c. app_of c ≡ with_writing (app_of command.entry)) }
@@ -282,30 +358,30 @@ fn replay_command<'a>(alloc: Global) -> Result<Command<'a>, AllocError>
     ensures local { IfOk result (λ c. (out-Command c).has_globals ≡ false) }
 {
     let command = Command::new(alloc, "replay")
-        .about(REPLAY_ABOUT)
-        .after_help(REPLAY_AFTER_HELP);
+        .about(REPLAY.about)
+        .override_usage(REPLAY.usage)
+        .after_help(REPLAY.after_help);
     let command = with_option(command, text_option(alloc, "rp", "ADDRESS", REPLAY_RP_HELP))?;
     let command = with_option(command, text_option(alloc, "routes", "FILE", ROUTES_HELP))?;
-    with_run_options(alloc, command, PORT_HELP)
+    with_run_options(alloc, command, REPLAY)
 }
 
-/// A command that writes messages.
+/// A command that writes messages: `same`, `mirror`, `emit` or `change`.
 fn writing_command<'a>(
     alloc: Global,
     name: &'a str,
-    about: &'a str,
-    after_help: &'a str,
-    word_help: &'a str,
+    texts: Texts<'a>,
 ) -> Result<Command<'a>, AllocError>
     ensures shape { IfOk result (λ c. shape_of c ≡ writing name.entry.now) }
     ensures local { IfOk result (λ c. (out-Command c).has_globals ≡ false) }
 {
     let command = Command::new(alloc, name)
-        .about(about)
-        .after_help(after_help);
+        .about(texts.about)
+        .override_usage(texts.usage)
+        .after_help(texts.after_help);
     let command = with_addresses(alloc, command)?;
     let command = with_writing(alloc, command)?;
-    with_run_options(alloc, command, word_help)
+    with_run_options(alloc, command, texts)
 }
 
 /// Adds a command that writes messages.
@@ -313,32 +389,30 @@ fn with_writing_command<'a>(
     alloc: Global,
     whole: Command<'a>,
     name: &'a str,
-    about: &'a str,
-    after_help: &'a str,
-    word_help: &'a str,
+    texts: Texts<'a>,
 ) -> Result<Command<'a>, AllocError>
     requires { (out-Command whole).has_globals ≡ false }
     ensures app { IfOk result (λ c. app_of c ≡ with_subcommand (app_of whole.entry) (writing name.entry.now)) }
     ensures local { IfOk result (λ c. (out-Command c).has_globals ≡ false) }
 {
-    let command = writing_command(alloc, name, about, after_help, word_help)?;
+    let command = writing_command(alloc, name, texts)?;
     with_command(whole, command)
 }
 
-/// The program without its commands.
+/// The program without its commands, of which one must be given.
 fn bare_command<'a>(alloc: Global) -> Command<'a>
     ensures app { app_of result ≡ record { top = bare; subs = [] } }
     ensures local { (out-Command result).has_globals ≡ false }
 {
     Command::new(alloc, "pimtree")
-        .version("0.1.0")
+        .version("0.2.0")
         .about(ABOUT)
         .after_help(AFTER_HELP)
         .disable_help_subcommand(true)
         .subcommand_required(true)
 }
 
-/// The command line with its two commands that write no messages.
+/// The program with the two commands that write no messages.
 fn reading_commands<'a>(alloc: Global) -> Result<Command<'a>, AllocError>
     ensures app { IfOk result (λ c. app_of c ≡ reading_commands) }
     ensures local { IfOk result (λ c. (out-Command c).has_globals ≡ false) }
@@ -349,18 +423,14 @@ fn reading_commands<'a>(alloc: Global) -> Result<Command<'a>, AllocError>
     with_command(whole, replay)
 }
 
-/// The whole command line.
+/// The program with all its commands.
 pub(crate) fn command<'a>(alloc: Global) -> Result<Command<'a>, AllocError>
     ensures app { IfOk result (λ c. app_of c ≡ pimtree) }
     ensures local { IfOk result (λ c. (out-Command c).has_globals ≡ false) }
 {
     let whole = reading_commands(alloc)?;
-    let (about, help) = (SAME_ABOUT, SAME_AFTER_HELP);
-    let whole = with_writing_command(alloc, whole, "same", about, help, SIDED_HELP)?;
-    let (about, help) = (MIRROR_ABOUT, MIRROR_AFTER_HELP);
-    let whole = with_writing_command(alloc, whole, "mirror", about, help, PORT_HELP)?;
-    let (about, help) = (EMIT_ABOUT, EMIT_AFTER_HELP);
-    let whole = with_writing_command(alloc, whole, "emit", about, help, PORT_HELP)?;
-    let (about, help) = (CHANGE_ABOUT, CHANGE_AFTER_HELP);
-    with_writing_command(alloc, whole, "change", about, help, SIDED_HELP)
+    let whole = with_writing_command(alloc, whole, "same", SAME)?;
+    let whole = with_writing_command(alloc, whole, "mirror", MIRROR)?;
+    let whole = with_writing_command(alloc, whole, "emit", EMIT)?;
+    with_writing_command(alloc, whole, "change", CHANGE)
 }

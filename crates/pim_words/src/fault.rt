@@ -1,4 +1,7 @@
 //! Why there is no plan.
+//!
+//! A refusal holds `clap`'s kind and text, not its error: `clap`'s contract doesn't say what an
+//! error displays. `plan` makes the text, while it can still return `Memory`.
 
 ghost use Rattle.std.specs.Prelude.{◌≡◌};
 ghost use Rattle.pim_words.specs.Plan.{refusal_fault};
@@ -6,19 +9,19 @@ ghost use Rattle.pim_words.specs.Plan.{refusal_fault};
 use clap::error::ErrorKind;
 use std::alloc::AllocError;
 
-/// One of the two routers of a command that has two.
+/// A router of a command with two routers.
 #[derive(Clone, Copy, Debug, PartialEq, Eq)]
 pub enum Side {
-    /// The one whose words begin with `a=`, and the router of a command that has one alone.
+    /// The router whose words begin with `a=`, or the only router of a command.
     A,
-    /// The one whose words begin with `b=`.
+    /// The router whose words begin with `b=`.
     B,
 }
 
-/// Why a router can't be as the words want it.
+/// Why the words give no configuration of a router.
 #[derive(Clone, Copy, Debug, PartialEq, Eq)]
 pub enum ConfigCause {
-    /// It has no port, or more than 64.
+    /// The router has no port, or more than 64.
     Ports,
     /// The address of a port isn't a valid source.
     Address,
@@ -26,38 +29,40 @@ pub enum ConfigCause {
     Rp,
 }
 
-/// What `clap` refuses, or shows because the words ask for it.
+/// What `clap` refuses, or shows since the words ask for help or the version.
 #[derive(Debug, Drop)]
 pub struct Refusal {
-    /// What is wrong with the words, or what they ask for.
+    /// The kind of the mistake, or of the request.
     pub kind: ErrorKind,
     /// `clap`'s own text, with its line feeds.
     pub text: String,
 }
 
-/// Why there is no plan. Of several causes the first is told, in the order of these variants but for `Word`, which
-/// stands beside `Address`: of the words the first that is wrong is told.
+/// Why there is no plan. Of several causes, `plan` returns the first in the order that it lists, or
+/// `Memory`.
 #[derive(Debug, Drop)]
 pub enum Fault<'a> {
-    /// `clap` doesn't take the words, or they ask for help or the version.
+    /// `clap` refuses the words, or they ask for help or the version.
     Clap(Refusal),
-    /// The value of an option, as it was given, or the address in a word is no address. This is the value or the word.
+    /// The value of an option isn't an address, or the address in a word can't be read. The text is
+    /// the value or the whole word.
     Address(&'a str),
-    /// A word has another form than it must.
+    /// The word isn't `ADDRESS@FILE`, or with two routers `a=ADDRESS@FILE` or `b=ADDRESS@FILE`.
     Word(&'a str),
-    /// The addresses of the command are of two families.
+    /// The addresses of the command aren't all of one family.
     Family,
-    /// No word is a port of this router.
+    /// No word is a port of this router of two.
     NoPort(Side),
-    /// The addresses that are written with aren't two different valid sources.
+    /// The upstream neighbour and the own address aren't two different valid sources.
     WriterAddress,
-    /// A router can't be as the words want it.
+    /// The words give no configuration of a router.
     Config(ConfigCause),
-    /// Memory ran out. It is told in place of another cause too.
+    /// An allocation was refused. It may replace any other cause.
     Memory,
 }
 
-/// The fault of a refusal of this kind, with `clap`'s text of it.
+/// The fault of a refusal of this kind and text. It is `Memory` if memory was refused, in `clap` or
+/// for the text.
 pub(crate) fn refusal_fault(kind: ErrorKind, text: Result<String, AllocError>) -> Fault<'static>
     ensures { result ≡ refusal_fault kind text }
 {

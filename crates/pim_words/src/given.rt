@@ -1,4 +1,6 @@
 //! The values that `clap` finds for the options of a command.
+//!
+//! `clap` accepts only numbers in the range of their option. So reading a number has no fault.
 
 ghost use Rattle.std.specs.Prelude.{◌≡◌, MatchOption, option_map};
 ghost use Rattle.clap.specs.Words.{rows_of, found_of, first_of, IsUnsignedIn};
@@ -6,21 +8,21 @@ ghost use Rattle.pim_words.specs.Given.{option_or, IsNumber, IsNoNumber};
 
 use clap::ArgMatches;
 
-/// The value of an option, if the words have one.
+/// The value of an option, if the words give one.
 pub(crate) fn option_of<'a>(options: &ArgMatches<'a>, name: &str) -> Option<&'a str>
     ensures { option_map (λ s. s.now) result ≡ first_of name.now (rows_of (found_of options.now)) }
 {
     options.get_str(name)
 }
 
-/// The value of an option, or its default where the words have none.
+/// The value of an option, or its default if the words give none.
 pub(crate) fn option_or<'a>(options: &ArgMatches<'a>, name: &str, default: &'a str) -> &'a str
     ensures { result.now ≡ option_or default.entry.now name.now (rows_of (found_of options.now)) }
 {
     option_of(options, name).unwrap_or(default)
 }
 
-/// The number that a text spells, if it lies between these two.
+/// The number that a text spells, if it is from `low` to `high`.
 fn number_between(text: &str, low: u64, high: u64) -> Option<u64>
     ensures { MatchOption result (IsNoNumber low high text.now) (IsNumber low high text.now) }
 {
@@ -30,8 +32,8 @@ fn number_between(text: &str, low: u64, high: u64) -> Option<u64>
     }
 }
 
-/// The number that is the value of an option, or its default where the words have none. `clap` lets no other number
-/// pass than one between these two.
+/// The number that an option has as its value, or its default if the words give none. It must be
+/// from `low` to `high`, which `clap` checks.
 pub(crate) fn number_of<'a>(
     options: &ArgMatches<'a>,
     name: &str,

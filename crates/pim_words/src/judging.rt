@@ -1,4 +1,5 @@
-//! What is wrong with a task whose texts were all read.
+//! The faults of a task whose texts were all read: of its routers and its writer. Each function
+//! returns the first one.
 
 ghost use Rattle.std.specs.Prelude.{◌≡◌, ◌++◌, ◌&&◌, ◌||◌, not, false};
 ghost use Rattle.std.specs.List.{list_any};
@@ -12,7 +13,7 @@ use crate::fault::{ConfigCause, Fault, Side};
 use crate::task::{Captures, Port, Task, Writing};
 use pim_addr::{Family, V4, V6};
 
-/// The most ports that a router has.
+/// The most ports of a router.
 const MOST_PORTS: usize = 64;
 
 /// Whether an address is a valid source.
@@ -36,7 +37,7 @@ fn is_same(this: Address, that: Address) -> bool
     }
 }
 
-/// Whether a port is one of this router.
+/// Whether the port belongs to this router.
 fn is_of(side: Side, port: &Port<'_, Address>) -> bool
     ensures { result ≡ is_of side port.now }
 {
@@ -46,7 +47,7 @@ fn is_of(side: Side, port: &Port<'_, Address>) -> bool
     }
 }
 
-/// How many ports a router has.
+/// The number of ports of a router.
 fn port_count(side: Side, captures: &Captures<'_, Address>) -> usize
     ensures { result ≡ port_count side captures.now }
 {
@@ -57,7 +58,7 @@ fn port_count(side: Side, captures: &Captures<'_, Address>) -> usize
         .count()
 }
 
-/// Whether it is a port of this router whose address isn't a valid source.
+/// Whether the port belongs to this router and its address isn't a valid source.
 fn is_bad_port(side: Side, port: &Port<'_, Address>) -> bool
     ensures { result ≡ (is_of side port.now && not (is_valid port.now.address)) }
 {
@@ -68,7 +69,7 @@ fn is_bad_port(side: Side, port: &Port<'_, Address>) -> bool
     }
 }
 
-/// Whether the address of a port of this router isn't a valid source.
+/// Whether this router has a port whose address isn't a valid source.
 fn has_bad_port(side: Side, captures: &Captures<'_, Address>) -> bool
     ensures { result ≡ list_any (λ port. is_of side port && not (is_valid port.address)) captures.now.ports.items }
 {
@@ -85,7 +86,7 @@ fn is_bad_rp(rp: Option<Address>) -> bool
     }
 }
 
-/// Whether the addresses that are written with aren't two different valid sources.
+/// Whether the writer's addresses aren't two different valid sources.
 fn is_bad_writing(writing: Writing<Address>) -> bool
     ensures { result ≡ (not (is_valid writing.upstream) || not (is_valid writing.own)
         || is_same writing.own writing.upstream) }
@@ -93,7 +94,7 @@ fn is_bad_writing(writing: Writing<Address>) -> bool
     !is_valid(writing.upstream) || !is_valid(writing.own) || is_same(writing.own, writing.upstream)
 }
 
-/// Looks for a router without a port, of two.
+/// Checks that each of two routers has a port.
 fn judge_ports(captures: &Captures<'_, Address>) -> Result<(), Fault<'static>>
     ensures { result ≡ judged (no_port_faults captures.now) tt }
 {
@@ -106,7 +107,7 @@ fn judge_ports(captures: &Captures<'_, Address>) -> Result<(), Fault<'static>>
     Ok(())
 }
 
-/// Looks at the addresses that are written with.
+/// Checks that the writer's addresses are two different valid sources.
 fn judge_writer(writing: Writing<Address>) -> Result<(), Fault<'static>>
     ensures { result ≡ judged (writer_faults writing) tt }
 {
@@ -116,7 +117,7 @@ fn judge_writer(writing: Writing<Address>) -> Result<(), Fault<'static>>
     Ok(())
 }
 
-/// Looks at the configuration of a router.
+/// Checks the ports and the RP of a router.
 fn judge_router(side: Side, captures: &Captures<'_, Address>) -> Result<(), Fault<'static>>
     ensures { result ≡ judged (router_faults side captures.now) tt }
 {
@@ -133,7 +134,7 @@ fn judge_router(side: Side, captures: &Captures<'_, Address>) -> Result<(), Faul
     Ok(())
 }
 
-/// Looks at the configurations of two routers.
+/// Checks the ports and the RP of both routers.
 fn judge_routers(captures: &Captures<'_, Address>) -> Result<(), Fault<'static>>
     ensures { result ≡ judged (router_faults Side.A captures.now ++ router_faults Side.B captures.now) tt }
 {
@@ -141,7 +142,7 @@ fn judge_routers(captures: &Captures<'_, Address>) -> Result<(), Fault<'static>>
     judge_router(Side::B, captures)
 }
 
-/// Looks at two routers and at how they write.
+/// Checks two routers and the writer.
 fn judge_two(
     captures: &Captures<'_, Address>,
     writing: Writing<Address>,
@@ -153,7 +154,7 @@ fn judge_two(
     judge_routers(captures)
 }
 
-/// Looks at one router and at how it writes.
+/// Checks the writer and one router.
 fn judge_one(
     captures: &Captures<'_, Address>,
     writing: Writing<Address>,
@@ -164,7 +165,7 @@ fn judge_one(
     judge_router(Side::A, captures)
 }
 
-/// Looks at the routers of a task and at how they write. The first thing that is wrong is told.
+/// Checks the routers and the writer of a task.
 pub(crate) fn judge(task: &Task<'_, Address>) -> Result<(), Fault<'static>>
     ensures { result ≡ judged (setting_faults task.now) tt }
 {

@@ -1,4 +1,7 @@
-//! What the program is to do, by its words.
+//! The plan that the words ask for, or the fault.
+//!
+//! The family is known only after all addresses are read. So a task is read with addresses of
+//! either family, and `Address` and `Word` come before `Family`.
 
 ghost use Rattle.std.specs.Prelude.{◌≡◌, MatchOption, MatchResult, IfOk, IfErr, IsSomeAnd, true, false, map, codes};
 ghost use Rattle.clap.specs.declared.builder.command.Command.TheViews.{out-Command};
@@ -25,7 +28,7 @@ use pim_addr::{V4, V6};
 use std::alloc::Global;
 use std::convert::AsStr;
 
-/// What `clap` finds in the words.
+/// What `clap` finds in the words: a command with its options and words.
 fn matches_of<'a, S: AsStr>(whole: Command<'a>, words: &'a [S]) -> Result<ArgMatches<'a>, Error>
     requires offered { IsOffered (app_of whole) }
     requires local { (out-Command whole).has_globals ≡ false }
@@ -43,7 +46,7 @@ fn matches_of<'a, S: AsStr>(whole: Command<'a>, words: &'a [S]) -> Result<ArgMat
     Ok(matches)
 }
 
-/// The command of this name.
+/// The command of this name, if there is one.
 fn kind_named(name: &str) -> Option<Kind>
     ensures { MatchOption result (IsKnown name.now → ⊥) (λ kind. name.now ≡ kind_name kind) }
 {
@@ -68,7 +71,7 @@ fn kind_named(name: &str) -> Option<Kind>
     None
 }
 
-/// What the command that `clap` met was given.
+/// The task of the command that `clap` found.
 fn read_met<'a>(alloc: Global, matches: &ArgMatches<'a>) -> Result<Task<'a, Address>, Fault<'a>>
     requires { IsSomeAnd (subcommand_rows_of matches.now) IsGiven }
     ensures { MatchResult result
@@ -84,7 +87,7 @@ fn read_met<'a>(alloc: Global, matches: &ArgMatches<'a>) -> Result<Task<'a, Addr
     read_task(alloc, kind, options)
 }
 
-/// The plan of a task not all of whose addresses are IPv4.
+/// The plan of a task whose addresses aren't all IPv4, or its first fault.
 fn plan_v6<'a>(alloc: Global, task: &Task<'a, Address>) -> Result<Plan<'a>, Fault<'a>>
     requires { are_in Ipv4 task.now ≡ false }
     ensures { MatchResult result (IsPlanOfTask task.now) (IsWrongTask task.now) }
@@ -98,7 +101,7 @@ fn plan_v6<'a>(alloc: Global, task: &Task<'a, Address>) -> Result<Plan<'a>, Faul
     }
 }
 
-/// The plan of a task.
+/// The plan of a task, or its first fault.
 fn plan_task<'a>(alloc: Global, task: &Task<'a, Address>) -> Result<Plan<'a>, Fault<'a>>
     ensures { MatchResult result (IsPlanOfTask task.now) (IsWrongTask task.now) }
 {
@@ -112,7 +115,7 @@ fn plan_task<'a>(alloc: Global, task: &Task<'a, Address>) -> Result<Plan<'a>, Fa
     }
 }
 
-/// What the words ask for, by this command line.
+/// The plan that the words ask for, by this command line.
 fn plan_by<'a, S: AsStr>(
     alloc: Global,
     whole: Command<'a>,
@@ -131,12 +134,17 @@ fn plan_by<'a, S: AsStr>(
     plan_task(alloc, &task)
 }
 
-/// What the words ask for, of which the first is the program's name. It opens nothing.
+/// The plan that the words ask for. The first word is the program's name. No file is opened.
 ///
 /// # Errors
-/// `Memory` where an allocation is refused; else the first of: `Clap` (what `clap` refuses, and a request for help or
-/// the version); `Address` of the options, in the order in which help tells them; `Word` and `Address` of the words, in
-/// order; `Family`; `NoPort` of a, then of b; `WriterAddress`; `Config` of a, then of b: `Ports`, `Address`, `Rp`.
+/// `Memory`, or the first of these causes that the words have:
+/// - `Clap`: `clap` refuses the words, or they ask for help or the version.
+/// - `Address` of an option, in the order of the options in help.
+/// - `Word` and `Address` of the words, in their order.
+/// - `Family`.
+/// - `NoPort` of router a, then of b, in a command with two routers.
+/// - `WriterAddress`.
+/// - `Config` of router a, then of b: `Ports`, `Address`, `Rp`.
 pub fn plan<'a, S: AsStr>(alloc: Global, words: &'a [S]) -> Result<Plan<'a>, Fault<'a>>
     ensures plan { MatchResult result (Plans pimtree (map S.text words.entry.now))
         (HasCause pimtree (map S.text words.entry.now)) }

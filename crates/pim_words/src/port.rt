@@ -1,4 +1,7 @@
 //! The ports that words name.
+//!
+//! In a command with one router, each port is one of router a. So one type of port serves all
+//! commands.
 
 ghost use Rattle.std.specs.Prelude.{◌≡◌, MatchOption, MatchResult, map, true};
 ghost use Rattle.std.specs.List.{AllZip};
@@ -11,10 +14,10 @@ use crate::fault::{Fault, Side};
 use crate::task::Port;
 use std::alloc::Global;
 
-/// A word, cut.
+/// A word that is cut into its parts.
 #[derive(Clone, Copy, Debug, PartialEq, Eq)]
 struct Cut<'a> {
-    /// The router that it is for.
+    /// The router of the word.
     side: Side,
     /// The text of the address.
     address: &'a str,
@@ -22,7 +25,7 @@ struct Cut<'a> {
     file: &'a str,
 }
 
-/// `ADDRESS@FILE`, cut at its first `@`.
+/// Cuts `ADDRESS@FILE` at its first `@`. `None` if there is none.
 fn cut_text<'a>(side: Side, text: &'a str) -> Option<Cut<'a>>
     ensures { MatchOption result (LacksAtSign text.now) (IsCutFor side text.now) }
 {
@@ -36,7 +39,7 @@ fn cut_text<'a>(side: Side, text: &'a str) -> Option<Cut<'a>>
     }
 }
 
-/// `a=ADDRESS@FILE` or `b=ADDRESS@FILE`, cut at its first `@`.
+/// Cuts `a=ADDRESS@FILE` or `b=ADDRESS@FILE` at its first `@`. `None` for another form.
 fn cut_sided<'a>(word: &'a str) -> Option<Cut<'a>>
     ensures { MatchOption result (IsUncutWord true word.now) (IsCutOf true word.now) }
 {
@@ -49,7 +52,7 @@ fn cut_sided<'a>(word: &'a str) -> Option<Cut<'a>>
     }
 }
 
-/// A word, cut.
+/// Cuts a word. `is_sided` says whether the command has two routers.
 fn cut_word<'a>(is_sided: bool, word: &'a str) -> Option<Cut<'a>>
     ensures { MatchOption result (IsUncutWord is_sided word.now) (IsCutOf is_sided word.now) }
 {
@@ -60,7 +63,7 @@ fn cut_word<'a>(is_sided: bool, word: &'a str) -> Option<Cut<'a>>
     }
 }
 
-/// The port that a word names.
+/// The port that a word names, or the fault of the word.
 fn read_port<'a>(is_sided: bool, word: &'a str) -> Result<Port<'a, Address>, Fault<'a>>
     ensures { MatchResult result (IsPort is_sided word.now) (IsWrongWord is_sided word.now) }
 {
@@ -78,7 +81,7 @@ fn read_port<'a>(is_sided: bool, word: &'a str) -> Result<Port<'a, Address>, Fau
     })
 }
 
-/// The ports that the words name, in order.
+/// The ports that the words name, in order, or the fault of the first wrong word.
 pub(crate) fn read_ports<'a>(
     alloc: Global,
     is_sided: bool,

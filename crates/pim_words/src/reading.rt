@@ -1,4 +1,7 @@
 //! The task that a command's options and words give, with addresses of either family.
+//!
+//! The defaults are set in this module. A required option that is missing counts as the empty text;
+//! `clap` refuses words without it.
 
 ghost use Rattle.std.specs.Prelude.{◌≡◌, MatchResult, IfOk, IfErr, true, false, Some, option_map, codes, map};
 ghost use Rattle.std.specs.List.{AllZip};
@@ -28,7 +31,7 @@ fn read_option<'a>(text: &'a str) -> Result<Address, Fault<'a>>
     }
 }
 
-/// The address that is the value of an option, where it is given.
+/// The address that is the value of an option, if it is given.
 fn read_given<'a>(text: Option<&'a str>) -> Result<Option<Address>, Fault<'a>>
     ensures { MatchResult result (IsNamed (option_map (λ s. s.now) text.entry))
         (IsUnreadValue (option_map (λ s. s.now) text.entry)) }
@@ -58,7 +61,7 @@ fn read_words<'a>(
     }
 }
 
-/// The captures of a command that has this RP.
+/// The ports and the options of the run of a command with this RP.
 fn read_captures<'a>(
     alloc: Global,
     is_sided: bool,
@@ -82,7 +85,7 @@ fn read_captures<'a>(
     })
 }
 
-/// What `check` was given.
+/// The task of `check`.
 fn read_check<'a>(options: &ArgMatches<'a>) -> Result<Task<'a, Address>, Fault<'a>>
     ensures { MatchResult result (IsTask Kind.Check (rows_of (found_of options.now)))
         (IsUnreadable Kind.Check (rows_of (found_of options.now))) }
@@ -92,7 +95,7 @@ fn read_check<'a>(options: &ArgMatches<'a>) -> Result<Task<'a, Address>, Fault<'
     Ok(Task::Check { src, dst })
 }
 
-/// What `replay` was given.
+/// The task of `replay`.
 fn read_replay<'a>(alloc: Global, options: &ArgMatches<'a>) -> Result<Task<'a, Address>, Fault<'a>>
     requires { HasNumbers (rows_of (found_of options.now)) }
     ensures { MatchResult result (IsTask Kind.Replay (rows_of (found_of options.now)))
@@ -103,18 +106,18 @@ fn read_replay<'a>(alloc: Global, options: &ArgMatches<'a>) -> Result<Task<'a, A
     Ok(Task::Replay(captures))
 }
 
-/// The addresses that a command that writes messages was given.
+/// The addresses of a command that writes messages.
 #[derive(Clone, Copy, Debug, PartialEq, Eq)]
 struct Addresses {
     /// The RP.
     rp: Address,
     /// The upstream neighbour.
     upstream: Address,
-    /// The address that messages come from.
+    /// The source address of the messages.
     own: Address,
 }
 
-/// The addresses that a command that writes messages was given.
+/// The addresses of a command that writes messages, or the fault of the first that can't be read.
 fn read_addresses<'a>(options: &ArgMatches<'a>) -> Result<Addresses, Fault<'a>>
     ensures { MatchResult result (AreWritten (rows_of (found_of options.now)))
         (IsFirstUnread (address_texts Kind.Same (rows_of (found_of options.now)))) }
@@ -125,7 +128,7 @@ fn read_addresses<'a>(options: &ArgMatches<'a>) -> Result<Addresses, Fault<'a>>
     Ok(Addresses { rp, upstream, own })
 }
 
-/// How a command writes messages, between these addresses.
+/// The writer of a command with these addresses.
 fn read_writing(addresses: Addresses, options: &ArgMatches<'_>) -> Writing<Address>
     requires addresses { AreWritten (rows_of (found_of options.now)) addresses }
     requires numbers { HasNumbers (rows_of (found_of options.now)) }
@@ -141,7 +144,7 @@ fn read_writing(addresses: Addresses, options: &ArgMatches<'_>) -> Writing<Addre
     }
 }
 
-/// What `same` was given.
+/// The task of `same`.
 fn read_same<'a>(alloc: Global, options: &ArgMatches<'a>) -> Result<Task<'a, Address>, Fault<'a>>
     requires { HasNumbers (rows_of (found_of options.now)) }
     ensures { MatchResult result (IsTask Kind.Same (rows_of (found_of options.now)))
@@ -153,7 +156,7 @@ fn read_same<'a>(alloc: Global, options: &ArgMatches<'a>) -> Result<Task<'a, Add
     Ok(Task::Same(captures, writing))
 }
 
-/// What `mirror` was given.
+/// The task of `mirror`.
 fn read_mirror<'a>(alloc: Global, options: &ArgMatches<'a>) -> Result<Task<'a, Address>, Fault<'a>>
     requires { HasNumbers (rows_of (found_of options.now)) }
     ensures { MatchResult result (IsTask Kind.Mirror (rows_of (found_of options.now)))
@@ -165,7 +168,7 @@ fn read_mirror<'a>(alloc: Global, options: &ArgMatches<'a>) -> Result<Task<'a, A
     Ok(Task::Mirror(captures, writing))
 }
 
-/// What `emit` was given.
+/// The task of `emit`.
 fn read_emit<'a>(alloc: Global, options: &ArgMatches<'a>) -> Result<Task<'a, Address>, Fault<'a>>
     requires { HasNumbers (rows_of (found_of options.now)) }
     ensures { MatchResult result (IsTask Kind.Emit (rows_of (found_of options.now)))
@@ -177,7 +180,7 @@ fn read_emit<'a>(alloc: Global, options: &ArgMatches<'a>) -> Result<Task<'a, Add
     Ok(Task::Emit(captures, writing))
 }
 
-/// What `change` was given.
+/// The task of `change`.
 fn read_change<'a>(alloc: Global, options: &ArgMatches<'a>) -> Result<Task<'a, Address>, Fault<'a>>
     requires { HasNumbers (rows_of (found_of options.now)) }
     ensures { MatchResult result (IsTask Kind.Change (rows_of (found_of options.now)))
@@ -189,7 +192,7 @@ fn read_change<'a>(alloc: Global, options: &ArgMatches<'a>) -> Result<Task<'a, A
     Ok(Task::Change(captures, writing))
 }
 
-/// What a command was given.
+/// The task of a command, or the fault of the first text that can't be read.
 pub(crate) fn read_task<'a>(
     alloc: Global,
     kind: Kind,

@@ -1,4 +1,4 @@
-//! The rows of the route table that the options of a command give.
+//! The route table that the options of a command give, without a file of routes.
 
 ghost use Rattle.std.specs.Prelude.{◌≡◌, IfOk, IfSome, true, [], option_map, replicate};
 ghost use Rattle.pim_addr.specs.Address.{address_length, is_source};
@@ -9,7 +9,7 @@ ghost use Rattle.pim_words.specs.Table.{given_table};
 use pim_addr::{AddressFamily, Family, RouteFault, Routes};
 use std::alloc::{AllocError, Global};
 
-/// The first address of all groups: 224.0.0.0 or ff00::.
+/// The first address of the prefix of all groups: 224.0.0.0 or ff00::.
 fn first_group<F: Family>() -> F::Addr
     ensures { F.bytes_of result ≡ first_group F.family }
 {
@@ -19,14 +19,14 @@ fn first_group<F: Family>() -> F::Addr
     }
 }
 
-/// The first of all addresses.
+/// The first address of the prefix of all addresses: 0.0.0.0 or ::.
 fn first_address<F: Family>() -> F::Addr
     ensures { F.bytes_of result ≡ replicate (address_length F.family) 0 }
 {
     F::take(&[0; 16])
 }
 
-/// How many bits all groups have in common.
+/// The length of the prefix of all groups, in bits.
 fn group_bits<F: Family>() -> u8
     ensures { result ≡ group_bits F.family }
 {
@@ -36,7 +36,7 @@ fn group_bits<F: Family>() -> u8
     }
 }
 
-/// Leads all groups to this RP, in a table without rows.
+/// Adds the row that maps all groups to this RP. The table must have no rows.
 fn add_rp<F: Family>(routes: &mut Routes<F>, rp: F::Addr) -> Result<(), AllocError>
     requires source { is_source F.family (F.bytes_of rp) ≡ true }
     requires empty { routes.old ≡ no_routes }
@@ -49,7 +49,8 @@ fn add_rp<F: Family>(routes: &mut Routes<F>, rp: F::Addr) -> Result<(), AllocErr
     }
 }
 
-/// Leads all addresses to this upstream neighbour, in a table without rows that lead to one.
+/// Adds the row that leads all addresses to this upstream neighbour. The table must have no row
+/// that leads to one.
 fn add_via<F: Family>(routes: &mut Routes<F>, neighbour: F::Addr) -> Result<(), AllocError>
     requires source { is_source F.family (F.bytes_of neighbour) ≡ true }
     requires empty { routes.old.vias ≡ [] }
@@ -62,11 +63,12 @@ fn add_via<F: Family>(routes: &mut Routes<F>, neighbour: F::Addr) -> Result<(), 
     }
 }
 
-/// The route table that the options of a command give: all groups are led to the RP, and all addresses to the upstream
-/// neighbour, where they are given.
+/// The route table that the options of a command give. If an RP is given, one row maps all groups
+/// to it. If an upstream neighbour is given, one row leads all addresses to it. Both must be valid
+/// sources.
 ///
 /// # Errors
-/// Want of memory.
+/// An allocation was refused.
 pub fn given_table<F: Family>(
     alloc: Global,
     rp: Option<F::Addr>,

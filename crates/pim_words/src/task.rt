@@ -1,71 +1,75 @@
 //! What a command asks for.
+//!
+//! `Plan` is apart from `plan`, since two names of a module can't differ by case alone. The ranges
+//! below are those of a plan.
 
 use crate::fault::Side;
 
-/// A port of a router, as a word of the command line names it.
+/// A port of a router, which a word of the command line names.
 #[derive(Clone, Copy, Debug, PartialEq, Eq)]
 pub struct Port<'a, A> {
-    /// The router that it is a port of; `Side::A` where the command has one router.
+    /// The router of the port: `Side::A` if the command has one router.
     pub side: Side,
-    /// The router's address on it.
+    /// The router's address on the port.
     pub address: A,
-    /// The name of the file with its packets.
+    /// The name of the file with the capture of the port.
     pub file: &'a str,
     /// The whole word.
     pub word: &'a str,
 }
 
-/// What a command with captures asks for.
+/// The routers of a command with captures, and how they run.
 #[derive(Debug, Drop)]
 pub struct Captures<'a, A> {
-    /// The RP of all groups, where one is given.
+    /// The RP of all groups, if one is given.
     pub rp: Option<A>,
-    /// The name of the file of routes, where one is given.
+    /// The name of the file of routes, if one is given.
     pub routes: Option<&'a str>,
-    /// How many records each port may have: 1 to 100,000.
+    /// The most records that each port may hold: 1 to 100,000.
     pub limit: usize,
-    /// How long to run behind the last packet: 0 to 1,000,000,000 milliseconds.
+    /// The time to run after the last record, in milliseconds: 0 to 1,000,000,000.
     pub after_ms: u64,
-    /// The ports of one router or of both, in the order of the words.
+    /// The ports of one or both routers, in the order of the words.
     pub ports: Vec<Port<'a, A>>,
 }
 
-/// How messages are written.
+/// The writer of Join/Prune messages.
 #[derive(Clone, Copy, Debug, PartialEq, Eq)]
 pub struct Writing<A> {
-    /// The upstream neighbour that they go to.
+    /// The upstream neighbour to which the messages go.
     pub upstream: A,
-    /// The address that they come from.
+    /// The source address of the messages.
     pub own: A,
-    /// Their holdtime: 99 to 65,535 seconds.
+    /// The holdtime of the messages, in seconds: 99 to 65,535.
     pub holdtime: u16,
-    /// How many bytes one may have: 70 to 65,000.
+    /// The most bytes of a message: 70 to 65,000.
     pub budget: usize,
 }
 
-/// What is asked for.
+/// What a command asks for.
 #[derive(Debug, Drop)]
 pub enum Task<'a, A> {
-    /// To read one message.
+    /// To read one message and print it.
     Check {
-        /// Where it came from.
+        /// The IP source address of the message.
         src: A,
-        /// Where it went.
+        /// The IP destination address of the message.
         dst: A,
     },
-    /// To tell what a router's state is behind its captures.
+    /// To report the packets of a router's captures and its state after them.
     Replay(Captures<'a, A>),
-    /// To tell whether two routers want the same traffic.
+    /// To report whether two routers want the same traffic.
     Same(Captures<'a, A>, Writing<A>),
-    /// To tell the messages that make a fresh router want what a router wants.
+    /// To print the messages that make a fresh router want what this router wants.
     Mirror(Captures<'a, A>, Writing<A>),
-    /// To write the messages by which a router asks its upstream neighbour.
+    /// To write the bytes of the messages by which a router asks its upstream neighbour.
     Emit(Captures<'a, A>, Writing<A>),
-    /// To tell the messages by which an upstream neighbour of router a learns to send what router b wants.
+    /// To print the messages that move an upstream neighbour from the demand of router a to that of
+    /// router b.
     Change(Captures<'a, A>, Writing<A>),
 }
 
-/// What is asked for, with all its addresses of one family.
+/// A task whose addresses are all of one family.
 #[derive(Debug, Drop)]
 pub enum Plan<'a> {
     /// All addresses are IPv4.

@@ -1,4 +1,5 @@
-//! A task whose addresses are all of one family.
+//! A task with addresses of either family, turned into one with addresses of one family. Each
+//! function returns `Family` if an address is of the other one, or `Memory`.
 
 ghost use Rattle.std.specs.Prelude.{◌≡◌, MatchResult, true, map, option_map};
 ghost use Rattle.std.specs.List.{list_all};
@@ -13,7 +14,7 @@ use crate::task::{Captures, Port, Task, Writing};
 use pim_addr::{AddressFamily, Family};
 use std::alloc::Global;
 
-/// The address, if it is one of this family.
+/// The address, if it is of this family.
 fn in_family<F: Family>(address: Address) -> Result<F::Addr, Fault<'static>>
     ensures { MatchResult result
         (λ a. (is_in F.family address ≡ true) × (address_in F.family (F.bytes_of a) ≡ address))
@@ -26,7 +27,7 @@ fn in_family<F: Family>(address: Address) -> Result<F::Addr, Fault<'static>>
     }
 }
 
-/// The RP, if it is one of this family.
+/// The RP, if it is of this family or isn't given.
 fn rp_in_family<F: Family>(rp: Option<Address>) -> Result<Option<F::Addr>, Fault<'static>>
     ensures { MatchResult result
         (λ r. (option_map_or (is_in F.family) rp true ≡ true)
@@ -42,7 +43,7 @@ fn rp_in_family<F: Family>(rp: Option<Address>) -> Result<Option<F::Addr>, Fault
     }
 }
 
-/// The port, if its address is one of this family.
+/// The port, if its address is of this family.
 fn port_in_family<'a, F: Family>(
     port: &Port<'a, Address>,
 ) -> Result<Port<'a, F::Addr>, Fault<'static>>
@@ -102,7 +103,7 @@ fn captures_in_family<'a, F: Family>(
     })
 }
 
-/// How messages are written, if both addresses are of this family.
+/// The writer, if both its addresses are of this family.
 fn writing_in_family<F: Family>(
     writing: Writing<Address>,
 ) -> Result<Writing<F::Addr>, Fault<'static>>
@@ -120,7 +121,7 @@ fn writing_in_family<F: Family>(
     })
 }
 
-/// The two ends of a message, if both are of this family.
+/// The task of `check`, if both its addresses are of this family.
 fn check_in_family<'a, F: Family>(
     src: Address,
     dst: Address,
@@ -135,7 +136,7 @@ fn check_in_family<'a, F: Family>(
     Ok(Task::Check { src, dst })
 }
 
-/// What is asked for, if all its addresses are of this family.
+/// The task, if all its addresses are of this family.
 pub(crate) fn task_in_family<'a, F: Family>(
     alloc: Global,
     task: &Task<'a, Address>,

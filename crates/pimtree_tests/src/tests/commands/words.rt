@@ -108,8 +108,8 @@ const REQUESTS: [(&[&str], &str); 6] = [
         "Usage: pimtree check [OPTIONS]",
     ),
     (&["pimtree", "check", "--help"], "[default: 224.0.0.13]"),
-    (&["pimtree", "check", "--src", "x", "--help"], "Example:"),
-    (&["pimtree", "--version"], "pimtree 0.1.0\n"),
+    (&["pimtree", "check", "--src", "x", "--help"], "Example, "),
+    (&["pimtree", "--version"], "pimtree 0.2.0\n"),
 ];
 
 /// Standard input with these bytes.

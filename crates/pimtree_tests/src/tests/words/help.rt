@@ -1,102 +1,195 @@
-//! What is told where help is asked for.
+//! The help texts: what they contain, and how wide they are.
 
+use clap::error::ErrorKind;
 use pim_words::{Fault, plan};
 use std::alloc::Global;
 
-/// Requests for help, with a part of the answer.
-const HELP: [(&[&str], &str); 22] = [
+/// The most columns of a line of help.
+const WIDTH: usize = 80;
+
+/// The words that ask for each help text.
+const PAGES: [&[&str]; 7] = [
+    &["p", "--help"],
+    &["p", "check", "--help"],
+    &["p", "replay", "--help"],
+    &["p", "same", "--help"],
+    &["p", "mirror", "--help"],
+    &["p", "emit", "--help"],
+    &["p", "change", "--help"],
+];
+
+/// Parts of the help of the program.
+const PROGRAM: [&str; 10] = [
+    "  check   What does this message say, or where is it wrong?\n",
+    "  replay  What state did this router hold, and why?\n",
+    "  same    Do these two routers want the same traffic?\n",
+    "  mirror  Which messages make a fresh router want what this router wants?\n",
+    "  emit    By which messages does this router ask its upstream neighbour?\n",
+    "  change  Which messages move the upstream neighbour from a's demand to b's?\n",
+    "\n  capture magic      FILE isn't classic pcap: `editcap -F pcap IN OUT` makes one\n",
+    "\n  capture link-type  FILE is neither Ethernet nor raw IP: `tcpdump -i any` makes\n",
+    "\n  config ports       no word ADDRESS@FILE was given, or more than 64 were\n",
+    "0 for success, 1 where `same` prints `different`, 2 for a fault.",
+];
+
+/// Parts of the help of `replay`.
+const REPLAY: [&str; 32] = [
+    "Usage: pimtree replay [OPTIONS] ADDRESS@FILE...\n",
+    "FILE is a classic pcap file of Ethernet or raw IP. `editcap -F pcap IN OUT`\n",
+    "`tcpdump -i any` makes cooked captures, so name an\ninterface.",
+    "A FIFO, /dev/stdin and <(zcat x.pcap.gz) work as FILE, too;",
+    "without --rp and --routes\n                       none does\n",
+    "Most records of a port, 1 to 100000\n                       [default: 100000]",
+    "in milliseconds,\n                       0 to 1000000000 [default: 0]",
+    "\n  hello new          ",
+    "\n  hello same         ",
+    "\n  hello restarted    ",
+    "\n  hello gone         ",
+    "\n  applied            ",
+    "\n  not-for-us         ",
+    "\n  unknown-neighbour  ",
+    "\n  mine               ",
+    "\n  type N             ",
+    "\n  malformed FAULT    ",
+    "\n  full neighbours    ",
+    "\n  full N             ",
+    "`MS port P echo star G`",
+    "After `state at MS` each ",
+    "\n  et N         expiry timer: ",
+    "\n  ppt N        prune-pending timer: ",
+    "\n  want star G      ",
+    "`except S G`",
+    "\n  want source S G  ",
+    "\n  skipped N        ",
+    "\n  refreshes N      ",
+    "(PruneEcho)",
+    "`pimtree --help` explains faults.",
+    "[ADDRESS@FILE]...  A port: ",
+    "  pimtree replay --rp 10.9.9.9 10.0.0.2@examples/lan.pcap\n",
+];
+
+/// Parts of the help of `check`.
+const CHECK: [&str; 4] = [
+    "  pimtree check < examples/join-star.pim\n",
+    "[default: 0.0.0.0]",
+    "[default: 224.0.0.13]",
+    "at most 65536 bytes",
+];
+
+/// Parts of the help of each command that writes messages.
+const WRITING: [&str; 7] = [
+    "Rendezvous point of all groups [required]\n",
+    "Upstream neighbour the messages go to [required]\n",
+    "Address the messages come from [required]\n",
+    "in seconds, 99 to 65535;\n                            65535 is forever [default: 210]\n",
+    "70 to 65000 [default: 1460]\n",
+    "--upstream 10.0.0.3 --own 10.0.0.1 \\\n    ",
+    "`pimtree replay --help` explains what a FILE is.\n",
+];
+
+/// Parts of the help of one command that writes messages.
+const OF_ONE: [(&[&str], &str); 8] = [
     (
-        &["p", "--help"],
-        "What does this message say, or where is it wrong?",
-    ),
-    (
-        &["p", "--help"],
-        "What state did this router hold, and why?",
-    ),
-    (
-        &["p", "--help"],
-        "Do these two routers want the same traffic?",
-    ),
-    (
-        &["p", "--help"],
-        "Which messages make a fresh router want what this router wants?",
-    ),
-    (
-        &["p", "--help"],
-        "By which messages does this router ask its upstream neighbour?",
-    ),
-    (
-        &["p", "--help"],
-        "Which messages tell the upstream neighbour of the change from what a wants to what b wants?",
-    ),
-    (
-        &["p", "check", "--help"],
-        "pimtree check < examples/join-star.pim",
-    ),
-    (&["p", "check", "--help"], "[default: 224.0.0.13]"),
-    (&["p", "replay", "--help"], "1 to 100000 [default: 100000]"),
-    (
-        &["p", "replay", "--help"],
-        "in milliseconds, 0 to 1000000000",
-    ),
-    (
-        &["p", "replay", "--help"],
-        "pimtree replay --rp 10.9.9.9 10.0.0.2@examples/lan.pcap",
+        &["p", "same", "--help"],
+        "Usage: pimtree same [OPTIONS] a=ADDRESS@FILE... b=ADDRESS@FILE...\n",
     ),
     (
         &["p", "same", "--help"],
-        "in seconds, 99 to 65535, which is for ever [default: 210]",
+        "    a=10.0.0.2@examples/lan.pcap b=10.0.0.2@examples/lost.pcap\n",
     ),
-    (&["p", "same", "--help"], "70 to 65000 [default: 1460]"),
-    (&["p", "same", "--help"], "a=ADDRESS@FILE or b=ADDRESS@FILE"),
-    (
-        &["p", "same", "--help"],
-        "a=10.0.0.2@examples/lan.pcap b=10.0.0.2@examples/lost.pcap",
-    ),
-    (&["p", "mirror", "--help"], "70 to 65000 [default: 1460]"),
     (
         &["p", "mirror", "--help"],
-        "10.0.0.1 10.0.0.2@examples/lan.pcap",
-    ),
-    (&["p", "emit", "--help"], "70 to 65000 [default: 1460]"),
-    (
-        &["p", "emit", "--help"],
-        "behind two bytes of its length, of which the first counts 256 times",
+        "Usage: pimtree mirror [OPTIONS] ADDRESS@FILE...\n",
     ),
     (
+        &["p", "mirror", "--help"],
+        "    10.0.0.2@examples/lan.pcap\n",
+    ),
+    (
         &["p", "emit", "--help"],
-        "10.0.0.1 10.0.0.2@examples/lan.pcap > messages",
+        "Usage: pimtree emit [OPTIONS] ADDRESS@FILE...\n",
+    ),
+    (
+        &["p", "emit", "--help"],
+        "each after its length, which is two\nbytes, big-endian.",
     ),
     (
         &["p", "change", "--help"],
-        "a=ADDRESS@FILE or b=ADDRESS@FILE",
+        "Usage: pimtree change [OPTIONS] a=ADDRESS@FILE... b=ADDRESS@FILE...\n",
     ),
     (
         &["p", "change", "--help"],
-        "a=10.0.0.2@examples/lan.pcap b=10.0.0.2@examples/lost.pcap",
+        "    a=10.0.0.2@examples/lan.pcap b=10.0.0.2@examples/lost.pcap\n",
     ),
 ];
 
-/// Whether a fault is `clap`'s text with this part in it.
-fn shows(fault: &Fault<'_>, part: &str) -> bool {
+/// Whether a fault is a text of `clap` of this kind that passes the test.
+fn is_text(fault: &Fault<'_>, kind: ErrorKind, passes: impl Fn(&str) -> bool) -> bool {
     match fault {
-        Fault::Clap(refusal) => refusal.text.contains(part),
+        Fault::Clap(refusal) => refusal.kind == kind && passes(&refusal.text),
         _ => false,
     }
 }
 
-/// Whether this is in what is told of the words.
+/// Whether the words ask for a help text that contains this part.
 fn is_shown(alloc: Global, words: &[&str], part: &str) -> bool {
     match plan(alloc, words) {
         Ok(_) => false,
-        Err(fault) => shows(&fault, part),
+        Err(fault) => is_text(&fault, ErrorKind::DisplayHelp, |text| text.contains(part)),
     }
 }
 
-#[test]
-fn help_names_units_ranges_and_defaults(rt: HostRuntime) {
-    let wrong = HELP
+/// Whether the words ask for a help text whose lines are narrow enough.
+fn is_narrow(alloc: Global, words: &[&str]) -> bool {
+    match plan(alloc, words) {
+        Ok(_) => false,
+        Err(fault) => is_text(&fault, ErrorKind::DisplayHelp, |text| {
+            text.lines().all(|line| line.chars().count() <= WIDTH)
+        }),
+    }
+}
+
+/// The first of these parts that the help doesn't contain.
+fn missing<'a>(alloc: Global, words: &[&str], parts: &[&'a str]) -> Option<&'a str> {
+    parts
         .iter()
-        .position(|(words, part)| !is_shown(rt.alloc(), words, part));
+        .copied()
+        .find(|part| !is_shown(alloc, words, part))
+}
+
+#[test]
+fn help_is_at_most_80_columns_wide(rt: HostRuntime) {
+    let wide = PAGES.iter().position(|words| !is_narrow(rt.alloc(), words));
+    assert_eq!(rt; wide, None);
+}
+
+#[test]
+fn help_explains_what_is_printed(rt: HostRuntime) {
+    let alloc = rt.alloc();
+    assert_eq!(rt; missing(alloc, &["p", "--help"], &PROGRAM), None);
+    assert_eq!(rt; missing(alloc, &["p", "check", "--help"], &CHECK), None);
+    assert_eq!(rt; missing(alloc, &["p", "replay", "--help"], &REPLAY), None);
+}
+
+#[test]
+fn help_explains_the_options_of_messages(rt: HostRuntime) {
+    let alloc = rt.alloc();
+    for name in ["same", "mirror", "emit", "change"] {
+        assert_eq!(rt; missing(alloc, &["p", name, "--help"], &WRITING), None);
+    }
+    let wrong = OF_ONE
+        .iter()
+        .position(|(words, part)| !is_shown(alloc, words, part));
     assert_eq!(rt; wrong, None);
+}
+
+#[test]
+fn version_is_shown(rt: HostRuntime) {
+    let is_version = match plan(rt.alloc(), &["p", "--version"]) {
+        Ok(_) => false,
+        Err(fault) => is_text(&fault, ErrorKind::DisplayVersion, |text| {
+            text == "pimtree 0.2.0\n"
+        }),
+    };
+    assert!(rt; is_version);
 }
