@@ -1,4 +1,5 @@
--- The change that a task asks for: its two routers and writer, and what is answered and written of their captures.
+-- The change that a task asks for: its two routers and its writer, and what is returned and
+-- written.
 use Rattle.std.specs.Prelude.{◌≡◌, ◌⊎◌, ℕ, List, Option, Result, Ok, Err}
 use Rattle.pim_addr.specs.declared.family.AddressFamily.{AddressFamily}
 use Rattle.pim_form.specs.Messages.{Writing}
@@ -10,8 +11,8 @@ use Rattle.pim_commands.specs.Comparing.{causes}
 use Rattle.pim_commands.specs.Mirroring.{mirrored, MirrorAnswer}
 use Rattle.pim_commands.specs.Replaying.{IsFirstCause}
 
--- New routers of these set-ups are replayed, the change from the one to the other is told, and the engine's answer is
--- told so.
+-- New routers of these set-ups are replayed and the messages of the change between them are
+-- written. This is the program's result for that of the engine.
 pub record IsChanged {A : Type 0} (family : AddressFamily) (bytes_of : A → List ℕ) (after_ms limit : ℕ)
     (writing : Writing) (merge merge' other other' : MergeState) (a b : Setup) (old new : Option (List ℕ))
     (result : Result ℕ Fault) : Type 0 where
@@ -22,7 +23,7 @@ pub record IsChanged {A : Type 0} (family : AddressFamily) (bytes_of : A → Lis
       other other' (new_router b) after_of bytes_of old new told
   pub answer : result ≡ mirrored family bytes_of told
 
--- It is told, or there is no writer or no router, and nothing is written.
+-- The change is written, or there is no writer or no router and nothing is written.
 abbrev pub ChangesNew : {A : Type 0} → AddressFamily → (A → List ℕ) → ℕ → ℕ → Writing → MergeState → MergeState →
     MergeState → MergeState → Setup → Setup → Option (List ℕ) → Option (List ℕ) → Result ℕ Fault → Type 0
 ChangesNew family bytes_of after_ms limit writing merge merge' other other' a b old new (Ok status) =

@@ -1,4 +1,5 @@
--- The comparison that a task asks for: its two routers, and what is answered and written of their captures.
+-- The comparison that a task asks for: its two routers, and what is returned and written of their
+-- captures.
 use Rattle.std.specs.Prelude.{◌≡◌, ◌⊎◌, ℕ, cond, Bool, List, ◌++◌, map, filter, Option, Result, Ok, Err}
 use Rattle.pim_addr.specs.Routes.{RouteTable}
 use Rattle.pim_addr.specs.declared.family.AddressFamily.{AddressFamily}
@@ -20,43 +21,46 @@ use Rattle.pim_commands.specs.declared.fault.Fault.TheVariants.{TooBig}
 use Rattle.pim_commands.specs.Replaying.{config_of, config_fault, replay_fault, IsFirstCause}
 use Rattle.pim_commands.specs.Writing.{writer_causes}
 
--- the port is one of this router
+-- Whether the port belongs to this router.
 abbrev pub is_of : {A : Type 0} → Side → Port A → Bool
 is_of side port = is_side side port.side
 
--- one port, where it is this router's
+-- 1 if the port belongs to this router, otherwise 0.
 abbrev pub one_of : Side → Side → ℕ
 one_of side other = cond (is_side side other) 1 0
 
--- what one of the two routers is made from
+-- The set-up of one of two routers: its own ports, the table and the limit on records.
 abbrev pub side_setup : {A : Type 0} → (A → List ℕ) → Side → List (Port A) → RouteTable → ℕ → Setup
 side_setup bytes_of side ports routes limit =
     setup_seen bytes_of (map config_of (filter (is_of side) ports)) routes limit
 
--- ---- faults, as the program tells them
+-- ---- faults of the program
 
 module _ {F A N : Type 0} (family : AddressFamily) (bytes_of : A → List ℕ) where
+  -- The program's fault for a fault of the comparison.
   abbrev pub same_fault : SameFault F A N → Fault
   same_fault (of_same.Replay told) = replay_fault told
   same_fault (of_same.TooBig group) = TooBig (address_in family (bytes_of group))
 
+  -- The program's result for a result of the comparison.
   abbrev pub compared : Result ℕ (SameFault F A N) → Result ℕ Fault
   compared (Ok status) = Ok status
   compared (Err fault) = Err (same_fault fault)
 
--- ---- two new routers' comparison
+-- ---- the comparison of two new routers
 
--- what is wrong with the writer, then with router a, then with router b
+-- The faults of the set-up: of the writer, then of router a, then of router b.
 abbrev pub causes : AddressFamily → Writing → Setup → Setup → List Fault
 causes family writing a b =
     writer_causes (has_bad_address family writing)
     ++ (map config_fault (config_faults family a) ++ map config_fault (config_faults family b))
 
--- an answer of the engine, for any family of addresses that are these
+-- A result of the engine, for any family with addresses of this type.
 abbrev pub ComparisonAnswer : Type 0 → Type 0
 ComparisonAnswer A = Result ℕ (SameFault (Unit {0}) A (Unit {0}))
 
--- New routers of these set-ups are compared, and the engine's answer is told so.
+-- New routers of these set-ups are compared, and this is the program's result for that of the
+-- engine.
 pub record IsCompared {A : Type 0} (family : AddressFamily) (bytes_of : A → List ℕ) (after_ms : ℕ) (writing : Writing)
     (merge merge' other other' : MergeState) (a b : Setup) (old new : Option (List ℕ)) (result : Result ℕ Fault)
     : Type 0 where
@@ -67,7 +71,7 @@ pub record IsCompared {A : Type 0} (family : AddressFamily) (bytes_of : A → Li
       bytes_of old new told
   pub answer : result ≡ compared family bytes_of told
 
--- They are compared, or there is no writer or no router, and nothing is written.
+-- New routers are compared, or there is no writer or no router and nothing is written.
 abbrev pub ComparesNew : {A : Type 0} → AddressFamily → (A → List ℕ) → ℕ → Writing → MergeState → MergeState →
     MergeState → MergeState → Setup → Setup → Option (List ℕ) → Option (List ℕ) → Result ℕ Fault → Type 0
 ComparesNew family bytes_of after_ms writing merge merge' other other' a b old new (Ok status) =

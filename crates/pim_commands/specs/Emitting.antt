@@ -1,4 +1,5 @@
--- The messages that a task has written: its router and writer, and what is answered and written of its captures.
+-- The messages that a task asks to write: its router and its writer, and what is returned and
+-- written.
 use Rattle.std.specs.Prelude.{◌≡◌, ◌⊎◌, ℕ, List, Option, Result, Ok, Err}
 use Rattle.pim_addr.specs.declared.family.AddressFamily.{AddressFamily}
 use Rattle.pim_form.specs.Messages.{Writing}
@@ -13,24 +14,27 @@ use Rattle.pim_commands.specs.declared.fault.Fault.TheVariants.{TooBig}
 use Rattle.pim_commands.specs.Mirroring.{mirror_causes}
 use Rattle.pim_commands.specs.Replaying.{replay_fault, IsFirstCause}
 
--- ---- faults, as the program tells them
+-- ---- faults of the program
 
 module _ {F A N : Type 0} (family : AddressFamily) (bytes_of : A → List ℕ) where
+  -- The program's fault for a fault of the messages.
   abbrev pub emit_fault : EmitFault F A N → Fault
   emit_fault (of_emission.Replay told) = replay_fault told
   emit_fault (of_emission.TooBig group) = TooBig (address_in family (bytes_of group))
 
+  -- The program's result for a result of the messages.
   abbrev pub emitted : Result ℕ (EmitFault F A N) → Result ℕ Fault
   emitted (Ok status) = Ok status
   emitted (Err fault) = Err (emit_fault fault)
 
--- ---- a new router's messages
+-- ---- the messages of a new router
 
--- an answer of the engine, for any family of addresses that are these
+-- A result of the engine, for any family with addresses of this type.
 abbrev pub EmissionAnswer : Type 0 → Type 0
 EmissionAnswer A = Result ℕ (EmitFault (Unit {0}) A (Unit {0}))
 
--- A new router of this set-up is replayed and its messages are written, and the engine's answer is told so.
+-- A new router of this set-up is replayed and its messages are written. This is the program's
+-- result for that of the engine.
 pub record IsEmitted {A : Type 0} (family : AddressFamily) (bytes_of : A → List ℕ) (after_ms : ℕ) (writing : Writing)
     (merge merge' : MergeState) (setup : Setup) (old new : Option (List ℕ)) (result : Result ℕ Fault) : Type 0 where
   pub after : RouterState
@@ -38,7 +42,7 @@ pub record IsEmitted {A : Type 0} (family : AddressFamily) (bytes_of : A → Lis
   pub emits : Emits family after_ms writing merge merge' (new_router setup) after bytes_of old new told
   pub answer : result ≡ emitted family bytes_of told
 
--- They are, or there is no writer or no router, as for a mirror, and nothing is written.
+-- Its messages are written, or there is no writer or no router and nothing is written.
 abbrev pub EmitsNew : {A : Type 0} → AddressFamily → (A → List ℕ) → ℕ → Writing → MergeState → MergeState → Setup →
     Option (List ℕ) → Option (List ℕ) → Result ℕ Fault → Type 0
 EmitsNew family bytes_of after_ms writing merge merge' setup old new (Ok status) =

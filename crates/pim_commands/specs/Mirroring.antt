@@ -1,4 +1,4 @@
--- The mirror that a task asks for: its router and writer, and what is answered and written of its captures.
+-- The mirror that a task asks for: its router and its writer, and what is returned and written.
 use Rattle.std.specs.Prelude.{◌≡◌, ◌⊎◌, ℕ, List, ◌++◌, map, Option, Result, Ok, Err}
 use Rattle.pim_addr.specs.declared.family.AddressFamily.{AddressFamily}
 use Rattle.pim_form.specs.Messages.{Writing}
@@ -15,30 +15,33 @@ use Rattle.pim_commands.specs.declared.fault.Fault.TheVariants.{TooBig, Full}
 use Rattle.pim_commands.specs.Replaying.{config_fault, replay_fault, IsFirstCause}
 use Rattle.pim_commands.specs.Writing.{writer_causes}
 
--- ---- faults, as the program tells them
+-- ---- faults of the program
 
 module _ {F A N : Type 0} (family : AddressFamily) (bytes_of : A → List ℕ) where
+  -- The program's fault for a fault of the mirror.
   abbrev pub mirror_fault : MirrorTextFault F A N → Fault
   mirror_fault (of_mirror.Replay told) = replay_fault told
   mirror_fault (of_mirror.TooBig group) = TooBig (address_in family (bytes_of group))
   mirror_fault (of_mirror.Full needed) = Full needed
 
+  -- The program's result for a result of the mirror.
   abbrev pub mirrored : Result ℕ (MirrorTextFault F A N) → Result ℕ Fault
   mirrored (Ok status) = Ok status
   mirrored (Err fault) = Err (mirror_fault fault)
 
--- ---- a new router's mirror
+-- ---- the mirror of a new router
 
--- what is wrong with the writer, then with the router
+-- The faults of the set-up: of the writer, then of the router.
 abbrev pub mirror_causes : AddressFamily → Writing → Setup → List Fault
 mirror_causes family writing setup =
     writer_causes (has_bad_address family writing) ++ map config_fault (config_faults family setup)
 
--- an answer of the engine, for any family of addresses that are these
+-- A result of the engine, for any family with addresses of this type.
 abbrev pub MirrorAnswer : Type 0 → Type 0
 MirrorAnswer A = Result ℕ (MirrorTextFault (Unit {0}) A (Unit {0}))
 
--- A new router of this set-up is replayed and mirrored, and the engine's answer is told so.
+-- A new router of this set-up is replayed and mirrored, and this is the program's result for that
+-- of the engine.
 pub record IsMirrored {A : Type 0} (family : AddressFamily) (bytes_of : A → List ℕ) (after_ms limit : ℕ)
     (writing : Writing) (merge merge' : MergeState) (setup : Setup) (old new : Option (List ℕ))
     (result : Result ℕ Fault) : Type 0 where
@@ -47,7 +50,7 @@ pub record IsMirrored {A : Type 0} (family : AddressFamily) (bytes_of : A → Li
   pub mirrors : TellsMirror family after_ms writing limit merge merge' (new_router setup) after bytes_of old new told
   pub answer : result ≡ mirrored family bytes_of told
 
--- It is mirrored, or there is no writer or no router, and nothing is written.
+-- A new router is mirrored, or there is no writer or no router and nothing is written.
 abbrev pub MirrorsNew : {A : Type 0} → AddressFamily → (A → List ℕ) → ℕ → ℕ → Writing → MergeState → MergeState →
     Setup → Option (List ℕ) → Option (List ℕ) → Result ℕ Fault → Type 0
 MirrorsNew family bytes_of after_ms limit writing merge merge' setup old new (Ok status) =

@@ -1,4 +1,4 @@
--- The replay that a task asks for: its router, and what is answered and written of its captures.
+-- The replay that a task asks for: its router, and what is returned and written of its captures.
 use Rattle.std.specs.Prelude.{◌≡◌, ◌⊎◌, ⊤, ℕ, Bool, false, not, List, [], ◌∷◌, ◌++◌}
 use Rattle.std.specs.Prelude.{Option, None, Some, Result, Ok, Err}
 use Rattle.pim_addr.specs.declared.family.AddressFamily.{AddressFamily}
@@ -23,20 +23,24 @@ use Rattle.pim_commands.specs.declared.causes.CaptureCause.TheVariants as captur
 use Rattle.pim_commands.specs.declared.fault.Fault.{Fault}
 use Rattle.pim_commands.specs.declared.fault.Fault.TheVariants.{Words, Capture, Output, Memory}
 
--- a port that a word names, with the delays that every port has, in milliseconds (RFC 7761, 4.11)
+-- The configuration of a port that a word names. Its delays are the defaults of RFC 7761, 4.11, in
+-- milliseconds: Propagation_delay_default and t_override_default.
 abbrev pub config_of : {A : Type 0} → Port A → PortConfig A
 config_of port = record { address = port.address; propagation = 500; override_ms = 2500 }
 
--- ---- faults, as the program tells them
+-- ---- faults of the program
 
+-- The program's fault for this fault of the words.
 abbrev pub config_told : ConfigCause → Fault
 config_told cause = Words (of_words.Config cause)
 
+-- The program's fault for a fault of a router's configuration.
 abbrev pub config_fault : ConfigFault → Fault
 config_fault (of_config.Address port) = config_told cause.Address
 config_fault of_config.Memory = Memory
 config_fault other = config_told cause.Ports
 
+-- The program's fault for a fault of a capture.
 abbrev pub capture_fault : CaptureFault → Fault
 capture_fault of_capture.Magic = Capture capture.Magic
 capture_fault of_capture.LinkType = Capture capture.LinkType
@@ -45,19 +49,22 @@ capture_fault of_capture.TooLong = Capture capture.TooLong
 capture_fault of_capture.Memory = Memory
 capture_fault other = Capture capture.Read
 
+-- The program's fault for a fault of a replay.
 abbrev pub replay_fault : ReplayFault → Fault
 replay_fault (of_replay.Capture told) = capture_fault told.fault
 replay_fault of_replay.Output = Output
 replay_fault of_replay.Memory = Memory
 
+-- The program's result for a result of a replay.
 abbrev pub answer_of : Result ℕ ReplayFault → Result ℕ Fault
 answer_of (Ok status) = Ok status
 answer_of (Err fault) = Err (replay_fault fault)
 
+-- The program's fault for a writer whose addresses aren't two different valid sources.
 abbrev pub writer_told : Fault
 writer_told = Words of_words.WriterAddress
 
--- This is the first of these causes, or memory is wanting.
+-- The fault is the first of these causes, or memory is refused.
 abbrev pub IsFirstCause : List Fault → Fault → Type 0
 IsFirstCause all Memory = ⊤
 IsFirstCause [] fault = ⊥
@@ -65,24 +72,25 @@ IsFirstCause (first ∷ others) fault = fault ≡ first
 
 -- ---- the table that the options of a command give
 
--- the address is given and isn't a valid source
+-- Whether the address is given and isn't a valid source.
 abbrev pub is_bad : AddressFamily → Option (List ℕ) → Bool
 is_bad family None = false
 is_bad family (Some address) = not (is_source family address)
 
+-- The faults of the addresses that the table is made of: of the upstream neighbour, then of the RP.
 abbrev pub table_causes : AddressFamily → Option (List ℕ) → Option (List ℕ) → List Fault
 table_causes family rp upstream =
     fault_if (is_bad family upstream) writer_told ++ fault_if (is_bad family rp) (config_told cause.Rp)
 
--- ---- a new router's replay
+-- ---- the replay of a new router
 
--- There is no such router, for the first of these causes, or for want of memory.
+-- Why there is no router of the given set-up: its first fault, or memory is refused.
 abbrev pub IsUnmade : List ConfigFault → Fault → Type 0
 IsUnmade faults Memory = ⊤
 IsUnmade [] fault = ⊥
 IsUnmade (first ∷ others) fault = fault ≡ config_fault first
 
--- A new router of this set-up is replayed, and the engine's answer is told so.
+-- A new router of this set-up is replayed, and this is the program's result for that of the engine.
 pub record IsReplayed (family : AddressFamily) (tells_via : Bool) (after_ms : ℕ) (merge merge' : MergeState)
     (setup : Setup) (old new : Option (List ℕ)) (result : Result ℕ Fault) : Type 0 where
   pub after : RouterState
@@ -90,7 +98,7 @@ pub record IsReplayed (family : AddressFamily) (tells_via : Bool) (after_ms : �
   pub replays : Replays family tells_via after_ms merge merge' (new_router setup) after old new told
   pub answer : result ≡ answer_of told
 
--- It is replayed, or there is none, and nothing is written.
+-- A new router is replayed, or there is none and nothing is written.
 abbrev pub ReplaysNew : AddressFamily → Bool → ℕ → MergeState → MergeState → Setup → Option (List ℕ) → Option (List ℕ) →
     Result ℕ Fault → Type 0
 ReplaysNew family tells_via after_ms merge merge' setup old new (Ok status) =

@@ -23,19 +23,22 @@ use Rattle.pim_commands.specs.declared.fault.Fault.TheVariants.{Frame, Hello, Jo
 use Rattle.pim_commands.specs.declared.fault.Fault.TheVariants.{InputRead, Output, Memory}
 use Rattle.pim_commands.specs.Text.{line}
 
--- the short text that `clap` has on a kind of error; it has none on a request for help
+-- The short text that `clap` has for a kind of error. It has none for a request for help.
 abbrev pub refusal_words : ErrorKind → List ℕ
 refusal_words kind = unwrap_or (kind_text kind) (codes "help")
 
+-- The words of a router without a port.
 abbrev pub no_port_words : Side → List ℕ
 no_port_words side.A = codes "no port for a"
 no_port_words side.B = codes "no port for b"
 
+-- The words of a router that can't be configured so.
 abbrev pub config_words : ConfigCause → List ℕ
 config_words config.Ports = codes "config ports"
 config_words config.Address = codes "config address"
 config_words config.Rp = codes "config rp"
 
+-- The words of a fault of a capture.
 abbrev pub capture_words : CaptureCause → List ℕ
 capture_words capture.Magic = codes "capture magic"
 capture_words capture.LinkType = codes "capture link-type"
@@ -43,19 +46,19 @@ capture_words capture.Truncated = codes "capture truncated"
 capture_words capture.TooLong = codes "capture too-long"
 capture_words capture.Read = codes "capture read"
 
--- the text of an address of either family
+-- The text of an address of either family.
 abbrev pub address_words : Either → List ℕ
 address_words (either.V4 address) = address_text Ipv4 address
 address_words (either.V6 address) = address_text Ipv6 address
 
--- the fault of a routes file
+-- The program's fault for a fault of the routes file.
 abbrev pub routes_fault : RoutesFault → Fault
 routes_fault routes.TooLong = RoutesTooLong
 routes_fault routes.Read = RoutesRead
 routes_fault (routes.Line number) = RoutesLine number
 routes_fault routes.Memory = Memory
 
--- why the words of the command line make no plan
+-- The words of a fault of the command line.
 abbrev pub plan_words : WordsFault → List ℕ
 plan_words (words.Clap refusal) = refusal_words refusal.kind
 plan_words (words.Address word) = codes "address " ++ word.now
@@ -66,6 +69,7 @@ plan_words words.WriterAddress = codes "writer address"
 plan_words (words.Config cause) = config_words cause
 plan_words words.Memory = codes "memory"
 
+-- The words of any fault of the program.
 abbrev pub fault_words : Fault → List ℕ
 fault_words (Words fault) = plan_words fault
 fault_words (File word) = codes "file " ++ word.now
@@ -83,5 +87,6 @@ fault_words InputRead = codes "input read"
 fault_words Output = codes "output"
 fault_words Memory = codes "memory"
 
+-- The line of a fault, as the program writes it.
 abbrev pub fault_text : Fault → List ℕ
 fault_text fault = line (codes "pimtree: " ++ fault_words fault)

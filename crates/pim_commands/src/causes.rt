@@ -1,4 +1,4 @@
-//! What a fault of a capture may be, and the words of causes.
+//! The causes of a fault of a capture, and the words of causes.
 
 ghost use Rattle.std.specs.Prelude.{◌≡◌};
 ghost use Rattle.pim_commands.specs.Words.{capture_words, config_words, no_port_words};
@@ -16,11 +16,11 @@ pub enum CaptureCause {
     Truncated,
     /// A record's captured length is above 262,144 bytes.
     TooLong,
-    /// It can't be read, or has more than 4,294,967,295 records.
+    /// It can't be read, or it has more than 4,294,967,295 records.
     Read,
 }
 
-/// The words where no word of the command line is a port of this router.
+/// The words of a router of two without a port.
 pub fn no_port_words(side: Side) -> &'static [u8]
     ensures { result.now ≡ no_port_words side }
 {

@@ -1,4 +1,4 @@
-//! The command `change`: the captures of two routers, opened and handed to the engine.
+//! The command `change`: it opens the captures of two routers and calls the engine.
 
 ghost use Rattle.std.specs.Prelude.{◌≡◌, length, filter};
 ghost use Rattle.pim_form.specs.Seen.{writing_seen};
@@ -18,9 +18,15 @@ use pim_replay::change_into;
 use pim_words::{Captures, Side, Writing};
 use std::alloc::Global;
 
-/// Replays the captures of two routers, one for each port and in their order, writes the messages that tell the
-/// upstream neighbour how what it is asked for changes from what router a asks to what b asks, and whether a fresh
-/// router that mirrors a and hears them asks as b; answers the status.
+/// Replays the captures of two new routers, one for each port in the order of the ports. Then it
+/// writes the messages that move the upstream neighbour from the demand of router a to that of b. A
+/// fresh router hears the messages of a and then these. `agrees` is written if it then has the
+/// messages of b. Returns the status, 0.
+///
+/// # Errors
+/// The faults of `pim_replay::change_into`. If the writer or a router can't be made, the result is
+/// the first fault of the writer, then of router a, then of b, or it is `Memory`. Then nothing was
+/// written, and no capture was read.
 pub fn change_opened<F: Family, R: Feed + Drop, W: Drain>(
     alloc: Global,
     captures: &Captures<'_, F::Addr>,
@@ -73,14 +79,14 @@ pub fn change_opened<F: Family, R: Feed + Drop, W: Drain>(
     ))
 }
 
-/// Tells by which messages the upstream neighbour learns of the change from router a to router b, whose captures the
-/// words name, and whether a fresh router that mirrors a and hears them asks as b; answers the status. The file of
-/// routes is read first; then all captures are opened before a record of any is read. Without a file of routes all
-/// addresses are reached by the upstream neighbour.
+/// `change_opened` of the captures that the words name. It reads the file of routes first, then
+/// opens all captures, then reads records. Without a file of routes, the table leads all addresses
+/// to the upstream neighbour.
 ///
 /// # Errors
-/// `File` of the first file that can't be opened, a fault of the file of routes or of a capture, `TooBig` of a's, then
-/// of b's messages, `Full`, `Output` and `Memory`.
+/// `File` of a file that can't be opened, or a fault of the file of routes: nothing was written.
+/// Otherwise those of `change_opened`: of a capture, `TooBig` of a star of router a or else of b,
+/// `Full`, `Output` and `Memory`.
 pub fn change<'a, F: Family, W: Drain>(
     rt: &HostRuntime,
     captures: &Captures<'a, F::Addr>,

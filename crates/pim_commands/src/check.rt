@@ -1,4 +1,7 @@
-//! The command `check`: one message, read and printed.
+//! The command `check`: it reads one message and prints it.
+//!
+//! The text is complete before any of it is written. So a part of it remains only after a failed
+//! write.
 
 ghost use Rattle.std.specs.Prelude.{◌≡◌, ◌≤◌, length, IfOk, IfSome, IfErr, vec_len};
 ghost use Rattle.pim_device.specs.Device.{ConsumesAtMost};
@@ -17,10 +20,10 @@ use pim_jp::JpView;
 use pim_words::Task;
 use std::alloc::Global;
 
-/// The most bytes that an input may have.
+/// The most bytes of an input.
 const INPUT_LIMIT: usize = 65_536;
 
-/// A buffer of so many bytes.
+/// A buffer of `length` bytes.
 fn blank(alloc: Global, length: usize) -> Result<Vec<u8>, Fault<'static>>
     ensures length { IfOk result (λ buffer. vec_len buffer ≡ length) }
     ensures memory { IfErr result (λ fault. fault ≡ Fault.Memory) }
@@ -28,7 +31,7 @@ fn blank(alloc: Global, length: usize) -> Result<Vec<u8>, Fault<'static>>
     vec![in alloc; 0u8; length].map_err(|_| Fault::Memory)
 }
 
-/// Reads the input to its end.
+/// Reads the input to its end, or one byte more than an input may have.
 fn read_input<R: Feed>(alloc: Global, reader: &mut R) -> Result<Vec<u8>, Fault<'static>>
     ensures input { IfSome (R.remaining reader.old) (λ all. GivesInput (λ v. v.items) all result) }
     ensures causes { IfErr result IsReadFault }
@@ -47,7 +50,7 @@ fn read_input<R: Feed>(alloc: Global, reader: &mut R) -> Result<Vec<u8>, Fault<'
     Ok(input)
 }
 
-/// What is to be printed of the body of a Join/Prune.
+/// The text of the body of a Join/Prune message, or its first fault.
 #[tactic(auto, using(crate::proofs::Reports::told_fault, crate::proofs::Reports::told_text))]
 fn report_join_prune<F: Family>(alloc: Global, body: &[u8]) -> Result<Vec<u8>, Fault<'static>>
     ensures { GivesReport (λ v. v.items) (body_report F.family body.now) result }
@@ -58,7 +61,7 @@ fn report_join_prune<F: Family>(alloc: Global, body: &[u8]) -> Result<Vec<u8>, F
     }
 }
 
-/// What is to be printed of the body of a Hello.
+/// The text of the body of a Hello, or its first fault.
 #[tactic(auto, using(crate::proofs::Reports::told_hello_fault, crate::proofs::Reports::told_hello))]
 fn report_hello<F: Family>(alloc: Global, body: &[u8]) -> Result<Vec<u8>, Fault<'static>>
     ensures { GivesReport (λ v. v.items) (hello_report F.family body.now) result }
@@ -72,7 +75,7 @@ fn report_hello<F: Family>(alloc: Global, body: &[u8]) -> Result<Vec<u8>, Fault<
     }
 }
 
-/// What is to be printed of a message.
+/// The text of a message, or its first fault.
 #[tactic(auto, using(crate::proofs::Reports::framed_body, crate::proofs::Reports::framed_hello))]
 fn report<F: Family>(
     alloc: Global,
@@ -92,13 +95,17 @@ fn report<F: Family>(
     }
 }
 
-/// Reads one message, which went from `src` to `dst`, to the reader's end, and writes what it says. The answer
-/// is the status, 0. Of an input at most 65,537 bytes are read: the last one shows that it is too long.
+/// Reads one message from `src` to `dst`, up to the end of the input, and writes its text. Returns
+/// the status, 0. At most 65,537 bytes are read: the last one shows that the input is too long.
+/// The text and the faults are promised for a reader whose bytes are known.
 ///
 /// # Errors
-/// The first of: `Memory` (at any time before the writing), `InputRead`, `InputTooLong` (above 65,536 bytes),
-/// `Frame`, `Hello`, `JoinPrune`, after which nothing was written, and `Output`, after which a front of the text
-/// was. No device fails without that answer.
+/// - `InputRead`, `InputTooLong` (above 65,536 bytes) and `Memory`: nothing was written.
+/// - `Frame`, else `Hello` or `JoinPrune`: the first fault of the message; nothing was written.
+/// - `Output`: a prefix of the text was written.
+///
+/// The count of failures of the reader rises only with `InputRead`, that of the writer only with
+/// `Output`.
 pub fn check_into<F: Family, R: Feed, W: Drain>(
     alloc: Global,
     reader: &mut R,
@@ -122,7 +129,7 @@ pub fn check_into<F: Family, R: Feed, W: Drain>(
     }
 }
 
-/// `check_into` of the message that a task asks for.
+/// `check_into` with the addresses of a task of `check`.
 ///
 /// # Errors
 /// Those of `check_into`.

@@ -1,4 +1,4 @@
-//! The command `same`: the captures of two routers, opened and handed to the engine.
+//! The command `same`: it opens the captures of two routers and calls the engine.
 
 ghost use Rattle.std.specs.Prelude.{◌≡◌, ◌+◌, length, map, filter, None, IfOk, IfErr};
 ghost use Rattle.pim_form.specs.Seen.{writing_seen};
@@ -20,16 +20,16 @@ use std::alloc::{AllocError, Global};
 use std::fs::File;
 use std::io::BufReader;
 
-/// The captures of two routers, each with one for each of its ports.
+/// The captures of two routers: of each router one for each of its ports.
 #[derive(Drop)]
 pub struct Pair<R: Feed + Drop> {
-    /// Those of router a.
+    /// The captures of router a.
     pub a: Merge<R>,
-    /// Those of router b.
+    /// The captures of router b.
     pub b: Merge<R>,
 }
 
-/// A fault of a comparison.
+/// The program's fault for a fault of the comparison.
 fn same_fault<F: Family>(fault: SameFault<F>) -> Fault<'static>
     ensures { result ≡ same_fault F.family F.bytes_of fault }
 {
@@ -39,7 +39,7 @@ fn same_fault<F: Family>(fault: SameFault<F>) -> Fault<'static>
     }
 }
 
-/// What the program answers of a comparison.
+/// The program's result for a result of the comparison.
 fn compared<F: Family>(told: Result<u8, SameFault<F>>) -> Result<u8, Fault<'static>>
     ensures { result ≡ compared F.family F.bytes_of told }
 {
@@ -49,7 +49,7 @@ fn compared<F: Family>(told: Result<u8, SameFault<F>>) -> Result<u8, Fault<'stat
     }
 }
 
-/// Whether the port is one of this router.
+/// Whether the port belongs to this router.
 fn is_of<A: Copy>(side: Side, port: &Port<'_, A>) -> bool
     ensures { result ≡ is_of side port.now }
 {
@@ -76,7 +76,7 @@ pub fn side_configs<A: Copy>(
     Ok(configs)
 }
 
-/// Adds the capture that this reader gives to those of a router.
+/// Adds the capture of this reader to those of a router. It is that of the router's next port.
 pub fn add_to<R: Feed + Drop>(
     alloc: Global,
     pair: &mut Pair<R>,
@@ -94,7 +94,7 @@ pub fn add_to<R: Feed + Drop>(
     }
 }
 
-/// Opens the capture of each port, in the order of the words.
+/// Opens the capture of each port, in the order of the words, for its router.
 pub fn open_both<'a, A>(
     rt: &HostRuntime,
     ports: &[Port<'a, A>],
@@ -118,8 +118,14 @@ pub fn open_both<'a, A>(
     Ok(pair)
 }
 
-/// Replays the captures of two routers, one for each port and in their order, tells whether the two want the same, and
-/// answers the status.
+/// Replays the captures of two new routers, one for each port in the order of the ports. Then it
+/// writes whether both want the same of the upstream neighbour: `same` or `different`. Returns the
+/// status: 0 for `same`, 1 for `different`.
+///
+/// # Errors
+/// The faults of `pim_replay::same_into`. If the writer or a router can't be made, the result is
+/// the first fault of the writer, then of router a, then of b, or it is `Memory`. Then nothing was
+/// written, and no capture was read.
 pub fn same_opened<F: Family, R: Feed + Drop, W: Drain>(
     alloc: Global,
     captures: &Captures<'_, F::Addr>,
@@ -170,13 +176,13 @@ pub fn same_opened<F: Family, R: Feed + Drop, W: Drain>(
     ))
 }
 
-/// Tells whether the two routers whose captures the words name want the same, and answers the status. The file of
-/// routes is read first; then all captures are opened before a record of any is read. Without a file of routes all
-/// addresses are reached by the upstream neighbour.
+/// `same_opened` of the captures that the words name. It reads the file of routes first, then opens
+/// all captures, then reads records. Without a file of routes, the table leads all addresses to the
+/// upstream neighbour.
 ///
 /// # Errors
-/// `File` of the first file that can't be opened, a fault of the file of routes or of a capture, `TooBig`, `Output` and
-/// `Memory`.
+/// `File` of a file that can't be opened, or a fault of the file of routes: nothing was written.
+/// Otherwise those of `same_opened`: of a capture, `TooBig`, `Output` and `Memory`.
 pub fn same<'a, F: Family, W: Drain>(
     rt: &HostRuntime,
     captures: &Captures<'a, F::Addr>,

@@ -1,4 +1,4 @@
-//! The command `emit`: the captures of a router, opened and handed to the engine.
+//! The command `emit`: it opens the captures of a router and calls the engine.
 
 ghost use Rattle.std.specs.Prelude.{◌≡◌, length, map};
 ghost use Rattle.pim_form.specs.Seen.{writing_seen};
@@ -18,7 +18,7 @@ use pim_replay::{EmitFault, emit_into};
 use pim_words::{Captures, Writing};
 use std::alloc::Global;
 
-/// A fault of messages that are written.
+/// The program's fault for a fault of the messages.
 fn emit_fault<F: Family>(fault: EmitFault<F>) -> Fault<'static>
     ensures { result ≡ emit_fault F.family F.bytes_of fault }
 {
@@ -28,7 +28,7 @@ fn emit_fault<F: Family>(fault: EmitFault<F>) -> Fault<'static>
     }
 }
 
-/// What the program answers of messages that are written.
+/// The program's result for a result of the messages.
 pub fn emitted<F: Family>(told: Result<u8, EmitFault<F>>) -> Result<u8, Fault<'static>>
     ensures { result ≡ emitted F.family F.bytes_of told }
 {
@@ -38,8 +38,14 @@ pub fn emitted<F: Family>(told: Result<u8, EmitFault<F>>) -> Result<u8, Fault<'s
     }
 }
 
-/// Replays captures, one for each port and in their order, and writes the messages by which the router then asks the
-/// upstream neighbour, as bytes, each behind two bytes of its length; answers the status.
+/// Replays the captures of a new router, one for each port in the order of the ports. Then it
+/// writes the canonical messages of its demand toward the upstream neighbour, as bytes. Two bytes
+/// with the length, big-endian, precede each message. Returns the status, 0.
+///
+/// # Errors
+/// The faults of `pim_replay::emit_into`. If the writer or the router can't be made, the result is
+/// the first fault of the writer, then of the router, or it is `Memory`. Then nothing was written,
+/// and no capture was read.
 pub fn emit_opened<F: Family, R: Feed + Drop, W: Drain>(
     alloc: Global,
     captures: &Captures<'_, F::Addr>,
@@ -73,13 +79,13 @@ pub fn emit_opened<F: Family, R: Feed + Drop, W: Drain>(
     emitted::<F>(emit_into::<F, R, W>(alloc, merge, &mut router, captures.after_ms, &by, writer))
 }
 
-/// Writes the messages by which the router whose captures the words name asks its upstream neighbour, as bytes; answers
-/// the status. The file of routes is read first; then all captures are opened before a record of any is read. Without a
-/// file of routes all addresses are reached by the upstream neighbour.
+/// `emit_opened` of the captures that the words name. It reads the file of routes first, then opens
+/// all captures, then reads records. Without a file of routes, the table leads all addresses to the
+/// upstream neighbour.
 ///
 /// # Errors
-/// `File` of the first file that can't be opened, a fault of the file of routes or of a capture, `TooBig`, `Output` and
-/// `Memory`.
+/// `File` of a file that can't be opened, or a fault of the file of routes: nothing was written.
+/// Otherwise those of `emit_opened`: of a capture, `TooBig`, `Output` and `Memory`.
 pub fn emit<'a, F: Family, W: Drain>(
     rt: &HostRuntime,
     captures: &Captures<'a, F::Addr>,

@@ -1,4 +1,4 @@
-//! What ends a run, and its line.
+//! The faults of the program, and the line of each.
 
 ghost use Rattle.std.specs.Prelude.{◌≡◌, ◌≤◌, ◌++◌, take, decimal};
 ghost use Rattle.pim_device.specs.Device.{AppendsAll, failures_after};
@@ -19,30 +19,31 @@ use pim_router::Malformed;
 use pim_routes_file::RoutesFault;
 use pim_words::Address;
 
-/// Why a run ended before its end.
+/// Why a run ended early.
 #[derive(Debug, Drop)]
 pub enum Fault<'a> {
-    /// The words make no plan.
+    /// The words give no plan.
     Words(pim_words::Fault<'a>),
-    /// The file that this word names can't be opened.
+    /// The file of a port or of the routes can't be opened. This is the word of the port, or the
+    /// name of the file of routes.
     File(&'a str),
-    /// The routes file has more than 1,048,576 bytes.
+    /// The file of routes has more than 1,048,576 bytes.
     RoutesTooLong,
-    /// The routes file can't be read.
+    /// The file of routes can't be read.
     RoutesRead,
-    /// The line of this number, from 1, of the routes file has another form, or its row is refused.
+    /// This line of the file of routes, counted from 1, has another form, or its row is refused.
     RoutesLine(usize),
-    /// A capture is at fault.
+    /// A capture has a fault.
     Capture(CaptureCause),
-    /// The message's header is at fault.
+    /// The message has a fault in its header, its checksum or its destination.
     Frame(FrameFault),
-    /// The body of a Hello is at fault.
+    /// The body of a Hello has a fault.
     Hello(HelloFault),
-    /// The body of a Join/Prune is at fault.
+    /// The body of a Join/Prune message has a fault.
     JoinPrune(JpFault),
-    /// The star of this group, with its exceptions, doesn't fit one message.
+    /// The star of this group, with all its exceptions, doesn't fit a message.
     TooBig(Address),
-    /// A port would need so many records, which is more than its limit.
+    /// The fresh router has no room. Its port would need this number of records.
     Full(usize),
     /// The input has more than 65,536 bytes.
     InputTooLong,
@@ -50,7 +51,7 @@ pub enum Fault<'a> {
     InputRead,
     /// The output can't be written.
     Output,
-    /// Memory ran out.
+    /// An allocation was refused.
     Memory,
 }
 
@@ -95,7 +96,7 @@ fn write_numbered<W: Drain>(writer: &mut W, words: &[u8], number: usize) -> Resu
     write_all(writer, b"\n")
 }
 
-/// Writes the words of what is wrong with a message and ends the line.
+/// Writes the words of a message's fault and ends the line.
 fn write_malformed<W: Drain>(fault: Malformed, writer: &mut W) -> Result<(), Failed>
     ensures bytes { AppendsAll (W.contents writer.old) (W.contents writer.new) result (line (malformed_words fault)) }
     ensures count { W.failures writer.new ≡ failures_after (W.failures writer.old) result }
@@ -104,7 +105,7 @@ fn write_malformed<W: Drain>(fault: Malformed, writer: &mut W) -> Result<(), Fai
     write_all(writer, b"\n")
 }
 
-/// Writes words with a word of the command line behind them, and ends the line.
+/// Writes the words and a word of the command line, and ends the line.
 fn write_word<W: Drain>(writer: &mut W, words: &[u8], word: &str) -> Result<(), Failed>
     ensures bytes { AppendsAll (W.contents writer.old) (W.contents writer.new) result (line (words.now ++ word.now)) }
     ensures count { W.failures writer.new ≡ failures_after (W.failures writer.old) result }
@@ -114,7 +115,7 @@ fn write_word<W: Drain>(writer: &mut W, words: &[u8], word: &str) -> Result<(), 
     write_all(writer, b"\n")
 }
 
-/// Writes the text of an address at the front of a text, and answers how long it is.
+/// Writes the text of an address at the start of a buffer, and returns its length.
 fn address_at_front(address: Address, text: &mut [u8; 39]) -> usize
     ensures short { result ≤ 39 }
     ensures text { take result text.new ≡ address_words address }
@@ -125,7 +126,7 @@ fn address_at_front(address: Address, text: &mut [u8; 39]) -> usize
     }
 }
 
-/// Writes words and an address behind them, and ends the line.
+/// Writes the words and an address, and ends the line.
 fn write_address<W: Drain>(writer: &mut W, words: &[u8], address: Address) -> Result<(), Failed>
     ensures bytes { AppendsAll (W.contents writer.old) (W.contents writer.new) result
         (line (words.now ++ address_words address)) }
@@ -137,14 +138,15 @@ fn write_address<W: Drain>(writer: &mut W, words: &[u8], address: Address) -> Re
     write_plain(writer, &text[..length])
 }
 
-/// The short text that `clap` has on a kind of error. What it has to say in full is printed by itself.
+/// The short text that `clap` has for a kind of error. The program prints the full text instead, by
+/// `tell_into`.
 fn refusal_words(kind: ErrorKind) -> &'static str
     ensures { result.now ≡ refusal_words kind }
 {
     kind.as_str().unwrap_or("help")
 }
 
-/// Writes the words of why the command line makes no plan, and ends the line.
+/// Writes the words of a fault of the command line and ends the line.
 fn write_plan_words<W: Drain>(fault: &pim_words::Fault<'_>, writer: &mut W) -> Result<(), Failed>
     ensures bytes { AppendsAll (W.contents writer.old) (W.contents writer.new) result (line (plan_words fault.now)) }
     ensures count { W.failures writer.new ≡ failures_after (W.failures writer.old) result }
@@ -188,8 +190,10 @@ fn write_words<W: Drain>(fault: &Fault<'_>, writer: &mut W) -> Result<(), Failed
     }
 }
 
-/// Writes the line of a fault: `pimtree: `, its words and a line feed. Where the writer fails, a front of the
-/// line went out.
+/// Writes the line of a fault: `pimtree: `, its words and a line feed.
+///
+/// # Errors
+/// The writer failed: a prefix of the line was written.
 pub fn fault_line<W: Drain>(fault: &Fault<'_>, writer: &mut W) -> Result<(), Failed>
     ensures bytes { AppendsAll (W.contents writer.old) (W.contents writer.new) result (fault_text fault.now) }
     ensures count { W.failures writer.new ≡ failures_after (W.failures writer.old) result }

@@ -15,7 +15,7 @@ use pim_addr::Family;
 use pim_hello::{Addresses, Hello, LanDelay, Parameters};
 use std::alloc::{AllocError, Global};
 
-/// Adds some words and the number behind them, and ends the line.
+/// Adds the words and a number, and ends the line.
 fn push_number_line(text: &mut Vec<u8>, words: &[u8], number: usize) -> Result<(), AllocError>
     ensures { OnOk result (text.new.items ≡ text.old.items ++ line (words.now ++ decimal number)) }
 {
@@ -23,7 +23,7 @@ fn push_number_line(text: &mut Vec<u8>, words: &[u8], number: usize) -> Result<(
     text.extend_from_slice(b"\n")
 }
 
-/// Adds the line of a holdtime, if it is there.
+/// Adds the line of the holdtime, if there is one.
 fn push_holdtime(text: &mut Vec<u8>, holdtime: Option<u16>) -> Result<(), AllocError>
     ensures { OnOk result (text.new.items ≡ text.old.items ++ number_text (codes "holdtime ") holdtime) }
 {
@@ -33,7 +33,7 @@ fn push_holdtime(text: &mut Vec<u8>, holdtime: Option<u16>) -> Result<(), AllocE
     }
 }
 
-/// Adds the line of a number, if it is there.
+/// Adds the line of the words and a number, if there is a number.
 fn push_option(text: &mut Vec<u8>, words: &[u8], number: Option<u32>) -> Result<(), AllocError>
     ensures { OnOk result (text.new.items ≡ text.old.items ++ number_text words.now number) }
 {
@@ -43,7 +43,7 @@ fn push_option(text: &mut Vec<u8>, words: &[u8], number: Option<u32>) -> Result<
     }
 }
 
-/// Adds some words and the digit of a bit.
+/// Adds the words and a bit, as 0 or 1.
 fn push_bit(text: &mut Vec<u8>, words: &[u8], is_set: bool) -> Result<(), AllocError>
     ensures { OnOk result (text.new.items ≡ text.old.items ++ (words.now ++ bit is_set)) }
 {
@@ -55,7 +55,7 @@ fn push_bit(text: &mut Vec<u8>, words: &[u8], is_set: bool) -> Result<(), AllocE
     }
 }
 
-/// Adds the line of the delays on a LAN.
+/// Adds the line of a LAN Prune Delay option.
 fn push_delays_line(text: &mut Vec<u8>, delays: LanDelay) -> Result<(), AllocError>
     ensures { OnOk result (text.new.items ≡ text.old.items ++ delays_line (delays_seen delays)) }
 {
@@ -66,7 +66,7 @@ fn push_delays_line(text: &mut Vec<u8>, delays: LanDelay) -> Result<(), AllocErr
     Ok(())
 }
 
-/// Adds the line of the delays on a LAN, if they are there.
+/// Adds the line of the LAN Prune Delay option, if there is one.
 fn push_delays(text: &mut Vec<u8>, delays: Option<LanDelay>) -> Result<(), AllocError>
     ensures { OnOk result (text.new.items ≡ text.old.items ++ delays_text (option_map delays_seen delays)) }
 {
@@ -76,7 +76,7 @@ fn push_delays(text: &mut Vec<u8>, delays: Option<LanDelay>) -> Result<(), Alloc
     }
 }
 
-/// Adds the lines of the options but the Address List.
+/// Adds the lines of the options except the Address List.
 fn push_parameters(text: &mut Vec<u8>, parameters: Parameters) -> Result<(), AllocError>
     ensures { OnOk result (text.new.items ≡ text.old.items ++ parameters_text (parameters_seen parameters)) }
 {
@@ -87,7 +87,7 @@ fn push_parameters(text: &mut Vec<u8>, parameters: Parameters) -> Result<(), All
     Ok(())
 }
 
-/// Adds the line of an address.
+/// Adds the line of a secondary address.
 fn push_address_line<F: Family>(text: &mut Vec<u8>, address: F::Addr) -> Result<(), AllocError>
     ensures { OnOk result (text.new.items ≡ text.old.items ++ address_line F.family (F.bytes_of address)) }
 {
@@ -95,7 +95,7 @@ fn push_address_line<F: Family>(text: &mut Vec<u8>, address: F::Addr) -> Result<
     text.extend_from_slice(b"\n")
 }
 
-/// Adds the lines of the addresses.
+/// Adds the lines of the secondary addresses.
 fn push_addresses<F: Family>(
     text: &mut Vec<u8>,
     addresses: Addresses<'_, F>,
@@ -109,7 +109,7 @@ fn push_addresses<F: Family>(
     Ok(())
 }
 
-/// The text of a Hello.
+/// The text of a Hello: a line of its own, then one for each option and each secondary address.
 pub fn hello_text<F: Family>(alloc: Global, hello: &Hello<'_, F>) -> Result<Vec<u8>, AllocError>
     ensures { IfOk result (λ text. text.items ≡ hello_text F.family (hello_seen F.family hello.now)) }
 {

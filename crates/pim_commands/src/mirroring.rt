@@ -1,4 +1,4 @@
-//! The command `mirror`: the captures of a router, opened and handed to the engine.
+//! The command `mirror`: it opens the captures of a router and calls the engine.
 
 ghost use Rattle.std.specs.Prelude.{◌≡◌, length, map};
 ghost use Rattle.pim_form.specs.Seen.{writing_seen};
@@ -18,7 +18,7 @@ use pim_replay::{MirrorTextFault, mirror_into};
 use pim_words::{Captures, Writing};
 use std::alloc::Global;
 
-/// A fault of a mirror.
+/// The program's fault for a fault of the mirror.
 fn mirror_fault<F: Family>(fault: MirrorTextFault<F>) -> Fault<'static>
     ensures { result ≡ mirror_fault F.family F.bytes_of fault }
 {
@@ -29,7 +29,7 @@ fn mirror_fault<F: Family>(fault: MirrorTextFault<F>) -> Fault<'static>
     }
 }
 
-/// What the program answers of a mirror.
+/// The program's result for a result of the mirror.
 pub fn mirrored<F: Family>(told: Result<u8, MirrorTextFault<F>>) -> Result<u8, Fault<'static>>
     ensures { result ≡ mirrored F.family F.bytes_of told }
 {
@@ -39,8 +39,14 @@ pub fn mirrored<F: Family>(told: Result<u8, MirrorTextFault<F>>) -> Result<u8, F
     }
 }
 
-/// Replays captures, one for each port and in their order, writes the messages by which the router then asks the
-/// upstream neighbour, and whether a fresh router that hears them asks by the same; answers the status.
+/// Replays the captures of a new router, one for each port in the order of the ports. Then it
+/// writes the canonical messages of its demand toward the upstream neighbour. A fresh router hears
+/// them, and `agrees` is written if it then has the same messages. Returns the status, 0.
+///
+/// # Errors
+/// The faults of `pim_replay::mirror_into`. If the writer or the router can't be made, the result
+/// is the first fault of the writer, then of the router, or it is `Memory`. Then nothing was
+/// written, and no capture was read.
 pub fn mirror_opened<F: Family, R: Feed + Drop, W: Drain>(
     alloc: Global,
     captures: &Captures<'_, F::Addr>,
@@ -82,13 +88,13 @@ pub fn mirror_opened<F: Family, R: Feed + Drop, W: Drain>(
     ))
 }
 
-/// Tells by which messages the router whose captures the words name asks its upstream neighbour, and whether a fresh
-/// router that hears them asks by the same; answers the status. The file of routes is read first; then all captures are
-/// opened before a record of any is read. Without a file of routes all addresses are reached by the upstream neighbour.
+/// `mirror_opened` of the captures that the words name. It reads the file of routes first, then
+/// opens all captures, then reads records. Without a file of routes, the table leads all addresses
+/// to the upstream neighbour.
 ///
 /// # Errors
-/// `File` of the first file that can't be opened, a fault of the file of routes or of a capture, `TooBig`, `Full`,
-/// `Output` and `Memory`.
+/// `File` of a file that can't be opened, or a fault of the file of routes: nothing was written.
+/// Otherwise those of `mirror_opened`: of a capture, `TooBig`, `Full`, `Output` and `Memory`.
 pub fn mirror<'a, F: Family, W: Drain>(
     rt: &HostRuntime,
     captures: &Captures<'a, F::Addr>,

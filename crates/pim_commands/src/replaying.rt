@@ -1,4 +1,7 @@
-//! The command `replay`: the files that its words name, opened and handed to the engine.
+//! The command `replay`: it opens the files that its words name and calls the engine. The other
+//! commands open files by the same functions.
+//!
+//! All files are opened before any record is read. So a fault of opening comes before all output.
 
 ghost use Rattle.std.specs.Prelude.{◌≡◌, ◌≤◌, [], length, map, is_some, option_map, None, IfOk, IfErr, MatchResult};
 ghost use Rattle.pim_router.specs.Config.{config_faults};
@@ -23,13 +26,13 @@ use std::alloc::{AllocError, Global};
 use std::fs::File;
 use std::io::BufReader;
 
-/// The propagation delay of each port, in milliseconds.
+/// The propagation delay of each port, in milliseconds (RFC 7761, 4.11: Propagation_delay_default).
 const PROPAGATION: u16 = 500;
 
-/// The override delay of each port, in milliseconds.
+/// The override delay of each port, in milliseconds (RFC 7761, 4.11: t_override_default).
 const OVERRIDE: u16 = 2_500;
 
-/// The configuration of a port.
+/// The configuration of a port that a word names, with the default delays.
 pub fn config<A: Copy>(port: &Port<'_, A>) -> PortConfig<A>
     ensures { result ≡ config_of port.now }
 {
@@ -54,7 +57,7 @@ pub fn configs<A: Copy>(
     Ok(configs)
 }
 
-/// A fault of the configuration.
+/// The program's fault for a fault of a router's configuration.
 fn config_fault(fault: ConfigFault) -> Fault<'static>
     ensures { result ≡ config_fault fault }
 {
@@ -66,7 +69,7 @@ fn config_fault(fault: ConfigFault) -> Fault<'static>
     Fault::Words(pim_words::Fault::Config(cause))
 }
 
-/// A fault of a capture.
+/// The program's fault for a fault of a capture.
 fn capture_fault(fault: CaptureFault) -> Fault<'static>
     ensures { result ≡ capture_fault fault }
 {
@@ -80,7 +83,7 @@ fn capture_fault(fault: CaptureFault) -> Fault<'static>
     }
 }
 
-/// A fault of a replay.
+/// The program's fault for a fault of a replay.
 pub fn replay_fault(fault: ReplayFault) -> Fault<'static>
     ensures { result ≡ replay_fault fault }
 {
@@ -91,7 +94,7 @@ pub fn replay_fault(fault: ReplayFault) -> Fault<'static>
     }
 }
 
-/// What the program answers of a replay.
+/// The program's result for a result of a replay.
 fn answer_of(told: Result<u8, ReplayFault>) -> Result<u8, Fault<'static>>
     ensures { result ≡ answer_of told }
 {
@@ -101,7 +104,7 @@ fn answer_of(told: Result<u8, ReplayFault>) -> Result<u8, Fault<'static>>
     }
 }
 
-/// Whether this address is given and isn't a valid source.
+/// Whether the address is given and isn't a valid source.
 fn is_bad<F: Family>(address: Option<F::Addr>) -> bool
     ensures { result ≡ is_bad F.family (option_map F.bytes_of address) }
 {
@@ -111,8 +114,11 @@ fn is_bad<F: Family>(address: Option<F::Addr>) -> bool
     }
 }
 
-/// The route table without a file's rows: all groups have this RP, and all addresses are reached by this upstream
-/// neighbour, where they are given.
+/// The route table without a file's rows. If an RP is given, one row maps all groups to it. If an
+/// upstream neighbour is given, one row leads all addresses to it.
+///
+/// # Errors
+/// The upstream neighbour, or else the RP, isn't a valid source; or `Memory`.
 pub fn first_rows<F: Family>(
     alloc: Global,
     rp: Option<F::Addr>,
@@ -134,7 +140,8 @@ pub fn first_rows<F: Family>(
     }
 }
 
-/// The route table of captures: that of the RP and of the upstream neighbour, or of the RP and the rows of the file.
+/// The route table of captures: the row of the RP, and that of the upstream neighbour. If a file of
+/// routes is named, its rows come in place of the latter. No clause can say what these rows are.
 pub fn table<'a, F: Family>(
     rt: &HostRuntime,
     captures: &Captures<'a, F::Addr>,
@@ -173,7 +180,7 @@ pub fn open_port<'a, A>(
     }
 }
 
-/// Opens the capture of each port, in order.
+/// Opens the capture of each port, in the order of the words.
 pub fn open_all<'a, A>(
     rt: &HostRuntime,
     ports: &[Port<'a, A>],
@@ -192,7 +199,7 @@ pub fn open_all<'a, A>(
     Ok(merge)
 }
 
-/// A new router with these ports and this table.
+/// A new router with these ports, this table and this limit on records, or its first fault.
 pub fn router_of<'r, F: Family>(
     alloc: Global,
     ports: &'r [PortConfig<F::Addr>],
@@ -215,7 +222,12 @@ pub fn router_of<'r, F: Family>(
     }
 }
 
-/// Replays captures, one for each port and in their order, and answers the status.
+/// Replays the captures of a new router, one for each port in the order of the ports, and writes
+/// the report. Returns the status, 0.
+///
+/// # Errors
+/// The faults of `pim_replay::replay_into`. If the router can't be made, the result is its first
+/// fault or `Memory`. Then nothing was written, and no capture was read.
 pub fn replay_opened<F: Family, R: Feed + Drop, W: Drain>(
     alloc: Global,
     captures: &Captures<'_, F::Addr>,
@@ -247,11 +259,13 @@ pub fn replay_opened<F: Family, R: Feed + Drop, W: Drain>(
     ))
 }
 
-/// Replays the captures that the words name, and answers the status. The file of routes is read first; then all
-/// captures are opened before a record of any is read.
+/// `replay_opened` of the captures that the words name. It reads the file of routes first, then
+/// opens all captures, then reads records. The report names upstream neighbours if there is a file
+/// of routes.
 ///
 /// # Errors
-/// `File` of the first file that can't be opened, a fault of the file of routes or of a capture, `Output` and `Memory`.
+/// `File` of a file that can't be opened, or a fault of the file of routes: nothing was written.
+/// Otherwise those of `replay_opened`: of a capture, `Output` and `Memory`.
 pub fn replay<'a, F: Family, W: Drain>(
     rt: &HostRuntime,
     captures: &Captures<'a, F::Addr>,

@@ -1,18 +1,20 @@
-//! How a run that met a fault ends.
+//! How a run with a fault ends: what is written, on which device, and the status.
 
 ghost use Rattle.std.specs.Prelude.{◌≡◌, true, false, option_map};
 ghost use Rattle.pim_device.specs.Device.{AppendsAll, failures_after};
 ghost use Rattle.pim_commands.specs.Telling.{is_shown, is_asked_for, clap_text, own_text, told_text};
 ghost use Rattle.pim_commands.specs.Telling.{IsAnswered, IsTold};
+ghost use Rattle.pim_commands.specs.Words.{fault_text};
+ghost use Rattle.pim_commands.specs.declared.fault.Fault.TheVariants.{Output};
 
 use crate::fault::{Fault, fault_line};
 use clap::error::ErrorKind;
 use pim_addr::{Drain, Failed, write_all};
 
-/// The status of a run that met a fault.
+/// The status of a run with a fault.
 pub const FAULTY: u8 = 2;
 
-/// Whether `clap` shows what the words asked for.
+/// Whether `clap` shows what the words asked for: help or the version.
 fn is_shown(fault: &pim_words::Fault<'_>) -> bool
     ensures { result ≡ is_shown fault.now }
 {
@@ -25,7 +27,7 @@ fn is_shown(fault: &pim_words::Fault<'_>) -> bool
     }
 }
 
-/// Whether the words asked for what is told: help or the version.
+/// Whether the fault is a request for help or for the version.
 fn is_asked_for(fault: &Fault<'_>) -> bool
     ensures { result ≡ is_asked_for fault.now }
 {
@@ -45,7 +47,7 @@ fn clap_text<'a>(fault: &'a pim_words::Fault<'_>) -> Option<&'a str>
     }
 }
 
-/// The fault's own text, where it has one.
+/// The text of `clap` that the fault holds, if it holds one.
 fn own_text<'a>(fault: &'a Fault<'_>) -> Option<&'a str>
     ensures { option_map (λ text. text.now) result ≡ own_text fault.now }
 {
@@ -55,7 +57,7 @@ fn own_text<'a>(fault: &'a Fault<'_>) -> Option<&'a str>
     }
 }
 
-/// Writes what is told of a fault. Where the device fails, a front of it went out.
+/// Writes the text of a fault. Where the device fails, it took a prefix of the text.
 fn write_told<D: Drain>(fault: &Fault<'_>, device: &mut D) -> Result<(), Failed>
     ensures bytes { AppendsAll (D.contents device.old) (D.contents device.new) result (told_text fault.now) }
     ensures count { D.failures device.new ≡ failures_after (D.failures device.old) result }
@@ -66,13 +68,17 @@ fn write_told<D: Drain>(fault: &Fault<'_>, device: &mut D) -> Result<(), Failed>
     }
 }
 
-/// Tells a fault, and answers the status of the run. Help and the version, which the words asked for, go to the
-/// output; the status is 0, or 2 where they can't be written. Every other fault goes to `errors`, where it can be
-/// written, and the status is 2. What `clap` has to say goes out in its own text, and else the fault's line does.
+/// Writes a fault and returns the status of the run: 0 for help or the version, otherwise 2.
+///
+/// A fault of `clap` is written as `clap`'s own text, any other fault as its line. Help and the
+/// version go to `output`. If that fails, the line `pimtree: output` goes to `errors`, and the
+/// status is 2. Every other fault goes to `errors`; a failure of that device is ignored.
 pub fn tell_into<W: Drain, E: Drain>(fault: &Fault<'_>, output: &mut W, errors: &mut E) -> u8
     ensures asked { is_asked_for fault.now ≡ true → IsAnswered result (told_text fault.now)
         (W.contents output.old) (W.contents output.new) (W.failures output.old) (W.failures output.new) }
-    ensures no_error { is_asked_for fault.now ≡ true → errors.new ≡ errors.old }
+    ensures no_error { is_asked_for fault.now ≡ true → result ≡ 0 → errors.new ≡ errors.old }
+    ensures unwritten { is_asked_for fault.now ≡ true → result ≡ 2 → IsTold (fault_text Output)
+        (E.contents errors.old) (E.contents errors.new) (E.failures errors.old) (E.failures errors.new) }
     ensures mistake { is_asked_for fault.now ≡ false → IsTold (told_text fault.now)
         (E.contents errors.old) (E.contents errors.new) (E.failures errors.old) (E.failures errors.new) }
     ensures no_output { is_asked_for fault.now ≡ false → output.new ≡ output.old }
@@ -84,6 +90,9 @@ pub fn tell_into<W: Drain, E: Drain>(fault: &Fault<'_>, output: &mut W, errors: 
     }
     match write_told(fault, output) {
         Ok(()) => 0,
-        Err(Failed) => FAULTY,
+        Err(Failed) => {
+            let _ = fault_line(&Fault::Output, errors);
+            FAULTY
+        }
     }
 }

@@ -12,7 +12,7 @@ use pim_addr::{Family, write_text};
 use pim_jp::{Entries, Entry, JpView, SetView};
 use std::alloc::{AllocError, Global};
 
-/// Adds some words and the address behind them.
+/// Adds the words and an address.
 pub fn push_address<F: Family>(
     text: &mut Vec<u8>,
     words: &[u8],
@@ -27,7 +27,7 @@ pub fn push_address<F: Family>(
     text.extend_from_slice(&shown[..length])
 }
 
-/// Adds some words and the number behind them.
+/// Adds the words and a number.
 pub fn push_number(text: &mut Vec<u8>, words: &[u8], number: usize) -> Result<(), AllocError>
     ensures { OnOk result (text.new.items ≡ text.old.items ++ (words.now ++ decimal number)) }
 {
@@ -35,7 +35,7 @@ pub fn push_number(text: &mut Vec<u8>, words: &[u8], number: usize) -> Result<()
     text.extend_from_slice(Buffer::new().format(number).as_bytes())
 }
 
-/// Adds the first line of a message.
+/// Adds the first line of a Join/Prune message: upstream neighbour, holdtime and number of sets.
 fn push_message_line<F: Family>(
     text: &mut Vec<u8>,
     message: &JpView<'_, F>,
@@ -49,7 +49,7 @@ fn push_message_line<F: Family>(
     Ok(())
 }
 
-/// Adds the first line of a set.
+/// Adds the first line of a group set: its group and the numbers of its entries.
 fn push_set_line<F: Family>(text: &mut Vec<u8>, set: &SetView<'_, F>) -> Result<(), AllocError>
     ensures { OnOk result (text.new.items ≡ text.old.items ++ set_line F.family set.now) }
 {
@@ -59,7 +59,7 @@ fn push_set_line<F: Family>(text: &mut Vec<u8>, set: &SetView<'_, F>) -> Result<
     text.extend_from_slice(b"\n")
 }
 
-/// Adds what an entry is, and its address.
+/// Adds the kind of an entry, and its address.
 fn push_entry<F: Family>(text: &mut Vec<u8>, entry: Entry<F::Addr>) -> Result<(), AllocError>
     ensures { OnOk result (text.new.items ≡ text.old.items ++ entry_words F.family (entry_seen F.bytes_of entry)) }
 {
@@ -70,7 +70,7 @@ fn push_entry<F: Family>(text: &mut Vec<u8>, entry: Entry<F::Addr>) -> Result<()
     }
 }
 
-/// Adds the line of an entry of the list that the word names.
+/// Adds the line of an entry. `list` names its list: `join ` or `prune `.
 fn push_entry_line<F: Family>(
     text: &mut Vec<u8>,
     list: &[u8],
@@ -98,7 +98,7 @@ fn push_entries<F: Family>(
     Ok(())
 }
 
-/// Adds a set with its entries.
+/// Adds the lines of a group set and of its entries.
 fn push_set<F: Family>(text: &mut Vec<u8>, set: &SetView<'_, F>) -> Result<(), AllocError>
     ensures { OnOk result (text.new.items ≡ text.old.items ++ set_text F.family set.now) }
 {
@@ -107,7 +107,7 @@ fn push_set<F: Family>(text: &mut Vec<u8>, set: &SetView<'_, F>) -> Result<(), A
     push_entries(text, b"prune ", set.pruned())
 }
 
-/// The text of a Join/Prune.
+/// The text of a Join/Prune message: its own line, then those of its group sets, in order.
 pub fn message_text<F: Family>(
     alloc: Global,
     message: &JpView<'_, F>,
@@ -122,7 +122,7 @@ pub fn message_text<F: Family>(
     Ok(text)
 }
 
-/// The text of a message of another type.
+/// The line of a message of another type.
 pub fn type_text(alloc: Global, kind: u8) -> Result<Vec<u8>, AllocError>
     ensures { IfOk result (λ text. text.items ≡ type_text kind) }
 {

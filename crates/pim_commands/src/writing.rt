@@ -1,4 +1,4 @@
-//! By what messages are written: the addresses and numbers of the words, and what is wrong with them.
+//! The writer of messages: the addresses, holdtime and budget of the words.
 
 ghost use Rattle.std.specs.Prelude.{◌≡◌};
 ghost use Rattle.pim_form.specs.Seen.{writing_seen};
@@ -11,7 +11,7 @@ use pim_addr::{AddressFamily, Family};
 use pim_form::{Writer, WriterFault};
 use pim_words::{Address, Writing};
 
-/// The address, as faults tell it.
+/// The address, as one of either family.
 pub fn address_of<F: Family>(address: F::Addr) -> Address
     ensures { result ≡ address_in F.family (F.bytes_of address) }
 {
@@ -29,7 +29,7 @@ pub fn address_of<F: Family>(address: F::Addr) -> Address
     }
 }
 
-/// By what the messages are written.
+/// The writer, or the fault `WriterAddress` if its addresses aren't two different valid sources.
 pub fn writer_of<F: Family>(writing: &Writing<F::Addr>) -> Result<Writer<F>, Fault<'static>>
     requires { IsWritable writing.now }
     ensures { IsWriterOf F.family

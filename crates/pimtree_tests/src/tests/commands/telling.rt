@@ -1,4 +1,4 @@
-//! What is told of a fault, on which device, and the status, also where a device fails.
+//! What is written of a fault, to which device, and the status, also where a device fails.
 
 use clap::error::ErrorKind;
 use pim_addr::ScriptedDrain;
@@ -31,8 +31,11 @@ fn tell(
     }
 }
 
-/// Whether a fault, told to a device that fails from this byte on, leaves the text up to there, and so many failures.
-/// The other device isn't written to.
+/// The line of a write that failed.
+const UNWRITTEN: &str = "pimtree: output\n";
+
+/// Whether a fault, written to a device that fails from this byte on, leaves the text up to there and
+/// one failure. The other device has the line of the failure where the words asked for the text.
 fn leaves(
     alloc: Global,
     fault: &Fault<'_>,
@@ -41,13 +44,14 @@ fn leaves(
     fails_from: usize,
 ) -> bool {
     let mut device = ScriptedDrain::new(alloc, 3, fails_from);
-    let mut other = ScriptedDrain::new(alloc, 3, 0);
+    let mut other = ScriptedDrain::new(alloc, 3, usize::MAX);
     let status = tell(fault, is_asked_for, &mut device, &mut other);
     let fails = fails_from < text.len();
+    let reported = if is_asked_for && fails { UNWRITTEN } else { "" };
     status == if is_asked_for && !fails { 0 } else { 2 }
         && Some(device.written()) == text.as_bytes().get(..fails_from.min(text.len()))
         && device.failures() == u64::from(fails)
-        && other.failures() == 0
+        && other.written() == reported.as_bytes()
 }
 
 /// Whether a fault is told so where its device takes all, and a front of it where the device fails.
@@ -135,6 +139,19 @@ fn other_faults_are_lines_on_errors(rt: HostRuntime) {
     for (fault, text) in rows {
         assert!(rt; is_told(rt.alloc(), &fault, false, text));
     }
+}
+
+#[test]
+fn help_that_no_device_takes_has_status_2(rt: HostRuntime) -> Result<(), Fail> {
+    let alloc = rt.alloc();
+    let fault = refusal(alloc, ErrorKind::DisplayHelp)?;
+    let mut output = ScriptedDrain::new(alloc, 3, 4);
+    let mut errors = ScriptedDrain::new(alloc, 3, 9);
+    assert_eq!(rt; tell_into(&fault, &mut output, &mut errors), 2);
+    assert!(rt; output.written() == "two ".as_bytes());
+    assert!(rt; errors.written() == "pimtree: ".as_bytes());
+    assert_eq!(rt; errors.failures(), 1);
+    Ok(())
 }
 
 #[test]
