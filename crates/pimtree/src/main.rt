@@ -1,16 +1,25 @@
-//! `pimtree` reads PIM sparse mode messages for a person. `check` prints a message on standard input, or the fault that
-//! it has; `replay` what became of each packet of a router's captures, and the state that the router held at the end;
-//! `same` whether two routers wanted the same traffic; `mirror` the messages that make a fresh router want what this
-//! one wanted; `emit` the bytes of the messages by which this one asked its upstream neighbour; and `change` those that
-//! tell the upstream neighbour of the change from what one router wanted to what another did.
+//! `pimtree` reads PIM sparse mode messages for a person.
+//!
+//! `check` prints a message on standard input, or its fault. `replay` prints what became of each
+//! packet of a router's captures, and the state that the router held at the end. `same` prints
+//! whether two routers want the same traffic. `mirror` prints the messages that make a fresh router
+//! want what this one wants. `emit` writes the bytes of the messages by which this one asks its
+//! upstream neighbour. `change` prints the messages that move an upstream neighbour from what one
+//! router wants to what another one wants.
+//!
+//! `main` gives the engines of `pim_commands` the process's own devices and files. It has no
+//! contract: what a file or a device holds, no contract can name.
 #![tactic(auto)]
+
+mod output;
 
 ghost use Rattle.pim_words.specs.Plan.{IsInRange};
 
+use crate::output::{Output, is_live};
 use pim_addr::{Counted, Drain, Family, V4, V6};
 use pim_commands::{FAULTY, Fault, change, check_task, emit, mirror, replay, same, tell_into};
 use pim_words::{Plan, Task, plan};
-use std::io::{BufWriter, Write};
+use std::io::Write;
 use std::process::ExitCode;
 use std::{env, io};
 
@@ -41,32 +50,34 @@ fn run_task<'a, F: Family, W: Drain>(
     }
 }
 
-/// Does what the words ask for, with standard input and output.
+/// Does what the words ask for, with standard input and output, and returns the status.
 fn run<'a>(rt: &HostRuntime, words: &'a [String]) -> Result<u8, Fault<'a>> {
     let plan = plan(rt.alloc(), words)?;
-    let Ok(blocks) = BufWriter::new(rt.alloc(), io::writer(rt)) else {
+    let Ok(output) = Output::new(rt.alloc(), io::writer(rt), is_live(rt, &plan)) else {
         return Err(Fault::Memory);
     };
-    let mut output = Counted::new(blocks);
-    let told = match &plan {
+    let mut output = Counted::new(output);
+    let status = match &plan {
         Plan::V4(task) => run_task::<V4, _>(rt, task, &mut output),
         Plan::V6(task) => run_task::<V6, _>(rt, task, &mut output),
     };
-    output.into_inner().flush().map_err(|_| Fault::Output)?;
-    told
+    match output.into_inner().flush() {
+        Err(_) if status.is_ok() => Err(Fault::Output),
+        _ => status,
+    }
 }
 
-/// Tells a fault with standard output and error, and answers the status.
+/// Writes a fault to standard output or error, and returns the status.
 fn tell(rt: &HostRuntime, fault: &Fault<'_>) -> u8 {
     let mut output = Counted::new(io::writer(rt));
     let mut errors = Counted::new(rt.stderr());
     tell_into(fault, &mut output, &mut errors)
 }
 
-/// Tells why the words can't be had, and answers the status.
+/// Writes why the words can't be read, and returns the status.
 fn tell_unread(rt: &HostRuntime, error: &io::Error) -> u8 {
     if error.kind() == io::ErrorKind::InvalidData {
-        let _ = eprintln!(rt; "error: a word of the command line isn't valid UTF-8");
+        let _ = eprintln!(rt; "pimtree: a word of the command line isn't valid UTF-8");
         return FAULTY;
     }
     tell(rt, &Fault::Memory)
