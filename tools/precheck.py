@@ -1,0 +1,168 @@
+#!/usr/bin/env python3
+"""Finds in a few minutes, without any proof, much of what `rt ci` refuses after an hour.
+
+    tools/precheck.sh [BASE]
+
+It checks
+- that each crate has the layout of `rt fmt`,
+- that each must-fail edit fits its file,
+- that each bench compiles,
+- that documents keep their length, and that the files which they name exist,
+- the tests of each crate that differs from the commit BASE (HEAD unless given), and of the test crates that name it.
+
+What is wrong is printed as it is found. The last line says how it ended; the status is 0 or 1.
+It depends on the inside of rattle-kit-13f.
+"""
+import concurrent.futures
+import glob
+import io
+import os
+import re
+import shutil
+import subprocess
+import sys
+import tempfile
+import time
+
+sys.path.insert(0, os.path.dirname(os.path.realpath("/usr/local/bin/rt")))
+import rtlib
+
+TOP = os.path.dirname(os.path.dirname(os.path.abspath(__file__)))
+
+# The most words of each document.
+WORDS = {
+    "README.md": 1000,
+    "CONTRIBUTING.md": 600,
+    "docs/ARCHITECTURE.md": 1500,
+    "docs/CONTRACTS.md": 2500,
+    "docs/DEFINITIONS.md": 1500,
+    "docs/HEADLINE.md": 1500,
+    "docs/MANUAL.md": 1500,
+    "docs/PROFILE.md": 1500,
+    "docs/PROVING.md": 3000,
+    "docs/SPEED.md": 1500,
+    "docs/WALKTHROUGH.md": 900,
+}
+NAMED = re.compile(r"(?<![\w./~@-])(?:[\w.*-]+/)+[\w.*-]*")
+FOLDERS = ("benches/", "crates/", "docs/", "examples/", "tools/")
+
+
+def layout(crate):
+    """The name of the crate, where a file of it hasn't the layout of `rt fmt`."""
+    folder = f"{TOP}/crates/{crate}"
+    with tempfile.TemporaryFile("w") as said:
+        bad = rtlib.fmt(folder, "--check", said, diff=subprocess.DEVNULL)
+    return [f"{crate}: run rt fmt in crates/{crate}"] if bad else []
+
+
+def edits():
+    """The must-fail edits that don't fit their file."""
+    ran = subprocess.run([f"{TOP}/tools/edits_fit.py"], capture_output=True, text=True)
+    return ran.stdout.splitlines()[:-1] if ran.returncode else []
+
+
+def is_there(path):
+    """Whether a path of a document is a file or folder, from the top or from crates/; what is built is passed over."""
+    if path.startswith("out/") or "/out/" in path:
+        return True
+    return any(glob.glob(f"{TOP}/{start}{path}") for start in ("", "crates/"))
+
+
+def document(name):
+    """What is wrong with a document: it is missing or too long, or names a file that isn't there."""
+    if not os.path.exists(f"{TOP}/{name}"):
+        return [f"{name}: there is no such document"]
+    with open(f"{TOP}/{name}") as file:
+        text = file.read()
+    count = len(text.split())
+    wrong = [f"{name}: {count} words, at most {WORDS[name]}"] if count > WORDS[name] else []
+    spans = re.findall(r"`([^`\n]+)`", text)
+    paths = [it for it in spans if NAMED.fullmatch(it) and ("." in it or it.endswith("/"))]
+    paths += [it for it in NAMED.findall(text) if it.startswith(FOLDERS)]
+    return wrong + [f"{name}: no {it}" for it in sorted(set(paths)) if not is_there(it.rstrip("."))]
+
+
+def benches(folder):
+    """The errors of the benches, which are compiled as the modules of one program beside a copy of the crates."""
+    skip = shutil.ignore_patterns("out", "must-fail", "more-must-fail")
+    shutil.copytree(f"{TOP}/crates", f"{folder}/crates", ignore=skip)
+    program = f"{folder}/crates/benches/src"
+    os.makedirs(program)
+    names, libraries = [], {}
+    for path in sorted(glob.glob(f"{TOP}/benches/*/libraries")):
+        names.append(os.path.basename(os.path.dirname(path)))
+        with open(path) as file, open(f"{os.path.dirname(path)}/main.rt.in") as bench:
+            libraries.update(dict.fromkeys(file.read().split()))
+            text = bench.read().replace("#![tactic(auto)]", "").replace("\nfn main(", "\npub fn main(")
+        with open(f"{program}/bench_{names[-1]}.rt", "w") as module:
+            module.write(text)
+    with open(f"{program}/main.rt", "w") as file:
+        calls = "".join(f"    bench_{it}::main(rt)?;\n" for it in names)
+        file.write("#![tactic(auto)]\n" + "".join(f"mod bench_{it};\n" for it in names))
+        file.write(f"fn main(rt: HostRuntime) -> std::io::Result<()> {{\n{calls}    Ok(())\n}}\n")
+    with open(f"{TOP}/crates.txt") as given, open(f"{folder}/crates.txt", "w") as lines:
+        lines.write(f"{given.read()}benches: {' '.join(libraries)}\n")
+    crate = next(it for it in rtlib.crates_below(folder) if it.name == "benches")
+    crate.out = io.StringIO()
+    return crate.out.getvalue().splitlines() if crate.front_end() else []
+
+
+def changed_crates(base):
+    """The crates with a file that differs from this commit, or that it hasn't."""
+    how = {"cwd": TOP, "capture_output": True, "text": True, "check": True}
+    names = subprocess.run(["git", "diff", "--name-only", base], **how).stdout.split()
+    names += subprocess.run(["git", "ls-files", "--others", "--exclude-standard"], **how).stdout.split()
+    return {it.split("/")[1] for it in names if re.match(r"crates/\w+/src/", it)}
+
+
+def crates():
+    """The libraries of each crate of crates.txt, by its name."""
+    with open(f"{TOP}/crates.txt") as file:
+        rows = [it.split(":") for it in file if ":" in it and not it.startswith("#")]
+    return {name.split()[0]: deps.split() for name, deps in rows}
+
+
+def tested_crates(base):
+    """The crates whose tests see the change: those with tests that changed or that name one that did."""
+    changed = changed_crates(base)
+    sees = lambda name, deps: name in changed or (name.endswith("_tests") and changed & set(deps))
+    return [name for name, deps in crates().items() if sees(name, deps) and has_tests(name)]
+
+
+def has_tests(crate):
+    """Whether the crate has a test."""
+    files = glob.glob(f"{TOP}/crates/{crate}/src/**/*.rt", recursive=True)
+    return any("#[test]" in open(it).read() for it in files)
+
+
+def tests(crate):
+    """The failed tests of a crate, or why they didn't run."""
+    ran = subprocess.run(["rt", "try", "--test"], cwd=f"{TOP}/crates/{crate}", capture_output=True, text=True)
+    lines = (ran.stdout + ran.stderr).splitlines()
+    bad = [it for it in lines if "FAILED" in it or "error" in it] or lines[-3:]
+    return [f"{crate}: {it}" for it in bad] if ran.returncode else []
+
+
+def main():
+    if len(sys.argv) > 2 or sys.argv[1:2] in (["-h"], ["--help"]):
+        sys.exit(__doc__)
+    begun = time.monotonic()
+    guard = rtlib.guarded()  # sets signal handlers, which only the main thread may
+    rtlib.guarded = lambda: guard
+    base = sys.argv[1] if len(sys.argv) > 1 else "HEAD"
+    wrong = 0
+    with tempfile.TemporaryDirectory() as folder, concurrent.futures.ThreadPoolExecutor(os.cpu_count()) as pool:
+        parts = [pool.submit(tests, it) for it in tested_crates(base)]
+        parts += [pool.submit(benches, folder)]
+        parts += [pool.submit(layout, it) for it in crates()] + [pool.submit(edits)]
+        parts += [pool.submit(document, it) for it in WORDS]
+        for part in concurrent.futures.as_completed(parts):
+            for line in part.result():
+                print(line, flush=True)
+                wrong += 1
+    print(f"precheck: {'FAILED, ' + str(wrong) + ' faults' if wrong else 'passed'}, {time.monotonic() - begun:.0f} s")
+    sys.exit(1 if wrong else 0)
+
+
+if __name__ == "__main__":
+    main()
