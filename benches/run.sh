@@ -1,14 +1,17 @@
 #!/bin/sh
-# Measures a part of the engine beside plain Rust of the same steps, in one run: first the Rattle program, which is proved
-# and then built by LLVM, then plain.rs, where there is one, built by rustc. It works on a copy of the repository, so that nothing of the
-# repository's own is changed; what crates/*/out keeps of earlier checks makes it quicker.
+# Measures a part of the engine and plain Rust of the same steps, in one run. First it runs the
+# Rattle program, which is proved and then built by LLVM. Then it runs plain.rs, if there is one,
+# built by rustc. It works on a copy of the repository. What earlier checks left in crates/*/out
+# makes it quicker.
 #
-# The Rattle source is called main.rt.in, since the gate takes each file that ends in .rt for a crate's.
-#
-#   benches/run.sh NAME [ARGUMENT..]        NAME is a folder beside this script, but for replay, which has its own run.sh
+#   benches/run.sh NAME [ARGUMENT..]        NAME is a folder beside this script; replay has its own
+#                                           run.sh
 #   benches/run.sh --allocations NAME ARGUMENT..
-#                                           runs the Rattle program alone, with one ARGUMENT after the other, and tells how
-#                                           many allocations it asks for in each run
+#                                           runs the Rattle program alone, once for each ARGUMENT,
+#                                           and prints the number of allocations of each run
+#
+# The Rattle source is called main.rt.in, since the gate takes each file that ends in .rt for a
+# source of a crate.
 set -eu
 
 counts=no

@@ -1,9 +1,11 @@
 #!/bin/sh
-# Builds the Rattle program of a bench over the libraries that `rt ci` proved on this machine from the same texts, and runs it:
-# some minutes, where benches/run.sh would prove all libraries anew. It works on a clone of the last commit, in a new folder that is left as it is,
-# so that crates/bench_NAME/out/bench_NAME can be run again, in turns with others or on one processor.
+# Builds and runs the Rattle program of a bench over the libraries that `rt ci` proved on this
+# machine from the same sources. This takes some minutes, since no library is proved again.
 #
 #   tools/bench_over_gate.sh NAME FOLDER [ARGUMENT..]
+#
+# NAME is a folder of benches/. FOLDER is new: a clone of the last commit, which is left in place.
+# Its crates/bench_NAME/out/bench_NAME can be run again, by turns with others or on one processor.
 set -eu
 name=$1
 folder=$2

@@ -1,13 +1,18 @@
 #!/usr/bin/env python3
-"""What tests expect of messages that are cut, or with any one byte changed to any other: of bodies those of pim_jp
-(crates/pim_codec_tests/src/tests/jp/changed_bytes.rt), of whole messages those of pim_router
-(crates/pim_router_tests/src/tests/router/spoilt.rt).
+"""Prints what two tests expect of messages that are cut, or that have one byte changed to any
+value.
 
-A reader that is written apart from the engine (RFC 7761, 4.9): it lists all the faults of all the parts, as pairs of
-an offset and a number, and takes the least. Of many bodies or messages it prints how often each number is told, 0 for
-no fault, and a digest of all that is told.
+    python3 tools/changed_bytes.py
+
+Bodies are those of crates/pim_codec_tests/src/tests/jp/changed_bytes.rt, whole messages those of
+crates/pim_router_tests/src/tests/router/spoilt.rt.
+
+This is a reader of PIM messages (RFC 7761, 4.9) that shares no code with the engine. It lists all
+faults of all parts, as pairs of an offset and a number, and takes the least. For each list of
+bodies or messages it prints how often each number is the result, where 0 is no fault, and a digest
+of all results.
 """
-# the numbers of faults, as they are told at one part
+# the numbers of faults, in the order in which one part reports them
 SHORT, FAMILY, ENCODING, MASK, NOT_GROUP, FLAGS, NOT_SOURCE, SECOND_STAR, BOTH_LISTS, TRAILING = range(1, 11)
 
 STAR = bytes.fromhex("01000a000002" "000100d2" "01000020ef010101" "00010000" "010007200a090909")
@@ -16,7 +21,7 @@ LISTS = STAR[:18] + bytes.fromhex(
 
 
 def form_faults(body, at, has_mask, size):
-    """What is wrong with the family, the encoding and the mask of an encoded address of so many bytes."""
+    """The faults of the family, the encoding and the mask of an encoded address of `size` bytes."""
     found = []
     if body[at] != (1 if size == 4 else 2):
         found.append((at, FAMILY))
@@ -28,17 +33,17 @@ def form_faults(body, at, has_mask, size):
 
 
 def is_group(address):
-    """Whether an address is a group's."""
+    """Whether an address is a group."""
     return address[0] >> 4 == 14 if len(address) == 4 else address[0] == 255
 
 
 def is_no_source(address):
-    """Whether an address can't be a source's or an RP's: from 224.0.0.0 on, or a group."""
+    """Whether an address is too high for a source or an RP: from 224.0.0.0 on, or in ff00::/8."""
     return address[0] >= 224 if len(address) == 4 else address[0] == 255
 
 
 def set_faults(body, at, size):
-    """The faults of a set, and where it ends; no end where a part isn't whole."""
+    """The faults of a group set, and its end, or None if a part is cut off."""
     part = 4 + size
     if at + part > len(body):
         return [(at, SHORT)], None
@@ -76,7 +81,8 @@ def set_faults(body, at, size):
 
 
 def faults(body, size=4):
-    """All the faults of a Join/Prune's body, up to the first part that isn't whole; addresses have so many bytes."""
+    """All faults of the body of a Join/Prune message, up to the first part that is cut off.
+    Addresses have `size` bytes."""
     at = 2 + size
     if len(body) < at:
         return [(0, SHORT)]
@@ -96,7 +102,8 @@ def faults(body, size=4):
 
 
 def told_of_changes(body):
-    """How often each number is told of the body's changes, 0 for none, and the digest of all that is told."""
+    """How often each number is the result for the body's changes, where 0 is no fault, and the
+    digest of all results."""
     counts, digest = [0] * 11, 0
     for at in range(len(body)):
         for value in range(256):
@@ -107,9 +114,9 @@ def told_of_changes(body):
     return counts, digest
 
 
-# the numbers of what is told of a message: no fault of a Hello is 0, and what becomes of its sender's row is told in place of an
-# offset; of a Join/Prune 19 where its sender is unknown, else 20 where it is for another router than 10.0.0.2 or fe80::2, and 21
-# where it is for that one
+# The numbers of results for messages. A Hello without a fault has 0, and the event of its sender in
+# place of an offset. A Join/Prune without a fault has 19 if its sender is unknown, otherwise 21 if
+# it is for 10.0.0.2 or fe80::2, otherwise 20.
 FRAME_SHORT, VERSION, CHECKSUM, OTHER_TYPE, HELLO, JOIN_PRUNE, UNKNOWN, NOT_FOR_US, APPLIED = 1, 2, 3, 5, 5, 8, 19, 20, 21
 OWN = bytes([10, 0, 0, 2]), bytes.fromhex("fe800000000000000000000000000002")
 OPTION_LENGTH, ADDRESS = 2, 3
@@ -117,7 +124,8 @@ LENGTHS = {1: 2, 2: 4, 19: 4, 20: 4}
 
 
 def is_row(value):
-    """Whether an option's value is a row of whole native addresses."""
+    """Whether the value of an Address List option is a row of whole addresses in native
+    encoding."""
     at = 0
     while at < len(value):
         size = {1: 4, 2: 16}.get(value[at])
@@ -128,7 +136,7 @@ def is_row(value):
 
 
 def hello_faults(body):
-    """All the faults of a Hello's body, up to the first option that isn't whole."""
+    """All faults of the body of a Hello, up to the first option that is cut off."""
     found, at = [], 0
     while at < len(body):
         if at + 4 > len(body):
@@ -148,13 +156,13 @@ NEW, SAME, RESTARTED, GONE = range(4)
 
 
 class Sender:
-    """What a port keeps of the sender of Hellos (RFC 7761, 4.3.1), at one moment."""
+    """What a port knows of the sender of Hellos (RFC 7761, 4.3.1), at one moment."""
 
     def __init__(self):
         self.is_known, self.generation = False, None
 
     def hear(self, body):
-        """Hears a Hello that has no fault, and tells what became of the sender's row."""
+        """Hears a Hello that has no fault, and returns the event of its sender."""
         options, at = {}, 0
         while at < len(body):
             option, length = int.from_bytes(body[at:at + 2], "big"), int.from_bytes(body[at + 2:at + 4], "big")
@@ -170,13 +178,14 @@ class Sender:
 
 
 class Port:
-    """Which machines a port holds at one moment (RFC 7761, 4.5), where no group has an RP, so that no Join(*,G) counts."""
+    """The machines that a port holds at one moment (RFC 7761, 4.5). No group has an RP, so no
+    Join(*,G) counts."""
 
     def __init__(self):
         self.machines = set()
 
     def hear(self, body, size):
-        """Hears a Join/Prune that has no fault."""
+        """Hears a Join/Prune message that has no fault."""
         at = 6 + size
         for _ in range(body[3 + size]):
             group = bytes(body[at + 4:at + 4 + size])
@@ -189,7 +198,7 @@ class Port:
                     at += 4 + size
 
     def hear_entry(self, group, is_pruned, bits, source):
-        """Hears an entry: without bits it is (S,G), with the R bit alone (S,G,rpt)."""
+        """Hears an entry: (S,G) if no bit is set, (S,G,rpt) if only the R bit is."""
         machine = group, bits, source
         if (bits == 0 and not is_pruned) or (bits == 1 and is_pruned):
             self.machines.add(machine)
@@ -198,8 +207,9 @@ class Port:
 
 
 def told_of(message, pseudo, port, sender):
-    """What is told of a message, with its place, version or type; its pseudo-header sums to this. The sender of a Join/Prune
-    is unknown where there is no port; that of a Hello is as the Hellos before left it."""
+    """The result for a message, with its offset, version, type or event. `pseudo` gives the sum of
+    the pseudo-header. The sender of a Join/Prune is unknown if there is no port; that of a Hello is
+    as earlier Hellos left it."""
     if len(message) < 4:
         return FRAME_SHORT, 0
     version, kind = message[0] >> 4, message[0] & 15
@@ -227,7 +237,7 @@ def told_of(message, pseudo, port, sender):
 
 
 def words(message):
-    """The sum of the words of 16 bits, with a zero byte behind an odd length."""
+    """The sum of the 16-bit words, with a zero byte after an odd length."""
     padded = bytes(message) + bytes(len(message) % 2)
     return sum(int.from_bytes(padded[at:at + 2], "big") for at in range(0, len(padded), 2))
 
@@ -242,7 +252,7 @@ def over_ipv6(length):
 
 
 def mended(message, pseudo):
-    """The message with its checksum mended, where it has one."""
+    """The message with a correct checksum, if it is long enough to have one."""
     if len(message) < 4:
         return message
     blank = message[:2] + bytes(2) + message[4:]
@@ -250,7 +260,8 @@ def mended(message, pseudo):
 
 
 def told_of_all(messages, pseudo, port, sender):
-    """How often each number is told of the messages, one after the other, and the digest of all that is told."""
+    """How often each number is the result for the messages, heard in order, and the digest of all
+    results."""
     counts, digest = [0] * 23, 0
     for message in messages:
         number, place = told_of(message, pseudo, port, sender)
@@ -267,8 +278,8 @@ def changes(message):
 
 
 def tell_spoilt(name, message, pseudo, port=None):
-    """Prints what is told of a message that is cut and mended, changed, and changed and mended, and how many machines the port
-    holds then."""
+    """Prints the results for a message that is cut, changed, and changed with a correct checksum. A
+    cut message has a correct checksum, too. Then it prints how many machines the port holds."""
     message = mended(message, pseudo)
     sender = Sender()
     fronts = [mended(message[:length], pseudo) for length in range(len(message) + 1)]

@@ -1,10 +1,12 @@
 #!/usr/bin/env python3
-"""Tells what each function of a crate costs its check, from nothing, in seconds of processor time, the dearest first.
+"""Prints the processor time in seconds that a check from nothing takes for each function of a
+crate, the longest first.
 
     tools/check_times.py CRATE [--test]
 
-The libraries of the crates below must stand in crates/NAME/out/rlib, as `rt ci` or `rt lib` leaves them. What the first function of
-all costs is mostly the loading of libraries. It knows the inside of rattle-kit-13b.
+The libraries of the crates below must be in crates/NAME/out/rlib, where `rt ci` and `rt lib` leave
+them. The time of the function that is checked first is mostly that of loading libraries. It depends
+on the inside of rattle-kit-13f.
 """
 import importlib.machinery
 import importlib.util

@@ -1,18 +1,20 @@
 #!/bin/sh
-# Runs each built test of refused growths once for each allocation that it asks for, with that one refused, by
-# refuse_memory.sh, and prints what the runs answered. The list below names the tests and the calls that they make.
-#
-# A run is right where the test passes: it looks at what a call that is refused memory answers and leaves or wrote and, but
-# for calls that write a replay, at what the same call answers then with memory. It is right, too, where the test says that it
-# had no memory itself, "error: AllocError". Any other run, such as one that is aborted, ended by a signal, or longer than
-# 60 s, is wrong: then the last line says so, and the status is 1. So it is where a test isn't built, doesn't pass with
-# memory, or asks for none.
-#
-# `rt ci` at the top of the repository leaves the built tests (crates/NAME/out/NAME_tests); so does, of one crate alone,
-# `rt test` in its folder, which proves it first.
+# Tests what calls do when memory is refused. It runs each built test of the list below once for
+# each of its allocations, with that allocation refused (refuse_memory.sh), and prints the results.
+# The list names the tests and the calls that they make.
 #
 #   tools/each_growth_refused.sh             all tests
-#   tools/each_growth_refused.sh CRATE..     those of these crates
+#   tools/each_growth_refused.sh CRATE..     the tests of these crates
+#
+# A run is right if the test passes. The test checks what the call returned when memory was refused,
+# and what it left or wrote. Except for calls that write a replay, it also checks what the same call
+# then returns with memory. A run is also right if the test itself was refused memory
+# ("error: AllocError"). Any other run is wrong, such as one that aborts, ends by a signal, or takes
+# more than 60 s. Then the last line says so, and the status is 1. The status is also 1 if a test
+# isn't built, fails with memory, or allocates nothing.
+#
+# The built tests are in crates/NAME/out/NAME_tests. `rt ci` at the top of the repository leaves
+# them there. So does `rt test` in the folder of a crate, which it proves first.
 set -eu
 here=$(cd "$(dirname "$0")" && pwd)
 said=$(mktemp)
@@ -20,7 +22,7 @@ trap 'rm "$said"' EXIT
 wrong=0
 ran=0
 
-# whether the answers in $said are right
+# whether the results in $said are right
 is_right() {
     [ "$(head -n 1 "$said")" = "none refused: status 0: test result: ok" ] || return 1
     [ "$(wc -l < "$said")" -gt 2 ] || return 1

@@ -1,10 +1,11 @@
 #!/usr/bin/env python3
-"""Tells each wrong body that can't be applied: whose old text doesn't stand once in its file.
-
-It reads crates/NAME/must-fail and crates/NAME/more-must-fail, of all crates or of those that are named; `rt check` tells
-only the former. Nothing is proved, so it takes no time.
+"""Prints each edit (a wrong body) that can't be applied, since its old text isn't in its file
+exactly once.
 
     tools/edits_fit.py [CRATE..]
+
+It reads crates/NAME/must-fail and crates/NAME/more-must-fail of these crates, or of all. `rt check`
+reports only those of must-fail. Nothing is proved, so it takes no time.
 """
 import pathlib
 import sys

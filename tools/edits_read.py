@@ -1,14 +1,18 @@
 #!/usr/bin/env python3
-"""Tells each wrong body that the checker can't read, as where a type that it names isn't imported any more: it doesn't reach the
-prover, whatever the contracts say, and `rt must-fail` calls it a bad edit only once it is tried.
-
-tools/edits_fit.py tells at once those whose old text is gone; this begins a check of each one, and breaks it off when a mistake of types
-would have been told, two and a half times as long as one takes at first: some ten seconds each. Where the machine gets much busier
-meanwhile, one may be missed; what can't be read in a text of specs or proofs isn't told. In a crate's folder, where the crates below stand in crates/*/out, as `rt ci` leaves them:
+"""Prints each edit (a wrong body) that the checker can't read, as when it names a type that isn't
+imported.
 
     tools/edits_read.py [LANES]
 
-It knows the inside of rattle-kit-13b, as tools/over_gate.py does.
+Such an edit never reaches the prover, and `rt must-fail` reports it only when it tries it. Run this
+in a crate's folder. The libraries of the crates below must be in crates/*/out, where `rt ci` leaves
+them. LANES checks run at a time, one if not given.
+
+It starts a check of each edit, and ends it after the time in which a type error would have been
+reported: two and a half times what one takes at first, and 3 s. That is some ten seconds for each
+edit. If the machine becomes much busier meanwhile, it may miss one. It doesn't report what can't be
+read in specs/ or proofs/. tools/edits_fit.py prints the edits whose old text is gone. It depends on
+the inside of rattle-kit-13f, as tools/over_gate.py does.
 """
 import os
 import shutil
@@ -25,7 +29,8 @@ MISTAKE = "\nfn a_mistake_of_types(number: u64) -> bool { number }\n"
 
 
 def told(rtlib, crate, texts, limit):
-    """What a check of the crate with these texts in place of its own says, where it ends within so many seconds."""
+    """The first error of a check of the crate with these texts in place of its own; empty if there
+    is none within `limit` seconds."""
     with tempfile.TemporaryDirectory(prefix="edits-read-") as room:
         for part in rtlib.PARTS:
             if os.path.isdir(f"{crate.folder}/{part}"):
@@ -43,13 +48,13 @@ def told(rtlib, crate, texts, limit):
 
 
 def seconds_to_a_mistake(rtlib, crate):
-    """How long a mistake of types takes to be told."""
+    """The time in seconds until a type error is reported."""
     root = next(it for it in ("src/lib.rt", "src/main.rt") if os.path.exists(it))
     with open(root, encoding="utf-8") as file:
         text = file.read()
     begun = time.monotonic()
     if not told(rtlib, crate, {root: text + MISTAKE}, None):
-        sys.exit("a mistake of types isn't told: are the crates below proved, in crates/*/out?")
+        sys.exit("a type error isn't reported: are the libraries of the crates below in crates/*/out?")
     return time.monotonic() - begun
 
 

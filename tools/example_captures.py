@@ -1,5 +1,8 @@
 #!/usr/bin/env python3
-"""Writes the captures of examples/, each of the PIM packets on one port of a router: python3 tools/example_captures.py"""
+"""Writes the captures of examples/. Each has the PIM packets on one port of a router.
+
+    python3 tools/example_captures.py
+"""
 import ipaddress
 import os
 import struct
@@ -24,7 +27,8 @@ def total(data):
 
 
 def sealed(source, destination, kind, body):
-    """A PIM message (RFC 7761, 4.9) with its checksum, which over IPv6 covers a pseudo-header (RFC 8200, 8.1)."""
+    """A PIM message with its checksum (RFC 7761, 4.9). Over IPv6 the checksum covers a
+    pseudo-header (RFC 8200, 8.1)."""
     source, destination = packed(source), packed(destination)
     message = bytes([0x20 | kind, 0, 0, 0]) + body
     cover = source + destination + struct.pack(">II", len(message), PIM) if len(source) == 16 else b""
@@ -65,7 +69,8 @@ STAR, RPT, SOURCE = 7, 5, 4
 
 
 def join_prune_body(upstream, holdtime, sets):
-    """The body of a Join/Prune: sets are a group, the joined and the pruned entries, each of flags and address."""
+    """The body of a Join/Prune message. A set is a group, its joined and its pruned entries, each
+    of flags and address."""
     body = unicast(upstream) + struct.pack(">BBH", 0, len(sets), holdtime)
     for group, joined, pruned in sets:
         body += masked(0, group) + struct.pack(">HH", len(joined), len(pruned))
@@ -79,7 +84,7 @@ def join_prune(source, upstream, holdtime, sets):
 
 
 def broken(data):
-    """The packet with its last byte changed, so that the checksum is wrong."""
+    """The packet with one bit of its last byte changed, so that the checksum is wrong."""
     return data[:-1] + bytes([data[-1] ^ 1])
 
 
@@ -90,7 +95,8 @@ def igmp_query(source):
 
 
 def write(name, records):
-    """A classic pcap file of raw IP packets, each with its moment in milliseconds."""
+    """Writes a classic pcap file of raw IP packets. A record is a time in milliseconds and a
+    packet."""
     data = struct.pack("<IHHiIII", 0xA1B2C3D4, 2, 4, 0, 0, 65535, 101)
     for millis, frame in records:
         seconds = 1_700_000_000 + millis // 1000
@@ -100,7 +106,8 @@ def write(name, records):
 
 
 def lan():
-    """Three neighbours: a join, a prune that another neighbour overrides, an echo, an expiry, a packet of another kind."""
+    """Three neighbours: a join, a prune that another neighbour overrides, an echo, an expiry, a
+    packet that isn't PIM."""
     seven, eight, nine, here = "10.0.0.7", "10.0.0.8", "10.0.0.9", "10.0.0.2"
     star = [(STAR, "10.9.9.9")]
     write("lan.pcap", [
@@ -119,7 +126,7 @@ def lan():
 
 
 def lost():
-    """One neighbour that joins once, and then sends its Joins to another router."""
+    """One neighbour that joins a source once, and then sends its Joins to another router."""
     nine, here, other = "10.0.0.9", "10.0.0.2", "10.0.0.3"
     wanted = [("239.1.1.1", [(SOURCE, "192.0.2.1")], [])]
     records = [(millis, hello(nine, 105)) for millis in range(0, 240_001, 30_000)]
@@ -129,7 +136,7 @@ def lost():
 
 
 def ipv6():
-    """Two neighbours over IPv6: a star without one source, a source, and a Hello that ends a neighbour."""
+    """Two neighbours over IPv6: a star with one exception, a source, a goodbye, and a restart."""
     seven, nine, here = "fe80::7", "fe80::9", "fe80::2"
     write("ipv6.pcap", [
         (0, hello(seven)),
@@ -144,7 +151,8 @@ def ipv6():
 
 
 def fault():
-    """Messages that are refused, each for another cause, between some that are not, in a file that ends too early."""
+    """Messages that are refused for different causes, and others, in a file that ends inside a
+    record."""
     nine, here, to = "10.0.0.9", "10.0.0.2", "224.0.0.13"
     good = [("239.1.1.1", [(STAR, "10.9.9.9")], [])]
     bad = [("239.1.1.1", [(6, "10.9.9.9")], [])]

@@ -1,6 +1,7 @@
 #!/usr/bin/env python3
-"""Writes the shipped captures, with their words and reports, as constants of the tests of pim_commands, and the first of them
-as the program's stored run (args, data and stdout of crates/pimtree):
+"""Writes the captures of examples/, with their words and reports, as constants of
+crates/pimtree_tests. It also writes the first of them as the stored run of crates/pimtree: args,
+data/ and stdout.
 
     python3 tools/examples_as_tests.py && cd crates/pimtree_tests && rt fmt
 """

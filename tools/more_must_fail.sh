@@ -1,6 +1,6 @@
 #!/bin/sh
-# Tries the wrong bodies of crates/NAME/more-must-fail, which the gate leaves out for its time: each must be refused.
-# It works on a copy of the repository, so that the repository's own edits stay where they are.
+# Tries the edits (wrong bodies) in crates/NAME/more-must-fail, of these crates or of all. Each must
+# be refused. The gate leaves them out to save time. It works on a copy of the repository.
 #
 #   tools/more_must_fail.sh [CRATE..]
 set -eu

@@ -1,20 +1,21 @@
 #!/usr/bin/env python3
-"""Works on one crate over the libraries that `rt ci` proved on this machine, which `rt check` doesn't take up and would build anew.
+"""Works on one crate over the libraries that `rt ci` proved on this machine. `rt check` would build
+its own instead.
 
-In the crate's folder, where `rt ci` has proved the crates below, whose texts are the same here; under rattle-kit-13b, which keeps
-nothing, first copy crates/NAME/out/rlib of these crates from the copy in which it runs or ran:
+Run it in the crate's folder, after `rt ci` has proved the crates below from the same sources:
 
-    tools/over_gate.py libraries                puts those libraries into crates/*/out (rattle-kit-13f)
+    tools/over_gate.py libraries              puts the libraries of crates below into crates/*/out
     tools/over_gate.py check [--only=FUNCTION ..] [--test] [--allow-holes]
-    tools/over_gate.py edits [NAME.edit ..]     those of must-fail/, or these, of more-must-fail/ too
-    tools/over_gate.py build                    for the crates above, after a check
-    tools/over_gate.py tests                    builds the tests, after a check with --test, and runs them
+    tools/over_gate.py edits [NAME.edit ..]   tries those of must-fail/, or these of either folder
+    tools/over_gate.py build                  makes the library for the crates above, after a check
+    tools/over_gate.py tests                  builds and runs the tests, after a check with --test
     tools/over_gate.py plant [rt plant's flags]
-    tools/over_gate.py stamps                   after `libraries`: from then on `rt run` and `rt test` take these libraries up
+    tools/over_gate.py stamps                 lets `rt run` and `rt test` use these libraries, after
+                                              `libraries`
 
-OVER_GATE_JOBS=N lets a check use N processors, and not one.
+OVER_GATE_JOBS=N lets a check use N processors instead of one.
 
-What it answers is no verdict: `rt ci` gives that. It knows the inside of rattle-kit-13b and 13f.
+Its result is no verdict; only `rt ci` gives one. It depends on the inside of rattle-kit-13f.
 """
 import importlib.machinery
 import importlib.util
@@ -78,8 +79,9 @@ def libraries(rt, crate):
         return 1
     there = [it.name for it in crate.below() if os.path.isdir(it.rlib)]
     if there:
-        # They may be links to what is kept; linked a second time, `rt` takes them for damaged, and drops what it keeps.
-        print(f"some stand in out/ already; remove crates/NAME/out first of: {' '.join(there)}", file=sys.stderr)
+        # They may be links to kept files. If `rt` links them again, it takes them for damaged and
+        # drops what it kept.
+        print(f"some are in out/ already; first remove crates/NAME/out of: {' '.join(there)}", file=sys.stderr)
         return 1
     kept, lacking = rt.Kept(crate.below()), []
     for it in crate.below():
@@ -89,12 +91,13 @@ def libraries(rt, crate):
             kept.is_built(it)
         else:
             lacking.append(it.name)
-    print(f"not kept: {' '.join(lacking)}" if lacking else "all libraries below stand in out/", flush=True)
+    print(f"not kept: {' '.join(lacking)}" if lacking else "all libraries below are in out/", flush=True)
     return 1 if lacking else 0
 
 
 def stamps():
-    # A stamp goes by how libraries are cut, which is another way in `rt ci`: so this is loaded anew, and `rt` isn't.
+    # A stamp depends on how libraries are cut, and `rt` cuts them otherwise. So this loads rtlib
+    # alone, without `rt`.
     import rtlib
 
     rtlib.guarded()

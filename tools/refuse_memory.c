@@ -1,5 +1,6 @@
-/* Refuses one allocation of the program into which it is loaded: the one whose number REFUSED says, counted from 1.
- * Where ALLOCATIONS names a file, it writes there how many were asked for. `refuse_memory.sh` uses both. */
+/* Refuses one allocation of the program into which it is loaded: that with the number REFUSED,
+ * counted from 1. If ALLOCATIONS names a file, it writes the number of allocations there when the
+ * program ends. `refuse_memory.sh` uses both. */
 #include <fcntl.h>
 #include <stdio.h>
 #include <stdlib.h>

@@ -1,20 +1,20 @@
 #!/bin/sh
-# Runs a built program, or one of its built tests, once for each allocation that it asks for, with that one refused, and
-# counts what the runs answer: how many, the status, and the error that it told, or else the last line of its output or
-# error. Status 124 is that of a run which took over 60 s. Standard input is given anew to each run. For example, at the
-# top of the repository:
+# Runs a built program, or a built test, once for each of its allocations, with that allocation
+# refused. It prints the results and the number of runs with each: the status, and the error that
+# was printed, otherwise the last line of output. A run of more than 60 s has status 124. Each run
+# reads the same standard input. Examples, at the top of the repository:
 #
 #   tools/refuse_memory.sh crates/pimtree/out/pimtree check < examples/join-star.pim
 #   tools/refuse_memory.sh crates/pim_codec_tests/out/pim_codec_tests_tests tests::hello::neighbours::refusals_change_nothing
 #
-# each_growth_refused.sh does it of all tests of refused growths.
+# each_growth_refused.sh does this for all tests of refused memory.
 set -eu
 folder=$(mktemp -d)
 trap 'rm -r "$folder"' EXIT
 cc -O1 -shared -fPIC -o "$folder/refuse.so" "$(dirname "$0")/refuse_memory.c"
 cat > "$folder/input"
 
-# the answer of a run in which allocation $1 is refused; none where it is 0
+# the result of a run in which allocation number $1 is refused, or none if it is 0
 answer() {
     number=$1
     shift

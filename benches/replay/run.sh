@@ -1,8 +1,10 @@
 #!/bin/sh
-# Replays one capture by pimtree and by plain Rust, three times each and by turns: tells whether the reports are byte-equal, and
-# how many Join/Prune packets each takes a second in the best of its runs. capture.rs says what is in the capture.
+# Replays one capture by pimtree and by plain Rust, three times each and by turns. It stops if the
+# reports differ. It prints how many Join/Prune packets a second each handles in its fastest run.
+# capture.rs describes the capture.
 #
-#   benches/replay/run.sh PIMTREE [PACKETS]        PIMTREE is the built program; 100,000 packets unless said
+#   benches/replay/run.sh PIMTREE [PACKETS]        PIMTREE is the built program; PACKETS is 100,000
+#                                                  unless given
 set -eu
 
 pimtree=$1
@@ -16,7 +18,7 @@ for program in capture plain; do
 done
 "$work/capture" "$packets" "$work/bench.pcap"
 
-# Runs a program, and keeps its report and how many nanoseconds it took: run NAME PROGRAM
+# Runs a program, and keeps its report and its time in nanoseconds: run NAME PROGRAM
 run() {
     start=$(date +%s%N)
     "$2" replay --rp 10.9.9.9 --limit 100000 "10.0.0.2@$work/bench.pcap" > "$work/$1.report"
@@ -31,7 +33,7 @@ for turn in 1 2 3; do
 done
 echo "reports of $(wc -l < "$work/plain.report") lines, byte-equal"
 
-# Tells the runs of a program: tell NAME
+# Prints the times of a program: tell NAME
 tell() {
     awk -v name="$1" -v packets="$packets" '
         NR == 1 || $1 < best { best = $1 }
