@@ -34,8 +34,9 @@ const ABOUT: &str = "Reads PIM sparse mode messages (RFC 7761) and says what the
 
 /// The end of the program's help: a first command, common faults, and the exit statuses.
 const AFTER_HELP: &str =
-    "Begin with a capture of a link, on which 10.0.0.2 is the address of a router:
-  pimtree replay 10.0.0.2@lan.pcap
+    "Begin with a capture of a router's link. Here 10.0.0.2 is the router's address
+on the link, and 10.9.9.9 the rendezvous point:
+  pimtree replay --rp 10.9.9.9 10.0.0.2@lan.pcap
 `pimtree COMMAND --help` explains each line that a command prints.
 
 Faults that are often met first, on standard error:
@@ -136,7 +137,8 @@ the first record, P the place of the port's word, from 0. VERDICT is
   hello same         Hello of a neighbour that is known
   hello restarted    Hello with another Generation ID: the neighbour restarted
   hello gone         Hello with holdtime 0: the neighbour leaves
-  applied            Join/Prune to this router, which acts on it
+  applied            Join/Prune to this router, which acts on it; a Join(*,G)
+                     that doesn't name the RP of its group does nothing
   not-for-us         Join/Prune to another upstream neighbour
   unknown-neighbour  Join/Prune of a sender that sent no Hello
   mine               packet from the port's own address
@@ -155,7 +157,7 @@ Then come the demand toward upstream, and two counts:
   want star G      the group's shared tree, but for the sources of `except S G`
   want source S G  the tree of one source
   skipped N        records without a PIM packet of the addresses' family
-  refreshes N      times that the router sent its Join/Prune messages: each 60 s
+  refreshes N      times that Join/Prune messages were due: each 60 s
 
 Example, at the top of the repository:
   pimtree replay --rp 10.9.9.9 10.0.0.2@examples/lan.pcap",

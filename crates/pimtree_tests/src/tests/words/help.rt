@@ -19,7 +19,7 @@ const PAGES: [&[&str]; 7] = [
 ];
 
 /// Parts of the help of the program.
-const PROGRAM: [&str; 10] = [
+const PROGRAM: [&str; 11] = [
     "  check   What does this message say, or where is it wrong?\n",
     "  replay  What state did this router hold, and why?\n",
     "  same    Do these two routers want the same traffic?\n",
@@ -29,6 +29,7 @@ const PROGRAM: [&str; 10] = [
     "\n  capture magic      FILE isn't classic pcap: `editcap -F pcap IN OUT` makes one\n",
     "\n  capture link-type  FILE is neither Ethernet nor raw IP: `tcpdump -i any` makes\n",
     "\n  config ports       no word ADDRESS@FILE was given, or more than 64 were\n",
+    "\n  pimtree replay --rp 10.9.9.9 10.0.0.2@lan.pcap\n",
     "0 for success, 1 where `same` prints `different`, 2 for a fault.",
 ];
 
