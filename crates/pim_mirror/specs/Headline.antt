@@ -280,8 +280,8 @@ pub record IsHeadline (family : AddressFamily) (table : RouteTable) (writing : W
   pub twice_is_once : (demand : Demand) (once twice : List GroupForm) →
       IsFormOf family demand once → IsFormOf family (form_wants once) twice → twice ≡ once
   -- A fresh router hears these messages alone, in any order and however often. From the end of its
-  -- prune-pending times until the first expiry it wants exactly that traffic and writes the same
-  -- bytes.
+  -- prune-pending times until the first expiry it would ask its own address for exactly the traffic
+  -- that the state asks of it, by the same bytes.
   pub fresh_router_does_the_same : (state : Downstream) (messages : List (List ℕ)) (fresh : Fresh)
       (router later : RouterState) (moment : ℕ) → AreMessagesOf family table writing state messages →
       HearsAlone family table writing messages fresh router → IsInWindow writing fresh moment →

@@ -131,8 +131,8 @@ pub fn mirror_answers_for_the_form()
 /// Normalizing twice is once.
 ///
 /// A fresh router hears these messages alone, in any order and however often. From the end of its
-/// prune-pending times until the first expiry it wants exactly that traffic and writes the same
-/// bytes.
+/// prune-pending times until the first expiry it would ask its own address for exactly the traffic
+/// that the state asks of it, by the same bytes.
 pub fn headline()
     ensures { Headline }
 {
