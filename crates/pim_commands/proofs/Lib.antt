@@ -2,7 +2,6 @@ pub mod Compared
 pub mod Mirrored
 pub mod Emitted
 pub mod Changed
-pub mod Lines
 pub mod Reports
 pub mod Writes
 pub mod Routers

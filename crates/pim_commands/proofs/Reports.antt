@@ -14,8 +14,8 @@ use Rattle.pim_hello.specs.declared.fault.HelloFault.{HelloFault}
 use Rattle.pim_jp.specs.Message.{Message, message_of}
 use Rattle.pim_jp.specs.Faults.{faults}
 use Rattle.pim_jp.specs.declared.fault.JpFault.{JpFault}
-use Rattle.pim_commands.specs.Text.{message_text}
-use Rattle.pim_commands.specs.HelloText.{hello_text}
+use Rattle.pim_text.specs.JoinPruneText.{message_text}
+use Rattle.pim_text.specs.HelloText.{hello_text}
 use Rattle.pim_commands.specs.declared.fault.Fault.{Fault}
 use Rattle.pim_commands.specs.declared.fault.Fault.TheVariants.{Words, File, RoutesTooLong, RoutesRead, RoutesLine, Capture, TooBig, Full}
 use Rattle.pim_commands.specs.declared.fault.Fault.TheVariants.{Frame, Hello, JoinPrune, InputTooLong, InputRead, Output, Memory}

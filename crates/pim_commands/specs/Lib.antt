@@ -1,6 +1,4 @@
 -- The definitions of `pim_commands`.
-pub mod Text
-pub mod HelloText
 pub mod Words
 pub mod Report
 pub mod Ends

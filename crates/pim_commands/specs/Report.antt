@@ -13,8 +13,9 @@ use Rattle.pim_jp.specs.Faults.{faults}
 use Rattle.pim_commands.specs.declared.fault.Fault.{Fault}
 use Rattle.pim_commands.specs.declared.fault.Fault.TheVariants.{Frame, Hello, JoinPrune, InputTooLong, InputRead, Output}
 use Rattle.pim_commands.specs.declared.fault.Fault.TheVariants.{Memory}
-use Rattle.pim_commands.specs.Text.{message_text, type_text}
-use Rattle.pim_commands.specs.HelloText.{hello_text}
+use Rattle.pim_text.specs.Text.{type_text}
+use Rattle.pim_text.specs.JoinPruneText.{message_text}
+use Rattle.pim_text.specs.HelloText.{hello_text}
 
 -- The faults of the body of a Hello or a Join/Prune message, in order; a message of another type
 -- has none.

@@ -21,7 +21,7 @@ use Rattle.pim_commands.specs.declared.fault.Fault.{Fault}
 use Rattle.pim_commands.specs.declared.fault.Fault.TheVariants.{Words, File, RoutesTooLong, RoutesRead, RoutesLine, Capture}
 use Rattle.pim_commands.specs.declared.fault.Fault.TheVariants.{Frame, Hello, JoinPrune, TooBig, Full, InputTooLong}
 use Rattle.pim_commands.specs.declared.fault.Fault.TheVariants.{InputRead, Output, Memory}
-use Rattle.pim_commands.specs.Text.{line}
+use Rattle.pim_text.specs.Text.{line}
 
 -- The short text that `clap` has for a kind of error. It has none for a request for help.
 abbrev pub refusal_words : ErrorKind → List ℕ

@@ -11,12 +11,11 @@ ghost use Rattle.pim_commands.specs.Report.{write_failures_after};
 ghost use Rattle.pim_commands.specs.Report.{Reports, GivesReport, GivesInput, IsReadFault};
 
 use crate::fault::Fault;
-use crate::hello_text::hello_text;
-use crate::text::{message_text, type_text};
 use pim_addr::{Drain, Failed, Family, Feed, read_up_to, write_all};
 use pim_frame::{Body, open};
 use pim_hello::Hello;
 use pim_jp::JpView;
+use pim_text::{hello_text, message_text, type_text};
 use pim_words::Task;
 use std::alloc::Global;
 

@@ -29,11 +29,9 @@ mod check;
 mod comparing;
 mod emitting;
 mod fault;
-mod hello_text;
 mod mirroring;
 mod replaying;
 mod telling;
-mod text;
 mod writing;
 
 pub use causes::CaptureCause;

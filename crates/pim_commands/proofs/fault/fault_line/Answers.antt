@@ -1,5 +1,5 @@
 use Rattle.std.specs.Prelude.{codes}
-use Rattle.pim_commands.specs.Text.{line}
+use Rattle.pim_text.specs.Text.{line}
 use Rattle.pim_commands.specs.Words.{fault_words}
 use Rattle.pim_commands.proofs.Writes.{stopped_at_first}
 use Rattle.pim_commands.proofs.fault.fault_line.Goals as goal

@@ -1,8 +1,8 @@
 use Rattle.std.proofs.Common.{◌≡◌, ◌++◌}
 use Rattle.std.specs.List.{flat_map}
 use Rattle.pim_hello.specs.Seen.{addresses_seen}
-use Rattle.pim_commands.specs.HelloText.{address_line}
-use Rattle.pim_commands.proofs.hello_text.push_addresses.Given as goal
+use Rattle.pim_text.specs.HelloText.{address_line}
+use Rattle.pim_text.proofs.hello_lines.push_addresses.Given as goal
 
 -- what is there, with the lines of the addresses that are left, is all
 abbrev pub invariant-loop-address : goal.invariant-loop-address

@@ -1,15 +1,12 @@
--- What `check` prints of a message.
-use Rattle.std.specs.Prelude.{ℕ, List, [], ◌∷◌, ◌++◌, length, codes, decimal}
+-- The text of a Join/Prune message.
+use Rattle.std.specs.Prelude.{ℕ, List, ◌++◌, length, codes, decimal}
 use Rattle.std.specs.List.{flat_map}
 use Rattle.pim_addr.specs.declared.family.AddressFamily.{AddressFamily}
 use Rattle.pim_addr.specs.Text.{address_text}
 use Rattle.pim_jp.specs.declared.entry.Entry.{Entry}
 use Rattle.pim_jp.specs.declared.entry.Entry.TheVariants.{Star, Source, Rpt}
 use Rattle.pim_jp.specs.Message.{GroupSet, Message}
-
--- The text, followed by a line feed.
-abbrev pub line : List ℕ → List ℕ
-line text = text ++ 10 ∷ []
+use Rattle.pim_text.specs.Text.{line}
 
 -- The first line of a Join/Prune message: the upstream neighbour, J/P_HoldTime and the number of
 -- sets.
@@ -43,7 +40,3 @@ set_text family set =
 -- The lines of a Join/Prune message (RFC 7761, 4.9.5): the message, then its sets, in order.
 abbrev pub message_text : AddressFamily → Message → List ℕ
 message_text family message = message_line family message ++ flat_map (set_text family) message.sets
-
--- The line of a message of another type.
-abbrev pub type_text : ℕ → List ℕ
-type_text kind = line (codes "type " ++ decimal kind)

@@ -1,39 +1,14 @@
-//! The text that `check` prints of a message.
+//! The text of a Join/Prune message.
 
-ghost use Rattle.std.specs.Prelude.{◌≡◌, ◌++◌, decimal, OnOk, IfOk};
+ghost use Rattle.std.specs.Prelude.{◌≡◌, ◌++◌, OnOk, IfOk};
 ghost use Rattle.std.specs.List.{flat_map};
-ghost use Rattle.pim_addr.specs.Text.{address_text};
 ghost use Rattle.pim_jp.specs.Seen.{entry_seen};
-ghost use Rattle.pim_commands.specs.Text.{message_line, set_line, entry_words, entry_line, set_text, message_text};
-ghost use Rattle.pim_commands.specs.Text.{type_text};
+ghost use Rattle.pim_text.specs.JoinPruneText.{message_line, set_line, entry_words, entry_line, set_text, message_text};
 
-use itoa::Buffer;
-use pim_addr::{Family, write_text};
+use crate::pieces::{push_address, push_number};
+use pim_addr::Family;
 use pim_jp::{Entries, Entry, JpView, SetView};
 use std::alloc::{AllocError, Global};
-
-/// Adds the words and an address.
-pub fn push_address<F: Family>(
-    text: &mut Vec<u8>,
-    words: &[u8],
-    address: F::Addr,
-) -> Result<(), AllocError>
-    ensures { OnOk result (text.new.items
-        ≡ text.old.items ++ (words.now ++ address_text F.family (F.bytes_of address))) }
-{
-    let mut shown = [0; 39];
-    let length = write_text::<F>(address, &mut shown);
-    text.extend_from_slice(words)?;
-    text.extend_from_slice(&shown[..length])
-}
-
-/// Adds the words and a number.
-pub fn push_number(text: &mut Vec<u8>, words: &[u8], number: usize) -> Result<(), AllocError>
-    ensures { OnOk result (text.new.items ≡ text.old.items ++ (words.now ++ decimal number)) }
-{
-    text.extend_from_slice(words)?;
-    text.extend_from_slice(Buffer::new().format(number).as_bytes())
-}
 
 /// Adds the first line of a Join/Prune message: upstream neighbour, holdtime and number of sets.
 fn push_message_line<F: Family>(
@@ -119,15 +94,5 @@ pub fn message_text<F: Family>(
     for set in message.sets() {
         push_set(&mut text, &set)?;
     }
-    Ok(text)
-}
-
-/// The line of a message of another type.
-pub fn type_text(alloc: Global, kind: u8) -> Result<Vec<u8>, AllocError>
-    ensures { IfOk result (λ text. text.items ≡ type_text kind) }
-{
-    let mut text = Vec::new(alloc);
-    push_number(&mut text, b"type ", usize::from(kind))?;
-    text.extend_from_slice(b"\n")?;
     Ok(text)
 }

@@ -1,4 +1,4 @@
-//! The text that `check` prints of a Hello.
+//! The text of a Hello.
 
 ghost use Rattle.std.specs.Prelude.{◌≡◌, ◌++◌, codes, decimal, OnOk, IfOk};
 ghost use Rattle.std.specs.List.{flat_map};
@@ -6,11 +6,11 @@ ghost use Rattle.std.specs.Option.{option_map};
 ghost use Rattle.pim_hello.specs.Delays.{delays_seen};
 ghost use Rattle.pim_hello.specs.Kept.{parameters_seen};
 ghost use Rattle.pim_hello.specs.Seen.{addresses_seen, hello_seen};
-ghost use Rattle.pim_commands.specs.Text.{line};
-ghost use Rattle.pim_commands.specs.HelloText.{number_text, bit, delays_line, delays_text, parameters_text, address_line};
-ghost use Rattle.pim_commands.specs.HelloText.{hello_text};
+ghost use Rattle.pim_text.specs.Text.{line};
+ghost use Rattle.pim_text.specs.HelloText.{number_text, bit, delays_line, delays_text, parameters_text, address_line};
+ghost use Rattle.pim_text.specs.HelloText.{hello_text};
 
-use crate::text::{push_address, push_number};
+use crate::pieces::{push_address, push_number};
 use pim_addr::Family;
 use pim_hello::{Addresses, Hello, LanDelay, Parameters};
 use std::alloc::{AllocError, Global};

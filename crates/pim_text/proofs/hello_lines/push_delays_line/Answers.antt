@@ -1,7 +1,7 @@
 use Rattle.std.specs.Prelude.{codes, decimal}
-use Rattle.pim_commands.specs.HelloText.{bit}
-use Rattle.pim_commands.proofs.Lines.{line_of_three}
-use Rattle.pim_commands.proofs.hello_text.push_delays_line.Goals as goal
+use Rattle.pim_text.specs.HelloText.{bit}
+use Rattle.pim_text.proofs.Lines.{line_of_three}
+use Rattle.pim_text.proofs.hello_lines.push_delays_line.Goals as goal
 
 pub returns : goal.returns
 returns c =

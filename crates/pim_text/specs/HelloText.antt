@@ -1,10 +1,10 @@
--- What `check` prints of a Hello (RFC 7761, 4.9.2).
+-- The text of a Hello (RFC 7761, 4.9.2).
 use Rattle.std.specs.Prelude.{ℕ, Bool, true, false, List, [], ◌++◌, Option, Some, None, codes, decimal}
 use Rattle.std.specs.List.{flat_map}
 use Rattle.pim_addr.specs.declared.family.AddressFamily.{AddressFamily}
 use Rattle.pim_addr.specs.Text.{address_text}
 use Rattle.pim_hello.specs.Hello.{Delays, Parameters, Hello}
-use Rattle.pim_commands.specs.Text.{line}
+use Rattle.pim_text.specs.Text.{line}
 
 -- The line of an option with one number, if the option is present.
 abbrev pub number_text : List ℕ → Option ℕ → List ℕ

@@ -1,7 +1,7 @@
 use Rattle.std.proofs.Common.{◌≡◌, ◌++◌}
 use Rattle.std.specs.List.{flat_map}
-use Rattle.pim_commands.specs.Text.{entry_line}
-use Rattle.pim_commands.proofs.text.push_entries.Given as goal
+use Rattle.pim_text.specs.JoinPruneText.{entry_line}
+use Rattle.pim_text.proofs.join_prune_lines.push_entries.Given as goal
 
 -- what is there, with the lines of the entries that are left, is all
 abbrev pub invariant-loop-entry : goal.invariant-loop-entry

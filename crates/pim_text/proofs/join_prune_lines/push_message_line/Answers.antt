@@ -1,7 +1,7 @@
 use Rattle.std.specs.Prelude.{codes, decimal}
 use Rattle.pim_addr.specs.Text.{address_text}
-use Rattle.pim_commands.proofs.Lines.{line_of_three}
-use Rattle.pim_commands.proofs.text.push_message_line.Goals as goal
+use Rattle.pim_text.proofs.Lines.{line_of_three}
+use Rattle.pim_text.proofs.join_prune_lines.push_message_line.Goals as goal
 
 pub returns : goal.returns
 returns g c =

@@ -1,9 +1,9 @@
 use Rattle.std.specs.Prelude.{codes}
 use Rattle.std.specs.Option.{option_map}
 use Rattle.pim_hello.specs.Delays.{delays_seen}
-use Rattle.pim_commands.specs.HelloText.{number_text, delays_text}
-use Rattle.pim_commands.proofs.Lines.{four_texts}
-use Rattle.pim_commands.proofs.hello_text.push_parameters.Goals as goal
+use Rattle.pim_text.specs.HelloText.{number_text, delays_text}
+use Rattle.pim_text.proofs.Lines.{four_texts}
+use Rattle.pim_text.proofs.hello_lines.push_parameters.Goals as goal
 
 pub returns : goal.returns
 returns c =
