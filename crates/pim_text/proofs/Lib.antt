@@ -1,1 +1,11 @@
 pub mod Lines
+pub mod Bytes
+pub mod FieldEnds
+pub mod OneName
+pub mod OneEntry
+pub mod WhichLine
+pub mod Runs
+pub mod Fillers
+pub mod LineCuts
+pub mod Went
+pub mod Decimals

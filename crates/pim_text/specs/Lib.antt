@@ -2,3 +2,9 @@
 pub mod Text
 pub mod JoinPruneText
 pub mod HelloText
+pub mod Value
+pub mod Lines
+pub mod Read
+pub mod Families
+pub mod Asked
+pub mod Fields

@@ -1,0 +1,92 @@
+-- What the lines of a text so far ask for: the steps by which a text is read.
+use Rattle.std.specs.Prelude.{◌≡◌, ℕ, zero, suc, Bool, true, false, List, [], ◌∷◌, Option, Some, None, if◌then◌else◌, nat_le, MatchOption, ◌&&◌}
+use Rattle.pim_text.specs.declared.line.Line.{Line}
+use Rattle.pim_text.specs.declared.line.Line.TheVariants.{Hello, Holdtime, Delays, Priority, Generation, Secondary, Head, Set, Join, Prune}
+use Rattle.pim_text.specs.declared.line.Step.{Step}
+use Rattle.pim_text.specs.declared.line.Progress.{Progress}
+use Rattle.pim_text.specs.Lines.{IsLine}
+use Rattle.pim_text.specs.Families.{line_is_in}
+use Rattle.pim_addr.specs.declared.family.AddressFamily.TheVariants.{Ipv4, Ipv6}
+use Rattle.pim_text.specs.declared.line.Asked.{Asked}
+use Rattle.pim_text.specs.declared.line.Asked.TheVariants.{Message, Options}
+use Rattle.pim_text.specs.declared.line.Asked.TheVariants.{Body as OfBody}
+
+-- An option of this place in a Hello, where options from the place `from` on are asked for.
+abbrev pub option_after : ℕ → ℕ → ℕ → Option Asked
+option_after from place next = if nat_le from place then Some (Options next) else None
+
+-- What is asked for after a line of a Hello.
+abbrev pub after_option : ℕ → Line → Option Asked
+after_option from (Holdtime seconds) = option_after from 0 1
+after_option from (Delays delays) = option_after from 1 2
+after_option from (Priority number) = option_after from 2 3
+after_option from (Generation number) = option_after from 3 4
+after_option from (Secondary address) = Some (Options 4)
+after_option from line = None
+
+-- The line may follow `hello`.
+abbrev pub is_option : Line → Bool
+is_option (Holdtime seconds) = true
+is_option (Delays delays) = true
+is_option (Priority number) = true
+is_option (Generation number) = true
+is_option (Secondary address) = true
+is_option line = false
+
+-- What is asked for after a line of a Join/Prune message.
+abbrev pub after_body : ℕ → ℕ → ℕ → Line → Option Asked
+after_body (suc joined) pruned sets (Join entry) = Some (OfBody (record { joined = joined; pruned = pruned; sets = sets }))
+after_body zero (suc pruned) sets (Prune entry) = Some (OfBody (record { joined = 0; pruned = pruned; sets = sets }))
+after_body zero zero (suc sets) (Set s) = Some (OfBody (record { joined = s.joined; pruned = s.pruned; sets = sets }))
+after_body joined pruned sets line = None
+
+-- What is asked for after this line; `None` where it isn't asked for.
+abbrev pub after : Asked → Line → Option Asked
+after Message Hello = Some (Options 0)
+after Message (Head h) = Some (OfBody (record { joined = 0; pruned = 0; sets = h.sets }))
+after Message line = None
+after (Options from) line = after_option from line
+after (OfBody body) line = after_body body.joined body.pruned body.sets line
+
+-- What follows where something is asked for.
+abbrev pub onward : Option Asked → (Asked → Option Asked) → Option Asked
+onward None follow = None
+onward (Some asked) follow = follow asked
+
+-- What is asked for after these lines.
+abbrev pub after_all : Asked → List Line → Option Asked
+after_all asked [] = Some asked
+after_all asked (line ∷ others) = onward (after asked line) (λ next. after_all next others)
+
+-- Neither an entry nor a set is left.
+abbrev pub ends : ℕ → ℕ → ℕ → Bool
+ends zero zero zero = true
+ends joined pruned sets = false
+
+-- Nothing more is needed.
+abbrev pub is_whole : Asked → Bool
+is_whole Message = false
+is_whole (Options from) = true
+is_whole (OfBody body) = ends body.joined body.pruned body.sets
+
+-- The text is the line of the step, which is asked for and leads to the next.
+abbrev pub IsStep : Asked → List ℕ → Step → Type 0
+IsStep asked text step = IsLine step.line text × (after asked step.line ≡ Some step.next)
+
+-- No other line that is asked for has this text, and none has it where nothing was read.
+abbrev pub OnlyStep : Asked → List ℕ → Option Step → Type 0
+OnlyStep asked text read = (line : Line) (next : Asked) → after asked line ≡ Some next → IsLine line text
+    → MatchOption read ⊥ (λ step. step.line ≡ line)
+
+-- What reading one line more did: this text is the one line that is asked for.
+pub record Advanced (old : Progress) (text : List ℕ) (new : Progress) : Type 0 where
+  pub line : Line
+  pub is : IsLine line text
+  pub asks : after old.asked line ≡ Some new.asked
+  pub only : (other : Line) (next : Asked) → after old.asked other ≡ Some next → IsLine other text → line ≡ other
+  pub ipv4 : new.all_ipv4 ≡ (old.all_ipv4 && line_is_in Ipv4 line)
+  pub ipv6 : new.all_ipv6 ≡ (old.all_ipv6 && line_is_in Ipv6 line)
+
+-- The text is no line that is asked for.
+abbrev pub IsUnasked : Asked → List ℕ → Type 0
+IsUnasked asked text = (line : Line) (next : Asked) → after asked line ≡ Some next → IsLine line text → ⊥

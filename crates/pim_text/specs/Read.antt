@@ -1,0 +1,34 @@
+-- Which message a text states, and which of its lines is wrong.
+use Rattle.std.specs.Prelude.{◌≡◌, ◌≤◌, ◌⊎◌, ℕ, suc, List, ◌++◌, length, take}
+use Rattle.pim_addr.specs.declared.family.AddressFamily.TheVariants.{Ipv4, Ipv6}
+use Rattle.pim_text.specs.declared.line.Families.{Families}
+use Rattle.pim_text.specs.Value.{TextValue, value_lines}
+use Rattle.pim_text.specs.Families.{value_is_in}
+use Rattle.pim_text.specs.Lines.{lines, AreLines}
+
+-- The text states this message: its lines, in order, and nothing else.
+abbrev pub States : List ℕ → TextValue → Type 0
+States text value = AreLines (value_lines value) (lines text)
+
+-- These lines, as they stand, begin the text of some message.
+pub record Begin (front : List (List ℕ)) : Type 0 where
+  pub value : TextValue
+  pub behind : List (List ℕ)
+  pub are : AreLines (value_lines value) (front ++ behind)
+
+-- The line with this number, from 1, is the first wrong one. The lines before it begin the text of
+-- a message, and with it they begin none. Or the text ends too early, and the missing line is told.
+pub record IsWrongLine (text : List ℕ) (number : ℕ) : Type 0 where
+  pub before : ℕ
+  pub numbered : number ≡ suc before
+  pub within : before ≤ length (lines text)
+  pub begun : Begin (take before (lines text))
+  pub wrong : (Begin (take number (lines text)) → ⊥)
+      ⊎ ((before ≡ length (lines text)) × ((value : TextValue) → States text value → ⊥))
+
+-- The text states a message, and its addresses are of these families.
+pub record IsRead (text : List ℕ) (families : Families) : Type 0 where
+  pub value : TextValue
+  pub stated : States text value
+  pub ipv4 : families.all_ipv4 ≡ value_is_in Ipv4 value
+  pub ipv6 : families.all_ipv6 ≡ value_is_in Ipv6 value
