@@ -8,4 +8,7 @@ pub mod Runs
 pub mod Fillers
 pub mod LineCuts
 pub mod Went
+pub mod OfFamily
+pub mod Written
+pub mod WrittenHello
 pub mod Decimals

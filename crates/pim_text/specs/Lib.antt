@@ -7,4 +7,6 @@ pub mod Lines
 pub mod Read
 pub mod Families
 pub mod Asked
+pub mod Spelled
+pub mod SpelledHello
 pub mod Fields

@@ -24,6 +24,9 @@ mod line_walk;
 mod pieces;
 mod reading;
 mod reading_lines;
+mod spelling;
+mod spelling_hello;
+mod spelling_lines;
 mod steps;
 
 pub use hello_lines::hello_text;
@@ -31,3 +34,5 @@ pub use join_prune_lines::message_text;
 pub use line::{AnyAddress, Families};
 pub use pieces::type_text;
 pub use reading::read_message_text;
+pub use spelling::{SpellFault, spell_join_prune};
+pub use spelling_hello::spell_hello;
