@@ -12,3 +12,6 @@ pub mod OfFamily
 pub mod Written
 pub mod WrittenHello
 pub mod Decimals
+pub mod OneValue
+pub mod InFamily
+pub mod TextStates

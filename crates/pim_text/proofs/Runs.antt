@@ -17,7 +17,8 @@ use Rattle.std.proofs.lemmas.Bool.{le-leb, leb-true}
 use Rattle.std.specs.Prelude.{nat_le}
 use Rattle.pim_text.specs.Lines.{AreLines}
 use Rattle.pim_text.specs.Value.{HelloValue, SetValue, TextValue, a_hello, a_message, option_line, delays_line_of, option_lines, set_lines, value_lines}
-use Rattle.pim_text.specs.Asked.{option_after, after, onward, after_all, ends, is_whole}
+use Rattle.pim_text.specs.Asked.{option_after, after, onward, after_all, ends, is_whole, asks_of_hello}
+use Rattle.pim_text.specs.Read.{is_hello}
 use Rattle.pim_text.proofs.FieldEnds.{same_some, not_some}
 
 -- ---- lines and their texts, in two parts
@@ -114,9 +115,9 @@ hello_runs hello =
           ∙ (run_append (option_line Generation p.generation) _ (Options r.0) (Options g.0) g.2 ∙ a.1))),
     )
 
-pub value_runs : (value : TextValue) → (end : Asked) × (after_all Message (value_lines value) ≡ Some end) × (is_whole end ≡ true)
-value_runs (a_hello hello) = let k = hello_runs hello in (Options k.0, k.1, refl)
-value_runs (a_message message) = (body 0 0 0, sets_run message.sets, refl)
+pub value_runs : (value : TextValue) → (end : Asked) × (after_all Message (value_lines value) ≡ Some end) × (is_whole end ≡ true) × (asks_of_hello end ≡ is_hello value)
+value_runs (a_hello hello) = let k = hello_runs hello in (Options k.0, k.1, refl, refl)
+value_runs (a_message message) = (body 0 0 0, sets_run message.sets, refl, refl)
 
 -- ---- lines that are asked for are those of a message
 

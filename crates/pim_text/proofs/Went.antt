@@ -15,7 +15,8 @@ use Rattle.pim_text.specs.declared.line.Progress.{Progress}
 use Rattle.pim_text.specs.Value.{TextValue, value_lines}
 use Rattle.pim_text.specs.Families.{line_is_in, all_in}
 use Rattle.pim_text.specs.Lines.{IsLine, AreLines, lines}
-use Rattle.pim_text.specs.Asked.{after, after_all, is_whole, Advanced, IsUnasked}
+use Rattle.pim_text.specs.Asked.{after, after_all, is_whole, asks_of_hello, Advanced, IsUnasked}
+use Rattle.pim_text.proofs.OneValue.{same_value}
 use Rattle.pim_text.specs.Read.{States, Begin, IsWrongLine, IsRead}
 use Rattle.pim_text.proofs.FieldEnds.{same_some}
 use Rattle.pim_text.proofs.Runs.{are_append, are_split, first_step, one_step, run_append, run_split, value_runs, value_of_run}
@@ -145,12 +146,16 @@ module _ (text : List ℕ) (progress : Progress) (number : ℕ) (went : Went (li
       let same = went.only (value_lines value) run.0 (subst (AreLines (value_lines value)) over stated) run.1 in
       (same, ap is_whole (same_some progress.asked run.0 (sym went.asks ∙ (ap (after_all Message) (sym same) ∙ run.1))) ∙ run.2)
 
-  pub read : is_whole progress.asked ≡ true → IsRead text (record { all_ipv4 = progress.all_ipv4; all_ipv6 = progress.all_ipv6 })
+  pub read : is_whole progress.asked ≡ true → IsRead text (record { is_hello = asks_of_hello progress.asked; all_ipv4 = progress.all_ipv4; all_ipv6 = progress.all_ipv6 })
   read whole =
       let value = value_of_run went.said progress.asked went.asks whole in
+      let run = value_runs value.0 in
+      let end : progress.asked ≡ run.0 = same_some progress.asked run.0 (sym went.asks ∙ (ap (after_all Message) value.1 ∙ run.1)) in
       record {
         value = value.0;
-        stated = subst (λ (l : List Line). AreLines l (lines text)) value.1 (subst (AreLines went.said) (sym over) went.are);
+        states = subst (λ (l : List Line). AreLines l (lines text)) value.1 (subst (AreLines went.said) (sym over) went.are);
+        only = λ other states. same_value other value.0 ((same_lines other states).0 ∙ value.1);
+        kind = ap asks_of_hello end ∙ run.3;
         ipv4 = went.ipv4 ∙ ap (all_in Ipv4) value.1;
         ipv6 = went.ipv6 ∙ ap (all_in Ipv6) value.1;
       }

@@ -10,7 +10,7 @@ use Rattle.pim_text.specs.declared.line.Line.TheVariants.{Holdtime, Delays, Prio
 use Rattle.pim_text.specs.declared.line.Step.{Step}
 use Rattle.pim_text.specs.declared.line.Asked.{Asked}
 use Rattle.pim_text.specs.declared.line.Asked.TheVariants.{Message}
-use Rattle.pim_text.specs.Value.{address_in, hello_in, option_line, delays_line_of, value_lines}
+use Rattle.pim_text.specs.Value.{HelloValue, option_lines, address_in, hello_in, option_line, delays_line_of, value_lines}
 use Rattle.pim_text.specs.Families.{line_is_in, all_in}
 use Rattle.pim_text.specs.Lines.{IsLine, AreLines, lines}
 use Rattle.pim_text.specs.Asked.{after, after_all, IsStep, OnlyStep}
@@ -44,7 +44,7 @@ module _ where
   options_then [] two p = refl
   options_then (line ∷ one) two p = options_then one two (with_line line p)
 
-  abbrev these : Option ℕ → Option DelaysValue → Option ℕ → Option ℕ → Parameters
+  abbrev pub these : Option ℕ → Option DelaysValue → Option ℕ → Option ℕ → Parameters
   these h d r g = record { holdtime = h; lan = d; priority = r; generation = g }
 
   with_holdtime : (o : Option ℕ) → with_lines (option_line Holdtime o) (these None None None None) ≡ these o None None None
@@ -78,13 +78,16 @@ module _ where
       ∙ (options_then d (r ++ (g ++ n)) a ∙ (ap (with_lines (r ++ (g ++ n))) second
       ∙ (options_then r (g ++ n) b ∙ (ap (with_lines (g ++ n)) third ∙ (options_then g n c ∙ (ap (with_lines n) fourth ∙ last)))))))
 
+  pub options_of : (hello : HelloValue) → with_lines (option_lines hello) (these None None None None) ≡ hello.parameters
+  options_of hello =
+      let p = hello.parameters in
+      four (option_line Holdtime p.holdtime) (option_line delays_line_of p.lan) (option_line Priority p.priority) (option_line Generation p.generation) (map Secondary hello.addresses)
+      (these None None None None) (these p.holdtime None None None) (these p.holdtime p.lan None None) (these p.holdtime p.lan p.priority None) p
+      (with_holdtime p.holdtime) (with_delays p.holdtime p.lan) (with_priority p.holdtime p.lan p.priority) (with_generation p.holdtime p.lan p.priority p.generation) (with_names hello.addresses p)
+
   options_are : (family : AddressFamily) (hello : HelloMessage) → with_lines (value_lines (hello_in family hello)) (these None None None None) ≡ hello.parameters
   unfolding with_lines
-  options_are family hello =
-      let p = hello.parameters in
-      four (option_line Holdtime p.holdtime) (option_line delays_line_of p.lan) (option_line Priority p.priority) (option_line Generation p.generation) (map Secondary (map (address_in family) hello.addresses))
-      (these None None None None) (these p.holdtime None None None) (these p.holdtime p.lan None None) (these p.holdtime p.lan p.priority None) p
-      (with_holdtime p.holdtime) (with_delays p.holdtime p.lan) (with_priority p.holdtime p.lan p.priority) (with_generation p.holdtime p.lan p.priority p.generation) (with_names (map (address_in family) hello.addresses) p)
+  options_are family hello = options_of (record { parameters = hello.parameters; addresses = map (address_in family) hello.addresses })
 
 -- ---- the addresses of these lines
 

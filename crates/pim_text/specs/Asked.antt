@@ -69,6 +69,11 @@ is_whole Message = false
 is_whole (Options from) = true
 is_whole (OfBody body) = ends body.joined body.pruned body.sets
 
+-- The lines so far are those of a Hello.
+abbrev pub asks_of_hello : Asked → Bool
+asks_of_hello (Options from) = true
+asks_of_hello asked = false
+
 -- The text is the line of the step, which is asked for and leads to the next.
 abbrev pub IsStep : Asked → List ℕ → Step → Type 0
 IsStep asked text step = IsLine step.line text × (after asked step.line ≡ Some step.next)

@@ -10,3 +10,4 @@ pub mod Asked
 pub mod Spelled
 pub mod SpelledHello
 pub mod Fields
+pub mod Laws

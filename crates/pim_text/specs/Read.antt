@@ -1,8 +1,8 @@
 -- Which message a text states, and which of its lines is wrong.
-use Rattle.std.specs.Prelude.{◌≡◌, ◌≤◌, ◌⊎◌, ℕ, suc, List, ◌++◌, length, take}
+use Rattle.std.specs.Prelude.{◌≡◌, ◌≤◌, ◌⊎◌, ℕ, suc, Bool, true, false, List, ◌++◌, length, take}
 use Rattle.pim_addr.specs.declared.family.AddressFamily.TheVariants.{Ipv4, Ipv6}
-use Rattle.pim_text.specs.declared.line.Families.{Families}
-use Rattle.pim_text.specs.Value.{TextValue, value_lines}
+use Rattle.pim_text.specs.declared.line.Stated.{Stated}
+use Rattle.pim_text.specs.Value.{TextValue, a_hello, a_message, value_lines}
 use Rattle.pim_text.specs.Families.{value_is_in}
 use Rattle.pim_text.specs.Lines.{lines, AreLines}
 
@@ -26,9 +26,16 @@ pub record IsWrongLine (text : List ℕ) (number : ℕ) : Type 0 where
   pub wrong : (Begin (take number (lines text)) → ⊥)
       ⊎ ((before ≡ length (lines text)) × ((value : TextValue) → States text value → ⊥))
 
--- The text states a message, and its addresses are of these families.
-pub record IsRead (text : List ℕ) (families : Families) : Type 0 where
+-- The message is a Hello.
+abbrev pub is_hello : TextValue → Bool
+is_hello (a_hello hello) = true
+is_hello (a_message message) = false
+
+-- The text states a message, and no other. Its kind and the families of its addresses are these.
+pub record IsRead (text : List ℕ) (stated : Stated) : Type 0 where
   pub value : TextValue
-  pub stated : States text value
-  pub ipv4 : families.all_ipv4 ≡ value_is_in Ipv4 value
-  pub ipv6 : families.all_ipv6 ≡ value_is_in Ipv6 value
+  pub states : States text value
+  pub only : (other : TextValue) → States text other → other ≡ value
+  pub kind : stated.is_hello ≡ is_hello value
+  pub ipv4 : stated.all_ipv4 ≡ value_is_in Ipv4 value
+  pub ipv6 : stated.all_ipv6 ≡ value_is_in Ipv6 value

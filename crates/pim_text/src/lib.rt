@@ -19,6 +19,7 @@
 mod fields;
 mod hello_lines;
 mod join_prune_lines;
+mod laws;
 mod line;
 mod line_walk;
 mod pieces;
@@ -31,7 +32,8 @@ mod steps;
 
 pub use hello_lines::hello_text;
 pub use join_prune_lines::message_text;
-pub use line::{AnyAddress, Families};
+pub use laws::{hello_text_states, message_text_states, stated_in_its_family};
+pub use line::{AnyAddress, Stated};
 pub use pieces::type_text;
 pub use reading::read_message_text;
 pub use spelling::{SpellFault, spell_join_prune};

@@ -112,9 +112,11 @@ pub struct Progress {
     pub all_ipv6: bool,
 }
 
-/// What the addresses of a text are.
+/// What a text states: the kind of the message, and the families of its addresses.
 #[derive(Clone, Copy, Debug, PartialEq, Eq)]
-pub struct Families {
+pub struct Stated {
+    /// Whether it is a Hello, else a Join/Prune message.
+    pub is_hello: bool,
     /// Whether each address is of IPv4. True where the text has none.
     pub all_ipv4: bool,
     /// Whether each address is of IPv6. True where the text has none.

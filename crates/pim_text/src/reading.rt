@@ -3,10 +3,10 @@
 ghost use Rattle.std.specs.Prelude.{◌≡◌, ◌<◌, ◌^◌, ◌&&◌, length, IfOk, IfErr, MatchOption};
 ghost use Rattle.pim_text.specs.Lines.{lines};
 ghost use Rattle.pim_text.specs.Families.{is_in, entry_is_in, line_is_in};
-ghost use Rattle.pim_text.specs.Asked.{Advanced, IsUnasked};
+ghost use Rattle.pim_text.specs.Asked.{Advanced, IsUnasked, asks_of_hello};
 ghost use Rattle.pim_text.specs.Read.{IsRead, IsWrongLine};
 
-use crate::line::{AnyAddress, Asked, Families, Line, Progress};
+use crate::line::{AnyAddress, Asked, Line, Progress, Stated};
 use crate::line_walk::LineWalk;
 use crate::steps::{is_whole, step};
 use pim_addr::{AddressFamily, written_text_names};
@@ -47,6 +47,13 @@ fn line_is_in(family: AddressFamily, line: &Line) -> bool
     }
 }
 
+/// Returns whether the lines so far are those of a Hello.
+fn is_hello(asked: Asked) -> bool
+    ensures { result ≡ asks_of_hello asked }
+{
+    matches!(asked, Asked::Options(_))
+}
+
 /// Reads one line more.
 fn advance(progress: Progress, text: &[u8]) -> Option<Progress>
     ensures { MatchOption result (IsUnasked progress.asked text.now) (Advanced progress text.now) }
@@ -61,12 +68,13 @@ fn advance(progress: Progress, text: &[u8]) -> Option<Progress>
     })
 }
 
-/// Reads the text of a message, once and forward, and returns of which families its addresses are.
+/// Reads the text of a message, once and forward, and returns its kind and the families of its
+/// addresses.
 ///
 /// # Errors
 /// The number, from 1, of the first wrong line: with it, the lines as they stand begin the text of
 /// no message. Or the number of the line that is missing at the end.
-pub fn read_message_text(text: &[u8]) -> Result<Families, usize>
+pub fn read_message_text(text: &[u8]) -> Result<Stated, usize>
     requires { length text.now < 2 ^ 32 }
     ensures read { IfOk result (IsRead text.now) }
     ensures wrong { IfErr result (IsWrongLine text.now) }
@@ -86,7 +94,8 @@ pub fn read_message_text(text: &[u8]) -> Result<Families, usize>
         progress = next;
     }
     if is_whole(progress.asked) {
-        Ok(Families {
+        Ok(Stated {
+            is_hello: is_hello(progress.asked),
             all_ipv4: progress.all_ipv4,
             all_ipv6: progress.all_ipv6,
         })

@@ -25,7 +25,7 @@ overflow_add-result c = omega (arith, number_is_small c.args.text.now c.loop-lin
 pub returns-then-is_whole-clause-read : goal.returns-then-is_whole-clause-read
 returns-then-is_whole-clause-read c =
     let went = subst (λ (left : List (List ℕ)). Went (lines c.args.text.now) left c.loop-line.progress c.loop-line.number) c.in-None.ensures.steps.0 c.loop-line.invariant in
-    read c.args.text.now c.loop-line.progress c.loop-line.number went (sym c.is_whole.ensures ∙ c.if-is_whole.true)
+    rw c.is_hello.ensures (read c.args.text.now c.loop-line.progress c.loop-line.number went (sym c.is_whole.ensures ∙ c.if-is_whole.true))
 
 pub returns-else-is_whole-clause-wrong : goal.returns-else-is_whole-clause-wrong
 returns-else-is_whole-clause-wrong c =

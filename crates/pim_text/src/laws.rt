@@ -1,0 +1,26 @@
+//! The laws of texts. These functions do nothing.
+
+ghost use Rattle.pim_text.specs.Laws.{StatedInItsFamily, MessageTextStates, HelloTextStates};
+
+use pim_addr::written_text_names;
+
+/// A law: a text whose addresses are all of one family states a Hello or a Join/Prune message of that
+/// family.
+#[tactic(auto, using(crate::proofs::InFamily::stated_in))]
+pub fn stated_in_its_family()
+    ensures { StatedInItsFamily }
+{}
+
+/// A law: the text that `message_text` writes states the message that was written.
+pub fn message_text_states()
+    ensures { MessageTextStates }
+{
+    written_text_names();
+}
+
+/// A law: the text that `hello_text` writes states the Hello that was written.
+pub fn hello_text_states()
+    ensures { HelloTextStates }
+{
+    written_text_names();
+}
