@@ -15,3 +15,4 @@ pub mod Decimals
 pub mod OneValue
 pub mod InFamily
 pub mod TextStates
+pub mod Told

@@ -10,4 +10,5 @@ pub mod Asked
 pub mod Spelled
 pub mod SpelledHello
 pub mod Fields
+pub mod Spell
 pub mod Laws

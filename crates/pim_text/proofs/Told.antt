@@ -1,0 +1,44 @@
+-- What a text that was read states, and why it has no body.
+use Rattle.std.proofs.Common.{◌≡◌, ◌∙◌, sym, inl, ℕ, true, false, List}
+use Rattle.std.proofs.lemmas.Bool.{false≢true}
+use Rattle.pim_addr.specs.declared.family.AddressFamily.{AddressFamily}
+use Rattle.pim_addr.specs.declared.family.AddressFamily.TheVariants.{Ipv4, Ipv6}
+use Rattle.pim_text.specs.declared.line.Stated.{Stated}
+use Rattle.pim_text.specs.declared.spelling.SpellFault.{SpellFault}
+use Rattle.pim_text.specs.declared.spelling.SpellFault.TheVariants as of_body
+use Rattle.pim_text.specs.Value.{TextValue, a_hello, a_message}
+use Rattle.pim_text.specs.Families.{value_is_in}
+use Rattle.pim_text.specs.Read.{States, is_hello, IsRead}
+use Rattle.pim_text.specs.Spelled.{StatesMessage}
+use Rattle.pim_text.specs.SpelledHello.{StatesHello, IsHelloFault}
+use Rattle.pim_text.specs.Spell.{stated_in, IsTextFault, told}
+use Rattle.pim_text.specs.Laws.{StatesIn, StatedInItsFamily}
+
+pub hello_fault : (family : AddressFamily) (text : List ℕ) (fault : SpellFault) → StatesHello family text → IsHelloFault family text fault → IsTextFault family text (told fault)
+hello_fault family text of_body.TooLong (hello, states) is = inl (hello, states, is hello states)
+hello_fault family text of_body.Memory states is = tt
+
+same_family : (family : AddressFamily) (text : List ℕ) (stated : Stated) (r : IsRead text stated) → stated_in family stated ≡ value_is_in family r.value
+same_family Ipv4 text stated r = r.ipv4
+same_family Ipv6 text stated r = r.ipv6
+
+pub other_family : (family : AddressFamily) (text : List ℕ) (stated : Stated) → IsRead text stated → stated_in family stated ≡ false → (value : TextValue) × States text value × (value_is_in family value ≡ false)
+other_family family text stated r e = (r.value, r.states, sym (same_family family text stated r) ∙ e)
+
+hello_if : (family : AddressFamily) (text : List ℕ) (value : TextValue) → StatesIn family text value → is_hello value ≡ true → StatesHello family text
+hello_if family text (a_hello hello) is e = is
+hello_if family text (a_message message) is e = absurd (false≢true e)
+
+message_if : (family : AddressFamily) (text : List ℕ) (value : TextValue) → StatesIn family text value → is_hello value ≡ false → StatesMessage family text
+message_if family text (a_hello hello) is e = absurd (false≢true (sym e))
+message_if family text (a_message message) is e = is
+
+module _ (law : StatedInItsFamily) (family : AddressFamily) (text : List ℕ) (stated : Stated) (r : IsRead text stated) (within : stated_in family stated ≡ true) where
+  here : StatesIn family text r.value
+  here = law family text r.value r.states (sym (same_family family text stated r) ∙ within)
+
+  pub a_hello_here : stated.is_hello ≡ true → StatesHello family text
+  a_hello_here e = hello_if family text r.value here (sym r.kind ∙ e)
+
+  pub a_message_here : stated.is_hello ≡ false → StatesMessage family text
+  a_message_here e = message_if family text r.value here (sym r.kind ∙ e)
