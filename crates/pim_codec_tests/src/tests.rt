@@ -5,3 +5,4 @@ mod capture;
 mod device;
 mod hello;
 mod jp;
+mod text;
