@@ -48,7 +48,7 @@ IsEntryLine list entry text = (rest : List ℕ) × (text ≡ list ++ rest) × Is
 abbrev pub delays_text : DelayLine → List ℕ
 delays_text d = numbers_text (codes " propagation ") d.propagation (codes " override ") d.override_ms
 
--- The text is this line, with its line feed. Each number fits its field and stands as its one
+-- The text is this line, with its line feed. Each number fits its field and is written as its one
 -- decimal. An address may have any of its texts.
 abbrev pub IsLine : Line → List ℕ → Type 0
 IsLine Hello text = text ≡ codes "hello\n"

@@ -17,7 +17,8 @@ pub record Begin (front : List (List ℕ)) : Type 0 where
   pub are : AreLines (value_lines value) (front ++ behind)
 
 -- The line with this number, from 1, is the first wrong one. The lines before it begin the text of
--- a message, and with it they begin none. Or the text ends too early, and the missing line is told.
+-- a message, and with it they begin none. Or the text ends too early, and this is the number of the
+-- missing line.
 pub record IsWrongLine (text : List ℕ) (number : ℕ) : Type 0 where
   pub before : ℕ
   pub numbered : number ≡ suc before

@@ -1,4 +1,4 @@
--- The bytes that the lines of a Join/Prune message stand for.
+-- The bytes of the lines of a Join/Prune message.
 use Rattle.std.specs.Prelude.{◌≡◌, ◌<◌, ℕ, ⊤, List, [], ◌++◌, length}
 use Rattle.byteorder.specs.Endian.{big_bytes}
 use Rattle.pim_addr.specs.declared.family.AddressFamily.{AddressFamily}

@@ -1,4 +1,4 @@
--- What the lines of a Hello stand for.
+-- What the lines of a Hello say.
 use Rattle.std.specs.Prelude.{◌≡◌, ◌<◌, ◌≤◌, ◌*◌, ℕ, ⊤, List, [], ◌∷◌, length, Some}
 use Rattle.pim_addr.specs.declared.family.AddressFamily.{AddressFamily}
 use Rattle.pim_addr.specs.Encoded.{unicast_length}

@@ -1,4 +1,4 @@
-//! The words, numbers and addresses of a line. Each reader takes what stands at the front of a
+//! The words, numbers and addresses of a line. Each reader takes what is at the front of a
 //! text.
 
 ghost use Rattle.std.specs.Prelude.{◌≡◌, ◌≤◌, ◌∷◌, ◌++◌, ℕ, List, [], Some, None, true, decimal, nat_le};

@@ -4,8 +4,8 @@ ghost use Rattle.pim_text.specs.Laws.{StatedInItsFamily, MessageTextStates, Hell
 
 use pim_addr::written_text_names;
 
-/// A law: a text whose addresses are all of one family states a Hello or a Join/Prune message of that
-/// family.
+/// A law: a text whose addresses are all of one family states a Hello or a Join/Prune message of
+/// that family.
 #[tactic(auto, using(crate::proofs::InFamily::stated_in))]
 pub fn stated_in_its_family()
     ensures { StatedInItsFamily }

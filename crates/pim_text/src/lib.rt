@@ -1,6 +1,7 @@
 //! The text of a Hello or a Join/Prune message: lines of words, decimals and addresses.
 //!
-//! - `message_text` and `hello_text` write the text of a message that was read: its own line, then a
+//! - `message_text` and `hello_text` write the text of a message that was read: its own line, then
+//!   a
 //!   line for each option, address, group set and entry, in the order of the message. `check` prints
 //!   this text. `type_text` writes the line of a message of another type.
 //! - `read_message_text` reads such a text, once and forward. An address may have any of its texts,

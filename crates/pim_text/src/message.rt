@@ -93,8 +93,8 @@ fn join_prune_body<F: Family>(alloc: Global, text: &[u8]) -> Result<Spelled, Tex
     }
 }
 
-/// Writes the body of the message that a text states, in the canonical spelling, whether the message
-/// is legal or not. The text is read twice, forward.
+/// Writes the body of the message that a text states, in the canonical spelling, whether the
+/// message is legal or not. The text is read twice, forward.
 ///
 /// # Errors
 /// The first of these that holds:

@@ -1,4 +1,4 @@
-//! The bytes that each line of a Join/Prune message stands for.
+//! The bytes of each line of a Join/Prune message.
 
 ghost use Rattle.std.specs.Prelude.{◌≡◌, ◌++◌, true, OnOk};
 ghost use Rattle.pim_jp.specs.Seen.{entry_seen};
@@ -75,7 +75,7 @@ fn push_entry<F: Family>(bytes: &mut Vec<u8>, entry: Entry<AnyAddress>) -> Resul
     bytes.extend_from_slice(place)
 }
 
-/// Adds what a line stands for.
+/// Adds the bytes of a line.
 pub(crate) fn push_line<F: Family>(bytes: &mut Vec<u8>, line: Line) -> Result<(), AllocError>
     requires { line_is_in F.family line ≡ true }
     ensures { OnOk result (bytes.new.items ≡ bytes.old.items ++ line_bytes F.family line) }

@@ -1,3 +1,5 @@
+//! Texts of messages: their first wrong lines, and their bodies.
+
 use pim_addr::{V4, V6};
 use pim_text::{Stated, TextFault, read_message_text, spell};
 use std::alloc::Global;
@@ -48,7 +50,7 @@ fn is_wrong(text: &[u8], line: usize) -> bool {
 }
 
 #[test]
-fn first_wrong_line_is_told(rt: HostRuntime) {
+fn first_wrong_line_is_returned(rt: HostRuntime) {
     assert_eq!(rt; WRONG.iter().position(|row| !is_wrong(row.0, row.1)), None);
 }
 
