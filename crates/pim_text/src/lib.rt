@@ -13,8 +13,8 @@
 //!   the message is legal or not. It returns the wrong line, that an address is not of the family, or
 //!   that the body is too long, each exactly where its cause is there.
 //! - Laws: the text that is written of a message states that message (`message_text_states`,
-//!   `hello_text_states`), and a text whose addresses are all of one family states a message of that
-//!   family.
+//!   `hello_text_states`; of a Hello that was read, `hello_text_states_it`), and a text whose addresses
+//!   are all of one family states a message of that family (`stated_in_its_family`).
 //!
 //! A reader keeps what the lines so far ask for, and no message: the options of a Hello are each
 //! optional, in their order, and the counts of a Join/Prune message say which lines follow. So
@@ -22,6 +22,7 @@
 #![tactic(auto)]
 
 mod fields;
+mod hello_law;
 mod hello_lines;
 mod join_prune_lines;
 mod laws;
@@ -36,6 +37,7 @@ mod spelling_hello;
 mod spelling_lines;
 mod steps;
 
+pub use hello_law::hello_text_states_it;
 pub use hello_lines::hello_text;
 pub use join_prune_lines::message_text;
 pub use laws::{hello_text_states, message_text_states, stated_in_its_family};
