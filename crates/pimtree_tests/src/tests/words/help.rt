@@ -124,10 +124,37 @@ const OF_ONE: [(&[&str], &str); 8] = [
     ),
 ];
 
-/// Whether a fault is a text of `clap` of this kind that passes the test.
-fn is_text(fault: &Fault<'_>, kind: ErrorKind, passes: impl Fn(&str) -> bool) -> bool {
+/// Whether each line is narrow enough.
+fn has_narrow_lines(text: &str) -> bool {
+    text.lines().all(|line| line.chars().count() <= WIDTH)
+}
+
+/// Whether a fault is a help text that contains this part.
+fn shows(fault: &Fault<'_>, part: &str) -> bool {
     match fault {
-        Fault::Clap(refusal) => refusal.kind == kind && passes(&refusal.text),
+        Fault::Clap(refusal) => {
+            refusal.kind == ErrorKind::DisplayHelp && refusal.text.contains(part)
+        }
+        _ => false,
+    }
+}
+
+/// Whether a fault is a help text whose lines are narrow enough.
+fn is_narrow_help(fault: &Fault<'_>) -> bool {
+    match fault {
+        Fault::Clap(refusal) => {
+            refusal.kind == ErrorKind::DisplayHelp && has_narrow_lines(&refusal.text)
+        }
+        _ => false,
+    }
+}
+
+/// Whether a fault is the text of the version.
+fn is_version(fault: &Fault<'_>) -> bool {
+    match fault {
+        Fault::Clap(refusal) => {
+            refusal.kind == ErrorKind::DisplayVersion && refusal.text.as_str() == "pimtree 0.2.0\n"
+        }
         _ => false,
     }
 }
@@ -136,7 +163,7 @@ fn is_text(fault: &Fault<'_>, kind: ErrorKind, passes: impl Fn(&str) -> bool) ->
 fn is_shown(alloc: Global, words: &[&str], part: &str) -> bool {
     match plan(alloc, words) {
         Ok(_) => false,
-        Err(fault) => is_text(&fault, ErrorKind::DisplayHelp, |text| text.contains(part)),
+        Err(fault) => shows(&fault, part),
     }
 }
 
@@ -144,9 +171,7 @@ fn is_shown(alloc: Global, words: &[&str], part: &str) -> bool {
 fn is_narrow(alloc: Global, words: &[&str]) -> bool {
     match plan(alloc, words) {
         Ok(_) => false,
-        Err(fault) => is_text(&fault, ErrorKind::DisplayHelp, |text| {
-            text.lines().all(|line| line.chars().count() <= WIDTH)
-        }),
+        Err(fault) => is_narrow_help(&fault),
     }
 }
 
@@ -186,11 +211,9 @@ fn help_explains_the_options_of_messages(rt: HostRuntime) {
 
 #[test]
 fn version_is_shown(rt: HostRuntime) {
-    let is_version = match plan(rt.alloc(), &["p", "--version"]) {
+    let is_shown = match plan(rt.alloc(), &["p", "--version"]) {
         Ok(_) => false,
-        Err(fault) => is_text(&fault, ErrorKind::DisplayVersion, |text| {
-            text == "pimtree 0.2.0\n"
-        }),
+        Err(fault) => is_version(&fault),
     };
-    assert!(rt; is_version);
+    assert!(rt; is_shown);
 }
