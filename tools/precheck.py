@@ -137,7 +137,7 @@ def has_tests(crate):
 
 def tests(crate):
     """The failed tests of a crate, or why they didn't run."""
-    ran = subprocess.run(["rt", "try", "--test"], cwd=f"{TOP}/crates/{crate}", capture_output=True, text=True)
+    ran = subprocess.run(["rt", "try", "--test", "--seconds", "240"], cwd=f"{TOP}/crates/{crate}", capture_output=True, text=True)
     lines = (ran.stdout + ran.stderr).splitlines()
     bad = [it for it in lines if "FAILED" in it or "error" in it] or lines[-3:]
     return [f"{crate}: {it}" for it in bad] if ran.returncode else []
