@@ -1,0 +1,9 @@
+mod Devices
+mod Feeds
+mod FirstItem
+mod Found
+mod Held
+mod Itemized
+mod Passed
+mod Places
+mod Steps

@@ -1,0 +1,130 @@
+-- What private functions say of a text while it is read.
+use Rattle.std.specs.Prelude.{◌≡◌, ◌≢◌, ◌<◌, ◌≤◌, ◌++◌, ℕ, Bool, false, List, [], ◌∷◌, length, ⊤}
+use Rattle.std.specs.Prelude.{Option, Some, None, Result, Ok, Err}
+use Rattle.std.specs.Option.{IfSome}
+use Rattle.pim_items.specs.declared.held_text.Unheld.{Unheld}
+use Rattle.pim_items.specs.declared.held_text.Unheld.TheVariants.{TooLong, Memory}
+use Rattle.pim_items.specs.declared.input.Found.{Found}
+use Rattle.pim_items.specs.declared.input.Stopped.{Stopped}
+use Rattle.pim_items.specs.declared.sort.Sort.TheVariants.{Blank}
+use Rattle.pim_items.specs.declared.items.Item.{Item}
+use Rattle.pim_items.specs.Items.{Text, a_text, is_long, items_from, items_of, lines_of}
+use Rattle.pim_items.specs.Items.{has_long_line, text_after}
+use Rattle.pim_items.specs.Items.{line_limit, text_limit}
+use Rattle.pim_items.specs.Reading.{Reading, Holds, IsItem}
+use Rattle.pim_items.specs.Input.{Lines, coming_lines, bytes_left, IsFound, Proceeds}
+
+-- What is held of a text.
+pub record Held : Type 0 where
+  pub from_line : List ℕ
+  pub bytes : List ℕ
+  pub has_long_line : Bool
+  pub fault : Option Unheld
+
+-- What is held is short.
+pub record IsShort (from_line bytes : List ℕ) : Type 0 where
+  pub line_short : length from_line ≤ line_limit
+  pub text_short : length bytes ≤ text_limit
+
+-- This text is held, as far as its lines allow.
+pub record HoldsText (text : Text) (held : Held) : Type 0 where
+  pub has_long_line : held.has_long_line ≡ has_long_line text
+  pub holds : held.has_long_line ≡ false → Holds held.fault text held.from_line held.bytes
+
+-- A line was added to a text, with its line feed, or why it wasn't.
+abbrev pub KeepsLine : List ℕ → List ℕ → List ℕ → Option Unheld → Type 0
+KeepsLine old line new None = new ≡ old ++ (line ++ 10 ∷ [])
+KeepsLine old line new (Some TooLong) =
+    (new ≡ old) × (text_limit < length (old ++ (line ++ 10 ∷ [])))
+KeepsLine old line new (Some Memory) = ⊤
+
+-- The line is held, or memory was refused.
+abbrev pub HoldsLine : List ℕ → List ℕ → Option Unheld → Type 0
+HoldsLine line held None = held ≡ line
+HoldsLine line held (Some TooLong) = ⊥
+HoldsLine line held (Some Memory) = ⊤
+
+-- The line is known as this one, unless it is too long.
+pub record IsKnown (line : List ℕ) (too_long : Bool) (whole : List ℕ) : Type 0 where
+  pub long : too_long ≡ is_long whole
+  pub same : too_long ≡ false → line ≡ whole
+
+-- A text was read to its end, where a text had begun before these bytes.
+pub record EndsText (begun : Text) (bytes : List ℕ) (is_sent : Bool) (input : Lines) (held : Held) : Type 0 where
+  pub text : Text
+  pub rest : List ℕ
+  pub items : items_from (Some begun) (lines_of bytes) ≡ a_text text ∷ items_of rest
+  pub sent : text.is_sent ≡ is_sent
+  pub holds : HoldsText text held
+  pub coming : coming_lines input ≡ Some rest
+
+-- What `read_text` gives where these bytes were to come.
+abbrev pub GivesText : Text → List ℕ → Result Bool Stopped → Lines → Held → Type 0
+GivesText begun bytes (Ok is_sent) input held = EndsText begun bytes is_sent input held
+GivesText begun bytes (Err stopped) input held = ⊤
+
+-- The item is a text that begins with this `from` line, where these bytes come after it.
+pub record IsTextItem (head bytes : List ℕ) (item : Item) (reading : Reading) : Type 0 where
+  pub text : Text
+  pub rest : List ℕ
+  pub items : items_from (Some (text_after head)) (lines_of bytes) ≡ a_text text ∷ items_of rest
+  pub is : IsItem (a_text text) item reading
+  pub coming : reading.coming ≡ Some rest
+
+-- What `take_text` gives where these bytes were to come.
+abbrev pub GivesTextItem : List ℕ → List ℕ → Result Item Stopped → Reading → Type 0
+GivesTextItem head bytes (Ok item) reading = IsTextItem head bytes item reading
+GivesTextItem head bytes (Err stopped) reading = ⊤
+
+-- A line that isn't blank was found, and only blank ones before it.
+pub record IsSome (bytes : List ℕ) (found : Found) (lines : Lines) : Type 0 where
+  pub later : List ℕ
+  pub items : items_of bytes ≡ items_of later
+  pub is : IsFound later found lines
+  pub sort : found.sort ≢ Blank
+
+-- What `next_line` gives where these bytes were to come and blank lines are passed over.
+abbrev pub GivesSome : List ℕ → Result (Option Found) Stopped → Lines → Type 0
+GivesSome bytes (Ok (Some found)) lines = IsSome bytes found lines
+GivesSome bytes (Ok None) lines = (items_of bytes ≡ []) × (coming_lines lines ≡ Some [])
+GivesSome bytes (Err stopped) lines = ⊤
+
+-- What contracts see of a reader with these two parts.
+abbrev pub reading_seen : Lines → Held → Reading
+reading_seen input held = record {
+  coming = coming_lines input;
+  unread = input.unread;
+  left = bytes_left input;
+  failures = input.failures;
+  line = input.line;
+  from_line = held.from_line;
+  text = held.bytes;
+}
+
+-- The items of the bytes that were to come are those of the bytes that are to come now.
+pub record SameItems (bytes : List ℕ) (lines : Lines) : Type 0 where
+  pub later : List ℕ
+  pub coming : coming_lines lines ≡ Some later
+  pub items : items_of bytes ≡ items_of later
+
+-- What the loop over blank lines keeps.
+pub record PassesBlank {W : Type 0} (contents passed_on : W → Option (List ℕ)) (failures : W → ℕ) (old new : W) (before after : Lines) : Type 0 where
+  pub same : IfSome (coming_lines before) (λ bytes. SameItems bytes after)
+  pub left : bytes_left after ≤ bytes_left before
+  pub proceeds : Proceeds contents passed_on failures old new before after
+
+-- A text has these lines so far, and the bytes that are to come continue it.
+pub record Continues (begun : Text) (bytes : List ℕ) (lines : Lines) (held : Held) : Type 0 where
+  pub text : Text
+  pub later : List ℕ
+  pub coming : coming_lines lines ≡ Some later
+  pub items : items_from (Some begun) (lines_of bytes) ≡ items_from (Some text) (lines_of later)
+  pub unsent : text.is_sent ≡ false
+  pub holds : HoldsText text held
+
+-- What the loop over the lines of a text keeps.
+pub record ReadsText {W : Type 0} (contents passed_on : W → Option (List ℕ)) (failures : W → ℕ) (old new : W) (before after : Lines) (first held : Held) : Type 0 where
+  pub continues : IfSome (coming_lines before) (λ bytes.
+      (begun : Text) → begun.is_sent ≡ false → HoldsText begun first → Continues begun bytes after held)
+  pub left : bytes_left after ≤ bytes_left before
+  pub proceeds : Proceeds contents passed_on failures old new before after

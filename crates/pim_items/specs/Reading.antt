@@ -1,0 +1,98 @@
+-- What contracts see of a reader of items, and what each call gives.
+use Rattle.std.specs.Prelude.{◌≡◌, ◌<◌, ◌≤◌, ◌⊎◌, ℕ, ◌+◌, false, List, [], ◌∷◌, length, min, ⊤}
+use Rattle.std.specs.Prelude.{Option, None, Some, Result, Ok, Err}
+use Rattle.pim_device.specs.Device.{top_count}
+use Rattle.pim_items.specs.declared.held_text.Unheld.{Unheld}
+use Rattle.pim_items.specs.declared.held_text.Unheld.TheVariants.{TooLong, Memory}
+use Rattle.pim_items.specs.declared.input.Stopped.{Stopped}
+use Rattle.pim_items.specs.declared.input.Stopped.TheVariants.{Input, Output}
+use Rattle.pim_items.specs.declared.items.Item.{Item}
+use Rattle.pim_items.specs.declared.items.Item.TheVariants.{Line, LongLine, Text as TextOf}
+use Rattle.pim_items.specs.declared.items.TextItem.{TextItem}
+use Rattle.pim_items.specs.Items.{Text, Item as SomeItem, a_line, a_long_line, a_text, items_of}
+use Rattle.pim_items.specs.Items.{has_long_line}
+use Rattle.pim_items.specs.Items.{bytes_of_lines, text_limit}
+
+-- A reader of items.
+pub record Reading : Type 0 where
+  -- the bytes of the input that belong to no item so far, where they are known
+  pub coming : Option (List ℕ)
+  -- the number of bytes that may still be read
+  pub unread : ℕ
+  -- that number and the number of bytes that were read and belong to no item so far
+  pub left : ℕ
+  -- the count of failures of the device that it reads
+  pub failures : ℕ
+  -- the line of the last item, if that is a line
+  pub line : List ℕ
+  -- the `from` line of the last item, if that is a text whose `from` line is held
+  pub from_line : List ℕ
+  -- the bytes of the text of the last item, if that is a text that is held
+  pub text : List ℕ
+
+-- What is held of a text: all of it, only its `from` line since the text is too long, or nothing
+-- since memory was refused.
+abbrev pub Holds : Option Unheld → Text → List ℕ → List ℕ → Type 0
+Holds None text from_line bytes =
+    (from_line ≡ text.head) × (bytes ≡ bytes_of_lines text.lines) × (length bytes ≤ text_limit)
+Holds (Some TooLong) text from_line bytes =
+    (from_line ≡ text.head) × (text_limit < length (bytes_of_lines text.lines))
+Holds (Some Memory) text from_line bytes = ⊤
+
+-- The item is this text. If one of its lines is too long, nothing more is said of it.
+pub record IsText (text : Text) (item : TextItem) (reading : Reading) : Type 0 where
+  pub is_sent : item.is_sent ≡ text.is_sent
+  pub has_long_line : item.has_long_line ≡ has_long_line text
+  pub held : item.has_long_line ≡ false → Holds item.fault text reading.from_line reading.text
+
+-- The item that a call gives is this item of the input.
+abbrev pub IsItem : SomeItem → Item → Reading → Type 0
+IsItem (a_line line) Line reading = reading.line ≡ line
+IsItem a_long_line LongLine reading = ⊤
+IsItem (a_text text) (TextOf item) reading = IsText text item reading
+IsItem some item reading = ⊥
+
+-- The item is the first one of these bytes, and the rest of them has the others.
+pub record IsFirstItem (bytes : List ℕ) (item : Item) (reading : Reading) : Type 0 where
+  pub first : SomeItem
+  pub rest : List ℕ
+  pub items : items_of bytes ≡ first ∷ items_of rest
+  pub is : IsItem first item reading
+  pub coming : reading.coming ≡ Some rest
+
+-- What `next` gives where these bytes were to come: their first item, or `None` if they have none.
+-- What an early end leaves isn't said.
+abbrev pub GivesItem : List ℕ → Result (Option Item) Stopped → Reading → Type 0
+GivesItem bytes (Ok (Some item)) reading = IsFirstItem bytes item reading
+GivesItem bytes (Ok None) reading = (items_of bytes ≡ []) × (reading.coming ≡ Some [])
+GivesItem bytes (Err stopped) reading = ⊤
+
+-- Each item takes bytes: fewer are left after it. No call leaves more.
+abbrev pub LeavesLess : {A : Type 0} → Result (Option A) Stopped → ℕ → ℕ → Type 0
+LeavesLess (Ok (Some item)) old new = new < old
+LeavesLess result old new = new ≤ old
+
+-- How often the reading device has failed after the call: once more at `Input`, unless no byte may
+-- be read any more; else as often as before.
+abbrev pub CountsReads : {A : Type 0} → Result A Stopped → ℕ → ℕ → ℕ → Type 0
+CountsReads (Err Input) unread old new =
+    (new ≡ min (old + 1) top_count) ⊎ ((new ≡ old) × (unread ≡ 0))
+CountsReads result unread old new = new ≡ old
+
+-- How often the answering device has failed after the call: once more at `Output`, else as often as
+-- before.
+abbrev pub flush_failures_after : {A : Type 0} → ℕ → Result A Stopped → ℕ
+flush_failures_after before (Err Output) = min (before + 1) top_count
+flush_failures_after before result = before
+
+-- The answers are passed on before each read: they are all passed on, or nothing was read and the
+-- answering device is as before. At `Input` a read came last.
+abbrev pub MayPassOn : {A : Type 0} → Result A Stopped → Type 0 → Type 0 → Type 0
+MayPassOn (Ok value) Untouched Passed = Untouched ⊎ Passed
+MayPassOn (Err Input) Untouched Passed = Passed
+MayPassOn (Err Output) Untouched Passed = ⊤
+
+-- The same of the call that gives items: at the end of the input a read came last, too.
+abbrev pub PassesOn : {A : Type 0} → Result (Option A) Stopped → Type 0 → Type 0 → Type 0
+PassesOn (Ok None) Untouched Passed = Passed
+PassesOn result Untouched Passed = MayPassOn result Untouched Passed

@@ -1,0 +1,242 @@
+//! The items of a session: lines, and texts that a `from` line begins.
+
+ghost use Rattle.std.specs.Prelude.{◌≡◌, ◌≤◌, List, ℕ, false, length, IfOk};
+ghost use Rattle.std.specs.Option.{IfSome};
+ghost use Rattle.std.specs.Io.KnownBytes.{Keeps};
+ghost use Rattle.pim_items.specs.Items.{line_limit, text_limit, is_send, Text};
+ghost use Rattle.pim_items.specs.Reading.{GivesItem, LeavesLess, CountsReads, flush_failures_after};
+ghost use Rattle.pim_items.specs.Reading.{MayPassOn, PassesOn};
+ghost use Rattle.pim_items.specs.Input.{coming_lines, bytes_left};
+ghost use Rattle.pim_items.specs.Held.{HoldsText, IsKnown, GivesText, GivesTextItem, GivesSome};
+ghost use Rattle.pim_items.specs.Held.{reading_seen};
+
+use crate::answers::Answers;
+use crate::held_text::{HeldText, Unheld};
+use crate::input::{Found, Input, Stopped};
+use crate::sort::{is_blank, is_from};
+use pim_addr::Feed;
+use std::alloc::{AllocError, Global};
+use std::marker::Model;
+
+/// A text that was read.
+#[derive(Clone, Copy, Debug, PartialEq, Eq)]
+pub struct TextItem {
+    /// Whether its end, `send`, came before the end of the input.
+    pub is_sent: bool,
+    /// Whether its `from` line or one of its own lines has more than 1,048,576 bytes. Then nothing
+    /// is held of it.
+    pub has_long_line: bool,
+    /// Why the text isn't held, if it isn't. After `TooLong` its `from` line is held.
+    pub fault: Option<Unheld>,
+}
+
+/// An item of the input.
+#[derive(Clone, Copy, Debug, PartialEq, Eq)]
+pub enum Item {
+    /// A line of at most 1,048,576 bytes.
+    Line,
+    /// A longer line.
+    LongLine,
+    /// A `from` line with the text after it.
+    Text(TextItem),
+}
+
+/// The items of a device.
+#[derive(Drop)]
+pub struct Items<R: Feed> {
+    input: Input<R>,
+    held: HeldText,
+}
+
+impl<R: Feed> Model for Items<R> {
+    ghost use Rattle.pim_items.specs.Reading.{Reading};
+    ghost use Rattle.pim_items.specs.Held.{reading_seen};
+
+    ghost Value = { Reading };
+
+    ghost view = { λ items. reading_seen items.input items.held };
+}
+
+/// Returns whether a line ends a text. Of a line that is too long, its bytes don't matter.
+fn ends_text(line: &[u8], too_long: bool) -> bool
+    ensures { (whole : List ℕ) → IsKnown line.now too_long whole → result ≡ is_send whole }
+{
+    !too_long && line == b"send".as_slice()
+}
+
+/// Reads the lines of a text, and returns whether `send` ended it or the end of the input did.
+fn read_text<R: Feed, W: Answers>(
+    input: &mut Input<R>,
+    held: &mut HeldText,
+    answers: &mut W,
+) -> Result<bool, Stopped>
+    ensures text { IfSome (coming_lines input.old) (λ bytes.
+        (begun : Text) → begun.is_sent ≡ false → HoldsText begun held.old →
+        GivesText begun bytes result input.new held.new) }
+    ensures left { bytes_left input.new ≤ bytes_left input.old }
+    ensures reads { CountsReads result input.new.unread input.old.failures input.new.failures }
+    ensures output { W.failures answers.new ≡ flush_failures_after (W.failures answers.old) result }
+    ensures contents { Keeps (W.contents answers.old) (W.contents answers.new) }
+    ensures passed { MayPassOn result
+        ((answers.new ≡ answers.old) × (input.new.unread ≡ input.old.unread))
+        (W.passed_on answers.new ≡ W.contents answers.new) }
+{
+    loop {
+        let found = input.next_line(answers)?;
+        let Some(found) = found else {
+            return Ok(false);
+        };
+        if ends_text(input.line(), found.is_long) {
+            return Ok(true);
+        }
+        held.add(input.line(), found.is_long);
+    }
+}
+
+/// Reads the text after a `from` line that was found last.
+fn take_text<R: Feed, W: Answers>(
+    input: &mut Input<R>,
+    held: &mut HeldText,
+    answers: &mut W,
+    too_long: bool,
+) -> Result<Item, Stopped>
+    ensures item { IfSome (coming_lines input.old) (λ bytes.
+        (head : List ℕ) → IsKnown input.old.line too_long head →
+        GivesTextItem head bytes result (reading_seen input.new held.new)) }
+    ensures left { bytes_left input.new ≤ bytes_left input.old }
+    ensures reads { CountsReads result input.new.unread input.old.failures input.new.failures }
+    ensures output { W.failures answers.new ≡ flush_failures_after (W.failures answers.old) result }
+    ensures contents { Keeps (W.contents answers.old) (W.contents answers.new) }
+    ensures passed { MayPassOn result
+        ((answers.new ≡ answers.old) × (input.new.unread ≡ input.old.unread))
+        (W.passed_on answers.new ≡ W.contents answers.new) }
+{
+    held.begin(input.line(), too_long);
+    let is_sent = read_text(input, held, answers)?;
+    Ok(Item::Text(TextItem {
+        is_sent,
+        has_long_line: held.has_long_line(),
+        fault: held.fault(),
+    }))
+}
+
+/// Reads the next line that isn't blank.
+fn next_line<R: Feed, W: Answers>(
+    input: &mut Input<R>,
+    answers: &mut W,
+) -> Result<Option<Found>, Stopped>
+    ensures line { IfSome (coming_lines input.old) (λ bytes. GivesSome bytes result input.new) }
+    ensures left { LeavesLess result (bytes_left input.old) (bytes_left input.new) }
+    ensures reads { CountsReads result input.new.unread input.old.failures input.new.failures }
+    ensures output { W.failures answers.new ≡ flush_failures_after (W.failures answers.old) result }
+    ensures contents { Keeps (W.contents answers.old) (W.contents answers.new) }
+    ensures passed { PassesOn result
+        ((answers.new ≡ answers.old) × (input.new.unread ≡ input.old.unread))
+        (W.passed_on answers.new ≡ W.contents answers.new) }
+{
+    loop {
+        let found = input.next_line(answers)?;
+        let Some(found) = found else {
+            return Ok(None);
+        };
+        if !is_blank(found.sort) {
+            return Ok(Some(found));
+        }
+    }
+}
+
+/// Reads the next item.
+fn next_item<R: Feed, W: Answers>(
+    input: &mut Input<R>,
+    held: &mut HeldText,
+    answers: &mut W,
+) -> Result<Option<Item>, Stopped>
+    ensures item { IfSome (coming_lines input.old)
+        (λ bytes. GivesItem bytes result (reading_seen input.new held.new)) }
+    ensures left { LeavesLess result (bytes_left input.old) (bytes_left input.new) }
+    ensures reads { CountsReads result input.new.unread input.old.failures input.new.failures }
+    ensures output { W.failures answers.new ≡ flush_failures_after (W.failures answers.old) result }
+    ensures contents { Keeps (W.contents answers.old) (W.contents answers.new) }
+    ensures passed { PassesOn result
+        ((answers.new ≡ answers.old) × (input.new.unread ≡ input.old.unread))
+        (W.passed_on answers.new ≡ W.contents answers.new) }
+{
+    let found = next_line(input, answers)?;
+    let Some(found) = found else {
+        return Ok(None);
+    };
+    if is_from(found.sort) {
+        let item = take_text(input, held, answers, found.is_long)?;
+        return Ok(Some(item));
+    }
+    if found.is_long {
+        return Ok(Some(Item::LongLine));
+    }
+    Ok(Some(Item::Line))
+}
+
+impl<R: Feed> Items<R> {
+    /// Returns the items of a device, of which nothing was read.
+    ///
+    /// # Errors
+    /// If memory for the buffer is refused.
+    pub fn new(alloc: Global, reader: R) -> Result<Self, AllocError>
+    where
+        R: Drop,
+        ensures coming { IfOk result (λ items. items.coming ≡ R.remaining reader) }
+        ensures unread { IfOk result (λ items. items.unread ≡ usize.MAX) }
+        ensures left { IfOk result (λ items. items.left ≡ usize.MAX) }
+        ensures failures { IfOk result (λ items. items.failures ≡ R.failures reader) }
+    {
+        Ok(Items {
+            input: Input::new(alloc, reader)?,
+            held: HeldText::new(alloc),
+        })
+    }
+
+    /// Returns the line of the last item, if that is a line.
+    pub fn line(&self) -> &[u8]
+        ensures line { result.now ≡ self.now.line }
+        ensures short { length result.now ≤ line_limit }
+    {
+        self.input.line()
+    }
+
+    /// Returns the `from` line of the last item, if that is a text whose `from` line is held.
+    pub fn from_line(&self) -> &[u8]
+        ensures line { result.now ≡ self.now.from_line }
+        ensures short { length result.now ≤ line_limit }
+    {
+        self.held.from_line()
+    }
+
+    /// Returns the text of the last item, if that is a text that is held. Each of its lines has a
+    /// line feed.
+    pub fn text(&self) -> &[u8]
+        ensures text { result.now ≡ self.now.text }
+        ensures short { length result.now ≤ text_limit }
+    {
+        self.held.bytes()
+    }
+
+    /// Reads the next item, or returns `None` at the end of the input. Before each read of the
+    /// device the answers are passed on.
+    ///
+    /// # Errors
+    /// - `Input`: a read failed, or 2^64 - 1 bytes were read.
+    /// - `Output`: the answers could not be passed on.
+    pub fn next<W: Answers>(&mut self, answers: &mut W) -> Result<Option<Item>, Stopped>
+        // Where the bytes of the input are known, the items are those of its lines, in order.
+        ensures item { IfSome self.old.coming (λ bytes. GivesItem bytes result self.new) }
+        ensures left { LeavesLess result self.old.left self.new.left }
+        ensures reads { CountsReads result self.new.unread self.old.failures self.new.failures }
+        ensures output { W.failures answers.new
+            ≡ flush_failures_after (W.failures answers.old) result }
+        ensures contents { Keeps (W.contents answers.old) (W.contents answers.new) }
+        ensures passed { PassesOn result
+            ((answers.new ≡ answers.old) × (self.new.unread ≡ self.old.unread))
+            (W.passed_on answers.new ≡ W.contents answers.new) }
+    {
+        next_item(&mut self.input, &mut self.held, answers)
+    }
+}
