@@ -3,18 +3,22 @@
 # each of its allocations, with that allocation refused (refuse_memory.sh), and prints the results.
 # The list names the tests and the calls that they make.
 #
-#   tools/each_growth_refused.sh             all tests
+#   tools/each_growth_refused.sh             all tests, and all scenarios
 #   tools/each_growth_refused.sh CRATE..     the tests of these crates
+#   tools/each_growth_refused.sh scenarios   the scenarios
 #
 # A run is right if the test passes. The test checks what the call returned when memory was refused,
-# and what it left or wrote. Except for calls that write a replay, it also checks what the same call
-# then returns with memory. A run is also right if the test itself was refused memory
+# and what it left or wrote. It also checks what the same call then returns with memory. A run is also right if the test itself was refused memory
 # ("error: AllocError"). Any other run is wrong, such as one that aborts, ends by a signal, or takes
 # more than 60 s. Then the last line says so, and the status is 1. The status is also 1 if a test
 # isn't built, fails with memory, or allocates nothing.
 #
-# The built tests are in crates/NAME/out/NAME_tests. `rt ci` at the top of the repository leaves
-# them there. So does `rt test` in the folder of a crate, which it proves first.
+# A scenario is a session with its answers. A command that is answered `fault memory` is given
+# again, and then all answers must be as expected; scenarios_refused.py says the rest.
+#
+# The built tests are in crates/NAME/out/NAME_tests, the program in crates/pimtree/out/pimtree.
+# `rt ci` at the top of the repository leaves them there. So do `rt test` and `rt build` in the
+# folder of a crate, which they prove first.
 set -eu
 here=$(cd "$(dirname "$0")" && pwd)
 said=$(mktemp)
@@ -42,6 +46,18 @@ refuse() {
     is_right || { echo "  wrong"; wrong=1; }
 }
 
+# runs all scenarios
+refuse_in_scenarios() {
+    built=$here/../crates/pimtree/out/pimtree
+    if [ ! -x "$built" ]; then
+        echo "pimtree isn't built"
+        wrong=1
+        return
+    fi
+    "$here/scenarios_refused.py" "$built" "$here/../crates/pimtree_cases/data/scenarios" \
+        "$here/../examples/"*.session || wrong=1
+}
+
 while read -r crate name calls; do
     case " ${*:-$crate} " in
         *" $crate "*) ;;
@@ -66,13 +82,18 @@ pim_router_tests router::refused::messages_are_made_again Router::canonical
 pim_router_tests router::refused::wants_are_compared_again same_wants
 pim_router_tests mirror::mirrored::exception_is_pruned_at_the_final_moment mirror
 pim_codec_tests capture::refused_growth Capture::next
-pimtree_tests replay::states::refusals_leave_a_front write_state
-pimtree_tests replay::replays::refused_memory_leaves_a_front replay_into
-pimtree_tests replay::sames::refused_memory_tells_nothing same_into
-pimtree_tests replay::mirrors::refused_memory_tells_whole_lines mirror_into
-pimtree_tests replay::emits::refused_memory_leaves_a_front_of_the_bytes emit_into
-pimtree_tests replay::changes::refused_memory_tells_whole_lines change_into
+pimtree_tests refused::replay_leaves_a_front replay
+pimtree_tests refused::same_leaves_nothing same
+pimtree_tests refused::mirror_leaves_whole_lines mirror
+pimtree_tests refused::emit_leaves_nothing emit
+pimtree_tests refused::change_leaves_whole_lines change
 LIST
+case " ${*:-scenarios} " in
+    *" scenarios "*)
+        refuse_in_scenarios
+        ran=1
+        ;;
+esac
 if [ "$ran" = 0 ]; then
     echo "no test of $*"
     exit 1

@@ -1,15 +1,14 @@
 #!/usr/bin/env python3
-"""Writes the captures of examples/, with their words and reports, as constants of
-crates/pimtree_tests. It also writes the first of them as the stored run of crates/pimtree: args,
-data/ and stdout.
+"""Writes the captures of examples/, with their words and reports, as cases of crates/pimtree_cases.
+It also writes the first of them as the stored run of crates/pimtree: args, data/ and stdout.
 
-    python3 tools/examples_as_tests.py && cd crates/pimtree_tests && rt fmt
+    python3 tools/examples_as_tests.py
 """
 import os
 
 TOP = os.path.join(os.path.dirname(os.path.abspath(__file__)), "..")
 NAMES = ["lan", "lost", "ipv6", "fault"]
-PLACE = os.path.join(TOP, "crates", "pimtree_tests", "src", "tests", "commands", "examples.rt")
+PLACE = os.path.join(TOP, "crates", "pimtree_cases", "data", "cases", "examples.case")
 
 
 def content(name, kind):
@@ -22,33 +21,31 @@ def content(name, kind):
 
 def hexadecimal(data):
     digits = data.hex()
-    rows = [digits[i : i + 96] for i in range(0, len(digits), 96)]
-    return '"' + "\n        ".join(rows) + '"'
+    return "".join(f"x {digits[i : i + 96]}\n" for i in range(0, len(digits), 96))
 
 
-def example(name):
-    words = ["pimtree"] + content(name, "words").decode().split()
-    listed = "".join(f'            "{word}",\n' for word in words)
-    report = content(name, "report").decode()
-    errors = content(name, "errors").decode().replace("\n", "\\n")
+def lines(part, data):
+    """A part of a case with these lines, or nothing where there are none."""
+    rows = "".join(f"= {line}\n" for line in data.decode().splitlines())
+    return f"{part}\n{rows}" if rows else ""
+
+
+def case(name):
+    words = " ".join(content(name, "words").decode().split())
+    errors = content(name, "errors")
+    status = "status 2\n" if errors else ""
     return (
-        "    Example {\n        words: &[\n" + listed + "        ],\n"
-        f"        capture: {hexadecimal(content(name, 'pcap'))},\n"
-        f'        report: "{report}",\n        errors: "{errors}",\n    }},\n'
+        f"\nwords {words}\nfile {name}.pcap\n"
+        + hexadecimal(content(name, "pcap"))
+        + lines("output", content(name, "report"))
+        + lines("errors", errors)
+        + status
     )
 
 
 def text():
-    head = (
-        "//! The captures of `examples/`, written here by `tools/examples_as_tests.py`.\n\n"
-        "/// A shipped capture.\npub struct Example {\n"
-        "    /// The words of its replay.\n    pub words: &'static [&'static str],\n"
-        "    /// Its bytes, as hexadecimal digits.\n    pub capture: &'static str,\n"
-        "    /// Its report.\n    pub report: &'static str,\n"
-        "    /// The line on standard error, where the replay ends in a fault.\n    pub errors: &'static str,\n}\n\n"
-    )
-    rows = "".join(example(name) for name in NAMES)
-    return head + f"/// All of them.\npub const EXAMPLES: [Example; {len(NAMES)}] = [\n{rows}];\n"
+    head = "# The captures of examples/, written here by tools/examples_as_tests.py.\n"
+    return head + "".join(case(name) for name in NAMES)
 
 
 def write(path, data):

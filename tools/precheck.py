@@ -40,6 +40,7 @@ WORDS = {
     "docs/MANUAL.md": 1500,
     "docs/PROFILE.md": 1500,
     "docs/PROVING.md": 3000,
+    "docs/SESSION.md": 1000,
     "docs/SPEED.md": 1500,
     "docs/WALKTHROUGH.md": 900,
 }

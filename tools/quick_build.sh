@@ -1,8 +1,9 @@
 #!/bin/sh
-# Builds pimtree, or the Rattle program of a bench, without any proof, in some minutes.
+# Builds a program without any proof, in a minute or some.
 #
-#   tools/quick_build.sh [NAME] [OUT]      NAME is pimtree (the default) or a folder of benches/;
-#                                          OUT is the program to write, out/NAME unless given
+#   tools/quick_build.sh [NAME] [OUT]      NAME is a program of crates/, pimtree unless given, or a
+#                                          folder of benches/; OUT is the program to write, out/NAME
+#                                          unless given
 set -eu
 top=$(cd "$(dirname "$0")/.." && pwd)
 name=${1:-pimtree}

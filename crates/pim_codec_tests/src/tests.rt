@@ -5,4 +5,3 @@ mod capture;
 mod device;
 mod hello;
 mod jp;
-mod text;

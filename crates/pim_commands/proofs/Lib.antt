@@ -3,6 +3,7 @@ pub mod Mirrored
 pub mod Emitted
 pub mod Changed
 pub mod Reports
+pub mod Builds
 pub mod Writes
 pub mod Routers
 pub mod Opened

@@ -1,6 +1,6 @@
 -- How the report of a message becomes that of an input.
-use Rattle.std.proofs.Common.{◌≡◌, ℕ, ◌≤◌, List, [], ◌∷◌, ◌++◌, length, map, Option, None, Some, Result, Ok, Err, refl, sym, ap, ◌∙◌}
-use Rattle.std.specs.Prelude.{IfSome}
+use Rattle.std.proofs.Common.{◌≡◌, ℕ, ◌≤◌, List, [], ◌∷◌, ◌++◌, length, map, Option, None, Some, Result, Ok, Err, refl, sym, subst, ap, ◌∙◌}
+use Rattle.std.specs.Prelude.{IfSome, IfOk}
 use Rattle.std.specs.Io.KnownBytes.{Keeps}
 use Rattle.std.proofs.lemmas.Bool.{le-ltb}
 use Rattle.pim_addr.specs.declared.family.AddressFamily.{AddressFamily}
@@ -12,14 +12,19 @@ use Rattle.pim_hello.specs.Value.{hello_of}
 use Rattle.pim_hello.specs.Faults.{faults as hello_option_faults}
 use Rattle.pim_hello.specs.declared.fault.HelloFault.{HelloFault}
 use Rattle.pim_jp.specs.Message.{Message, message_of}
+use Rattle.pim_jp.specs.Canonical.{IsMessage}
 use Rattle.pim_jp.specs.Faults.{faults}
 use Rattle.pim_jp.specs.declared.fault.JpFault.{JpFault}
 use Rattle.pim_text.specs.JoinPruneText.{message_text}
 use Rattle.pim_text.specs.HelloText.{hello_text}
+use Rattle.pim_text.specs.Laws.{MessageTextStates}
+use Rattle.pim_text.specs.Read.{States}
+use Rattle.pim_text.specs.Value.{message_in}
 use Rattle.pim_commands.specs.declared.fault.Fault.{Fault}
 use Rattle.pim_commands.specs.declared.fault.Fault.TheVariants.{Words, File, RoutesTooLong, RoutesRead, RoutesLine, Capture, TooBig, Full}
 use Rattle.pim_commands.specs.declared.fault.Fault.TheVariants.{Frame, Hello, JoinPrune, InputTooLong, InputRead, Output, Memory}
-use Rattle.pim_commands.specs.Report.{content_faults, content_text, body_report, hello_report, message_report, input_report, Explains, IsMessageFault, Reports}
+use Rattle.pim_commands.specs.declared.fault.Fault.TheVariants.{TextTooLong, TextLine, TextFamily}
+use Rattle.pim_commands.specs.Report.{content_faults, content_text, body_report, hello_report, message_report, input_report, Explains, IsMessageFault, IsStated, Reports}
 
 -- the faults of a body are told as those of its message
 
@@ -44,6 +49,9 @@ unreported report old new Memory kept cause = kept
 unreported report old new (Words why) kept cause = absurd cause
 unreported report old new InputRead kept cause = absurd cause
 unreported report old new InputTooLong kept cause = absurd cause
+unreported report old new TextTooLong kept cause = absurd cause
+unreported report old new (TextLine number) kept cause = absurd cause
+unreported report old new TextFamily kept cause = absurd cause
 unreported report old new Output kept cause = absurd cause
 unreported report old new (File word) kept cause = absurd cause
 unreported report old new RoutesTooLong kept cause = absurd cause
@@ -53,7 +61,7 @@ unreported report old new (Capture why) kept cause = absurd cause
 unreported report old new (TooBig group) kept cause = absurd cause
 unreported report old new (Full needed) kept cause = absurd cause
 
-keeps_self : (known : Option (List ℕ)) → Keeps known known
+pub keeps_self : (known : Option (List ℕ)) → Keeps known known
 keeps_self None = tt
 keeps_self (Some bytes) = refl
 
@@ -95,3 +103,19 @@ framed_body family source destination message body = framed family (frame_faults
 pub framed_hello : (family : AddressFamily) (source destination message body : List ℕ) → judged (frame_faults family source destination message) (content message) ≡ Ok (hello body)
     → message_report family source destination message ≡ hello_report family body
 framed_hello family source destination message body = framed family (frame_faults family source destination message) (content message) (hello body)
+
+-- ---- the text of a message states it
+
+same_value : {E V : Type 0} (all : List E) (value given : V) → judged all value ≡ Ok given → value ≡ given
+same_value [] value given told = cc
+same_value (first ∷ others) value given told = absurd cc
+
+pub stated_message : MessageTextStates → (family : AddressFamily) (body : List ℕ) (message : Message) → judged (faults family body) (message_of family body) ≡ Ok message → IsMessage family message → IsStated family (join_prune body)
+stated_message law family body message told legal =
+    let same = same_value (faults family body) (message_of family body) message told in
+    subst (λ (m : Message). States (message_text family m) (message_in family m)) (sym same) (law family message legal)
+
+-- what holds anyway holds of a result that is returned
+pub if_returned : {A E : Type 0} (r : Result A E) (P : Type 0) → P → IfOk r (λ text. P)
+if_returned (Ok text) P is = is
+if_returned (Err fault) P is = tt

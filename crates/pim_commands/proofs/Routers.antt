@@ -1,16 +1,11 @@
--- Routers that are made, and what is told of their replays; captures that are added one by one.
-use Rattle.std.proofs.Common.{◌≡◌, ◌≤◌, inl, inr, refl, sym, ap, subst, ◌∙◌, ℕ, ◌+◌, Bool, List, [], ◌∷◌, ◌++◌, length, map, option_map, Option, None, Some, Result, Ok, Err, true, false, arith}
-use Rattle.std.specs.Prelude.{IfSome}
-use Rattle.std.proofs.lemmas.Bool.{not-false}
-use Rattle.std.proofs.lemmas.List.{length-append, length-map}
+-- Routers that are made, and what is told of their replays.
+use Rattle.std.proofs.Common.{◌≡◌, ◌≤◌, inl, inr, refl, sym, ap, subst, ◌∙◌, ℕ, Bool, List, [], ◌∷◌, length, map, Option, Result, Ok, Err, arith}
+use Rattle.std.proofs.lemmas.List.{length-map}
 use Rattle.pim_addr.specs.declared.family.AddressFamily.{AddressFamily}
-use Rattle.pim_addr.specs.Address.{is_source}
 use Rattle.pim_addr.specs.Routes.{RouteTable}
 use Rattle.pim_capture.specs.declared.fault.CaptureFault.{CaptureFault}
 use Rattle.pim_capture.specs.declared.fault.CaptureFault.TheVariants as of_capture
-use Rattle.pim_capture.specs.Capture.{Answer}
 use Rattle.pim_capture.specs.Next.{latest_moment}
-use Rattle.pim_merge.specs.Lane.{LaneState, coming_on}
 use Rattle.pim_merge.specs.Next.{MergeState}
 use Rattle.pim_replay.specs.declared.replay.ReplayFault.{ReplayFault}
 use Rattle.pim_replay.specs.declared.replay.ReplayFault.TheVariants as of_replay
@@ -23,7 +18,7 @@ use Rattle.pim_router.specs.Seen.{port_seen, setup_seen}
 use Rattle.pim_router.specs.State.{RouterState, Setup, new_router}
 use Rattle.pim_words.specs.declared.task.Port.{Port}
 use Rattle.pim_commands.specs.declared.fault.Fault.{Fault}
-use Rattle.pim_commands.specs.Replaying.{config_of, config_fault, capture_fault, answer_of, is_bad, IsUnmade, ReplaysNew}
+use Rattle.pim_commands.specs.Replaying.{config_of, config_fault, capture_fault, answer_of, IsUnmade, ReplaysNew}
 use Rattle.pim_commands.specs.Report.{write_failures_after}
 
 -- a value that was made
@@ -42,14 +37,6 @@ told_first of_config.Memory others = tt
 pub unmade_is : {A : Type 0} (faults : List ConfigFault) (value : A) (told : ConfigFault) → IsMadeUnless faults value (Err told) → IsUnmade faults (config_fault told)
 unmade_is [] value told is = rw (is) tt
 unmade_is (first ∷ others) value told is = let same : told ≡ first = cc in rw (same) (told_first first others)
-
--- ---- the table that the options of a command give
-
--- an address that is given is a valid source
-pub not_bad : {A : Type 0} (family : AddressFamily) (bytes_of : A → List ℕ) (address : Option A) → is_bad family (option_map bytes_of address) ≡ false
-    → IfSome address (λ a. is_source family (bytes_of a) ≡ true)
-not_bad family bytes_of None fine = tt
-not_bad family bytes_of (Some address) fine = not-false (is_source family (bytes_of address)) fine
 
 -- ---- what is answered of a new router's replay
 
@@ -103,14 +90,3 @@ as_many {A} bytes_of ports configs routes limit router same made =
 
 pub begins : (setup : Setup) (router : RouterState) → router ≡ new_router setup → router.machines.moment ≤ latest_moment
 begins setup router made = omega (arith, ap (λ (s : RouterState). s.machines.moment) made)
-
--- ---- captures
-
--- as many captures as their answers
-same_length : (lanes : List LaneState) (answers : List (Option (List Answer))) → map coming_on lanes ≡ answers → length lanes ≡ length answers
-same_length lanes answers same = sym (length-map lanes coming_on) ∙ ap length same
-
--- one capture was added
-pub one_longer : (old new : List LaneState) (last : Option (List Answer)) → map coming_on new ≡ map coming_on old ++ last ∷ [] → length new ≡ length old + 1
-one_longer old new last same =
-    same_length new (map coming_on old ++ last ∷ []) same ∙ length-append (map coming_on old) (last ∷ []) ∙ ap (λ (n : ℕ). n + 1) (length-map old coming_on)

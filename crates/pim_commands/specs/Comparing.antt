@@ -1,8 +1,9 @@
 -- The comparison that a task asks for: its two routers, and what is returned and written of their
 -- captures.
-use Rattle.std.specs.Prelude.{◌≡◌, ◌⊎◌, ℕ, cond, Bool, List, ◌++◌, map, filter, Option, Result, Ok, Err}
+use Rattle.std.specs.Prelude.{◌≡◌, ◌⊎◌, ℕ, List, ◌++◌, map, filter, Option, Result, Ok, Err}
 use Rattle.pim_addr.specs.Routes.{RouteTable}
 use Rattle.pim_addr.specs.declared.family.AddressFamily.{AddressFamily}
+use Rattle.pim_files.specs.Captures.{is_of}
 use Rattle.pim_form.specs.Messages.{Writing}
 use Rattle.pim_form.specs.Writer.{has_bad_address}
 use Rattle.pim_merge.specs.Next.{MergeState}
@@ -14,20 +15,11 @@ use Rattle.pim_router.specs.Seen.{setup_seen}
 use Rattle.pim_router.specs.State.{Setup, RouterState, new_router}
 use Rattle.pim_words.specs.declared.fault.Side.{Side}
 use Rattle.pim_words.specs.declared.task.Port.{Port}
-use Rattle.pim_words.specs.Faults.{is_side}
 use Rattle.pim_words.specs.Typed.{address_in}
 use Rattle.pim_commands.specs.declared.fault.Fault.{Fault}
 use Rattle.pim_commands.specs.declared.fault.Fault.TheVariants.{TooBig}
 use Rattle.pim_commands.specs.Replaying.{config_of, config_fault, replay_fault, IsFirstCause}
 use Rattle.pim_commands.specs.Writing.{writer_causes}
-
--- Whether the port belongs to this router.
-abbrev pub is_of : {A : Type 0} → Side → Port A → Bool
-is_of side port = is_side side port.side
-
--- 1 if the port belongs to this router, otherwise 0.
-abbrev pub one_of : Side → Side → ℕ
-one_of side other = cond (is_side side other) 1 0
 
 -- The set-up of one of two routers: its own ports, the table and the limit on records.
 abbrev pub side_setup : {A : Type 0} → (A → List ℕ) → Side → List (Port A) → RouteTable → ℕ → Setup

@@ -7,6 +7,8 @@ pub mod Replaying
 pub mod Comparing
 pub mod Mirroring
 pub mod Emitting
+pub mod Building
 pub mod Changing
 pub mod Writing
 pub mod Opening
+pub mod Running

@@ -1,9 +1,7 @@
 -- The replay that a task asks for: its router, and what is returned and written of its captures.
-use Rattle.std.specs.Prelude.{◌≡◌, ◌⊎◌, ⊤, ℕ, Bool, false, not, List, [], ◌∷◌, ◌++◌}
-use Rattle.std.specs.Prelude.{Option, None, Some, Result, Ok, Err}
+use Rattle.std.specs.Prelude.{◌≡◌, ◌⊎◌, ⊤, ℕ, Bool, List, [], ◌∷◌}
+use Rattle.std.specs.Prelude.{Option, Result, Ok, Err}
 use Rattle.pim_addr.specs.declared.family.AddressFamily.{AddressFamily}
-use Rattle.pim_addr.specs.Address.{is_source}
-use Rattle.pim_addr.specs.Faults.{fault_if}
 use Rattle.pim_capture.specs.declared.fault.CaptureFault.{CaptureFault}
 use Rattle.pim_capture.specs.declared.fault.CaptureFault.TheVariants as of_capture
 use Rattle.pim_merge.specs.Next.{MergeState}
@@ -69,18 +67,6 @@ abbrev pub IsFirstCause : List Fault → Fault → Type 0
 IsFirstCause all Memory = ⊤
 IsFirstCause [] fault = ⊥
 IsFirstCause (first ∷ others) fault = fault ≡ first
-
--- ---- the table that the options of a command give
-
--- Whether the address is given and isn't a valid source.
-abbrev pub is_bad : AddressFamily → Option (List ℕ) → Bool
-is_bad family None = false
-is_bad family (Some address) = not (is_source family address)
-
--- The faults of the addresses that the table is made of: of the upstream neighbour, then of the RP.
-abbrev pub table_causes : AddressFamily → Option (List ℕ) → Option (List ℕ) → List Fault
-table_causes family rp upstream =
-    fault_if (is_bad family upstream) writer_told ++ fault_if (is_bad family rp) (config_told cause.Rp)
 
 -- ---- the replay of a new router
 

@@ -16,6 +16,8 @@ use Rattle.pim_commands.specs.declared.fault.Fault.TheVariants.{Memory}
 use Rattle.pim_text.specs.Text.{type_text}
 use Rattle.pim_text.specs.JoinPruneText.{message_text}
 use Rattle.pim_text.specs.HelloText.{hello_text}
+use Rattle.pim_text.specs.Read.{States}
+use Rattle.pim_text.specs.Value.{hello_in, message_in}
 
 -- The faults of the body of a Hello or a Join/Prune message, in order; a message of another type
 -- has none.
@@ -37,6 +39,13 @@ abbrev pub content_text : AddressFamily → Content → List ℕ
 content_text family (hello body) = hello_text family (hello_of family body)
 content_text family (join_prune body) = message_text family (message_of family body)
 content_text family (other kind) = type_text kind
+
+-- The text that is written of a Hello or a Join/Prune message states that message.
+abbrev pub IsStated : AddressFamily → Content → Type 0
+IsStated family (hello body) = States (hello_text family (hello_of family body)) (hello_in family (hello_of family body))
+IsStated family (join_prune body) =
+    States (message_text family (message_of family body)) (message_in family (message_of family body))
+IsStated family (other kind) = ⊤
 
 -- The faults of a message from `source` to `destination`: those of its header, then those of its
 -- body.

@@ -20,7 +20,7 @@ use Rattle.pim_commands.specs.declared.causes.CaptureCause.TheVariants as captur
 use Rattle.pim_commands.specs.declared.fault.Fault.{Fault}
 use Rattle.pim_commands.specs.declared.fault.Fault.TheVariants.{Words, File, RoutesTooLong, RoutesRead, RoutesLine, Capture}
 use Rattle.pim_commands.specs.declared.fault.Fault.TheVariants.{Frame, Hello, JoinPrune, TooBig, Full, InputTooLong}
-use Rattle.pim_commands.specs.declared.fault.Fault.TheVariants.{InputRead, Output, Memory}
+use Rattle.pim_commands.specs.declared.fault.Fault.TheVariants.{TextTooLong, TextLine, TextFamily, InputRead, Output, Memory}
 use Rattle.pim_text.specs.Text.{line}
 
 -- The short text that `clap` has for a kind of error. It has none for a request for help.
@@ -83,6 +83,9 @@ fault_words (JoinPrune fault) = join_prune_words fault
 fault_words (TooBig group) = codes "too big " ++ address_words group
 fault_words (Full needed) = codes "full " ++ decimal needed
 fault_words InputTooLong = codes "input too-long"
+fault_words TextTooLong = codes "text too-long"
+fault_words (TextLine number) = codes "text line " ++ decimal number
+fault_words TextFamily = codes "family"
 fault_words InputRead = codes "input read"
 fault_words Output = codes "output"
 fault_words Memory = codes "memory"

@@ -3,17 +3,19 @@
 ghost use Rattle.std.specs.Prelude.{◌≡◌, length, filter};
 ghost use Rattle.pim_form.specs.Seen.{writing_seen};
 ghost use Rattle.pim_words.specs.Plan.{IsBounded, IsLimited, IsWritable};
-ghost use Rattle.pim_commands.specs.Comparing.{is_of, side_setup};
+ghost use Rattle.pim_files.specs.Captures.{is_of};
+ghost use Rattle.pim_commands.specs.Comparing.{side_setup};
 ghost use Rattle.pim_commands.specs.Changing.{ChangesNew};
 ghost use Rattle.pim_commands.specs.Opening.{ChangesFiles};
 ghost use Rattle.pim_commands.specs.Report.{write_failures_after};
 
-use crate::comparing::{Pair, open_both, side_configs};
+use crate::comparing::side_configs;
 use crate::fault::Fault;
 use crate::mirroring::mirrored;
-use crate::replaying::{router_of, table};
+use crate::replaying::router_of;
 use crate::writing::writer_of;
 use pim_addr::{Drain, Family, Feed, Routes};
+use pim_files::{Opener, Pair, open_both, table};
 use pim_replay::change_into;
 use pim_words::{Captures, Side, Writing};
 use std::alloc::Global;
@@ -87,8 +89,9 @@ pub fn change_opened<F: Family, R: Feed + Drop, W: Drain>(
 /// `File` of a file that can't be opened, or a fault of the file of routes: nothing was written.
 /// Otherwise those of `change_opened`: of a capture, `TooBig` of a star of router a or else of b,
 /// `Full`, `Output` and `Memory`.
-pub fn change<'a, F: Family, W: Drain>(
-    rt: &HostRuntime,
+pub fn change<'a, F: Family, O: Opener, W: Drain>(
+    alloc: Global,
+    opener: &mut O,
     captures: &Captures<'a, F::Addr>,
     writing: &Writing<F::Addr>,
     writer: &mut W,
@@ -96,11 +99,12 @@ pub fn change<'a, F: Family, W: Drain>(
     requires after { IsBounded captures.now }
     requires limit { IsLimited captures.now }
     requires writing { IsWritable writing.now }
-    ensures text { ChangesFiles F.family F.bytes_of captures.now writing.now
+    ensures text { ChangesFiles F.family F.bytes_of O.Reader.remaining O.Reader.failures
+        (O.known opener.old) (O.known opener.new) captures.now writing.now
         (W.contents writer.old) (W.contents writer.new) result }
     ensures count { W.failures writer.new ≡ write_failures_after (W.failures writer.old) result }
 {
-    let routes = table::<F>(rt, captures, Some(writing.upstream))?;
-    let mut pair = open_both(rt, &captures.ports)?;
-    change_opened::<F, _, W>(rt.alloc(), captures, writing, &routes, &mut pair, writer)
+    let routes = table::<F, O>(alloc, opener, captures, Some(writing.upstream))?;
+    let mut pair = open_both(alloc, opener, &captures.ports)?;
+    change_opened::<F, _, W>(alloc, captures, writing, &routes, &mut pair, writer)
 }

@@ -1,33 +1,23 @@
 //! The command `same`: it opens the captures of two routers and calls the engine.
 
-ghost use Rattle.std.specs.Prelude.{◌≡◌, ◌+◌, length, map, filter, None, IfOk, IfErr};
+ghost use Rattle.std.specs.Prelude.{◌≡◌, length, map, filter, IfOk};
 ghost use Rattle.pim_form.specs.Seen.{writing_seen};
 ghost use Rattle.pim_words.specs.Plan.{IsBounded, IsWritable};
 ghost use Rattle.pim_commands.specs.Replaying.{config_of};
-ghost use Rattle.pim_commands.specs.Comparing.{same_fault, compared, is_of, one_of, side_setup, ComparesNew};
-ghost use Rattle.pim_commands.specs.Opening.{IsFaultOfSome, ComparesFiles};
+ghost use Rattle.pim_files.specs.Captures.{is_of};
+ghost use Rattle.pim_commands.specs.Comparing.{same_fault, compared, side_setup, ComparesNew};
+ghost use Rattle.pim_commands.specs.Opening.{ComparesFiles};
 ghost use Rattle.pim_commands.specs.Report.{write_failures_after};
 
 use crate::fault::Fault;
-use crate::replaying::{config, open_port, replay_fault, router_of, table};
+use crate::replaying::{config, replay_fault, router_of};
 use crate::writing::{address_of, writer_of};
-use pim_addr::{Counted, Drain, Family, Feed, Routes};
-use pim_merge::Merge;
+use pim_addr::{Drain, Family, Feed, Routes};
+use pim_files::{Opener, Pair, open_both, table};
 use pim_replay::{SameFault, same_into};
 use pim_router::PortConfig;
 use pim_words::{Captures, Port, Side, Writing};
 use std::alloc::{AllocError, Global};
-use std::fs::File;
-use std::io::BufReader;
-
-/// The captures of two routers: of each router one for each of its ports.
-#[derive(Drop)]
-pub struct Pair<R: Feed + Drop> {
-    /// The captures of router a.
-    pub a: Merge<R>,
-    /// The captures of router b.
-    pub b: Merge<R>,
-}
 
 /// The program's fault for a fault of the comparison.
 fn same_fault<F: Family>(fault: SameFault<F>) -> Fault<'static>
@@ -74,48 +64,6 @@ pub fn side_configs<A: Copy>(
         }
     }
     Ok(configs)
-}
-
-/// Adds the capture of this reader to those of a router. It is that of the router's next port.
-pub fn add_to<R: Feed + Drop>(
-    alloc: Global,
-    pair: &mut Pair<R>,
-    side: Side,
-    reader: R,
-) -> Result<(), AllocError>
-    ensures a { IfOk result (λ done. length pair.new.a.lanes ≡ length pair.old.a.lanes + one_of Side.A side) }
-    ensures b { IfOk result (λ done. length pair.new.b.lanes ≡ length pair.old.b.lanes + one_of Side.B side) }
-    ensures clock_of_a { pair.new.a.clock ≡ pair.old.a.clock }
-    ensures clock_of_b { pair.new.b.clock ≡ pair.old.b.clock }
-{
-    match side {
-        Side::A => pair.a.add(alloc, reader),
-        Side::B => pair.b.add(alloc, reader),
-    }
-}
-
-/// Opens the capture of each port, in the order of the words, for its router.
-pub fn open_both<'a, A>(
-    rt: &HostRuntime,
-    ports: &[Port<'a, A>],
-) -> Result<Pair<Counted<BufReader<File>>>, Fault<'a>>
-    ensures a { IfOk result (λ pair. length pair.a.lanes ≡ length (filter (is_of Side.A) ports.now)) }
-    ensures b { IfOk result (λ pair. length pair.b.lanes ≡ length (filter (is_of Side.B) ports.now)) }
-    ensures untaken_of_a { IfOk result (λ pair. pair.a.clock ≡ None) }
-    ensures untaken_of_b { IfOk result (λ pair. pair.b.clock ≡ None) }
-    ensures fault { IfErr result (IsFaultOfSome ports.now) }
-{
-    let mut pair = Pair {
-        a: Merge::new(rt.alloc()),
-        b: Merge::new(rt.alloc()),
-    };
-    for port in ports {
-        let reader = open_port(rt, port)?;
-        let Ok(()) = add_to(rt.alloc(), &mut pair, port.side, reader) else {
-            return Err(Fault::Memory);
-        };
-    }
-    Ok(pair)
 }
 
 /// Replays the captures of two new routers, one for each port in the order of the ports. Then it
@@ -183,19 +131,21 @@ pub fn same_opened<F: Family, R: Feed + Drop, W: Drain>(
 /// # Errors
 /// `File` of a file that can't be opened, or a fault of the file of routes: nothing was written.
 /// Otherwise those of `same_opened`: of a capture, `TooBig`, `Output` and `Memory`.
-pub fn same<'a, F: Family, W: Drain>(
-    rt: &HostRuntime,
+pub fn same<'a, F: Family, O: Opener, W: Drain>(
+    alloc: Global,
+    opener: &mut O,
     captures: &Captures<'a, F::Addr>,
     writing: &Writing<F::Addr>,
     writer: &mut W,
 ) -> Result<u8, Fault<'a>>
     requires after { IsBounded captures.now }
     requires writing { IsWritable writing.now }
-    ensures report { ComparesFiles F.family F.bytes_of captures.now writing.now
+    ensures report { ComparesFiles F.family F.bytes_of O.Reader.remaining O.Reader.failures
+        (O.known opener.old) (O.known opener.new) captures.now writing.now
         (W.contents writer.old) (W.contents writer.new) result }
     ensures count { W.failures writer.new ≡ write_failures_after (W.failures writer.old) result }
 {
-    let routes = table::<F>(rt, captures, Some(writing.upstream))?;
-    let mut pair = open_both(rt, &captures.ports)?;
-    same_opened::<F, _, W>(rt.alloc(), captures, writing, &routes, &mut pair, writer)
+    let routes = table::<F, O>(alloc, opener, captures, Some(writing.upstream))?;
+    let mut pair = open_both(alloc, opener, &captures.ports)?;
+    same_opened::<F, _, W>(alloc, captures, writing, &routes, &mut pair, writer)
 }

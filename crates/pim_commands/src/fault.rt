@@ -47,6 +47,13 @@ pub enum Fault<'a> {
     Full(usize),
     /// The input has more than 65,536 bytes.
     InputTooLong,
+    /// The text has more than 8,388,608 bytes, or its message more than 65,536.
+    TextTooLong,
+    /// This line of the text, counted from 1, is the first wrong one, or the one that is missing at
+    /// the end.
+    TextLine(usize),
+    /// An address of the text isn't of the family of the message's addresses.
+    TextFamily,
     /// The input can't be read.
     InputRead,
     /// The output can't be written.
@@ -184,6 +191,9 @@ fn write_words<W: Drain>(fault: &Fault<'_>, writer: &mut W) -> Result<(), Failed
         Fault::TooBig(group) => write_address(writer, b"too big ", *group),
         Fault::Full(needed) => write_numbered(writer, b"full ", *needed),
         Fault::InputTooLong => write_plain(writer, b"input too-long"),
+        Fault::TextTooLong => write_plain(writer, b"text too-long"),
+        Fault::TextLine(number) => write_numbered(writer, b"text line ", *number),
+        Fault::TextFamily => write_plain(writer, b"family"),
         Fault::InputRead => write_plain(writer, b"input read"),
         Fault::Output => write_plain(writer, b"output"),
         Fault::Memory => write_plain(writer, b"memory"),

@@ -2,6 +2,8 @@
 //!
 //! - `check_into` and `check_task` print one message, or return its fault. They read at most 65,537
 //!   bytes.
+//! - `build_into` and `build_task` write the bytes of the message that a text states. What they
+//!   write, `check_into` prints as the text of that message.
 //! - `replay` writes the report of a router's captures (`pim_replay`).
 //! - `same` says whether two routers want the same of an upstream neighbour.
 //! - `mirror` writes the messages that make a fresh router want what this one wants.
@@ -14,15 +16,18 @@
 //! They write nothing if the writer or a router can't be made. A device's count of failures rises
 //! exactly where its failure is the result.
 //!
-//! The calls without that suffix open the files first. No contract can say what a file holds. So
-//! they promise what an `_opened` call does over some table and some captures of the right number.
-//! Or they write nothing and return a fault of opening. A word or file name in it is one that they
-//! were given. A fault that names a word borrows it from the command line. The caller gives numbers
-//! in the ranges of a plan of `pim_words`.
+//! The calls without that suffix open the files first, by an opener that the caller gives
+//! (`pim_files`). They promise what an `_opened` call does over the table and the captures of the
+//! files that are named, where the opener tells what files hold. The file of routes is opened first,
+//! then the files of the ports in the order of the words. Or they write nothing and return the fault
+//! of the first file that isn't open. A word or file name in it is one that they were given. A fault
+//! that names a word borrows it from the command line. The caller gives numbers in the ranges of a
+//! plan of `pim_words`. `run_task` does what a task of such a plan asks for.
 //!
 //! This library is apart from the program, so that tests can call it.
 #![tactic(auto)]
 
+mod build;
 mod causes;
 mod changing;
 mod check;
@@ -31,15 +36,19 @@ mod emitting;
 mod fault;
 mod mirroring;
 mod replaying;
+mod running;
 mod telling;
+mod unopened;
 mod writing;
 
+pub use build::{build_into, build_task};
 pub use causes::CaptureCause;
 pub use changing::{change, change_opened};
 pub use check::{check_into, check_task};
-pub use comparing::{Pair, add_to, same, same_opened};
+pub use comparing::{same, same_opened};
 pub use emitting::{emit, emit_opened};
 pub use fault::{Fault, fault_line};
 pub use mirroring::{mirror, mirror_opened};
-pub use replaying::{first_rows, replay, replay_opened};
+pub use replaying::{replay, replay_opened};
+pub use running::run_task;
 pub use telling::{FAULTY, tell_into};

@@ -10,9 +10,10 @@ ghost use Rattle.pim_commands.specs.Opening.{MirrorsFiles};
 ghost use Rattle.pim_commands.specs.Report.{write_failures_after};
 
 use crate::fault::Fault;
-use crate::replaying::{configs, open_all, replay_fault, router_of, table};
+use crate::replaying::{configs, replay_fault, router_of};
 use crate::writing::{address_of, writer_of};
 use pim_addr::{Drain, Family, Feed, Routes};
+use pim_files::{Opener, open_all, table};
 use pim_merge::Merge;
 use pim_replay::{MirrorTextFault, mirror_into};
 use pim_words::{Captures, Writing};
@@ -95,8 +96,9 @@ pub fn mirror_opened<F: Family, R: Feed + Drop, W: Drain>(
 /// # Errors
 /// `File` of a file that can't be opened, or a fault of the file of routes: nothing was written.
 /// Otherwise those of `mirror_opened`: of a capture, `TooBig`, `Full`, `Output` and `Memory`.
-pub fn mirror<'a, F: Family, W: Drain>(
-    rt: &HostRuntime,
+pub fn mirror<'a, F: Family, O: Opener, W: Drain>(
+    alloc: Global,
+    opener: &mut O,
     captures: &Captures<'a, F::Addr>,
     writing: &Writing<F::Addr>,
     writer: &mut W,
@@ -104,11 +106,12 @@ pub fn mirror<'a, F: Family, W: Drain>(
     requires after { IsBounded captures.now }
     requires limit { IsLimited captures.now }
     requires writing { IsWritable writing.now }
-    ensures text { MirrorsFiles F.family F.bytes_of captures.now writing.now
+    ensures text { MirrorsFiles F.family F.bytes_of O.Reader.remaining O.Reader.failures
+        (O.known opener.old) (O.known opener.new) captures.now writing.now
         (W.contents writer.old) (W.contents writer.new) result }
     ensures count { W.failures writer.new ≡ write_failures_after (W.failures writer.old) result }
 {
-    let routes = table::<F>(rt, captures, Some(writing.upstream))?;
-    let mut merge = open_all(rt, &captures.ports)?;
-    mirror_opened::<F, _, W>(rt.alloc(), captures, writing, &routes, &mut merge, writer)
+    let routes = table::<F, O>(alloc, opener, captures, Some(writing.upstream))?;
+    let mut merge = open_all(alloc, opener, &captures.ports)?;
+    mirror_opened::<F, _, W>(alloc, captures, writing, &routes, &mut merge, writer)
 }

@@ -1,30 +1,26 @@
-//! The command `replay`: it opens the files that its words name and calls the engine. The other
-//! commands open files by the same functions.
+//! The command `replay`: it opens the files that its words name and calls the engine.
 //!
 //! All files are opened before any record is read. So a fault of opening comes before all output.
 
-ghost use Rattle.std.specs.Prelude.{◌≡◌, ◌≤◌, [], length, map, is_some, option_map, None, IfOk, IfErr, MatchResult};
+ghost use Rattle.std.specs.Prelude.{◌≡◌, ◌≤◌, [], length, map, is_some, IfOk, MatchResult};
 ghost use Rattle.pim_router.specs.Config.{config_faults};
 ghost use Rattle.pim_router.specs.Seen.{setup_seen};
 ghost use Rattle.pim_router.specs.State.{new_router};
-ghost use Rattle.pim_commands.specs.Replaying.{config_of, config_fault, capture_fault, replay_fault, answer_of, is_bad};
-ghost use Rattle.pim_words.specs.Table.{given_table};
-ghost use Rattle.pim_commands.specs.Replaying.{table_causes, IsFirstCause, IsUnmade, ReplaysNew};
-ghost use Rattle.pim_commands.specs.Opening.{IsPortFault, IsFaultOfSome, IsTable, IsTableFault, ReplaysFiles};
+ghost use Rattle.pim_commands.specs.Replaying.{config_of, config_fault, capture_fault, replay_fault, answer_of};
+ghost use Rattle.pim_commands.specs.Replaying.{IsUnmade, ReplaysNew};
+ghost use Rattle.pim_commands.specs.Opening.{ReplaysFiles};
 ghost use Rattle.pim_commands.specs.Report.{write_failures_after};
 
 use crate::causes::CaptureCause;
 use crate::fault::Fault;
-use pim_addr::{Counted, Drain, Family, Feed, Routes};
+use pim_addr::{Drain, Family, Feed, Routes};
 use pim_capture::CaptureFault;
+use pim_files::{Opener, open_all, table};
 use pim_merge::Merge;
 use pim_replay::{ReplayFault, replay_into};
 use pim_router::{Config, ConfigFault, PortConfig, Router};
-use pim_routes_file::read_routes;
-use pim_words::{Captures, ConfigCause, Port, given_table};
+use pim_words::{Captures, ConfigCause, Port};
 use std::alloc::{AllocError, Global};
-use std::fs::File;
-use std::io::BufReader;
 
 /// The propagation delay of each port, in milliseconds (RFC 7761, 4.11: Propagation_delay_default).
 const PROPAGATION: u16 = 500;
@@ -104,101 +100,6 @@ fn answer_of(told: Result<u8, ReplayFault>) -> Result<u8, Fault<'static>>
     }
 }
 
-/// Whether the address is given and isn't a valid source.
-fn is_bad<F: Family>(address: Option<F::Addr>) -> bool
-    ensures { result ≡ is_bad F.family (option_map F.bytes_of address) }
-{
-    match address {
-        Some(address) => !F::is_source(address),
-        None => false,
-    }
-}
-
-/// The route table without a file's rows. If an RP is given, one row maps all groups to it. If an
-/// upstream neighbour is given, one row leads all addresses to it.
-///
-/// # Errors
-/// The upstream neighbour, or else the RP, isn't a valid source; or `Memory`.
-pub fn first_rows<F: Family>(
-    alloc: Global,
-    rp: Option<F::Addr>,
-    upstream: Option<F::Addr>,
-) -> Result<Routes<F>, Fault<'static>>
-    ensures { MatchResult result
-        (λ table. table ≡ given_table F.family (option_map F.bytes_of rp) (option_map F.bytes_of upstream))
-        (IsFirstCause (table_causes F.family (option_map F.bytes_of rp) (option_map F.bytes_of upstream))) }
-{
-    if is_bad::<F>(upstream) {
-        return Err(Fault::Words(pim_words::Fault::WriterAddress));
-    }
-    if is_bad::<F>(rp) {
-        return Err(Fault::Words(pim_words::Fault::Config(ConfigCause::Rp)));
-    }
-    match given_table::<F>(alloc, rp, upstream) {
-        Ok(routes) => Ok(routes),
-        Err(_) => Err(Fault::Memory),
-    }
-}
-
-/// The route table of captures: the row of the RP, and that of the upstream neighbour. If a file of
-/// routes is named, its rows come in place of the latter. No clause can say what these rows are.
-pub fn table<'a, F: Family>(
-    rt: &HostRuntime,
-    captures: &Captures<'a, F::Addr>,
-    upstream: Option<F::Addr>,
-) -> Result<Routes<F>, Fault<'a>>
-    ensures { MatchResult result (IsTable F.family F.bytes_of captures.now upstream)
-        (IsTableFault F.family F.bytes_of captures.now upstream) }
-{
-    let Some(name) = captures.routes else {
-        return first_rows::<F>(rt.alloc(), captures.rp, upstream);
-    };
-    let mut routes = first_rows::<F>(rt.alloc(), captures.rp, None)?;
-    let Ok(file) = File::open(rt, name) else {
-        return Err(Fault::File(name));
-    };
-    let mut reader = Counted::new(file);
-    match read_routes::<F, _>(rt.alloc(), &mut reader, &mut routes) {
-        Ok(()) => Ok(routes),
-        Err(fault) => Err(Fault::from(fault)),
-    }
-}
-
-/// Opens the capture of a port.
-pub fn open_port<'a, A>(
-    rt: &HostRuntime,
-    port: &Port<'a, A>,
-) -> Result<Counted<BufReader<File>>, Fault<'a>>
-    ensures { IfErr result (IsPortFault port.now) }
-{
-    let Ok(file) = File::open(rt, port.file) else {
-        return Err(Fault::File(port.word));
-    };
-    match BufReader::new(rt.alloc(), file) {
-        Ok(reader) => Ok(Counted::new(reader)),
-        Err(_) => Err(Fault::Memory),
-    }
-}
-
-/// Opens the capture of each port, in the order of the words.
-pub fn open_all<'a, A>(
-    rt: &HostRuntime,
-    ports: &[Port<'a, A>],
-) -> Result<Merge<Counted<BufReader<File>>>, Fault<'a>>
-    ensures each { IfOk result (λ merge. length merge.lanes ≡ length ports.now) }
-    ensures untaken { IfOk result (λ merge. merge.clock ≡ None) }
-    ensures fault { IfErr result (IsFaultOfSome ports.now) }
-{
-    let mut merge = Merge::new(rt.alloc());
-    for port in ports {
-        let reader = open_port(rt, port)?;
-        let Ok(()) = merge.add(rt.alloc(), reader) else {
-            return Err(Fault::Memory);
-        };
-    }
-    Ok(merge)
-}
-
 /// A new router with these ports, this table and this limit on records, or its first fault.
 pub fn router_of<'r, F: Family>(
     alloc: Global,
@@ -266,17 +167,19 @@ pub fn replay_opened<F: Family, R: Feed + Drop, W: Drain>(
 /// # Errors
 /// `File` of a file that can't be opened, or a fault of the file of routes: nothing was written.
 /// Otherwise those of `replay_opened`: of a capture, `Output` and `Memory`.
-pub fn replay<'a, F: Family, W: Drain>(
-    rt: &HostRuntime,
+pub fn replay<'a, F: Family, O: Opener, W: Drain>(
+    alloc: Global,
+    opener: &mut O,
     captures: &Captures<'a, F::Addr>,
     writer: &mut W,
 ) -> Result<u8, Fault<'a>>
     requires { captures.now.after_ms ≤ 1000000000 }
-    ensures report { ReplaysFiles F.family F.bytes_of captures.now
+    ensures report { ReplaysFiles F.family F.bytes_of O.Reader.remaining O.Reader.failures
+        (O.known opener.old) (O.known opener.new) captures.now
         (W.contents writer.old) (W.contents writer.new) result }
     ensures count { W.failures writer.new ≡ write_failures_after (W.failures writer.old) result }
 {
-    let routes = table::<F>(rt, captures, None)?;
-    let mut merge = open_all(rt, &captures.ports)?;
-    replay_opened::<F, _, W>(rt.alloc(), captures, &routes, &mut merge, writer)
+    let routes = table::<F, O>(alloc, opener, captures, None)?;
+    let mut merge = open_all(alloc, opener, &captures.ports)?;
+    replay_opened::<F, _, W>(alloc, captures, &routes, &mut merge, writer)
 }

@@ -3,3 +3,4 @@
 mod change;
 mod emit;
 mod form;
+mod state;

@@ -4,6 +4,7 @@ pub mod Said
 pub mod Malformed
 pub mod PacketLine
 pub mod EchoLine
+pub mod RefreshLine
 pub mod RecordLine
 pub mod DemandText
 pub mod StateText

@@ -43,8 +43,15 @@ told_words verdict.Applied = codes "applied"
 abbrev pub verdict_words : Verdict → List ℕ
 verdict_words verdict = mark_of verdict ++ told_words verdict
 
--- `MOMENT port PORT from SENDER VERDICT`, with the moment in milliseconds.
+-- The line of a verdict: its words alone.
+abbrev pub verdict_line : Verdict → List ℕ
+verdict_line told = line (verdict_words told)
+
+-- `MOMENT port PORT from SENDER ` before the verdict, with the moment in milliseconds.
+abbrev pub sender_words : AddressFamily → ℕ → ℕ → List ℕ → List ℕ
+sender_words family moment port source =
+    decimal moment ++ codes " port " ++ decimal port ++ codes " from " ++ address_text family source ++ codes " "
+
+-- `MOMENT port PORT from SENDER VERDICT`.
 abbrev pub packet_line : AddressFamily → ℕ → ℕ → List ℕ → Verdict → List ℕ
-packet_line family moment port source told =
-    line (decimal moment ++ codes " port " ++ decimal port ++ codes " from " ++ address_text family source
-    ++ codes " " ++ verdict_words told)
+packet_line family moment port source told = sender_words family moment port source ++ verdict_line told

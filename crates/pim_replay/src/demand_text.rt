@@ -234,9 +234,12 @@ fn write_group<F: Family, W: Drain>(
     write_sources::<F, W>(writer, tells_via, routes, this.group(), this.sources())
 }
 
-/// Writes the lines of a demand in its normal form, group by group. If the device fails, a prefix
-/// of them was written.
-pub(crate) fn write_demand<F: Family, W: Drain>(
+/// Writes the lines of a demand in its normal form, group by group. If `tells_via` is set, each line
+/// names the upstream neighbour under this route table (RFC 7761, 4.1), or `-` if there is none.
+///
+/// # Errors
+/// The device failed: a prefix of the lines was written.
+pub fn write_demand<F: Family, W: Drain>(
     writer: &mut W,
     tells_via: bool,
     routes: &Routes<F>,

@@ -11,6 +11,9 @@
 //! - `change_into` writes the messages of the change between two routers' final states, then
 //!   `agrees`.
 //! - `replay_quietly` writes nothing and only moves the router on.
+//! - `write_pieces` writes such texts piece by piece, and `Shown` has the text of an address.
+//! - `write_packet_line`, `write_verdict_line`, `write_echo_line`, `write_refresh_line`,
+//!   `write_record_line`, `write_demand` and `write_messages` write single lines of these texts.
 //!
 //! After a fault of a capture, `replay_into` has written exactly the lines of the turns before it;
 //! the other calls have written nothing. They also write nothing if a star is too big (`TooBig`).
@@ -40,6 +43,7 @@ mod passing;
 mod pieces;
 mod quiet;
 mod record_line;
+mod refresh_line;
 mod replay;
 mod said;
 mod same;
@@ -47,15 +51,19 @@ mod state_text;
 mod turns;
 
 pub use change_text::change_into;
+pub use demand_text::write_demand;
 pub use echo_line::write_echo_line;
 pub use emit::{EmitFault, emit_into};
 pub use laws::{report_begins_with_its_lines, report_has_one_text};
 pub use malformed::write_malformed_words;
+pub use message_text::write_messages;
 pub use mirror_text::{MirrorTextFault, mirror_into};
-pub use packet_line::write_packet_line;
+pub use packet_line::{write_packet_line, write_verdict_line};
 pub use passing::pass_time;
+pub use pieces::{Shown, number_or, write_pieces};
 pub use quiet::replay_quietly;
 pub use record_line::write_record_line;
+pub use refresh_line::write_refresh_line;
 pub use replay::{ReplayFault, replay_into};
 pub use same::{SameFault, same_into};
 pub use state_text::{Counts, TextFault, write_state};

@@ -105,8 +105,12 @@ fn write_count<W: Drain>(writer: &mut W, count: usize) -> Result<(), Failed>
     write_pieces(writer, &pieces)
 }
 
-/// Writes the lines of the messages, then their number.
-pub(crate) fn write_messages<W: Drain>(writer: &mut W, messages: &Messages) -> Result<(), Failed>
+/// Writes a line for each message, with its length in bytes and its bytes in hexadecimal, then the
+/// line with their number.
+///
+/// # Errors
+/// The device failed: a prefix of the lines was written.
+pub fn write_messages<W: Drain>(writer: &mut W, messages: &Messages) -> Result<(), Failed>
     ensures bytes { AppendsAll (W.contents writer.old) (W.contents writer.new) result (messages_text messages.now) }
     ensures count { W.failures writer.new ≡ failures_after (W.failures writer.old) result }
 {

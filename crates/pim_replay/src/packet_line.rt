@@ -3,7 +3,8 @@
 ghost use Rattle.std.specs.Prelude.{◌≡◌, codes, []};
 ghost use Rattle.pim_device.specs.Device.{AppendsAll, failures_after};
 ghost use Rattle.pim_replay.specs.Said.{said_text};
-ghost use Rattle.pim_replay.specs.PacketLine.{heard_words, full_words, told_words, mark_of, verdict_words, packet_line};
+ghost use Rattle.pim_replay.specs.PacketLine.{heard_words, full_words, told_words, mark_of, verdict_words};
+ghost use Rattle.pim_replay.specs.PacketLine.{sender_words, verdict_line, packet_line};
 
 use crate::malformed::malformed_said;
 use crate::pieces::{Shown, write_pieces};
@@ -61,6 +62,52 @@ fn mark_of(verdict: &Verdict) -> &[u8]
     }
 }
 
+/// Writes the words before the verdict in the line of a packet.
+fn write_sender<F: Family, W: Drain>(
+    writer: &mut W,
+    moment: u64,
+    port: usize,
+    source: F::Addr,
+) -> Result<(), Failed>
+    ensures bytes { AppendsAll (W.contents writer.old) (W.contents writer.new) result
+        (sender_words F.family moment port (F.bytes_of source)) }
+    ensures count { W.failures writer.new ≡ failures_after (W.failures writer.old) result }
+{
+    let sender = Shown::address::<F>(source);
+    let mut at = Buffer::new();
+    let mut on = Buffer::new();
+    let pieces = [
+        at.format(moment).as_bytes(),
+        b" port ",
+        on.format(port).as_bytes(),
+        b" from ",
+        sender.text(),
+        b" ",
+    ];
+    write_pieces(writer, &pieces)
+}
+
+/// Writes the line of a verdict: its words alone.
+///
+/// # Errors
+/// The device failed: a prefix of the line was written.
+pub fn write_verdict_line<W: Drain>(writer: &mut W, verdict: Verdict) -> Result<(), Failed>
+    ensures bytes { AppendsAll (W.contents writer.old) (W.contents writer.new) result (verdict_line verdict) }
+    ensures count { W.failures writer.new ≡ failures_after (W.failures writer.old) result }
+{
+    let said = verdict_said(verdict);
+    let mut digits = Buffer::new();
+    let pieces = [
+        mark_of(&verdict),
+        said.words(),
+        said.name(),
+        said.more(),
+        said.digits(&mut digits),
+        b"\n",
+    ];
+    write_pieces(writer, &pieces)
+}
+
 /// Writes the line of a packet that came at this moment, in milliseconds, on this port and from
 /// this sender.
 ///
@@ -77,24 +124,6 @@ pub fn write_packet_line<F: Family, W: Drain>(
         (packet_line F.family moment port (F.bytes_of source) verdict) }
     ensures count { W.failures writer.new ≡ failures_after (W.failures writer.old) result }
 {
-    let sender = Shown::address::<F>(source);
-    let said = verdict_said(verdict);
-    let mut at = Buffer::new();
-    let mut on = Buffer::new();
-    let mut digits = Buffer::new();
-    let pieces = [
-        at.format(moment).as_bytes(),
-        b" port ",
-        on.format(port).as_bytes(),
-        b" from ",
-        sender.text(),
-        b" ",
-        mark_of(&verdict),
-        said.words(),
-        said.name(),
-        said.more(),
-        said.digits(&mut digits),
-        b"\n",
-    ];
-    write_pieces(writer, &pieces)
+    write_sender::<F, W>(writer, moment, port, source)?;
+    write_verdict_line(writer, verdict)
 }

@@ -15,7 +15,7 @@ use std::marker::Model;
 
 /// An address as text, or nothing. Contracts see the text.
 #[derive(Drop)]
-pub(crate) struct Shown {
+pub struct Shown {
     text: [u8; 39],
     length: usize,
 }
@@ -32,7 +32,7 @@ impl Model for Shown {
 
 impl Shown {
     /// The text of an address.
-    pub(crate) fn address<F: Family>(address: F::Addr) -> Self
+    pub fn address<F: Family>(address: F::Addr) -> Self
         ensures { result ≡ address_text F.family (F.bytes_of address) }
     {
         let mut text = [0; 39];
@@ -41,7 +41,7 @@ impl Shown {
     }
 
     /// The text of an address, or nothing where there is none.
-    pub(crate) fn maybe<F: Family>(address: Option<F::Addr>) -> Self
+    pub fn maybe<F: Family>(address: Option<F::Addr>) -> Self
         ensures { result ≡ maybe_address F.family (option_map F.bytes_of address) }
     {
         match address {
@@ -54,7 +54,7 @@ impl Shown {
     }
 
     /// The text.
-    pub(crate) fn text(&self) -> &[u8]
+    pub fn text(&self) -> &[u8]
         ensures { result.now ≡ self.now }
     {
         &self.text[..self.length]
@@ -62,11 +62,7 @@ impl Shown {
 }
 
 /// The number in decimal, or the given words if there is none.
-pub(crate) fn number_or<'a>(
-    buffer: &'a mut Buffer,
-    number: Option<u64>,
-    words: &'a [u8],
-) -> &'a [u8]
+pub fn number_or<'a>(buffer: &'a mut Buffer, number: Option<u64>, words: &'a [u8]) -> &'a [u8]
     ensures { result.now ≡ number_or words.now number }
 {
     match number {
@@ -76,7 +72,10 @@ pub(crate) fn number_or<'a>(
 }
 
 /// Writes the pieces one after the other.
-pub(crate) fn write_pieces<W: Drain>(writer: &mut W, pieces: &[&[u8]]) -> Result<(), Failed>
+///
+/// # Errors
+/// The device failed: a prefix of the text was written.
+pub fn write_pieces<W: Drain>(writer: &mut W, pieces: &[&[u8]]) -> Result<(), Failed>
     ensures bytes { AppendsAll (W.contents writer.old) (W.contents writer.new) result
         (flat_map (λ piece. piece.now) pieces.now) }
     ensures count { W.failures writer.new ≡ failures_after (W.failures writer.old) result }

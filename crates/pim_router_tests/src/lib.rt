@@ -1,6 +1,5 @@
-//! The tests of `pim_router` and of `pim_mirror`, in a crate of their own, so that these are proved once and not a second
-//! time with them; and what the laws of `pim_moving` say of a mirror that hears a change, worked out on states that are
-//! written down.
+//! The tests of `pim_router` and of `pim_mirror` that are no scenarios. They are a crate of their
+//! own, so that a check proves the libraries once and not a second time with their tests.
 #![tactic(auto)]
 
 #[cfg(test)]

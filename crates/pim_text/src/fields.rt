@@ -78,8 +78,9 @@ pub(crate) fn is_end(text: &[u8]) -> bool
     }
 }
 
-/// Returns the number of which these digits are the decimal, if it is within the limit.
-fn read_number(digits: &[u8], limit: u64) -> Option<u64>
+/// Returns the number of which these digits are the decimal, if it is within the limit. A decimal
+/// has no leading zero and no sign.
+pub fn read_decimal(digits: &[u8], limit: u64) -> Option<u64>
     ensures read { IfSome result (λ n. (n ≤ limit) × (digits.now ≡ decimal n)) }
     ensures only { (n : ℕ) → n ≤ limit → digits.now ≡ decimal n → result ≡ Some n }
 {
@@ -98,8 +99,8 @@ fn read_number(digits: &[u8], limit: u64) -> Option<u64>
     }
 }
 
-/// Returns the address that a text names.
-fn read_any(text: &[u8]) -> Option<AnyAddress>
+/// Returns the address that a text names, of either family, if it names one.
+pub fn read_address(text: &[u8]) -> Option<AnyAddress>
     ensures read { IfSome result (λ a. Names text.now a) }
     ensures only { (a : AnyAddress) → Names text.now a → result ≡ Some a }
 {
@@ -126,7 +127,7 @@ pub(crate) fn number_line(text: &[u8], words: &[u8], limit: u64) -> Option<u64>
     if !is_end(front.behind) {
         return None;
     }
-    read_number(front.field, limit)
+    read_decimal(front.field, limit)
 }
 
 /// Returns the numbers of a text that has words, a number, other words, another number and a line
@@ -146,7 +147,7 @@ pub(crate) fn numbers_line(
 {
     let rest = strip(text, words)?;
     let front = cut_field(rest);
-    let number = read_number(front.field, limit)?;
+    let number = read_decimal(front.field, limit)?;
     let another = number_line(front.behind, others, other_limit)?;
     Some(Two { number, another })
 }
@@ -159,7 +160,7 @@ pub(crate) fn read_named<'a>(text: &'a [u8], words: &[u8]) -> Option<Named<'a>>
 {
     let rest = strip(text, words)?;
     let front = cut_field(rest);
-    let address = read_any(front.field)?;
+    let address = read_address(front.field)?;
     Some(Named {
         address,
         behind: front.behind,

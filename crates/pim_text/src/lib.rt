@@ -37,6 +37,7 @@ mod spelling_hello;
 mod spelling_lines;
 mod steps;
 
+pub use fields::{read_address, read_decimal};
 pub use hello_law::hello_text_states_it;
 pub use hello_lines::hello_text;
 pub use join_prune_lines::message_text;

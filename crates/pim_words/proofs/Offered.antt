@@ -1,5 +1,5 @@
 -- What the answer of `clap` says of the words.
-use Rattle.std.proofs.Common.{◌≡◌, ◌≤◌, ℕ, Bool, true, false, cond, List, [], ◌∷◌, Option, None, Some, refl, sym, ap, subst, option_map, Result, Ok, Err, MatchResult, IfOk}
+use Rattle.std.proofs.Common.{◌≡◌, ◌≤◌, inl, inr, ℕ, Bool, true, false, cond, List, [], ◌∷◌, Option, None, Some, refl, sym, ap, subst, option_map, Result, Ok, Err, MatchResult, IfOk}
 use Rattle.std.specs.Prelude.{find, IsSomeAnd}
 use Rattle.std.specs.List.{AllByRecursion}
 use Rattle.clap.specs.Words.{App, Row, Text, built, fault_of, subcommand_of}
@@ -12,15 +12,15 @@ use Rattle.pim_words.specs.declared.addresses.Address.{Address}
 use Rattle.pim_words.specs.declared.fault.Fault.{Fault}
 use Rattle.pim_words.specs.declared.task.Captures.{Captures}
 use Rattle.pim_words.specs.declared.task.Kind.{Kind}
-use Rattle.pim_words.specs.declared.task.Kind.TheVariants.{Check, Replay, Same, Mirror, Emit, Change}
+use Rattle.pim_words.specs.declared.task.Kind.TheVariants.{Check, Build, Replay, Same, Mirror, Emit, Change}
 use Rattle.pim_words.specs.declared.task.Plan.{Plan}
-use Rattle.pim_words.specs.declared.task.Plan.TheVariants.{V4, V6}
+use Rattle.pim_words.specs.declared.task.Plan.TheVariants.{V4, V6, Session}
 use Rattle.pim_words.specs.declared.task.Task.{Task}
 use Rattle.pim_words.specs.declared.task.Task.TheVariants as task
 use Rattle.pim_words.specs.declared.task.Writing.{Writing}
 use Rattle.pim_words.specs.CommandLine.{pimtree}
 use Rattle.pim_words.specs.Given.{IsKnown}
-use Rattle.pim_words.specs.Plan.{HasCause, IsBounded, IsLimited, IsWritable, IsInRange, IsPlanInRange, IsTaskOf, IsPlanOfTask, Plans}
+use Rattle.pim_words.specs.Plan.{HasCause, IsBounded, IsLimited, IsWritable, IsInRange, IsPlanInRange, IsTaskOf, IsPlanOfTask, IsPlanOf, Plans}
 use Rattle.pim_words.specs.Reading.{IsTask, IsWriting}
 use Rattle.pim_words.specs.Seen.{IsGiven, IsOffered}
 use Rattle.pim_words.specs.Typed.{IsPlanFor, SameCaptures, SameTask, SameWriting}
@@ -34,7 +34,10 @@ whole = record {
   required = refl;
   simple = refl;
   free = refl;
-  known = ((Check, refl), ((Replay, refl), ((Same, refl), ((Mirror, refl), ((Emit, refl), ((Change, refl), tt))))));
+  known = (
+    inr (Check, refl),
+    (inr (Build, refl), (inr (Replay, refl), (inr (Same, refl), (inr (Mirror, refl), (inr (Emit, refl), (inr (Change, refl), (inl refl, tt))))))),
+  );
   limit = refl;
   after = refl;
   holdtime = refl;
@@ -71,6 +74,8 @@ writable rows writing is = (is.holdtime.least, is.budget.least, is.budget.most)
 task_in_range : (kind : Kind) (rows : List Row) (asked : Task Address) → IsTask kind rows asked → IsInRange asked
 task_in_range Check rows (task.Check source destination) is = tt
 task_in_range Check rows other is = absurd is
+task_in_range Build rows (task.Build source destination) is = tt
+task_in_range Build rows other is = absurd is
 task_in_range Replay rows (task.Replay captures) is = (is.1.after.most, (is.1.limit.least, is.1.limit.most))
 task_in_range Replay rows other is = absurd is
 task_in_range Same rows (task.Same captures writing) is = (is.0.1.after.most, (is.0.1.limit.least, is.0.1.limit.most), writable rows writing is.1)
@@ -98,6 +103,7 @@ module _ {A : Type 0} (family : AddressFamily) (bytes_of : A → List ℕ) where
 
   same_in_range : (typed : Task A) (asked : Task Address) → IsInRange asked → SameTask family bytes_of typed asked → IsInRange typed
   same_in_range (task.Check a b) asked is same = tt
+  same_in_range (task.Build a b) asked is same = tt
   same_in_range (task.Replay typed) (task.Replay captures) is same = (same_bounded typed captures is.0 same, same_limited typed captures is.1 same)
   same_in_range (task.Replay typed) other is same = absurd same
   same_in_range (task.Same typed how) (task.Same captures writing) is same =
@@ -116,11 +122,16 @@ module _ {A : Type 0} (family : AddressFamily) (bytes_of : A → List ℕ) where
 plan_in_range : (plan : Plan) (asked : Task Address) → IsInRange asked → IsPlanFor plan asked → IsPlanInRange plan
 plan_in_range (V4 typed) asked is same = same_in_range Ipv4 (λ address. address) typed asked is same
 plan_in_range (V6 typed) asked is same = same_in_range Ipv6 (λ address. address) typed asked is same
+plan_in_range Session asked is same = tt
 
-met_in_range : (met : Option (Text × List Row)) (plan : Plan)
-    → IsSomeAnd met (λ m. (asked : Task Address) × IsTaskOf m asked × IsPlanOfTask asked plan) → IsPlanInRange plan
+of_task_in_range : (met : Text × List Row) (plan : Plan) → (asked : Task Address) × IsTaskOf met asked × IsPlanOfTask asked plan → IsPlanInRange plan
+of_task_in_range met plan (asked, (kind, name, read), made) = plan_in_range plan asked (task_in_range kind met.1 asked read) made.1
+
+met_in_range : (met : Option (Text × List Row)) (plan : Plan) → IsSomeAnd met (λ m. IsPlanOf m plan) → IsPlanInRange plan
 met_in_range None plan is = absurd is
-met_in_range (Some m) plan (asked, (kind, name, read), made) = plan_in_range plan asked (task_in_range kind m.1 asked read) made.1
+met_in_range (Some m) Session is = tt
+met_in_range (Some m) (V4 typed) is = of_task_in_range m (V4 typed) is
+met_in_range (Some m) (V6 typed) is = of_task_in_range m (V6 typed) is
 
 pub planned_in_range : (app : App) (words : List Text) (r : Result Plan Fault) → MatchResult r (Plans app words) (HasCause app words) → IfOk r IsPlanInRange
 planned_in_range app words (Ok plan) is = met_in_range (subcommand_of app words) plan is.1

@@ -43,9 +43,9 @@ with_writing command =
 
 -- ---- commands
 
--- `check [--src A] [--dst A]`.
-abbrev pub check : Shape
-check = record (new_shape (codes "check")) {
+-- A command on one message, `check` or `build`: `[--src A] [--dst A]`.
+abbrev pub of_message : Text → Shape
+of_message name = record (new_shape name) {
   rules = text_option (codes "src") ∷ text_option (codes "dst") ∷ [];
 }
 
@@ -58,6 +58,10 @@ replay = (with_run_options (with_rule (with_rule (new_app (codes "replay")) (tex
 abbrev pub writing : Text → Shape
 writing name = (with_run_options (with_writing (with_addresses (new_app name)))).top
 
+-- `session`, which has no options and no words.
+abbrev pub session : Shape
+session = new_shape (codes "session")
+
 -- The program without its commands. One command must be given, and `--version` is known.
 abbrev pub bare : Shape
 bare = record (new_shape (codes "pimtree")) {
@@ -66,12 +70,22 @@ bare = record (new_shape (codes "pimtree")) {
   subcommand_required = true;
 }
 
--- The program with the two commands that write no messages.
+-- The program with the commands on one message.
+abbrev pub message_commands : App
+message_commands =
+    with_subcommand (with_subcommand (record { top = bare; subs = [] }) (of_message (codes "check")))
+    (of_message (codes "build"))
+
+-- The program with the commands that need no writer of messages.
 abbrev pub reading_commands : App
-reading_commands = with_subcommand (with_subcommand (record { top = bare; subs = [] }) check) replay
+reading_commands = with_subcommand message_commands replay
+
+-- The program with all its commands but `session`.
+abbrev pub writing_commands : App
+writing_commands =
+    with_subcommand (with_subcommand (with_subcommand (with_subcommand reading_commands (writing (codes "same")))
+    (writing (codes "mirror"))) (writing (codes "emit"))) (writing (codes "change"))
 
 -- The program with all its commands.
 abbrev pub pimtree : App
-pimtree =
-    with_subcommand (with_subcommand (with_subcommand (with_subcommand reading_commands (writing (codes "same")))
-    (writing (codes "mirror"))) (writing (codes "emit"))) (writing (codes "change"))
+pimtree = with_subcommand writing_commands session

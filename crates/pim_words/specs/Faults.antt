@@ -17,7 +17,7 @@ use Rattle.pim_words.specs.declared.task.Captures.{Captures}
 use Rattle.pim_words.specs.declared.task.Port.{Port}
 use Rattle.pim_words.specs.declared.task.Writing.{Writing}
 use Rattle.pim_words.specs.declared.task.Task.{Task}
-use Rattle.pim_words.specs.declared.task.Task.TheVariants.{Check, Replay, Same, Mirror, Emit, Change}
+use Rattle.pim_words.specs.declared.task.Task.TheVariants.{Check, Build, Replay, Same, Mirror, Emit, Change}
 
 -- ---- addresses
 
@@ -53,6 +53,7 @@ is_writing_in family writing = is_in family writing.upstream && is_in family wri
 -- Whether all addresses of the task are of this family.
 abbrev pub are_in : AddressFamily → Task Address → Bool
 are_in family (Check source destination) = is_in family source && is_in family destination
+are_in family (Build source destination) = is_in family source && is_in family destination
 are_in family (Replay captures) = are_captures_in family captures
 are_in family (Same captures writing) = are_captures_in family captures && is_writing_in family writing
 are_in family (Mirror captures writing) = are_captures_in family captures && is_writing_in family writing
@@ -107,6 +108,7 @@ faults_of_two captures writing =
 -- The faults of a task's routers and writer.
 abbrev pub setting_faults : Task Address → List Fault
 setting_faults (Check source destination) = []
+setting_faults (Build source destination) = []
 setting_faults (Replay captures) = router_faults A captures
 setting_faults (Same captures writing) = faults_of_two captures writing
 setting_faults (Mirror captures writing) = writer_faults writing ++ router_faults A captures

@@ -1,9 +1,9 @@
 -- What a command was given: the values of its options, as texts, and its words.
-use Rattle.std.specs.Prelude.{◌≡◌, ◌≤◌, ℕ, Bool, true, false, List, [], ◌∷◌, Option, Some, None, codes, unwrap_or}
+use Rattle.std.specs.Prelude.{◌≡◌, ◌≤◌, ◌⊎◌, ℕ, Bool, true, false, List, [], ◌∷◌, Option, Some, None, codes, unwrap_or}
 use Rattle.std.specs.Str.Parse.{IsNumeral, digits_value, without_leading_plus}
 use Rattle.clap.specs.Words.{Row, Text, first_of, all_of}
 use Rattle.pim_words.specs.declared.task.Kind.{Kind}
-use Rattle.pim_words.specs.declared.task.Kind.TheVariants.{Check, Replay, Same, Mirror, Emit, Change}
+use Rattle.pim_words.specs.declared.task.Kind.TheVariants.{Check, Build, Replay, Same, Mirror, Emit, Change}
 
 -- The value of an option, or its default if the words have none.
 abbrev pub option_or : Text → Text → List Row → Text
@@ -33,18 +33,27 @@ IsNoNumber low high text = (number : ℕ) → IsNumber low high text number → 
 
 -- ---- commands
 
--- The name of a command.
+-- The name of a command that asks for a task.
 abbrev pub kind_name : Kind → Text
 kind_name Check = codes "check"
+kind_name Build = codes "build"
 kind_name Replay = codes "replay"
 kind_name Same = codes "same"
 kind_name Mirror = codes "mirror"
 kind_name Emit = codes "emit"
 kind_name Change = codes "change"
 
+-- The name of the command without a task.
+abbrev pub session_name : Text
+session_name = codes "session"
+
+-- The name of some command that asks for a task.
+abbrev pub AsksForTask : Text → Type 0
+AsksForTask name = (kind : Kind) × (name ≡ kind_name kind)
+
 -- The name of some command.
 abbrev pub IsKnown : Text → Type 0
-IsKnown name = (kind : Kind) × (name ≡ kind_name kind)
+IsKnown name = (name ≡ session_name) ⊎ AsksForTask name
 
 -- Whether the command has two routers, so that each word has the mark of its router.
 abbrev pub is_sided : Kind → Bool
@@ -55,14 +64,22 @@ is_sided other = false
 -- The text of the RP, if one is given.
 abbrev pub rp_text : Kind → List Row → Option Text
 rp_text Check rows = None
+rp_text Build rows = None
 rp_text Replay rows = first_of (codes "rp") rows
 rp_text kind rows = Some (required (codes "rp") rows)
 
+-- The text of the source address of a message.
+abbrev pub source_text : List Row → Text
+source_text rows = option_or (codes "0.0.0.0") (codes "src") rows
+
+-- The text of the destination address of a message.
+abbrev pub destination_text : List Row → Text
+destination_text rows = option_or (codes "224.0.0.13") (codes "dst") rows
+
 -- The texts of the options that are addresses, in order, each if it is given or has a default.
 abbrev pub address_texts : Kind → List Row → List (Option Text)
-address_texts Check rows =
-    Some (option_or (codes "0.0.0.0") (codes "src") rows)
-    ∷ Some (option_or (codes "224.0.0.13") (codes "dst") rows) ∷ []
+address_texts Check rows = Some (source_text rows) ∷ Some (destination_text rows) ∷ []
+address_texts Build rows = Some (source_text rows) ∷ Some (destination_text rows) ∷ []
 address_texts Replay rows = rp_text Replay rows ∷ []
 address_texts kind rows =
     rp_text kind rows ∷ Some (required (codes "upstream") rows) ∷ Some (required (codes "own") rows) ∷ []

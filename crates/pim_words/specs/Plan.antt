@@ -11,13 +11,13 @@ use Rattle.pim_words.specs.declared.fault.Fault.{Fault}
 use Rattle.pim_words.specs.declared.fault.Fault.TheVariants as cause
 use Rattle.pim_words.specs.declared.task.Kind.{Kind}
 use Rattle.pim_words.specs.declared.task.Plan.{Plan}
-use Rattle.pim_words.specs.declared.task.Plan.TheVariants.{V4, V6}
+use Rattle.pim_words.specs.declared.task.Plan.TheVariants.{V4, V6, Session}
 use Rattle.pim_words.specs.declared.task.Task.{Task}
-use Rattle.pim_words.specs.declared.task.Task.TheVariants.{Check, Replay, Same, Mirror, Emit, Change}
+use Rattle.pim_words.specs.declared.task.Task.TheVariants.{Check, Build, Replay, Same, Mirror, Emit, Change}
 use Rattle.pim_words.specs.declared.task.Captures.{Captures}
 use Rattle.pim_words.specs.declared.task.Writing.{Writing}
 use Rattle.pim_words.specs.Faults.{task_faults}
-use Rattle.pim_words.specs.Given.{kind_name}
+use Rattle.pim_words.specs.Given.{kind_name, session_name}
 use Rattle.pim_words.specs.Reading.{IsTask, IsUnreadable}
 use Rattle.pim_words.specs.Typed.{IsPlanFor}
 
@@ -47,22 +47,28 @@ abbrev pub IsWrongTask : Task Address → Fault → Type 0
 IsWrongTask task cause.Memory = ⊤
 IsWrongTask task fault = IsFirstOf (task_faults task) fault
 
+-- ---- the plan of a command
+
+-- The command asks for this plan: `session` for a session, another one for the plan of its task.
+abbrev pub IsPlanOf : Text × List Row → Plan → Type 0
+IsPlanOf met Session = met.0 ≡ session_name
+IsPlanOf met plan = (task : Task Address) × IsTaskOf met task × IsPlanOfTask task plan
+
+-- What the command asks for has this fault: a text that can't be read, or a fault of its task.
+abbrev pub IsWrongOf : Text × List Row → Fault → Type 0
+IsWrongOf met fault =
+    IsUnreadableOf met fault ⊎ ((task : Task Address) × IsTaskOf met task × IsWrongTask task fault)
+
 -- ---- the plan of words by a command line; the first word is the program's name
 
--- `clap` accepts the words, the command in them has a task without a fault, and this is its plan.
+-- `clap` accepts the words, and the command in them asks for this plan.
 abbrev pub Plans : App → List Text → Plan → Type 0
-Plans app words plan =
-    (fault_of app words ≡ [])
-    × IsSomeAnd (subcommand_of app words) (λ met.
-    (task : Task Address) × IsTaskOf met task × IsPlanOfTask task plan)
+Plans app words plan = (fault_of app words ≡ []) × IsSomeAnd (subcommand_of app words) (λ met. IsPlanOf met plan)
 
--- `clap` accepts the words, but what they ask for has this fault: a text that can't be read, or a
--- fault of the task.
+-- `clap` accepts the words, but what they ask for has this fault.
 abbrev pub HasWrong : App → List Text → Fault → Type 0
 HasWrong app words fault =
-    (fault_of app words ≡ [])
-    × IsSomeAnd (subcommand_of app words) (λ met.
-    IsUnreadableOf met fault ⊎ ((task : Task Address) × IsTaskOf met task × IsWrongTask task fault))
+    (fault_of app words ≡ []) × IsSomeAnd (subcommand_of app words) (λ met. IsWrongOf met fault)
 
 -- `clap` doesn't accept the words, and this is a kind of error that it finds in them.
 abbrev pub IsRefusedBy : App → List Text → ErrorKind → Type 0
@@ -96,6 +102,7 @@ IsWritable writing = (99 ≤ writing.holdtime) × (70 ≤ writing.budget) × (wr
 -- The numbers of the task are in their ranges.
 abbrev pub IsInRange : {A : Type 0} → Task A → Type 0
 IsInRange (Check source destination) = ⊤
+IsInRange (Build source destination) = ⊤
 IsInRange (Replay captures) = IsBounded captures × IsLimited captures
 IsInRange (Same captures writing) = IsBounded captures × IsLimited captures × IsWritable writing
 IsInRange (Mirror captures writing) = IsBounded captures × IsLimited captures × IsWritable writing
@@ -106,6 +113,7 @@ IsInRange (Change captures writing) = IsBounded captures × IsLimited captures �
 abbrev pub IsPlanInRange : Plan → Type 0
 IsPlanInRange (V4 task) = IsInRange task
 IsPlanInRange (V6 task) = IsInRange task
+IsPlanInRange Session = ⊤
 
 -- ---- refusals
 

@@ -12,9 +12,10 @@ use Rattle.pim_words.specs.declared.task.Writing.{Writing}
 use Rattle.pim_words.specs.declared.task.Kind.{Kind}
 use Rattle.pim_words.specs.declared.task.Kind.TheVariants as kind
 use Rattle.pim_words.specs.declared.task.Task.{Task}
-use Rattle.pim_words.specs.declared.task.Task.TheVariants.{Check, Replay, Same, Mirror, Emit, Change}
+use Rattle.pim_words.specs.declared.task.Task.TheVariants.{Check, Build, Replay, Same, Mirror, Emit, Change}
 use Rattle.pim_words.specs.Addresses.{Names, IsRead, IsUnread}
 use Rattle.pim_words.specs.Given.{IsNumber, address_texts, is_sided, option_or, required, rp_text, words_of}
+use Rattle.pim_words.specs.Given.{source_text, destination_text}
 use Rattle.pim_words.specs.Ports.{IsPort, IsFirstWrongOf}
 
 -- ---- what is read
@@ -47,8 +48,9 @@ AreCapturesOf command rows captures =
 -- The command was given this task.
 abbrev pub IsTask : Kind → List Row → Task Address → Type 0
 IsTask kind.Check rows (Check source destination) =
-    Names (option_or (codes "0.0.0.0") (codes "src") rows) source
-    × Names (option_or (codes "224.0.0.13") (codes "dst") rows) destination
+    Names (source_text rows) source × Names (destination_text rows) destination
+IsTask kind.Build rows (Build source destination) =
+    Names (source_text rows) source × Names (destination_text rows) destination
 IsTask kind.Replay rows (Replay captures) = AreCapturesOf kind.Replay rows captures
 IsTask kind.Same rows (Same captures writing) = AreCapturesOf kind.Same rows captures × IsWriting rows writing
 IsTask kind.Mirror rows (Mirror captures writing) = AreCapturesOf kind.Mirror rows captures × IsWriting rows writing

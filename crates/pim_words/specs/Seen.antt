@@ -10,8 +10,9 @@ use Rattle.pim_words.specs.declared.fault.Fault.TheVariants.{Family, Memory}
 use Rattle.pim_words.specs.declared.fault.Side.{Side}
 use Rattle.pim_words.specs.declared.port.Cut.{Cut}
 use Rattle.pim_words.specs.declared.reading.Addresses.{Addresses}
+use Rattle.pim_words.specs.declared.reading.Ends.{Ends}
 use Rattle.pim_words.specs.Addresses.{Names}
-use Rattle.pim_words.specs.Given.{IsKnown, option_or, required}
+use Rattle.pim_words.specs.Given.{IsKnown, destination_text, option_or, required, source_text}
 use Rattle.pim_words.specs.Ports.{IsCut, IsCutWord}
 
 -- A fault of this kind, or memory is refused.
@@ -26,6 +27,11 @@ IsCutFor side text cut = (cut.side ≡ side) × IsCut text cut.address.now cut.f
 -- The word is cut into its router, its address and its file.
 abbrev pub IsCutOf : Bool → Text → Cut → Type 0
 IsCutOf is_sided word cut = IsCutWord is_sided word cut.side cut.address.now cut.file.now
+
+-- These are the addresses of a command on one message.
+pub record AreEnds (rows : List Row) (ends : Ends) : Type 0 where
+  pub source : Names (source_text rows) ends.src
+  pub destination : Names (destination_text rows) ends.dst
 
 -- These are the addresses of a command that writes messages.
 pub record AreWritten (rows : List Row) (addresses : Addresses) : Type 0 where

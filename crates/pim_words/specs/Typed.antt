@@ -9,9 +9,9 @@ use Rattle.pim_words.specs.declared.task.Captures.{Captures}
 use Rattle.pim_words.specs.declared.task.Port.{Port}
 use Rattle.pim_words.specs.declared.task.Writing.{Writing}
 use Rattle.pim_words.specs.declared.task.Plan.{Plan}
-use Rattle.pim_words.specs.declared.task.Plan.TheVariants.{V4, V6}
+use Rattle.pim_words.specs.declared.task.Plan.TheVariants.{V4, V6, Session}
 use Rattle.pim_words.specs.declared.task.Task.{Task}
-use Rattle.pim_words.specs.declared.task.Task.TheVariants.{Check, Replay, Same, Mirror, Emit, Change}
+use Rattle.pim_words.specs.declared.task.Task.TheVariants.{Check, Build, Replay, Same, Mirror, Emit, Change}
 
 -- The address of this family with these bytes.
 abbrev pub address_in : AddressFamily → List ℕ → Address
@@ -46,6 +46,8 @@ module _ {A : Type 0} (family : AddressFamily) (bytes_of : A → List ℕ) where
   abbrev pub SameTask : Task A → Task Address → Type 0
   SameTask (Check source destination) (Check from to) =
       (address_seen source ≡ from) × (address_seen destination ≡ to)
+  SameTask (Build source destination) (Build from to) =
+      (address_seen source ≡ from) × (address_seen destination ≡ to)
   SameTask (Replay typed) (Replay captures) = SameCaptures typed captures
   SameTask (Same typed how) (Same captures writing) = SameCaptures typed captures × SameWriting how writing
   SameTask (Mirror typed how) (Mirror captures writing) = SameCaptures typed captures × SameWriting how writing
@@ -57,3 +59,4 @@ module _ {A : Type 0} (family : AddressFamily) (bytes_of : A → List ℕ) where
 abbrev pub IsPlanFor : Plan → Task Address → Type 0
 IsPlanFor (V4 typed) task = SameTask Ipv4 (λ address. address) typed task
 IsPlanFor (V6 typed) task = SameTask Ipv6 (λ address. address) typed task
+IsPlanFor Session task = ⊥

@@ -7,8 +7,9 @@ ghost use Rattle.std.specs.Prelude.{◌≡◌, IfOk, true, false, []};
 ghost use Rattle.clap.specs.declared.builder.command.Command.TheViews.{out-Command};
 ghost use Rattle.clap.specs.Words.{app_of, shape_of, rule_of, with_rule, with_subcommand};
 ghost use Rattle.pim_words.specs.CommandLine.{text_option, required_option, number_option, words_rule};
-ghost use Rattle.pim_words.specs.CommandLine.{with_run_options, with_addresses, with_writing, check};
-ghost use Rattle.pim_words.specs.CommandLine.{replay, writing, bare, reading_commands, pimtree};
+ghost use Rattle.pim_words.specs.CommandLine.{with_run_options, with_addresses, with_writing, of_message};
+ghost use Rattle.pim_words.specs.CommandLine.{replay, writing, session, bare, message_commands};
+ghost use Rattle.pim_words.specs.CommandLine.{reading_commands, writing_commands, pimtree};
 
 use clap::builder::ValueParser;
 use clap::{Arg, ArgAction, Command};
@@ -71,6 +72,80 @@ bytes of the header: `pimtree: join/prune short at 22`.
 
 Example, at the top of the repository:
   pimtree check < examples/join-star.pim";
+
+/// The help of `build`, in one line.
+const BUILD_ABOUT: &str = "Which bytes has the message of this text?";
+
+/// The end of the help of `build`: its input, its output, its addresses, faults and an example.
+const BUILD_AFTER_HELP: &str =
+    "The text of a Hello or a Join/Prune message is read from standard input, in the
+lines that `check` prints. The bytes of the message go to standard output, in
+the canonical spelling, with its header and checksum. A message that `check`
+refuses isn't written, and its fault is printed as by `check`.
+
+Both addresses are of one family, which is the text's. So a message over IPv6
+needs both options.
+
+  text line N    the first wrong line, from 1, or the one missing at the end
+  text too-long  a text above 8388608 bytes, or a message above 65536
+  family         an address of the text isn't of the family of --src and --dst
+
+Example, at the top of the repository:
+  pimtree check < examples/join-star.pim | pimtree build | pimtree check";
+
+/// The help of `session`, in one line.
+const SESSION_ABOUT: &str = "How does a router answer these commands, one a line?";
+
+/// The end of the help of `session`: each command with its answer.
+const SESSION_AFTER_HELP: &str =
+    "Commands are read from standard input, one a line, their words parted by one
+space. Empty lines and lines that begin with # are passed over. An answer is
+lines and then `ok`, or one line `fault ..`, after which nothing has changed.
+All answers so far are written out before more is read. Moments MS are
+milliseconds since `start`, and P is the place of a `port` line, from 0.
+
+Before `start`, each answered by `ok`:
+  port ADDRESS [delays PROPAGATION OVERRIDE]
+                 one port more, with these delays [default: 500 2500]
+  rp ADDRESS/LENGTH ADDRESS
+                 the RP of these groups
+  via ADDRESS/LENGTH ADDRESS
+                 the upstream neighbour toward these addresses
+  limit N        the most records of a port [default: 100000]
+  start          makes the router, at moment 0
+
+After `start`:
+  run MS         runs to this moment, and prints `M port P echo star G`,
+                 `M port P echo source S G` and `M refresh` as they come
+  packet P SRC DST HEX
+                 gives port P a message now, and prints its verdict, one of
+                 those in `pimtree replay --help`
+  from P SRC [to DST]
+                 the same for the message of a text, in the lines of `check`,
+                 up to the line `send`; DST is ALL-PIM-ROUTERS if not given
+  now            prints the moment
+  next           prints when the next timer of a record ends, or `never`
+  state          prints the records, as `replay` does
+  wants          prints the demand, as `replay` does, each line with ` via A`,
+                 the upstream neighbour, or ` via -`
+  neighbours     prints `port P neighbour A left T` of each, T in milliseconds
+                 or `never`, and its options in the words of `check`
+  messages UPSTREAM OWN [holdtime S] [budget N]
+                 prints the messages that ask UPSTREAM, as `mirror` does
+                 [default: 210 s, 1460 bytes]
+  keep NAME UPSTREAM
+                 keeps what is asked of UPSTREAM now, over what NAME held
+  change NAME UPSTREAM OWN [holdtime S] [budget N]
+                 prints the messages from what NAME keeps to what is asked now
+  same NAME UPSTREAM OWN [holdtime S] [budget N]
+                 prints `same` where both have the same messages, otherwise
+                 `different`
+
+At any time:
+  reset          forgets the router and its configuration, but keeps each NAME
+
+Example, at the top of the repository:
+  pimtree session < examples/override.session";
 
 /// The help of `--rp` where it is required.
 const RP_HELP: &str = "Rendezvous point of all groups [required]";
@@ -342,16 +417,31 @@ fn with_writing<'a>(alloc: Global, command: Command<'a>) -> Result<Command<'a>, 
     )
 }
 
-/// The command `check`.
-fn check_command<'a>(alloc: Global) -> Result<Command<'a>, AllocError>
-    ensures shape { IfOk result (λ c. shape_of c ≡ check) }
+/// A command on one message: `check` or `build`.
+fn message_command<'a>(
+    alloc: Global,
+    name: &'a str,
+    about: &'a str,
+    after_help: &'a str,
+) -> Result<Command<'a>, AllocError>
+    ensures shape { IfOk result (λ c. shape_of c ≡ of_message name.entry.now) }
     ensures local { IfOk result (λ c. (out-Command c).has_globals ≡ false) }
 {
-    Command::new(alloc, "check")
-        .about(CHECK_ABOUT)
-        .after_help(CHECK_AFTER_HELP)
+    Command::new(alloc, name)
+        .about(about)
+        .after_help(after_help)
         .arg(text_option(alloc, "src", "ADDRESS", SRC_HELP))?
         .arg(text_option(alloc, "dst", "ADDRESS", DST_HELP))
+}
+
+/// The command `session`, which has no options.
+fn session_command<'a>(alloc: Global) -> Command<'a>
+    ensures shape { shape_of result ≡ session }
+    ensures local { (out-Command result).has_globals ≡ false }
+{
+    Command::new(alloc, "session")
+        .about(SESSION_ABOUT)
+        .after_help(SESSION_AFTER_HELP)
 }
 
 /// The command `replay`.
@@ -414,20 +504,30 @@ fn bare_command<'a>(alloc: Global) -> Command<'a>
         .subcommand_required(true)
 }
 
-/// The program with the two commands that write no messages.
+/// The program with the commands on one message.
+fn message_commands<'a>(alloc: Global) -> Result<Command<'a>, AllocError>
+    ensures app { IfOk result (λ c. app_of c ≡ message_commands) }
+    ensures local { IfOk result (λ c. (out-Command c).has_globals ≡ false) }
+{
+    let check = message_command(alloc, "check", CHECK_ABOUT, CHECK_AFTER_HELP)?;
+    let whole = with_command(bare_command(alloc), check)?;
+    let build = message_command(alloc, "build", BUILD_ABOUT, BUILD_AFTER_HELP)?;
+    with_command(whole, build)
+}
+
+/// The program with the commands that need no writer of messages.
 fn reading_commands<'a>(alloc: Global) -> Result<Command<'a>, AllocError>
     ensures app { IfOk result (λ c. app_of c ≡ reading_commands) }
     ensures local { IfOk result (λ c. (out-Command c).has_globals ≡ false) }
 {
-    let check = check_command(alloc)?;
-    let whole = with_command(bare_command(alloc), check)?;
+    let whole = message_commands(alloc)?;
     let replay = replay_command(alloc)?;
     with_command(whole, replay)
 }
 
-/// The program with all its commands.
-pub(crate) fn command<'a>(alloc: Global) -> Result<Command<'a>, AllocError>
-    ensures app { IfOk result (λ c. app_of c ≡ pimtree) }
+/// The program with all its commands but `session`.
+fn writing_commands<'a>(alloc: Global) -> Result<Command<'a>, AllocError>
+    ensures app { IfOk result (λ c. app_of c ≡ writing_commands) }
     ensures local { IfOk result (λ c. (out-Command c).has_globals ≡ false) }
 {
     let whole = reading_commands(alloc)?;
@@ -435,4 +535,13 @@ pub(crate) fn command<'a>(alloc: Global) -> Result<Command<'a>, AllocError>
     let whole = with_writing_command(alloc, whole, "mirror", MIRROR)?;
     let whole = with_writing_command(alloc, whole, "emit", EMIT)?;
     with_writing_command(alloc, whole, "change", CHANGE)
+}
+
+/// The program with all its commands.
+pub(crate) fn command<'a>(alloc: Global) -> Result<Command<'a>, AllocError>
+    ensures app { IfOk result (λ c. app_of c ≡ pimtree) }
+    ensures local { IfOk result (λ c. (out-Command c).has_globals ≡ false) }
+{
+    let whole = writing_commands(alloc)?;
+    with_command(whole, session_command(alloc))
 }

@@ -170,7 +170,7 @@ pub(crate) fn judge(task: &Task<'_, Address>) -> Result<(), Fault<'static>>
     ensures { result ≡ judged (setting_faults task.now) tt }
 {
     match task {
-        Task::Check { .. } => Ok(()),
+        Task::Check { .. } | Task::Build { .. } => Ok(()),
         Task::Replay(captures) => judge_router(Side::A, captures),
         Task::Same(captures, writing) | Task::Change(captures, writing) => {
             judge_two(captures, *writing)

@@ -10,10 +10,10 @@ ghost use Rattle.clap.specs.Words.{app_of, kind_of};
 ghost use Rattle.pim_addr.specs.declared.family.AddressFamily.TheVariants.{Ipv4};
 ghost use Rattle.pim_words.specs.CommandLine.{pimtree};
 ghost use Rattle.pim_words.specs.Faults.{are_in};
-ghost use Rattle.pim_words.specs.Given.{IsKnown, kind_name};
-ghost use Rattle.pim_words.specs.Plan.{IsTaskOf, IsUnreadableOf, IsPlanOfTask, IsWrongTask, Plans, HasCause};
+ghost use Rattle.pim_words.specs.Given.{AsksForTask, kind_name};
+ghost use Rattle.pim_words.specs.Plan.{IsPlanOfTask, IsWrongTask, IsPlanOf, IsWrongOf, Plans, HasCause};
 ghost use Rattle.pim_words.specs.Plan.{IsPlanInRange};
-ghost use Rattle.pim_words.specs.Seen.{IsGiven, IsOffered};
+ghost use Rattle.pim_words.specs.Seen.{HasNumbers, IsGiven, IsOffered};
 
 use crate::addresses::Address;
 use crate::commands::command;
@@ -46,12 +46,15 @@ fn matches_of<'a, S: AsStr>(whole: Command<'a>, words: &'a [S]) -> Result<ArgMat
     Ok(matches)
 }
 
-/// The command of this name, if there is one.
+/// The command of this name, if it asks for a task.
 fn kind_named(name: &str) -> Option<Kind>
-    ensures { MatchOption result (IsKnown name.now → ⊥) (λ kind. name.now ≡ kind_name kind) }
+    ensures { MatchOption result (AsksForTask name.now → ⊥) (λ kind. name.now ≡ kind_name kind) }
 {
     if name == "check" {
         return Some(Kind::Check);
+    }
+    if name == "build" {
+        return Some(Kind::Build);
     }
     if name == "replay" {
         return Some(Kind::Replay);
@@ -69,22 +72,6 @@ fn kind_named(name: &str) -> Option<Kind>
         return Some(Kind::Change);
     }
     None
-}
-
-/// The task of the command that `clap` found.
-fn read_met<'a>(alloc: Global, matches: &ArgMatches<'a>) -> Result<Task<'a, Address>, Fault<'a>>
-    requires { IsSomeAnd (subcommand_rows_of matches.now) IsGiven }
-    ensures { MatchResult result
-        (λ task. IsSomeAnd (subcommand_rows_of matches.now) (λ met. IsTaskOf met task))
-        (λ fault. IsSomeAnd (subcommand_rows_of matches.now) (λ met. IsUnreadableOf met fault)) }
-{
-    let Some((name, options)) = matches.subcommand() else {
-        unreachable!()
-    };
-    let Some(kind) = kind_named(name) else {
-        unreachable!()
-    };
-    read_task(alloc, kind, options)
 }
 
 /// The plan of a task whose addresses aren't all IPv4, or its first fault.
@@ -115,6 +102,35 @@ fn plan_task<'a>(alloc: Global, task: &Task<'a, Address>) -> Result<Plan<'a>, Fa
     }
 }
 
+/// The plan of a command that asks for a task.
+fn plan_kind<'a>(alloc: Global, kind: Kind, options: &ArgMatches<'a>) -> Result<Plan<'a>, Fault<'a>>
+    requires { HasNumbers (rows_of (found_of options.now)) }
+    ensures { MatchResult result (IsPlanOf (kind_name kind, rows_of (found_of options.now)))
+        (IsWrongOf (kind_name kind, rows_of (found_of options.now))) }
+{
+    let task = read_task(alloc, kind, options)?;
+    plan_task(alloc, &task)
+}
+
+/// The plan of the command that `clap` found.
+fn plan_met<'a>(alloc: Global, matches: &ArgMatches<'a>) -> Result<Plan<'a>, Fault<'a>>
+    requires { IsSomeAnd (subcommand_rows_of matches.now) IsGiven }
+    ensures { MatchResult result
+        (λ plan. IsSomeAnd (subcommand_rows_of matches.now) (λ met. IsPlanOf met plan))
+        (λ fault. IsSomeAnd (subcommand_rows_of matches.now) (λ met. IsWrongOf met fault)) }
+{
+    let Some((name, options)) = matches.subcommand() else {
+        unreachable!()
+    };
+    if name == "session" {
+        return Ok(Plan::Session);
+    }
+    let Some(kind) = kind_named(name) else {
+        unreachable!()
+    };
+    plan_kind(alloc, kind, options)
+}
+
 /// The plan that the words ask for, by this command line.
 fn plan_by<'a, S: AsStr>(
     alloc: Global,
@@ -130,8 +146,7 @@ fn plan_by<'a, S: AsStr>(
         Ok(matches) => matches,
         Err(error) => return Err(refusal_fault(error.kind(), format!(in alloc; "{error}"))),
     };
-    let task = read_met(alloc, &matches)?;
-    plan_task(alloc, &task)
+    plan_met(alloc, &matches)
 }
 
 /// The plan that the words ask for. The first word is the program's name. No file is opened.

@@ -11,7 +11,7 @@ ghost use Rattle.pim_words.specs.Given.{words_of, required, address_texts, is_si
 ghost use Rattle.pim_words.specs.Ports.{IsPort, IsFirstWrongOf};
 ghost use Rattle.pim_words.specs.Reading.{IsNamed, IsUnreadText, IsUnreadValue, IsFirstUnread, AreCaptures, IsWriting};
 ghost use Rattle.pim_words.specs.Reading.{IsTask, IsUnreadable};
-ghost use Rattle.pim_words.specs.Seen.{OrMemory, AreWritten, HasNumbers};
+ghost use Rattle.pim_words.specs.Seen.{OrMemory, AreEnds, AreWritten, HasNumbers};
 
 use crate::addresses::{Address, read_address};
 use crate::fault::Fault;
@@ -85,14 +85,47 @@ fn read_captures<'a>(
     })
 }
 
+/// The addresses of a command on one message.
+#[derive(Clone, Copy, Debug, PartialEq, Eq)]
+struct Ends {
+    /// The source address.
+    src: Address,
+    /// The destination address.
+    dst: Address,
+}
+
+/// The addresses of a command on one message, or the fault of the first that can't be read.
+fn read_ends<'a>(options: &ArgMatches<'a>) -> Result<Ends, Fault<'a>>
+    ensures { MatchResult result (AreEnds (rows_of (found_of options.now)))
+        (IsFirstUnread (address_texts Kind.Check (rows_of (found_of options.now)))) }
+{
+    let src = read_option(option_or(options, "src", "0.0.0.0"))?;
+    let dst = read_option(option_or(options, "dst", "224.0.0.13"))?;
+    Ok(Ends { src, dst })
+}
+
 /// The task of `check`.
 fn read_check<'a>(options: &ArgMatches<'a>) -> Result<Task<'a, Address>, Fault<'a>>
     ensures { MatchResult result (IsTask Kind.Check (rows_of (found_of options.now)))
         (IsUnreadable Kind.Check (rows_of (found_of options.now))) }
 {
-    let src = read_option(option_or(options, "src", "0.0.0.0"))?;
-    let dst = read_option(option_or(options, "dst", "224.0.0.13"))?;
-    Ok(Task::Check { src, dst })
+    let ends = read_ends(options)?;
+    Ok(Task::Check {
+        src: ends.src,
+        dst: ends.dst,
+    })
+}
+
+/// The task of `build`.
+fn read_build<'a>(options: &ArgMatches<'a>) -> Result<Task<'a, Address>, Fault<'a>>
+    ensures { MatchResult result (IsTask Kind.Build (rows_of (found_of options.now)))
+        (IsUnreadable Kind.Build (rows_of (found_of options.now))) }
+{
+    let ends = read_ends(options)?;
+    Ok(Task::Build {
+        src: ends.src,
+        dst: ends.dst,
+    })
 }
 
 /// The task of `replay`.
@@ -204,6 +237,7 @@ pub(crate) fn read_task<'a>(
 {
     match kind {
         Kind::Check => read_check(options),
+        Kind::Build => read_build(options),
         Kind::Replay => read_replay(alloc, options),
         Kind::Same => read_same(alloc, options),
         Kind::Mirror => read_mirror(alloc, options),

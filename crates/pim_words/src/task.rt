@@ -56,6 +56,13 @@ pub enum Task<'a, A> {
         /// The IP destination address of the message.
         dst: A,
     },
+    /// To write the bytes of the message that a text states.
+    Build {
+        /// The IP source address of the message.
+        src: A,
+        /// The IP destination address of the message.
+        dst: A,
+    },
     /// To report the packets of a router's captures and its state after them.
     Replay(Captures<'a, A>),
     /// To report whether two routers want the same traffic.
@@ -69,20 +76,24 @@ pub enum Task<'a, A> {
     Change(Captures<'a, A>, Writing<A>),
 }
 
-/// A task whose addresses are all of one family.
+/// A session, or a task whose addresses are all of one family.
 #[derive(Debug, Drop)]
 pub enum Plan<'a> {
     /// All addresses are IPv4.
     V4(Task<'a, [u8; 4]>),
     /// All addresses are IPv6.
     V6(Task<'a, [u8; 16]>),
+    /// To answer the commands of a session. Its words have no addresses.
+    Session,
 }
 
-/// The commands.
+/// The commands that ask for a task: all but `session`.
 #[derive(Clone, Copy, Debug, PartialEq, Eq)]
 pub enum Kind {
     /// `check`
     Check,
+    /// `build`
+    Build,
     /// `replay`
     Replay,
     /// `same`

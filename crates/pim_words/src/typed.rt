@@ -136,6 +136,21 @@ fn check_in_family<'a, F: Family>(
     Ok(Task::Check { src, dst })
 }
 
+/// The task of `build`, if both its addresses are of this family.
+fn build_in_family<'a, F: Family>(
+    src: Address,
+    dst: Address,
+) -> Result<Task<'a, F::Addr>, Fault<'static>>
+    ensures { MatchResult result
+        (λ typed. (are_in F.family (Task.Build src dst) ≡ true)
+        × SameTask F.family F.bytes_of typed (Task.Build src dst))
+        (IsForeign (are_in F.family (Task.Build src dst))) }
+{
+    let src = in_family::<F>(src)?;
+    let dst = in_family::<F>(dst)?;
+    Ok(Task::Build { src, dst })
+}
+
 /// The task, if all its addresses are of this family.
 pub(crate) fn task_in_family<'a, F: Family>(
     alloc: Global,
@@ -147,6 +162,7 @@ pub(crate) fn task_in_family<'a, F: Family>(
 {
     match task {
         Task::Check { src, dst } => check_in_family::<F>(*src, *dst),
+        Task::Build { src, dst } => build_in_family::<F>(*src, *dst),
         Task::Replay(captures) => match captures_in_family::<F>(alloc, captures) {
             Ok(captures) => Ok(Task::Replay(captures)),
             Err(fault) => Err(fault),

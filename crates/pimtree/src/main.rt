@@ -1,23 +1,28 @@
 //! `pimtree` reads PIM sparse mode messages for a person.
 //!
-//! `check` prints a message on standard input, or its fault. `replay` prints what became of each
-//! packet of a router's captures, and the state that the router held at the end. `same` prints
-//! whether two routers want the same traffic. `mirror` prints the messages that make a fresh router
-//! want what this one wants. `emit` writes the bytes of the messages by which this one asks its
-//! upstream neighbour. `change` prints the messages that move an upstream neighbour from what one
-//! router wants to what another one wants.
+//! `check` prints a message on standard input, or its fault. `build` writes the bytes of a message
+//! whose text is on standard input. `replay` prints what became of each packet of a router's
+//! captures, and the state that the router held at the end. `same` prints whether two routers want
+//! the same traffic. `mirror` prints the messages that make a fresh router want what this one
+//! wants. `emit` writes the bytes of the messages by which this one asks its upstream neighbour.
+//! `change` prints the messages that move an upstream neighbour from what one router wants to what
+//! another one wants. `session` answers the commands on standard input, a line each.
 //!
 //! `main` gives the engines of `pim_commands` the process's own devices and files. It has no
 //! contract: what a file or a device holds, no contract can name.
 #![tactic(auto)]
 
+mod files;
 mod output;
 
 ghost use Rattle.pim_words.specs.Plan.{IsInRange};
 
-use crate::output::{Output, is_live};
-use pim_addr::{Counted, Drain, Family, V4, V6};
-use pim_commands::{FAULTY, Fault, change, check_task, emit, mirror, replay, same, tell_into};
+use crate::files::SystemFiles;
+use crate::output::{Output, Replies, is_live};
+use pim_addr::{Counted, Family, V4, V6};
+use pim_commands::{FAULTY, Fault, run_task, tell_into};
+use pim_request::Answers;
+use pim_session::{SessionFault, session_into};
 use pim_words::{Plan, Task, plan};
 use std::io::Write;
 use std::process::ExitCode;
@@ -29,41 +34,54 @@ fn words_given(rt: &HostRuntime) -> io::Result<Vec<String>> {
     Ok(words.collect(rt.alloc())?)
 }
 
-/// Does what a task asks for, with standard input, this writer and the files that it names.
-fn run_task<'a, F: Family, W: Drain>(
-    rt: &HostRuntime,
-    task: &Task<'a, F::Addr>,
-    output: &mut W,
-) -> Result<u8, Fault<'a>>
-    requires { IsInRange task.now }
-{
-    match task {
-        Task::Check { .. } => {
-            let mut input = Counted::new(rt.stdin());
-            check_task::<F, _, _>(rt.alloc(), &mut input, output, task)
-        }
-        Task::Replay(captures) => replay::<F, W>(rt, captures, output),
-        Task::Same(captures, writing) => same::<F, W>(rt, captures, writing, output),
-        Task::Mirror(captures, writing) => mirror::<F, W>(rt, captures, writing, output),
-        Task::Emit(captures, writing) => emit::<F, W>(rt, captures, writing, output),
-        Task::Change(captures, writing) => change::<F, W>(rt, captures, writing, output),
+/// The fault of a session, as one of the program.
+fn session_fault(fault: SessionFault) -> Fault<'static> {
+    match fault {
+        SessionFault::Input => Fault::InputRead,
+        SessionFault::Output => Fault::Output,
+        SessionFault::Memory => Fault::Memory,
     }
 }
 
-/// Does what the words ask for, with standard input and output, and returns the status.
-fn run<'a>(rt: &HostRuntime, words: &'a [String]) -> Result<u8, Fault<'a>> {
-    let plan = plan(rt.alloc(), words)?;
-    let Ok(output) = Output::new(rt.alloc(), io::writer(rt), is_live(rt, &plan)) else {
+/// Answers a session on standard input, on standard output.
+fn run_session(rt: &HostRuntime) -> Result<u8, Fault<'static>> {
+    let Ok(mut replies) = Replies::new(rt.alloc(), io::writer(rt)) else {
+        return Err(Fault::Memory);
+    };
+    let input = Counted::new(rt.stdin());
+    let status = session_into(rt.alloc(), input, &mut replies);
+    let flushed = replies.flush();
+    match status {
+        Ok(status) if flushed.is_ok() => Ok(status),
+        Ok(_) => Err(Fault::Output),
+        Err(fault) => Err(session_fault(fault)),
+    }
+}
+
+/// Does a task, with standard input and output and the files of the system, and returns the status.
+fn run_on_system<'a, F: Family>(rt: &HostRuntime, task: &Task<'a, F::Addr>) -> Result<u8, Fault<'a>>
+    requires { IsInRange task.now }
+{
+    let Ok(output) = Output::new(rt.alloc(), io::writer(rt), is_live(rt, task)) else {
         return Err(Fault::Memory);
     };
     let mut output = Counted::new(output);
-    let status = match &plan {
-        Plan::V4(task) => run_task::<V4, _>(rt, task, &mut output),
-        Plan::V6(task) => run_task::<V6, _>(rt, task, &mut output),
-    };
+    let mut files = SystemFiles::new(rt);
+    let mut input = Counted::new(rt.stdin());
+    let alloc = rt.alloc();
+    let status = run_task::<F, _, _, _>(alloc, &mut files, task, &mut input, &mut output);
     match output.into_inner().flush() {
         Err(_) if status.is_ok() => Err(Fault::Output),
         _ => status,
+    }
+}
+
+/// Does what the words ask for, and returns the status.
+fn run<'a>(rt: &HostRuntime, words: &'a [String]) -> Result<u8, Fault<'a>> {
+    match &plan(rt.alloc(), words)? {
+        Plan::V4(task) => run_on_system::<V4>(rt, task),
+        Plan::V6(task) => run_on_system::<V6>(rt, task),
+        Plan::Session => run_session(rt),
     }
 }
 

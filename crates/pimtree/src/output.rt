@@ -1,6 +1,11 @@
 //! Standard output, in blocks or line by line.
 
-use pim_words::{Plan, Port, Task};
+ghost use Rattle.std.specs.Prelude.{◌≡◌, ◌+◌, min, None};
+ghost use Rattle.pim_device.specs.Device.{top_count};
+
+use pim_addr::{Drain, Failed};
+use pim_request::Answers;
+use pim_words::{Port, Task};
 use std::alloc::Global;
 use std::fs::metadata;
 use std::io::{self, BufWriter, IsTerminal, Write};
@@ -47,7 +52,7 @@ fn some_may_grow<A>(rt: &HostRuntime, ports: &[Port<'_, A>]) -> bool {
 /// Whether the task reads from a pipe, a terminal or another device.
 fn reads_live<A>(rt: &HostRuntime, task: &Task<'_, A>) -> bool {
     match task {
-        Task::Check { .. } => false,
+        Task::Check { .. } | Task::Build { .. } => false,
         Task::Replay(captures) => some_may_grow(rt, &captures.ports),
         Task::Same(captures, _)
         | Task::Mirror(captures, _)
@@ -57,12 +62,56 @@ fn reads_live<A>(rt: &HostRuntime, task: &Task<'_, A>) -> bool {
 }
 
 /// Whether each line is written out as soon as it is complete: to a terminal, or from a pipe.
-pub fn is_live(rt: &HostRuntime, plan: &Plan<'_>) -> bool {
-    if rt.stdout().is_terminal() {
-        return true;
+pub fn is_live<A>(rt: &HostRuntime, task: &Task<'_, A>) -> bool {
+    rt.stdout().is_terminal() || reads_live(rt, task)
+}
+
+/// The device that takes the answers of a session. It keeps bytes in a block, and writes them out
+/// when it is asked to. No contract can name what a terminal or a pipe holds.
+#[derive(Drop)]
+pub struct Replies<W: Write + Drop> {
+    blocks: BufWriter<W>,
+    failures: u64,
+}
+
+impl<W: Write + Drop> Replies<W> {
+    /// Returns such a device over a writer, or an error where memory is refused.
+    pub fn new(alloc: Global, inner: W) -> io::Result<Self> {
+        let blocks = BufWriter::new(alloc, inner)?;
+        Ok(Replies {
+            blocks,
+            failures: 0,
+        })
     }
-    match plan {
-        Plan::V4(task) => reads_live(rt, task),
-        Plan::V6(task) => reads_live(rt, task),
+
+    fn count_failure(&mut self) -> Failed
+        ensures { self.new.failures ≡ min (self.old.failures + 1) top_count }
+    {
+        self.failures = self.failures.saturating_add(1);
+        Failed
+    }
+}
+
+impl<W: Write + Drop> Drain for Replies<W> {
+    ghost contents = { λ device. None };
+
+    ghost failures = { λ device. device.failures };
+
+    fn write(&mut self, bytes: &[u8]) -> Result<usize, Failed> {
+        match self.blocks.write(bytes) {
+            Ok(taken) if taken > 0 || bytes.is_empty() => Ok(taken),
+            _ => Err(self.count_failure()),
+        }
+    }
+}
+
+impl<W: Write + Drop> Answers for Replies<W> {
+    ghost passed_on = { λ device. None };
+
+    fn flush(&mut self) -> Result<(), Failed> {
+        match self.blocks.flush() {
+            Ok(()) => Ok(()),
+            Err(_) => Err(self.count_failure()),
+        }
     }
 }

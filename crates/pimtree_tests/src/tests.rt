@@ -1,5 +1,10 @@
-//! The program without its process: its words, its reports, and its commands.
+//! What a case can't say of the program: loops over spoilt input and failing devices, refused
+//! memory, faults on devices that fail, and the width of help.
 
-mod commands;
-mod replay;
-mod words;
+mod failing;
+mod faults;
+mod help;
+mod messages;
+mod neighbours;
+mod refused;
+mod running;

@@ -1,4 +1,4 @@
-//! Captures, answer by answer.
+//! Captures that end or fail at any byte, and why records are passed over.
 
 mod ipv6;
 mod merging;
@@ -144,128 +144,39 @@ fn cut_anywhere(rt: HostRuntime) -> Result<(), Fail> {
     Ok(())
 }
 
-#[test]
-fn payload_in_the_buffer(rt: HostRuntime) -> Result<(), Fail> {
-    let mut buffer = Vec::new(rt.alloc());
-    let mut capture = Capture::new(ScriptedFeed::new(&CAPTURE, 64, NEVER));
-    for (start, end) in [(60, 70), (106, 140)] {
-        let event = capture.next(&mut buffer).ok().ok_or("a packet")?;
-        let Event::Packet { millis: _, ip } = event else {
-            return Err(Fail::from("not a packet"));
-        };
-        let message = ip.payload(buffer.as_slice());
-        assert_eq!(rt; Some(message), CAPTURE.get(start..end));
-    }
-    Ok(())
-}
-
-// Builds captures.
+// Builds captures, the lowest byte first, with microseconds.
 #[derive(Drop)]
 struct Builder {
     bytes: Vec<u8>,
-    big: bool,
 }
 
 impl Builder {
-    fn new(alloc: Global, big: bool, magic: u32, link: u32) -> Result<Builder, AllocError> {
+    fn new(alloc: Global, link: u32) -> Result<Builder, AllocError> {
         let mut builder = Builder {
             bytes: Vec::new(alloc),
-            big,
         };
-        for number in [magic, 0x0002_0004, 0, 0, 262_144, link] {
+        for number in [0xa1b2_c3d4, 0x0004_0002, 0, 0, 262_144, link] {
             builder.number(number)?;
         }
         Ok(builder)
     }
 
     fn number(&mut self, number: u32) -> Result<(), AllocError> {
-        let bytes = if self.big {
-            number.to_be_bytes()
-        } else {
-            number.to_le_bytes()
-        };
-        self.bytes.extend_from_slice(&bytes)
+        self.bytes.extend_from_slice(&number.to_le_bytes())
     }
 
-    fn bytes(&mut self, bytes: &[u8]) -> Result<(), AllocError> {
-        self.bytes.extend_from_slice(bytes)
-    }
-
-    // The header of a record of so many bytes.
-    fn record(&mut self, seconds: u32, fraction: u32, length: u32) -> Result<(), AllocError> {
-        for number in [seconds, fraction, length, length] {
+    // A record of these bytes, so many microseconds after 100 s.
+    fn record(&mut self, micros: u32, packet: &[u8]) -> Result<(), AllocError> {
+        let length = u32::try_from(packet.len()).unwrap_or(u32::MAX);
+        for number in [100, micros, length, length] {
             self.number(number)?;
         }
-        Ok(())
-    }
-
-    // A record of a link header and an IP packet.
-    fn packet(&mut self, fraction: u32, link: &[u8], packet: &[u8]) -> Result<(), AllocError> {
-        let length = link.len().saturating_add(packet.len());
-        self.record(100, fraction, u32::try_from(length).unwrap_or(u32::MAX))?;
-        self.bytes(link)?;
-        self.bytes(packet)
+        self.bytes.extend_from_slice(packet)
     }
 
     fn feed(&self) -> ScriptedFeed<'_> {
         ScriptedFeed::new(self.bytes.as_slice(), 1_000_000, NEVER)
     }
-}
-
-const MICROSECONDS: u32 = 0xa1b2_c3d4;
-
-const NANOSECONDS: u32 = 0xa1b2_3c4d;
-
-const ETHERNET_V4: [u8; 14] = [1, 0, 0x5e, 0, 0, 13, 2, 0, 0, 0, 0, 9, 8, 0];
-
-const ETHERNET_V6: [u8; 14] = [0x33, 0x33, 0, 0, 0, 13, 2, 0, 0, 0, 0, 9, 0x86, 0xdd];
-
-const TAGGED_V4: [u8; 18] = [1, 0, 0x5e, 0, 0, 13, 2, 0, 0, 0, 0, 9, 0x81, 0, 0, 5, 8, 0];
-
-const TAGGED_V6: [u8; 18] = [
-    0x33, 0x33, 0, 0, 0, 13, 2, 0, 0, 0, 0, 9, 0x81, 0, 0, 5, 0x86, 0xdd,
-];
-
-// Two tags of 802.1Q, and one of 802.1ad.
-const TWO_TAGS: [u8; 22] = [
-    1, 0, 0x5e, 0, 0, 13, 2, 0, 0, 0, 0, 9, 0x81, 0, 0, 5, 0x81, 0, 0, 5, 8, 0,
-];
-
-const SERVICE_TAG: [u8; 18] = [
-    1, 0, 0x5e, 0, 0, 13, 2, 0, 0, 0, 0, 9, 0x88, 0xa8, 0, 5, 8, 0,
-];
-
-#[test]
-fn same_events_however_captured(rt: HostRuntime) -> Result<(), Fail> {
-    let mut buffer = Vec::new(rt.alloc());
-    let links: [(u32, &[u8], &[u8]); 4] = [
-        (101, &[], &[]),
-        (1, &ETHERNET_V4, &ETHERNET_V6),
-        (1, &TAGGED_V4, &TAGGED_V6),
-        (0x3000_0001, &ETHERNET_V4, &ETHERNET_V6),
-    ];
-    for big in [false, true] {
-        for (magic, five) in [(MICROSECONDS, 5_000), (NANOSECONDS, 5_000_000)] {
-            for (link, link_v4, link_v6) in links {
-                let at = link_v4.len();
-                assert!(rt; at <= 18);
-                let mut builder = Builder::new(rt.alloc(), big, magic, link)?;
-                builder.packet(0, link_v4, &CAPTURE[40..70])?;
-                builder.packet(five, link_v4, &CAPTURE[86..])?;
-                builder.packet(0, link_v6, &HELLO_V6)?;
-                builder.packet(five, link_v6, &JOIN_V6)?;
-                let wants = [
-                    Ok(v4(100_000, at + 20, at + 30)),
-                    Ok(v4(100_005, at + 20, at + 54)),
-                    Ok(v6(100_000, at + 40, at + 50)),
-                    Ok(v6(100_005, at + 40, at + 74)),
-                    Ok(Event::End),
-                ];
-                expect(&rt, builder.feed(), &mut buffer, &wants);
-            }
-        }
-    }
-    Ok(())
 }
 
 #[test]
@@ -281,72 +192,27 @@ fn packets_passed_over(rt: HostRuntime) -> Result<(), Fail> {
         (3, 0x1f, Why::Cut),
     ];
     for (at, byte, why) in changes {
-        let mut builder = Builder::new(rt.alloc(), true, MICROSECONDS, 101)?;
-        builder.record(1, 1_999, 30)?;
-        builder.bytes(&CAPTURE[40..40 + at])?;
-        builder.bytes(&[byte])?;
-        builder.bytes(&CAPTURE[41 + at..70])?;
-        builder.record(1, 0, 0)?;
+        let (front, _) = CAPTURE.split_at(70);
+        let mut packet = Vec::from_slice(rt.alloc(), &front[40..])?;
+        if at < packet.len() {
+            packet[at] = byte;
+        }
+        let mut builder = Builder::new(rt.alloc(), 101)?;
+        builder.record(1_999, &packet)?;
+        builder.record(0, &[])?;
         let wants = [
-            Ok(Event::Skipped { millis: 1_001, why }),
             Ok(Event::Skipped {
-                millis: 1_000,
+                millis: 100_001,
+                why,
+            }),
+            Ok(Event::Skipped {
+                millis: 100_000,
                 why: Why::Cut,
             }),
             Ok(Event::End),
         ];
         expect(&rt, builder.feed(), &mut buffer, &wants);
     }
-    Ok(())
-}
-
-#[test]
-fn frames_passed_over(rt: HostRuntime) -> Result<(), Fail> {
-    let mut buffer = Vec::new(rt.alloc());
-    let frames: [(&[u8], &[u8], Why); 6] = [
-        (&TWO_TAGS, &CAPTURE[40..70], Why::NotIp),
-        (&SERVICE_TAG, &CAPTURE[40..70], Why::NotIp),
-        (&ETHERNET_V4, &HELLO_V6, Why::BadHeader),
-        (&ETHERNET_V6, &CAPTURE[40..140], Why::BadHeader),
-        (&TAGGED_V4[..17], &[], Why::Cut),
-        (&ETHERNET_V4[..13], &[], Why::Cut),
-    ];
-    for (link, packet, why) in frames {
-        let mut builder = Builder::new(rt.alloc(), false, NANOSECONDS, 1)?;
-        builder.packet(u32::MAX, link, packet)?;
-        let skipped = Event::Skipped {
-            millis: 104_294,
-            why,
-        };
-        expect(
-            &rt,
-            builder.feed(),
-            &mut buffer,
-            &[Ok(skipped), Ok(Event::End)],
-        );
-    }
-    Ok(())
-}
-
-#[test]
-fn faults_of_headers(rt: HostRuntime) -> Result<(), Fail> {
-    let mut buffer = Vec::new(rt.alloc());
-    for (magic, link, fault) in [
-        (0xa1b2_c3d5, 101, CaptureFault::Magic),
-        (0x0a0d_0d0a, 113, CaptureFault::Magic),
-        (MICROSECONDS, 113, CaptureFault::LinkType),
-        (NANOSECONDS, 0x0001_0000, CaptureFault::LinkType),
-    ] {
-        let builder = Builder::new(rt.alloc(), false, magic, link)?;
-        expect(&rt, builder.feed(), &mut buffer, &[Err(fault)]);
-    }
-
-    let mut builder = Builder::new(rt.alloc(), true, MICROSECONDS, 101)?;
-    builder.record(0, u32::MAX, 30)?;
-    builder.bytes(&CAPTURE[40..70])?;
-    builder.record(0, 0, 262_145)?;
-    let wants = [Ok(v4(4_294_967, 20, 30)), Err(CaptureFault::TooLong)];
-    expect(&rt, builder.feed(), &mut buffer, &wants);
     Ok(())
 }
 

@@ -39,16 +39,6 @@ pub(super) fn body(alloc: Global, holdtime: u16, sets: &[Set]) -> Result<Vec<u8>
     Ok(bytes)
 }
 
-/// The body of a message to 10.0.0.2 with the holdtime 210 that joins so many sources of 239.1.1.1, from 10.1.0.FIRST on.
-pub(super) fn body_of_sources(alloc: Global, first: u8, count: u8) -> Result<Vec<u8>, AllocError> {
-    let mut bytes = vec![in alloc; 1, 0, 10, 0, 0, 2, 0, 1, 0, 210]?;
-    bytes.extend_from_slice(&[1, 0, 0, 32, 239, 1, 1, 1, 0, count, 0, 0])?;
-    for number in first..first.saturating_add(count) {
-        bytes.extend_from_slice(&[1, 0, 4, 32, 10, 1, 0, number])?;
-    }
-    Ok(bytes)
-}
-
 /// The table of these rows; `None` where one is refused.
 pub(super) fn table(alloc: Global, leads: &[Lead]) -> Option<Routes<V4>> {
     let mut routes: Routes<V4> = Routes::new(alloc);

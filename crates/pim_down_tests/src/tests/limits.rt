@@ -1,74 +1,10 @@
-//! Refusals.
+//! Growths that are refused.
 
 use super::bodies::hear_body;
-use super::{
-    Example, FIRST, GROUP, Held, JOIN_FIRST, JOIN_SECOND, JOIN_STAR, RPT_FIRST, Row, SECOND,
-    SEVERAL,
-};
+use super::{GROUP, SEVERAL};
 use pim_addr::{Routes, V4};
 use pim_down::{HearFault, Ports, State, Step, What};
 use std::alloc::Global;
-
-pub(super) const EXAMPLES: [Example; 3] = [
-    Example {
-        name: "refuses past the limit",
-        ports: 2,
-        limit: 2,
-        rows: &[
-            Row::Hear(0, &[(GROUP, &[JOIN_STAR, JOIN_FIRST], &[])]),
-            Row::Full(
-                0,
-                &[
-                    (GROUP, &[JOIN_STAR, JOIN_SECOND], &[]),
-                    (GROUP, &[JOIN_SECOND], &[]),
-                ],
-                4,
-            ),
-            Row::Holds(&[
-                Held::Joined(0, What::Star, 210_000),
-                Held::Joined(0, What::Source(FIRST), 210_000),
-            ]),
-            Row::Hear(0, &[(GROUP, &[JOIN_STAR, JOIN_FIRST], &[])]),
-            Row::Holds(&[
-                Held::Joined(0, What::Star, 210_000),
-                Held::Joined(0, What::Source(FIRST), 210_000),
-            ]),
-            Row::Hear(1, &[(GROUP, &[JOIN_FIRST, JOIN_SECOND], &[])]),
-            Row::State(1, What::Source(SECOND), Some(State::Join)),
-            Row::HoldsOn(
-                0,
-                &[
-                    Held::Joined(0, What::Star, 210_000),
-                    Held::Joined(0, What::Source(FIRST), 210_000),
-                ],
-            ),
-            Row::Sizes(2, 2),
-        ],
-    },
-    Example {
-        name: "lets a record go and come again within a message",
-        ports: 1,
-        limit: 1,
-        rows: &[
-            Row::HearAmong(0, &[(GROUP, &[], &[RPT_FIRST])]),
-            Row::Reach(5_000),
-            Row::Holds(&[Held::Pruned(0, FIRST, 205_000)]),
-            Row::HearAmong(0, &[(GROUP, &[RPT_FIRST], &[]), (GROUP, &[], &[RPT_FIRST])]),
-            Row::Holds(&[Held::Waiting(What::Rpt(FIRST), 210_000, 3_000)]),
-        ],
-    },
-    Example {
-        name: "shows what is held",
-        ports: 1,
-        limit: 2,
-        rows: &[
-            Row::ShownFrom("Ports { ports: 1, limit: 2, moment: 0, records: []"),
-            Row::Hear(0, &[(GROUP, &[JOIN_STAR], &[])]),
-            Row::Shown("records: [Held { key: Key { port: 0, "),
-            Row::RecordsShownFrom("Records { moment: 0"),
-        ],
-    },
-];
 
 /// Upstream 10.0.0.2, holdtime 210, and three sets of the group: this source as an (S,G) joined and as an (S,G,rpt)
 /// pruned; another one as an (S,G,rpt) joined; and the same pruned again.

@@ -1,4 +1,6 @@
-use pim_addr::{Family, Route, RouteFault, Routes, V4, V6, read_text};
+//! Tables of routes: rows in every order, walks, as many rows as a table may have, and growths that are refused.
+
+use pim_addr::{Family, Route, RouteFault, Routes, V4, read_text};
 use std::alloc::Global;
 
 /// A row as a text would tell it: for an RP or a neighbour, its prefix and length, and where it leads.
@@ -149,134 +151,6 @@ fn rows_are_walked(rt: HostRuntime) {
     }
 }
 
-#[test]
-fn no_rows(rt: HostRuntime) {
-    let routes: Routes<V4> = Routes::new(rt.alloc());
-    assert!(rt; leads(&routes, true, "239.1.1.1", None));
-    assert!(rt; leads(&routes, false, "10.0.0.1", None));
-    let routes: Routes<V6> = Routes::new(rt.alloc());
-    assert!(rt; leads(&routes, true, "ff02::1", None));
-    assert!(rt; leads(&routes, false, "::", None));
-    assert!(rt; routes.equals(&Routes::new(rt.alloc())));
-}
-
-/// A row, and what is answered where it is added.
-type Answer = (Told<'static>, Result<(), RouteFault>);
-
-/// Whether a row is answered so, and the table is then as one that has only the rows that were taken.
-fn is_answered<F: Family>(
-    routes: &mut Routes<F>,
-    as_before: &mut Routes<F>,
-    (row, want): Answer,
-) -> bool {
-    add(routes, row) == want
-        && (want.is_err() || add(as_before, row).is_ok())
-        && routes.equals(as_before)
-}
-
-/// The first of these rows, added one after another, that is answered otherwise; after a refusal the table is as it was.
-fn wrong_answer<F: Family>(alloc: Global, rows: &[Answer]) -> Option<usize> {
-    let mut routes: Routes<F> = Routes::new(alloc);
-    let mut as_before: Routes<F> = Routes::new(alloc);
-    rows.iter()
-        .position(|row| !is_answered(&mut routes, &mut as_before, *row))
-}
-
-const LENGTH: Result<(), RouteFault> = Err(RouteFault::Length);
-
-const BITS: Result<(), RouteFault> = Err(RouteFault::Bits);
-
-const KIND: Result<(), RouteFault> = Err(RouteFault::Kind);
-
-const TWICE: Result<(), RouteFault> = Err(RouteFault::Twice);
-
-const ANSWERS: [Answer; 18] = [
-    ((false, "10.8.0.1", 16, "10.0.0.6"), BITS),
-    ((false, "10.8.0.1", 33, "10.0.0.6"), LENGTH),
-    ((false, "0.0.0.0", 33, "10.0.0.6"), LENGTH),
-    ((true, "239.1.1.1", 255, "224.0.0.1"), LENGTH),
-    ((true, "224.0.0.0", 3, "10.0.0.6"), KIND),
-    ((true, "224.0.0.0", 4, "10.0.0.6"), Ok(())),
-    ((true, "10.0.0.0", 8, "10.0.0.6"), KIND),
-    ((true, "239.0.0.0", 8, "0.0.0.0"), KIND),
-    ((true, "239.0.0.1", 8, "0.0.0.0"), BITS),
-    ((false, "10.0.0.0", 8, "224.0.0.1"), KIND),
-    ((false, "224.0.0.0", 3, "10.0.0.6"), Ok(())),
-    ((false, "10.8.0.0", 16, "10.0.0.6"), Ok(())),
-    ((false, "10.8.0.0", 16, "10.0.0.6"), TWICE),
-    ((false, "10.8.0.0", 16, "10.0.0.2"), TWICE),
-    ((false, "10.8.0.0", 16, "224.0.0.1"), KIND),
-    ((false, "10.8.0.0", 17, "10.0.0.6"), Ok(())),
-    ((true, "224.0.0.0", 4, "10.0.0.7"), TWICE),
-    ((true, "224.0.0.0", 5, "10.0.0.7"), Ok(())),
-];
-
-#[test]
-fn refusals_ipv4(rt: HostRuntime) {
-    assert_eq!(rt; wrong_answer::<V4>(rt.alloc(), &ANSWERS), None);
-}
-
-const ANSWERS6: [Answer; 15] = [
-    ((false, "2001:db8::1", 127, "fe80::1"), BITS),
-    ((false, "2001:db8::1", 129, "fe80::1"), LENGTH),
-    ((false, "8000::", 0, "fe80::1"), BITS),
-    ((false, "4000::", 1, "fe80::1"), BITS),
-    ((false, "0100::", 7, "fe80::1"), BITS),
-    ((true, "fe00::", 7, "fe80::1"), KIND),
-    ((true, "ff00::", 7, "fe80::1"), BITS),
-    ((true, "ff00::", 8, "fe80::1"), Ok(())),
-    ((true, "ff00::", 8, "fe80::2"), TWICE),
-    ((true, "ff02::", 16, "ff02::1"), KIND),
-    ((true, "ff02::", 16, "::"), KIND),
-    ((false, "2001:db8::", 64, "ff02::1"), KIND),
-    ((false, "2001:db8::", 64, "fe80::1"), Ok(())),
-    ((false, "2001:db8::", 64, "fe80::2"), TWICE),
-    ((false, "2001:db8:0:0:0:0:0:1", 64, "fe80::2"), BITS),
-];
-
-#[test]
-fn refusals_ipv6(rt: HostRuntime) {
-    assert_eq!(rt; wrong_answer::<V6>(rt.alloc(), &ANSWERS6), None);
-}
-
-const EIGHT: [Told<'static>; 8] = [
-    (false, "::", 0, "fe80::1"),
-    (false, "8000::", 1, "fe80::2"),
-    (false, "fe00::", 7, "fe80::3"),
-    (false, "fe00::", 8, "fe80::4"),
-    (false, "fe00:0:0:5::", 64, "fe80::5"),
-    (false, "fe00:0:0:5::6", 127, "fe80::6"),
-    (false, "fe00:0:0:5::6", 128, "fe80::7"),
-    (true, "ff00::", 8, "fe80::8"),
-];
-
-/// An address for which an RP or a neighbour is looked up, and which.
-type Lead = (bool, &'static str, Option<&'static str>);
-
-/// Where the eight rows lead.
-const LEADS: [Lead; 12] = [
-    (false, "7fff::1", Some("fe80::1")),
-    (false, "8000::", Some("fe80::2")),
-    (false, "fd00::1", Some("fe80::2")),
-    (false, "ff00::1", Some("fe80::3")),
-    (false, "fe01::1", Some("fe80::4")),
-    (false, "fe00:0:0:4:ffff::", Some("fe80::4")),
-    (false, "fe00:0:0:5:ffff::", Some("fe80::5")),
-    (false, "fe00:0:0:5::8", Some("fe80::5")),
-    (false, "fe00:0:0:5::7", Some("fe80::6")),
-    (false, "fe00:0:0:5::6", Some("fe80::7")),
-    (true, "ff05::1:3", Some("fe80::8")),
-    (true, "fe05::1:3", None),
-];
-
-#[test]
-fn lengths_of_ipv6(rt: HostRuntime) {
-    let mut routes: Routes<V6> = Routes::new(rt.alloc());
-    assert!(rt; EIGHT.iter().all(|row| add(&mut routes, *row).is_ok()));
-    let wrong = LEADS.iter().position(|&(to_rp, address, to)| !leads(&routes, to_rp, address, to));
-    assert_eq!(rt; wrong, None);
-}
-
 /// The prefix of 24 bits of this number behind 10.
 fn numbered(number: u16) -> [u8; 4] {
     let [high, low] = number.to_be_bytes();
@@ -295,6 +169,8 @@ fn fill(routes: &mut Routes<V4>) -> bool {
 }
 
 const FULL: Result<(), RouteFault> = Err(RouteFault::Full);
+
+const TWICE: Result<(), RouteFault> = Err(RouteFault::Twice);
 
 #[test]
 fn full_at_the_limit(rt: HostRuntime) {

@@ -1,17 +1,22 @@
-//! A capture of IPv6 packets that ends or fails at any byte, and its frames with a byte changed or cut short.
+//! A capture of IPv6 packets that ends or fails at any byte, and its frames, cut short.
 
-use super::{Builder, ETHERNET_V6, HELLO_V6, JOIN_V6, MICROSECONDS, NEVER, TAGGED_V6, expect, v6};
+use super::{Builder, HELLO_V6, JOIN_V6, NEVER, expect, v6};
 use pim_addr::ScriptedFeed;
 use pim_capture::{CaptureFault, Event, Why};
 use std::alloc::{AllocError, Global};
 use std::process::Abort;
 use std::test::Fail;
 
+/// A header of Ethernet with a tag of 802.1Q, for IPv6.
+const TAGGED_V6: [u8; 18] = [
+    0x33, 0x33, 0, 0, 0, 13, 2, 0, 0, 0, 0, 9, 0x81, 0, 0, 5, 0x86, 0xdd,
+];
+
 /// A capture of two raw packets, 180 bytes: a Hello, and 5 ms later a Join/Prune.
 fn capture(alloc: Global) -> Result<Builder, AllocError> {
-    let mut builder = Builder::new(alloc, false, MICROSECONDS, 101)?;
-    builder.packet(0, &[], &HELLO_V6)?;
-    builder.packet(5_000, &[], &JOIN_V6)?;
+    let mut builder = Builder::new(alloc, 101)?;
+    builder.record(0, &HELLO_V6)?;
+    builder.record(5_000, &JOIN_V6)?;
     Ok(builder)
 }
 
@@ -68,87 +73,16 @@ fn ipv6_reads_that_fail(rt: HostRuntime) -> Result<(), Fail> {
     Ok(())
 }
 
-/// Another byte at a place of the Hello's packet, and what the record is then: a packet whose message ends there, or why
-/// it is passed over.
-type Change = (usize, u8, Result<usize, Why>);
-
-const RAW_CHANGES: [Change; 12] = [
-    (0, 0x00, Err(Why::NotIp)),
-    (0, 0x50, Err(Why::NotIp)),
-    // as IPv4, with a total length of 0
-    (0, 0x45, Err(Why::BadHeader)),
-    (6, 0x06, Err(Why::NotPim)),
-    // a fragment's header
-    (6, 0x2c, Err(Why::NotPim)),
-    (5, 0x0b, Err(Why::Cut)),
-    (4, 0x01, Err(Why::Cut)),
-    // what is behind the named length is left out
-    (5, 0x09, Ok(49)),
-    (5, 0x00, Ok(40)),
-    // traffic class, flow label and hop limit
-    (0, 0x6f, Ok(50)),
-    (3, 0xff, Ok(50)),
-    (7, 0x00, Ok(50)),
-];
-
-/// Behind a link header that names IPv6.
-const LINK_CHANGES: [Change; 4] = [
-    (0, 0x00, Err(Why::BadHeader)),
-    (0, 0x45, Err(Why::BadHeader)),
-    (6, 0x06, Err(Why::NotPim)),
-    (5, 0x0b, Err(Why::Cut)),
-];
-
-/// The only record of a capture, behind so many bytes of a link header.
-fn event(behind: usize, is: Result<usize, Why>) -> Event {
-    let millis = 100_001;
-    match is {
-        Ok(end) => v6(
-            millis,
-            behind.saturating_add(40),
-            behind.saturating_add(end),
-        ),
-        Err(why) => Event::Skipped { millis, why },
-    }
-}
-
-/// A capture of the Hello behind a link header, with that byte changed, answers so.
-fn expect_change(
-    rt: &impl Abort,
-    alloc: Global,
-    (link, header): (u32, &[u8]),
-    (at, byte, is): Change,
-) -> Result<(), AllocError> {
+/// The only record of a capture, which holds this front of a packet, is cut.
+fn expect_cut(rt: &impl Abort, alloc: Global, link: u32, packet: &[u8]) -> Result<(), AllocError> {
     let mut buffer = Vec::new(alloc);
-    let mut packet = HELLO_V6;
-    if at < packet.len() {
-        packet[at] = byte;
-    }
-    let mut builder = Builder::new(alloc, true, MICROSECONDS, link)?;
-    builder.packet(1_999, header, &packet)?;
-    let wants = [Ok(event(header.len(), is)), Ok(Event::End)];
-    expect(rt, builder.feed(), &mut buffer, &wants);
-    Ok(())
-}
-
-#[test]
-fn ipv6_frames_with_a_byte_changed(rt: HostRuntime) -> Result<(), Fail> {
-    for change in RAW_CHANGES {
-        expect_change(&rt, rt.alloc(), (101, &[]), change)?;
-    }
-    for change in LINK_CHANGES {
-        expect_change(&rt, rt.alloc(), (1, &ETHERNET_V6), change)?;
-        expect_change(&rt, rt.alloc(), (1, &TAGGED_V6), change)?;
-    }
-    Ok(())
-}
-
-/// A record of a front of these bytes is cut.
-fn expect_cut(rt: &impl Abort, alloc: Global, link: u32, front: &[u8]) -> Result<(), AllocError> {
-    let mut buffer = Vec::new(alloc);
-    let mut builder = Builder::new(alloc, true, MICROSECONDS, link)?;
-    builder.packet(1_999, &[], front)?;
-    let wants = [Ok(event(0, Err(Why::Cut))), Ok(Event::End)];
+    let mut builder = Builder::new(alloc, link)?;
+    builder.record(1_999, packet)?;
+    let skipped = Event::Skipped {
+        millis: 100_001,
+        why: Why::Cut,
+    };
+    let wants = [Ok(skipped), Ok(Event::End)];
     expect(rt, builder.feed(), &mut buffer, &wants);
     Ok(())
 }

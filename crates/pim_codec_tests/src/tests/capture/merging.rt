@@ -30,17 +30,6 @@ fn both(alloc: Global) -> Result<Vec<u8>, AllocError> {
     Ok(bytes)
 }
 
-/// A capture of empty records at these times, in milliseconds.
-fn capture_of(alloc: Global, times: &[u32]) -> Result<Vec<u8>, AllocError> {
-    let mut bytes = Vec::from_slice(alloc, &HEADER)?;
-    for time in times {
-        bytes.extend_from_slice(&(*time / 1_000).to_le_bytes())?;
-        bytes.extend_from_slice(&(*time % 1_000 * 1_000).to_le_bytes())?;
-        bytes.extend_from_slice(&[0; 8])?;
-    }
-    Ok(bytes)
-}
-
 /// The capture and the moment of a turn.
 fn place(told: Result<Option<Turn>, MergeFault>) -> Result<Option<(usize, u64)>, MergeFault> {
     match told {
@@ -71,50 +60,10 @@ fn expect<R: Feed + Drop>(
     assert_eq!(rt; place(merge.next()), after);
 }
 
-/// Two captures of empty records at these times are merged into these turns.
-fn merges(
-    rt: &impl Abort,
-    alloc: Global,
-    first: &[u32],
-    second: &[u32],
-    turns: &[(usize, u64)],
-) -> Result<(), AllocError> {
-    let one = capture_of(alloc, first)?;
-    let other = capture_of(alloc, second)?;
-    let mut merge = Merge::new(alloc);
-    merge.add(alloc, ScriptedFeed::new(one.as_slice(), 1, NEVER))?;
-    merge.add(alloc, ScriptedFeed::new(other.as_slice(), 7, NEVER))?;
-    expect(rt, &mut merge, turns, Ok(None));
-    Ok(())
-}
-
-#[test]
-fn records_come_by_time(rt: HostRuntime) -> Result<(), Fail> {
-    let alloc = rt.alloc();
-    merges(&rt, alloc, &[], &[], &[])?;
-    merges(&rt, alloc, &[100, 105], &[], &[(0, 0), (0, 5)])?;
-    merges(&rt, alloc, &[], &[1, 2], &[(1, 0), (1, 1)])?;
-    merges(&rt, alloc, &[9], &[1], &[(1, 0), (0, 8)])?;
-    let turns = [(1, 0), (0, 4), (1, 5), (0, 6)];
-    merges(&rt, alloc, &[7, 9], &[3, 8], &turns)?;
-    let ties = [(0, 0), (0, 0), (1, 0), (1, 1_000)];
-    merges(&rt, alloc, &[5, 5], &[5, 1_005], &ties)?;
-    Ok(())
-}
-
-#[test]
-fn times_that_run_back_count_as_now(rt: HostRuntime) -> Result<(), Fail> {
-    let alloc = rt.alloc();
-    merges(&rt, alloc, &[10, 4, 12], &[], &[(0, 0), (0, 0), (0, 2)])?;
-    let turns = [(0, 0), (1, 1), (1, 1), (0, 10)];
-    merges(&rt, alloc, &[10, 20], &[11, 3], &turns)?;
-    Ok(())
-}
-
 #[test]
 fn the_first_fault_ends_it(rt: HostRuntime) -> Result<(), Fail> {
     let alloc = rt.alloc();
-    let good = capture_of(alloc, &[1])?;
+    let good = both(alloc)?;
     let mut merge = Merge::new(alloc);
     merge.add(alloc, ScriptedFeed::new(good.as_slice(), 64, NEVER))?;
     merge.add(alloc, ScriptedFeed::new(&RECORDS, 64, NEVER))?;
@@ -187,21 +136,6 @@ fn reads_that_fail(rt: HostRuntime) -> Result<(), Fail> {
     let whole = both(alloc)?;
     for length in 0..=whole.len() {
         fails_from(&rt, alloc, whole.as_slice(), length)?;
-    }
-    Ok(())
-}
-
-#[test]
-fn bytes_are_those_of_the_turn(rt: HostRuntime) -> Result<(), Fail> {
-    let alloc = rt.alloc();
-    let whole = both(alloc)?;
-    let mut merge = Merge::new(alloc);
-    merge.add(alloc, ScriptedFeed::new(whole.as_slice(), 64, NEVER))?;
-    for (start, end) in [(16, 46), (62, 116)] {
-        let Ok(Some(turn)) = merge.next() else {
-            return Err(Fail::from("a turn"));
-        };
-        assert_eq!(&rt; Some(merge.bytes(turn.capture)), RECORDS.get(start..end));
     }
     Ok(())
 }

@@ -1,14 +1,12 @@
+//! Neighbours: calls that no command of a session makes, as many as a port may have, and growths that are refused.
+
 use pim_addr::V4;
-use pim_hello::{
-    Heard, Hello, KnownNeighbour, LanDelay, NeighbourFault, Neighbours, Parameters, PortDelays,
-};
+use pim_hello::{Heard, Hello, LanDelay, NeighbourFault, Neighbours, Parameters, PortDelays};
 use std::alloc::Global;
 
 const SENDER: [u8; 4] = [10, 0, 0, 1];
 
 const OTHER: [u8; 4] = [10, 0, 0, 2];
-
-const THIRD: [u8; 4] = [10, 0, 0, 3];
 
 const NOTHING: Parameters = Parameters {
     holdtime: None,
@@ -21,13 +19,10 @@ const NOTHING: Parameters = Parameters {
 #[derive(Clone, Copy)]
 enum Says {
     Nothing,
-    Generation(u32),
     /// This holdtime, in seconds.
     Holdtime(u16),
     /// A propagation delay of up to 32,767 ms, and an override delay.
     Delays(u16, u16),
-    /// The same, and a holdtime of one second.
-    Briefly(u16, u16),
 }
 
 fn delays(propagation: u16, override_ms: u16) -> Option<LanDelay> {
@@ -41,21 +36,12 @@ fn delays(propagation: u16, override_ms: u16) -> Option<LanDelay> {
 fn parameters(says: Says) -> Parameters {
     match says {
         Says::Nothing => NOTHING,
-        Says::Generation(generation) => Parameters {
-            generation: Some(generation),
-            ..NOTHING
-        },
         Says::Holdtime(seconds) => Parameters {
             holdtime: Some(seconds),
             ..NOTHING
         },
         Says::Delays(propagation, override_ms) => Parameters {
             lan: delays(propagation, override_ms),
-            ..NOTHING
-        },
-        Says::Briefly(propagation, override_ms) => Parameters {
-            lan: delays(propagation, override_ms),
-            holdtime: Some(1),
             ..NOTHING
         },
     }
@@ -80,8 +66,6 @@ const NEW: Answer = Ok(Heard::New);
 
 const SAME: Answer = Ok(Heard::Same);
 
-const RESTARTED: Answer = Ok(Heard::Restarted);
-
 const GONE: Answer = Ok(Heard::Gone);
 
 /// What happens to a table of neighbours, and what it tells.
@@ -91,7 +75,6 @@ enum Row {
     Hears([u8; 4], Says, u64, Answer),
     /// Neighbours whose time is over by this moment go.
     Expires(u64),
-    Gathers,
     Knows([u8; 4], bool),
     Count(usize),
     /// The override interval of a port with this propagation delay and this override delay of its own.
@@ -113,10 +96,6 @@ fn goes(neighbours: &mut Neighbours<V4>, row: Row) -> bool {
             }
             moment <= LATEST
         }
-        Row::Gathers => {
-            neighbours.gather_delays();
-            true
-        }
         Row::Knows(sender, known) => neighbours.knows(sender) == known,
         Row::Count(count) => neighbours.count() == count,
         Row::Interval(propagation, override_ms, want) => {
@@ -133,33 +112,6 @@ fn goes(neighbours: &mut Neighbours<V4>, row: Row) -> bool {
 fn first_wrong(alloc: Global, rows: &[Row]) -> Option<usize> {
     let mut neighbours: Neighbours<V4> = Neighbours::new(alloc);
     rows.iter().position(|row| !goes(&mut neighbours, *row))
-}
-
-const MEANINGS: [Row; 19] = [
-    Row::Hears(SENDER, Says::Generation(1), 0, NEW),
-    Row::Knows(SENDER, true),
-    Row::Hears(SENDER, Says::Generation(1), 0, SAME),
-    Row::Knows(SENDER, true),
-    Row::Hears(SENDER, Says::Generation(2), 0, RESTARTED),
-    Row::Knows(SENDER, true),
-    Row::Hears(SENDER, Says::Nothing, 0, RESTARTED),
-    Row::Knows(SENDER, true),
-    Row::Hears(SENDER, Says::Nothing, 0, SAME),
-    Row::Knows(SENDER, true),
-    Row::Hears(SENDER, Says::Generation(2), 0, RESTARTED),
-    Row::Knows(SENDER, true),
-    Row::Hears(SENDER, Says::Holdtime(0), 0, GONE),
-    Row::Knows(SENDER, false),
-    Row::Hears(SENDER, Says::Holdtime(0), 0, GONE),
-    Row::Knows(SENDER, false),
-    Row::Hears(SENDER, Says::Nothing, 0, NEW),
-    Row::Knows(SENDER, true),
-    Row::Count(1),
-];
-
-#[test]
-fn tells_what_a_hello_means(rt: HostRuntime) {
-    assert_eq!(rt; first_wrong(rt.alloc(), &MEANINGS), None);
 }
 
 /// With the default delays of a port.
@@ -229,108 +181,17 @@ fn goes_by_the_greatest_delays_that_are_left(rt: HostRuntime) {
     assert_eq!(rt; first_otherwise(rt.alloc(), &GREATEST, true), None);
 }
 
-const RAISED: [Left; 7] = [
-    (SENDER, Says::Delays(700, 2000), 2700),
-    (OTHER, Says::Delays(600, 3000), 3700),
-    (OTHER, Says::Delays(800, 3000), 3800),
-    (SENDER, Says::Delays(900, 3500), 4400),
-    // Each delay counts by itself.
-    (SENDER, Says::Delays(1000, 2500), 4000),
-    (SENDER, Says::Delays(500, 2500), 3800),
-    (SENDER, Says::Delays(500, 3200), 4000),
-];
-
-#[test]
-fn goes_by_delays_that_are_raised_and_lowered(rt: HostRuntime) {
-    assert_eq!(rt; first_otherwise(rt.alloc(), &RAISED, false), None);
-    assert_eq!(rt; first_otherwise(rt.alloc(), &RAISED, true), None);
-}
-
-const AROUND_NONE: [Left; 10] = [
-    (SENDER, Says::Delays(700, 2000), 2700),
-    (OTHER, Says::Delays(600, 3000), 3700),
-    (OTHER, Says::Nothing, 3000),
-    (OTHER, Says::Nothing, 3000),
-    (SENDER, Says::Delays(800, 4000), 3000),
-    (OTHER, Says::Delays(50, 200), 4800),
-    (SENDER, Says::Nothing, 3000),
-    (OTHER, Says::Nothing, 3000),
-    (SENDER, Says::Delays(300, 400), 3000),
-    (OTHER, Says::Delays(200, 500), 800),
-];
-
-#[test]
-fn goes_by_delays_that_are_told_around_none(rt: HostRuntime) {
-    assert_eq!(rt; first_otherwise(rt.alloc(), &AROUND_NONE, false), None);
-    assert_eq!(rt; first_otherwise(rt.alloc(), &AROUND_NONE, true), None);
-}
-
-const FORGOTTEN: [Row; 8] = [
-    Row::Hears(SENDER, Says::Briefly(700, 3000), 0, NEW),
-    Row::Hears(OTHER, Says::Delays(600, 2000), 0, NEW),
-    Row::Expires(999),
-    Row::Interval(500, 2500, 3700),
-    Row::Expires(1000),
-    Row::Interval(500, 2500, 3100),
-    Row::Gathers,
-    Row::Interval(500, 2500, 3100),
-];
-
-#[test]
-fn forgets_the_delays_of_those_that_end(rt: HostRuntime) {
-    assert_eq!(rt; first_wrong(rt.alloc(), &FORGOTTEN), None);
-}
-
-const TIMES: [Row; 14] = [
+const TIMES: [Row; 5] = [
     Row::Hears(SENDER, Says::Nothing, 0, NEW),
     Row::Hears(OTHER, Says::Holdtime(0xffff), 0, NEW),
-    Row::Expires(104_999),
-    Row::Knows(SENDER, true),
-    // An earlier moment counts as this one: the time of this sender ends at 105,999.
-    Row::Hears(THIRD, Says::Holdtime(1), 7, NEW),
-    Row::Expires(105_000),
-    Row::Knows(SENDER, false),
-    Row::Expires(105_998),
-    Row::Knows(THIRD, true),
-    Row::Expires(105_999),
-    Row::Knows(THIRD, false),
     Row::Expires(LATEST),
+    Row::Knows(SENDER, false),
     Row::Knows(OTHER, true),
-    Row::Count(1),
 ];
 
 #[test]
-fn ends_times(rt: HostRuntime) {
+fn ends_times_until_the_last_moment(rt: HostRuntime) {
     assert_eq!(rt; first_wrong(rt.alloc(), &TIMES), None);
-}
-
-const TWO: [Row; 3] = [
-    Row::Hears(OTHER, Says::Holdtime(0xffff), 1_000, NEW),
-    Row::Hears(SENDER, Says::Generation(7), 1_000, NEW),
-    Row::Expires(6_000),
-];
-
-/// Whether these are the neighbours, in their order.
-fn are_known(neighbours: &Neighbours<V4>, wanted: &[Option<KnownNeighbour<[u8; 4]>>]) -> bool {
-    let mut entries = neighbours.entries();
-    wanted.iter().all(|want| entries.next() == *want)
-}
-
-#[test]
-fn walks_in_address_order(rt: HostRuntime) {
-    let mut neighbours: Neighbours<V4> = Neighbours::new(rt.alloc());
-    assert!(rt; TWO.iter().all(|row| goes(&mut neighbours, *row)));
-    let first = KnownNeighbour {
-        address: SENDER,
-        parameters: parameters(Says::Generation(7)),
-        left: Some(100_000),
-    };
-    let second = KnownNeighbour {
-        address: OTHER,
-        parameters: parameters(Says::Holdtime(0xffff)),
-        left: None,
-    };
-    assert!(rt; are_known(&neighbours, &[Some(first), Some(second), None]));
 }
 
 /// Lets so many new neighbours come as a table may hold, from 10.1.0.0 on: whether each is told as new.
@@ -428,29 +289,5 @@ fn refusals_change_nothing(rt: HostRuntime) {
         assert!(rt; comes_behind(&mut neighbours, number));
     }
     let wrong = ENDS.iter().position(|row| !goes(&mut neighbours, *row));
-    assert_eq!(rt; wrong, None);
-}
-
-/// What is told of a body, over IPv4, that comes at this moment; `None` where it isn't read.
-fn heard_of(neighbours: &mut Neighbours<V4>, body: &[u8], moment: u64) -> Option<Answer> {
-    let hello = Hello::<V4>::read(body).ok()?;
-    Some(neighbours.hear(SENDER, &hello, moment.min(LATEST)))
-}
-
-const OVER: [Row; 4] = [
-    Row::Expires(105_000),
-    Row::Knows(SENDER, true),
-    Row::Expires(105_001),
-    Row::Knows(SENDER, false),
-];
-
-/// A Hello as it comes: holdtime 105, generation 16,909,060.
-#[test]
-fn hears_a_hello(rt: HostRuntime) {
-    let mut neighbours: Neighbours<V4> = Neighbours::new(rt.alloc());
-    let body = [0, 1, 0, 2, 0, 105, 0, 20, 0, 4, 1, 2, 3, 4];
-    assert!(rt; heard_of(&mut neighbours, &body, 0) == Some(NEW));
-    assert!(rt; heard_of(&mut neighbours, &body, 1) == Some(SAME));
-    let wrong = OVER.iter().position(|row| !goes(&mut neighbours, *row));
     assert_eq!(rt; wrong, None);
 }

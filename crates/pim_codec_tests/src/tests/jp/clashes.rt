@@ -1,4 +1,4 @@
-//! Sources in both lists among as many that each size of block is filled, of both families and both types.
+//! Sources in both lists, of both families and both types. Their numbers fill blocks of each size.
 
 use pim_addr::{Family, V4, V6};
 use pim_jp::JpKind::BothLists;
@@ -27,210 +27,44 @@ const FORM_V6: Form<'static> = Form {
     flags_behind: b"\x80\x20\x01\x0d\xb8\0\0\0\0\0\0\0\0\0",
 };
 
-/// How many sources are joined and how many pruned, and which of the pruned is the first that is joined too, and which
-/// of the joined it is. Those behind it are joined as well where there is a step: so many places on in the joined
-/// list for each, round and round.
-#[derive(Clone, Copy, Debug)]
-struct Row {
-    joined: u16,
-    pruned: u16,
-    twins: Option<(u16, u16)>,
-    step: Option<u16>,
-}
+/// The number of sources that are joined, and that are pruned. Then the place of the first pruned
+/// source that is joined too, and its place among the joined ones. Later pruned sources are joined as
+/// well where there is a step: their places among the joined ones are that far apart, in a ring.
+type Row = (u16, u16, Option<(u16, u16)>, Option<u16>);
 
 const ROWS: [Row; 32] = [
-    Row {
-        joined: 4,
-        pruned: 4,
-        twins: Some((3, 3)),
-        step: None,
-    },
-    Row {
-        joined: 5,
-        pruned: 3,
-        twins: Some((0, 4)),
-        step: None,
-    },
-    Row {
-        joined: 16,
-        pruned: 4,
-        twins: Some((3, 15)),
-        step: None,
-    },
-    Row {
-        joined: 17,
-        pruned: 5,
-        twins: Some((4, 16)),
-        step: None,
-    },
-    Row {
-        joined: 128,
-        pruned: 9,
-        twins: Some((0, 127)),
-        step: None,
-    },
-    Row {
-        joined: 129,
-        pruned: 9,
-        twins: Some((8, 0)),
-        step: None,
-    },
-    Row {
-        joined: 1024,
-        pruned: 4,
-        twins: Some((3, 1023)),
-        step: None,
-    },
-    Row {
-        joined: 1025,
-        pruned: 4,
-        twins: Some((0, 1024)),
-        step: None,
-    },
-    Row {
-        joined: 4096,
-        pruned: 3,
-        twins: Some((2, 4095)),
-        step: None,
-    },
-    Row {
-        joined: 4097,
-        pruned: 3,
-        twins: Some((1, 4096)),
-        step: None,
-    },
-    Row {
-        joined: 4097,
-        pruned: 40,
-        twins: None,
-        step: None,
-    },
-    Row {
-        joined: 4,
-        pruned: 9,
-        twins: Some((8, 0)),
-        step: None,
-    },
-    Row {
-        joined: 5,
-        pruned: 8,
-        twins: Some((7, 4)),
-        step: None,
-    },
-    Row {
-        joined: 5,
-        pruned: 9,
-        twins: Some((8, 4)),
-        step: None,
-    },
-    Row {
-        joined: 128,
-        pruned: 8,
-        twins: Some((0, 127)),
-        step: None,
-    },
-    Row {
-        joined: 128,
-        pruned: 9,
-        twins: Some((8, 64)),
-        step: Some(3),
-    },
-    Row {
-        joined: 129,
-        pruned: 9,
-        twins: Some((0, 128)),
-        step: Some(1),
-    },
-    Row {
-        joined: 129,
-        pruned: 300,
-        twins: Some((299, 0)),
-        step: None,
-    },
-    Row {
-        joined: 300,
-        pruned: 40,
-        twins: Some((7, 299)),
-        step: Some(0),
-    },
-    Row {
-        joined: 1024,
-        pruned: 9,
-        twins: Some((8, 1023)),
-        step: None,
-    },
-    Row {
-        joined: 1025,
-        pruned: 20,
-        twins: Some((3, 1024)),
-        step: Some(1),
-    },
-    Row {
-        joined: 4096,
-        pruned: 9,
-        twins: Some((8, 4095)),
-        step: None,
-    },
-    Row {
-        joined: 4097,
-        pruned: 30,
-        twins: Some((9, 4096)),
-        step: Some(1),
-    },
-    Row {
-        joined: 4097,
-        pruned: 9,
-        twins: Some((8, 4096)),
-        step: Some(0),
-    },
-    Row {
-        joined: 300,
-        pruned: 9,
-        twins: None,
-        step: None,
-    },
-    Row {
-        joined: 300,
-        pruned: 128,
-        twins: Some((127, 0)),
-        step: None,
-    },
-    Row {
-        joined: 300,
-        pruned: 129,
-        twins: Some((0, 299)),
-        step: Some(1),
-    },
-    Row {
-        joined: 130,
-        pruned: 129,
-        twins: Some((128, 129)),
-        step: None,
-    },
-    Row {
-        joined: 129,
-        pruned: 129,
-        twins: Some((128, 0)),
-        step: Some(0),
-    },
-    Row {
-        joined: 1100,
-        pruned: 1025,
-        twins: None,
-        step: None,
-    },
-    Row {
-        joined: 4100,
-        pruned: 4096,
-        twins: Some((4095, 4099)),
-        step: None,
-    },
-    Row {
-        joined: 4110,
-        pruned: 4097,
-        twins: Some((4096, 4109)),
-        step: None,
-    },
+    (4, 4, Some((3, 3)), None),
+    (5, 3, Some((0, 4)), None),
+    (16, 4, Some((3, 15)), None),
+    (17, 5, Some((4, 16)), None),
+    (128, 9, Some((0, 127)), None),
+    (129, 9, Some((8, 0)), None),
+    (1024, 4, Some((3, 1023)), None),
+    (1025, 4, Some((0, 1024)), None),
+    (4096, 3, Some((2, 4095)), None),
+    (4097, 3, Some((1, 4096)), None),
+    (4097, 40, None, None),
+    (4, 9, Some((8, 0)), None),
+    (5, 8, Some((7, 4)), None),
+    (5, 9, Some((8, 4)), None),
+    (128, 8, Some((0, 127)), None),
+    (128, 9, Some((8, 64)), Some(3)),
+    (129, 9, Some((0, 128)), Some(1)),
+    (129, 300, Some((299, 0)), None),
+    (300, 40, Some((7, 299)), Some(0)),
+    (1024, 9, Some((8, 1023)), None),
+    (1025, 20, Some((3, 1024)), Some(1)),
+    (4096, 9, Some((8, 4095)), None),
+    (4097, 30, Some((9, 4096)), Some(1)),
+    (4097, 9, Some((8, 4096)), Some(0)),
+    (300, 9, None, None),
+    (300, 128, Some((127, 0)), None),
+    (300, 129, Some((0, 299)), Some(1)),
+    (130, 129, Some((128, 129)), None),
+    (129, 129, Some((128, 0)), Some(0)),
+    (1100, 1025, None, None),
+    (4100, 4096, Some((4095, 4099)), None),
+    (4110, 4097, Some((4096, 4109)), None),
 ];
 
 /// The last three bytes of a source: even of the joined ones, odd of the pruned ones, in no order.
@@ -240,8 +74,8 @@ fn number(index: u16, is_odd: bool) -> [u8; 3] {
     [high, middle, low]
 }
 
-/// The flags of the joined entries and of the pruned ones. Where they are mixed, every second joined one is (S,G,rpt),
-/// every second pruned one too, and a pruned one that is joined is of the type that it is joined by.
+/// The flags of the joined entries and of the pruned ones. Where they are mixed, every second entry
+/// of a list is (S,G,rpt), but a pruned one that is joined has the type by which it is joined.
 #[derive(Clone, Copy)]
 struct Flags {
     joined: u8,
@@ -255,15 +89,16 @@ fn flags_at(flags: u8, mixed: bool, index: u16) -> u8 {
 
 /// The place in the joined list of the pruned source at this place, where it is joined too.
 fn twin_at(row: Row, index: u16) -> Option<u16> {
-    let (place, twin) = row.twins?;
+    let (joined, _, twins, step) = row;
+    let (place, twin) = twins?;
     if index == place {
         return Some(twin);
     }
     if index < place {
         return None;
     }
-    let steps = row.step?.wrapping_mul(index - place);
-    Some(twin.wrapping_add(steps) % row.joined.max(1))
+    let steps = step?.wrapping_mul(index - place);
+    Some(twin.wrapping_add(steps) % joined.max(1))
 }
 
 fn push_entry(
@@ -280,13 +115,14 @@ fn push_entry(
 
 /// Adds the counts of a row, and its entries.
 fn push_row(form: &Form<'_>, flags: Flags, row: Row, body: &mut Vec<u8>) -> Result<(), AllocError> {
-    body.extend_from_slice(&row.joined.to_be_bytes())?;
-    body.extend_from_slice(&row.pruned.to_be_bytes())?;
-    for index in 0..row.joined {
+    let (joined, pruned, ..) = row;
+    body.extend_from_slice(&joined.to_be_bytes())?;
+    body.extend_from_slice(&pruned.to_be_bytes())?;
+    for index in 0..joined {
         let bits = flags_at(flags.joined, flags.mixed, index);
         push_entry(form, bits, number(index, false), body)?;
     }
-    for index in 0..row.pruned {
+    for index in 0..pruned {
         let twin = twin_at(row, index);
         let bits = flags_at(flags.pruned, flags.mixed, twin.unwrap_or(index));
         let number = match twin {
@@ -303,16 +139,17 @@ fn fault<F: Family>(body: &[u8]) -> Option<(JpKind, usize)> {
     Some((fault.kind, fault.at))
 }
 
-/// The first pruned twin, where there is one: behind the counts, which end at byte 22 or 46, and the entries before it,
-/// of 8 or 20 bytes each.
+/// The first pruned twin, where there is one. The counts before it end at byte 22 or 46, and each
+/// entry has 8 or 20 bytes.
 fn fault_wanted(counts_end: u8, entry: u8, row: Row) -> Option<(JpKind, usize)> {
-    let (place, _) = row.twins?;
-    let before = usize::from(row.joined) + usize::from(place);
+    let (joined, _, twins, _) = row;
+    let (place, _) = twins?;
+    let before = usize::from(joined) + usize::from(place);
     let at = usize::from(counts_end) + usize::from(entry) * before;
     Some((BothLists, at))
 }
 
-/// Whether this fault is told of the body of a row.
+/// Whether the body of a row has this fault.
 fn tells<F: Family>(
     alloc: Global,
     form: &Form<'_>,
@@ -326,7 +163,7 @@ fn tells<F: Family>(
     push_row(form, flags, row, &mut body).is_ok() && fault::<F>(&body) == want
 }
 
-/// Whether the first pruned twin is told, over both families.
+/// Whether the first pruned twin is the fault, over both families.
 fn tells_twin(alloc: Global, flags: Flags, row: Row) -> bool {
     tells::<V4>(alloc, &FORM_V4, flags, row, fault_wanted(22, 8, row))
         && tells::<V6>(alloc, &FORM_V6, flags, row, fault_wanted(46, 20, row))

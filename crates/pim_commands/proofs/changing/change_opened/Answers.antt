@@ -9,7 +9,7 @@ use Rattle.pim_router.specs.State.{Setup}
 use Rattle.pim_words.specs.declared.fault.Side.TheVariants.{A, B}
 use Rattle.pim_words.specs.declared.task.Port.{Port}
 use Rattle.pim_commands.specs.Replaying.{config_of, IsUnmade}
-use Rattle.pim_commands.specs.Comparing.{is_of}
+use Rattle.pim_files.specs.Captures.{is_of}
 use Rattle.pim_commands.proofs.Routers.{as_many}
 use Rattle.pim_commands.proofs.Compared.{a_unmade, b_unmade}
 use Rattle.pim_commands.proofs.Mirrored.{failures_mirrored}

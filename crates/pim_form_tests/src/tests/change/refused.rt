@@ -1,27 +1,51 @@
 //! Growths that are refused while the messages of a change are made.
 
-use super::messages::{Outcome, outcome_of, told};
-use super::{Wanted, form};
+use super::{new_form, old_form};
+use crate::tests::state::state4;
 use pim_addr::V4;
-use pim_form::NormalForm;
+use pim_change::triggered;
+use pim_form::{FormFault, Messages, NormalForm};
 use std::alloc::Global;
 
-/// What comes of a change, told with messages of up to 1,400 bytes.
-fn comes_of(alloc: Global, old: &NormalForm<V4>, new: &NormalForm<V4>) -> Outcome {
-    outcome_of(&told(alloc, old, new, 1400))
+/// Of the exception that went, of the source that came and of the exception that came.
+const MESSAGE: [u8; 50] = [
+    35, 0, 136, 158, 1, 0, 10, 0, 0, 2, 0, 1, 0, 210, 1, 0, 0, 32, 239, 1, 1, 1, 0, 2, 0, 1, 1, 0,
+    5, 32, 192, 0, 2, 1, 1, 0, 4, 32, 192, 0, 2, 1, 1, 0, 5, 32, 192, 0, 2, 2,
+];
+
+/// What is told to 10.0.0.2 of a change.
+fn told(
+    alloc: Global,
+    old: &NormalForm<V4>,
+    new: &NormalForm<V4>,
+) -> Result<Messages, FormFault<V4>> {
+    match state4(alloc, 1, 1400) {
+        Some(state) => triggered(alloc, old, new, &state.writer, &state.routes),
+        None => Err(FormFault::Memory),
+    }
 }
 
-/// Whether the change is told with memory.
-fn is_told_again(alloc: Global, old: &NormalForm<V4>, new: &NormalForm<V4>) -> bool {
-    let wanted = Outcome::Lengths([50, 0, 0]);
-    let first = comes_of(alloc, old, new);
-    first == wanted || first == Outcome::Memory && comes_of(alloc, old, new) == wanted
+/// Whether the change is told by its one message; `None` where memory is wanting.
+fn is_told(alloc: Global, old: &NormalForm<V4>, new: &NormalForm<V4>) -> Option<bool> {
+    match told(alloc, old, new) {
+        Ok(messages) => Some(messages.count() == 1 && messages.get(0) == Some(MESSAGE.as_slice())),
+        Err(FormFault::Memory) => None,
+        Err(_) => Some(false),
+    }
 }
 
-/// The same of a change to a state; no form is no fault.
+/// Whether the change is told, at once or with memory.
+fn is_told_at_last(alloc: Global, old: &NormalForm<V4>, new: &NormalForm<V4>) -> bool {
+    match is_told(alloc, old, new) {
+        Some(answer) => answer,
+        None => is_told(alloc, old, new) == Some(true),
+    }
+}
+
+/// The same of a change to the new form; no form is no fault.
 fn refusals_leave(alloc: Global, old: &NormalForm<V4>) -> bool {
-    match form(alloc, Wanted::StarExceptSecondAndFirst) {
-        Some(new) => is_told_again(alloc, old, &new),
+    match new_form(alloc) {
+        Some(new) => is_told_at_last(alloc, old, &new),
         None => true,
     }
 }
@@ -29,7 +53,7 @@ fn refusals_leave(alloc: Global, old: &NormalForm<V4>) -> bool {
 // With each allocation refused in turn (`tools/each_growth_refused.sh`): the same call, with memory, tells the change.
 #[test]
 fn refusals_leave_what_is_told(rt: HostRuntime) {
-    if let Some(old) = form(rt.alloc(), Wanted::StarExceptFirst) {
+    if let Some(old) = old_form(rt.alloc()) {
         assert!(rt; refusals_leave(rt.alloc(), &old));
     }
 }

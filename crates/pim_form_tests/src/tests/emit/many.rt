@@ -1,15 +1,15 @@
 //! Ports that want of one group, up to 64, or of groups by turns.
 
-use super::long::{messages_of_200, messages_of_256_stars};
-use super::rows::{EXCEPT_A, is_written};
-use super::{GROUP, NEXT_GROUP, RP, State, hear, is_packed, source, state4, written};
-use pim_addr::V4;
+use super::long::messages_of_200;
+use super::{
+    EXCEPT_A, GROUP, NEXT_GROUP, RP, State, hear, is_packed, is_written, source, state4, written,
+};
 use pim_device::ScriptedDrain;
 use pim_jp::Entry;
 use std::alloc::{AllocError, Global};
 
 /// On each port the star is joined, and 192.0.2.1 pruned, and a source of the port's own.
-fn hear_meeting(alloc: Global, state: &mut State<V4>) -> bool {
+fn hear_meeting(alloc: Global, state: &mut State) -> bool {
     for port in 0..64 {
         let pruned = [
             Entry::Rpt([192, 0, 2, 1]),
@@ -23,7 +23,7 @@ fn hear_meeting(alloc: Global, state: &mut State<V4>) -> bool {
 }
 
 /// Whether the exception of all ports is told alone.
-fn exceptions_meet(alloc: Global, state: &mut State<V4>) -> bool {
+fn exceptions_meet(alloc: Global, state: &mut State) -> bool {
     hear_meeting(alloc, state) && is_written(alloc, state, 1, &EXCEPT_A)
 }
 
@@ -41,7 +41,7 @@ fn exceptions_of_64_ports_meet(rt: HostRuntime) {
 }
 
 /// 200 sources of the group, one a port by turns.
-fn hear_by_turns(alloc: Global, state: &mut State<V4>) -> bool {
+fn hear_by_turns(alloc: Global, state: &mut State) -> bool {
     for number in 1..201 {
         let joined = [Entry::Source(source(number as u8))];
         if !hear(alloc, state, (number - 1) % 64, GROUP, &joined, &[]) {
@@ -52,7 +52,7 @@ fn hear_by_turns(alloc: Global, state: &mut State<V4>) -> bool {
 }
 
 /// Whether they are told in their order.
-fn are_told_in_order(alloc: Global, state: &State<V4>) -> bool {
+fn are_told_in_order(alloc: Global, state: &State) -> bool {
     match messages_of_200(alloc) {
         Ok(bytes) => is_written(alloc, state, 2, &bytes),
         Err(_) => false,
@@ -60,7 +60,7 @@ fn are_told_in_order(alloc: Global, state: &State<V4>) -> bool {
 }
 
 /// The same where they are heard now.
-fn sources_meet(alloc: Global, state: &mut State<V4>) -> bool {
+fn sources_meet(alloc: Global, state: &mut State) -> bool {
     hear_by_turns(alloc, state) && are_told_in_order(alloc, state)
 }
 
@@ -77,43 +77,6 @@ fn sources_of_64_ports_meet(rt: HostRuntime) {
     assert!(rt; sources_are_met(rt.alloc()));
 }
 
-/// The stars of 239.1.0.0 to 239.1.0.255, one a port by turns.
-fn hear_stars(alloc: Global, state: &mut State<V4>) -> bool {
-    for number in 0..256 {
-        let group = [239, 1, 0, number as u8];
-        if !hear(alloc, state, number % 64, group, &[Entry::Star(RP)], &[]) {
-            return false;
-        }
-    }
-    true
-}
-
-/// Whether they are told in their order.
-fn stars_are_told(alloc: Global, state: &State<V4>) -> bool {
-    match messages_of_256_stars(alloc) {
-        Ok(bytes) => bytes.len() == 5152 && is_written(alloc, state, 2, &bytes),
-        Err(_) => false,
-    }
-}
-
-/// The same where they are heard now.
-fn groups_take_turns(alloc: Global, state: &mut State<V4>) -> bool {
-    hear_stars(alloc, state) && stars_are_told(alloc, state)
-}
-
-/// The same of a new state.
-fn turns_are_taken(alloc: Global) -> bool {
-    match state4(alloc, 64, 6000) {
-        Some(mut state) => groups_take_turns(alloc, &mut state),
-        None => false,
-    }
-}
-
-#[test]
-fn groups_of_64_ports_take_turns(rt: HostRuntime) {
-    assert!(rt; turns_are_taken(rt.alloc()));
-}
-
 fn push_pruned(pruned: &mut Vec<Entry<[u8; 4]>>, port: usize) -> Result<(), AllocError> {
     for number in 0..port.min(37) + 3 {
         pruned.push(Entry::Rpt(source((200 - number % 100) as u8)))?;
@@ -122,7 +85,7 @@ fn push_pruned(pruned: &mut Vec<Entry<[u8; 4]>>, port: usize) -> Result<(), Allo
 }
 
 /// A port joins the star, without one source more than the port before it.
-fn hear_star_on(alloc: Global, state: &mut State<V4>, port: usize) -> bool {
+fn hear_star_on(alloc: Global, state: &mut State, port: usize) -> bool {
     let mut pruned = Vec::new(alloc);
     match push_pruned(&mut pruned, port) {
         Ok(()) => hear(alloc, state, port, GROUP, &[Entry::Star(RP)], &pruned),
@@ -131,7 +94,7 @@ fn hear_star_on(alloc: Global, state: &mut State<V4>, port: usize) -> bool {
 }
 
 /// Every second port joins two sources of the next group.
-fn hear_next_group_on(alloc: Global, state: &mut State<V4>, port: usize) -> bool {
+fn hear_next_group_on(alloc: Global, state: &mut State, port: usize) -> bool {
     let two = [
         Entry::Source(source((port % 7 + 1) as u8)),
         Entry::Source(source(90)),
@@ -141,7 +104,7 @@ fn hear_next_group_on(alloc: Global, state: &mut State<V4>, port: usize) -> bool
 
 /// Ports that want of the group: all but the last a star, each but one source more than the one before, and all but
 /// three of the same sources; the last some sources. Every second one wants the next group too.
-fn hear_on_all(alloc: Global, state: &mut State<V4>) -> bool {
+fn hear_on_all(alloc: Global, state: &mut State) -> bool {
     let last = state.ports.port_count().saturating_sub(1);
     for port in 0..last {
         if !hear_star_on(alloc, state, port) || !hear_next_group_on(alloc, state, port) {
@@ -153,7 +116,7 @@ fn hear_on_all(alloc: Global, state: &mut State<V4>) -> bool {
 }
 
 /// Whether the packed messages are written.
-fn are_merged(alloc: Global, state: &State<V4>) -> bool {
+fn are_merged(alloc: Global, state: &State) -> bool {
     let mut out = ScriptedDrain::new(alloc, 33, 100_000);
     written(alloc, state, &mut out).is_some() && is_packed(alloc, state, out.written())
 }

@@ -1,38 +1,28 @@
 //! A form that holds nothing, and a form of a form.
 
-use super::{FIRST, GROUP, JOIN_FIRST, RPT_SECOND, SECOND, STAR, alone, hear};
+use crate::tests::state::{FIRST, GROUP, JOIN_FIRST, RPT_SECOND, SECOND, STAR, hear, state4};
 use pim_addr::V4;
 use pim_down::Ports;
 use pim_form::{Messages, NormalForm, Tree, normal_again};
 use std::alloc::{AllocError, Global};
 use std::test::Fail;
 
-/// How many groups a form has, whether none comes first, and whether it wants the first source on the shared tree.
-fn shown(form: &NormalForm<V4>) -> (usize, bool, bool) {
-    (
-        form.groups().count_left(),
-        form.groups().next().is_none(),
-        form.wants(FIRST, GROUP, Tree::Shared),
-    )
+/// Whether the form of this form has no groups; `None` where memory is wanting.
+fn is_nothing_again(alloc: Global, form: &NormalForm<V4>) -> Option<bool> {
+    let again = normal_again(alloc, form).ok()?;
+    Some(again.groups().next().is_none() && !again.wants(FIRST, GROUP, Tree::Shared))
 }
 
-/// The same of the form of this form.
-fn shown_again(alloc: Global, form: &NormalForm<V4>) -> Result<(usize, bool, bool), AllocError> {
-    let again = normal_again(alloc, form)?;
-    Ok(shown(&again))
-}
-
-/// The same of the form of the form of what these ports want.
-fn shown_of(alloc: Global, ports: &Ports<V4>) -> Result<(usize, bool, bool), AllocError> {
-    let form = NormalForm::of(alloc, ports)?;
-    shown_again(alloc, &form)
+/// The same of the form of what a new port wants.
+fn is_nothing(alloc: Global) -> Option<bool> {
+    let state = state4(alloc, 1, 1480)?;
+    let form = NormalForm::of(alloc, &state.ports).ok()?;
+    is_nothing_again(alloc, &form)
 }
 
 #[test]
-fn holds_nothing(rt: HostRuntime) -> Result<(), Fail> {
-    let ports: Ports<V4> = Ports::new(rt.alloc(), 1, 100);
-    assert_eq!(rt; shown_of(rt.alloc(), &ports), Ok((0, true, false)));
-    Ok(())
+fn holds_nothing(rt: HostRuntime) {
+    assert_eq!(rt; is_nothing(rt.alloc()), Some(true));
 }
 
 /// Messages that were pushed one by one.
@@ -98,20 +88,20 @@ fn is_wanted_at_last(alloc: Global, ports: &Ports<V4>) -> bool {
     }
 }
 
-/// The star without 192.0.2.2, and the source 192.0.2.1, are heard, and the prune counts: whether they were taken.
-fn hear_message(alloc: Global, ports: &mut Ports<V4>) -> bool {
-    let message = alone(0, &[STAR, JOIN_FIRST], &[RPT_SECOND]);
-    let heard = hear(alloc, ports, &message);
-    ports.run_to(0);
-    heard == Ok(true)
-}
-
 // With each allocation refused in turn (`tools/each_growth_refused.sh`): the form is as before, and the same call, with
 // memory, gives it again.
 #[test]
 fn refusals_leave_the_form(rt: HostRuntime) {
-    let mut ports: Ports<V4> = Ports::new(rt.alloc(), 1, 100);
-    if hear_message(rt.alloc(), &mut ports) {
-        assert!(rt; is_wanted_at_last(rt.alloc(), &ports));
+    if let Some(mut state) = state4(rt.alloc(), 1, 1480) {
+        if hear(
+            rt.alloc(),
+            &mut state,
+            0,
+            GROUP,
+            &[STAR, JOIN_FIRST],
+            &[RPT_SECOND],
+        ) {
+            assert!(rt; is_wanted_at_last(rt.alloc(), &state.ports));
+        }
     }
 }

@@ -1,4 +1,5 @@
-//! Growths that are refused. Run with each allocation refused in turn (`tools/each_growth_refused.sh`).
+//! Growths that are refused. Run with each allocation refused in turn
+//! (`tools/each_growth_refused.sh`).
 
 use super::{PORTS, receive};
 use pim_addr::{Routes, V4};
@@ -62,7 +63,8 @@ fn is_unchanged(
     Ok(&left == before)
 }
 
-/// Whether these bytes are told as wanted: at once or, where a growth is refused, with nothing changed and then again.
+/// Whether these bytes are answered as wanted: at once or, where a growth is refused, with nothing
+/// changed and then again.
 fn is_told(
     alloc: Global,
     router: &mut Router<'_, V4>,
@@ -84,7 +86,8 @@ const NEW: Verdict = Verdict::HelloTaken(Heard::New);
 
 const SAME: Verdict = Verdict::HelloTaken(Heard::Same);
 
-/// Whether a neighbour's Hello and its Join/Prune are told as they have to be, each at first and again.
+/// Whether a neighbour's Hello and its Join/Prune are answered as they have to be, each at first
+/// and again.
 fn four_are_told(
     alloc: Global,
     router: &mut Router<'_, V4>,
@@ -106,7 +109,7 @@ fn four_are_told(
     Ok(true)
 }
 
-/// Whether forty neighbours, and a Join/Prune of each, are told as they have to be.
+/// Whether forty neighbours, and a Join/Prune of each, are answered as they have to be.
 fn forty_are_told(alloc: Global, router: &mut Router<'_, V4>) -> Result<bool, AllocError> {
     let mut hello = HELLO;
     let mut message = SOURCE;
@@ -136,17 +139,17 @@ fn made<'a>(alloc: Global, config: &Config<'a, V4>) -> Option<Router<'a, V4>> {
     }
 }
 
-/// Whether the forty are told as they have to be at 7 ms; `None` where what is left can't be noted down, so that nothing
-/// can be compared.
+/// Whether the forty are answered as they have to be at 7 ms; `None` where what is left can't be
+/// noted down, so that nothing can be compared.
 fn are_told_at_7(alloc: Global, router: &mut Router<'_, V4>) -> Option<bool> {
-    if router.port_count() != 2 || router.ports().count_on(0) != 0 {
+    if router.port_count() != 3 || router.ports().count_on(0) != 0 {
         return Some(false);
     }
     if router.run_to(7) != Step::Reached {
         return Some(false);
     }
     let told = forty_are_told(alloc, router).ok()?;
-    Some(told && router.now() == 7 && router.port_count() == 2 && router.ports().count_on(0) == 80)
+    Some(told && router.now() == 7 && router.port_count() == 3 && router.ports().count_on(0) == 80)
 }
 
 /// The same of a new router under this table; no router is wrong, too.

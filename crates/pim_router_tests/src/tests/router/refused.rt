@@ -1,21 +1,57 @@
-//! Growths that are refused while a router's messages are made: each test is also run with each allocation refused in
-//! turn, by `tools/each_growth_refused.sh`.
+//! Growths that are refused while a router's messages are made, or its wants are compared. Each
+//! test is also run with each allocation refused in turn, by `tools/each_growth_refused.sh`.
 
-use super::world::{
-    EXCEPT_FIRST, Event, LONE_PRUNE, ONE, ONE_EACH, THREE, TWO, WITHOUT_BOTH, WITHOUT_FIRST, after,
-    are, table,
-};
-use super::{FIRST, GROUP, SECOND};
+use super::{ANNE, FOR_EVER, GROUP, made, receive, table};
 use pim_addr::{Routes, V4};
 use pim_down::{State, What};
 use pim_form::{FormFault, Writer};
 use pim_router::{Router, same_wants};
-use std::alloc::Global;
+use std::alloc::{AllocError, Global};
 
-/// What is heard.
-const EVENTS: [Event<'static>; 4] = [WITHOUT_FIRST, WITHOUT_BOTH, LONE_PRUNE, Event::Passes(7)];
+const FIRST: [u8; 4] = [192, 0, 2, 1];
 
-/// Whether a router's records, its neighbours and its moment are as the events left them.
+const SECOND: [u8; 4] = [192, 0, 2, 2];
+
+/// The neighbours on the second and the third port.
+const BERT: [u8; 4] = [10, 0, 1, 9];
+
+const CARL: [u8; 4] = [10, 0, 2, 9];
+
+/// A star without 192.0.2.1.
+const WITHOUT_FIRST: [u8; 42] = [
+    0x23, 0, 0xfc, 0xb2, 1, 0, 10, 0, 0, 1, 0, 1, 0, 210, 1, 0, 0, 32, 239, 1, 1, 1, 0, 1, 0, 1, 1,
+    0, 7, 32, 10, 9, 9, 9, 1, 0, 5, 32, 192, 0, 2, 1,
+];
+
+/// The same star without 192.0.2.1 and 192.0.2.2, for the second port.
+const WITHOUT_BOTH: [u8; 50] = [
+    0x23, 0, 0x33, 0x8f, 1, 0, 10, 0, 1, 1, 0, 1, 0, 210, 1, 0, 0, 32, 239, 1, 1, 1, 0, 1, 0, 2, 1,
+    0, 7, 32, 10, 9, 9, 9, 1, 0, 5, 32, 192, 0, 2, 1, 1, 0, 5, 32, 192, 0, 2, 2,
+];
+
+/// A prune of 192.0.2.2 without a star, for the third port.
+const LONE_PRUNE: [u8; 34] = [
+    0x23, 0, 0x15, 0xe5, 1, 0, 10, 0, 2, 1, 0, 1, 0, 210, 1, 0, 0, 32, 239, 1, 1, 1, 0, 0, 0, 1, 1,
+    0, 5, 32, 192, 0, 2, 2,
+];
+
+/// The packets, each with its port and its sender.
+const PACKETS: [(usize, [u8; 4], &[u8]); 6] = [
+    (0, ANNE, &FOR_EVER),
+    (1, BERT, &FOR_EVER),
+    (2, CARL, &FOR_EVER),
+    (0, ANNE, &WITHOUT_FIRST),
+    (1, BERT, &WITHOUT_BOTH),
+    (2, CARL, &LONE_PRUNE),
+];
+
+/// By which 10.0.0.2 is asked then: the star without 192.0.2.1.
+const ASKED: [u8; 42] = [
+    0x23, 0, 0xfc, 0xb1, 1, 0, 10, 0, 0, 2, 0, 1, 0, 210, 1, 0, 0, 32, 239, 1, 1, 1, 0, 1, 0, 1, 1,
+    0, 7, 32, 10, 9, 9, 9, 1, 0, 5, 32, 192, 0, 2, 1,
+];
+
+/// Whether a router's records, its neighbours and its moment are as the packets left them.
 fn is_as_heard(router: &Router<'_, V4>) -> bool {
     let ports = router.ports();
     if ports.port_count() != 3 || router.port_count() != 3 {
@@ -30,86 +66,84 @@ fn is_as_heard(router: &Router<'_, V4>) -> bool {
         && router.neighbours(0).count() == 1
 }
 
-/// Whether a router asks by its message.
+/// Lets a router take all packets.
+fn take_all(router: &mut Router<'_, V4>) -> Result<(), AllocError> {
+    for &(port, from, bytes) in &PACKETS {
+        receive(router, port, from, bytes)?;
+    }
+    Ok(())
+}
+
+/// A router that took all packets, 7 ms later; `None` where a growth is refused.
+fn after<'a>(alloc: Global, routes: &'a Routes<V4>) -> Option<Router<'a, V4>> {
+    let mut router = made(alloc, routes)?;
+    take_all(&mut router).ok()?;
+    router.run_to(7);
+    Some(router)
+}
+
+/// Whether a router asks by one message of these bytes.
 fn asks(
     alloc: Global,
     router: &Router<'_, V4>,
     writer: &Writer<V4>,
 ) -> Result<bool, FormFault<V4>> {
     let messages = router.canonical(alloc, writer)?;
-    Ok(are(&messages, &EXCEPT_FIRST))
+    Ok(messages.count() == 1 && messages.get(0) == Some(ASKED.as_slice()))
 }
 
-/// Whether a router asks by its message: at once or, where a growth is refused, with nothing changed and then again.
+/// Whether a router asks by that message: at once or, where a growth is refused, with nothing
+/// changed and then again.
 fn asks_again(alloc: Global, router: &Router<'_, V4>, writer: &Writer<V4>) -> bool {
-    let told = asks(alloc, router, writer);
-    if told == Err(FormFault::Memory) && is_as_heard(router) {
+    let answer = asks(alloc, router, writer);
+    if answer == Err(FormFault::Memory) && is_as_heard(router) {
         return asks(alloc, router, writer) == Ok(true);
     }
-    told == Ok(true)
+    answer == Ok(true)
 }
 
-/// The same for 10.0.0.2, by messages of up to 1480 bytes.
-fn asks_two_again(alloc: Global, router: &Router<'_, V4>) -> bool {
-    match Writer::new(TWO, ONE, 210, 1480) {
-        Ok(writer) => asks_again(alloc, router, &writer),
-        Err(_) => false,
-    }
+/// Who asks 10.0.0.2, by messages of up to 1480 bytes.
+fn writer() -> Option<Writer<V4>> {
+    Writer::new([10, 0, 0, 2], [10, 0, 0, 1], 210, 1480).ok()
 }
 
-/// Whether a router under this table asks so; nothing can be told where its making is refused.
+/// Whether a router under this table asks so; nothing is known where its making is refused.
 fn messages_are_made(alloc: Global, routes: &Routes<V4>) -> bool {
-    match after(alloc, &THREE, routes, &EVENTS) {
-        Some(router) => asks_two_again(alloc, &router),
-        None => true,
+    match (after(alloc, routes), writer()) {
+        (Some(router), Some(writer)) => asks_again(alloc, &router, &writer),
+        (_, writer) => writer.is_some(),
     }
 }
 
 #[test]
 fn messages_are_made_again(rt: HostRuntime) {
-    let Some(routes) = table(rt.alloc(), &ONE_EACH) else {
+    let Some(routes) = table(rt.alloc(), [10, 0, 0, 2]) else {
         return;
     };
     assert!(rt; messages_are_made(rt.alloc(), &routes));
 }
 
-/// Whether two routers are told to want the same: at once or, where a growth is refused, with nothing changed and then
-/// again.
+/// Whether two routers want the same: at once or, where a growth is refused, with nothing changed
+/// and then again.
 fn same_again(alloc: Global, a: &Router<'_, V4>, b: &Router<'_, V4>, writer: &Writer<V4>) -> bool {
-    let told = same_wants(alloc, a, b, writer);
-    if told == Err(FormFault::Memory) && is_as_heard(a) && is_as_heard(b) {
+    let answer = same_wants(alloc, a, b, writer);
+    if answer == Err(FormFault::Memory) && is_as_heard(a) && is_as_heard(b) {
         return same_wants(alloc, a, b, writer) == Ok(true);
     }
-    told == Ok(true)
+    answer == Ok(true)
 }
 
-/// The same for what 10.0.0.2 is asked for.
-fn same_of_two_again(alloc: Global, a: &Router<'_, V4>, b: &Router<'_, V4>) -> bool {
-    match Writer::new(TWO, ONE, 210, 1480) {
-        Ok(writer) => same_again(alloc, a, b, &writer),
-        Err(_) => false,
-    }
-}
-
-/// Whether a router and another under this table are told so; nothing can be told where the other's making is refused.
-fn same_as_another(alloc: Global, a: &Router<'_, V4>, routes: &Routes<V4>) -> bool {
-    match after(alloc, &THREE, routes, &EVENTS) {
-        Some(b) => same_of_two_again(alloc, a, &b),
-        None => true,
-    }
-}
-
-/// Whether two routers under this table are told so; nothing can be told where a making is refused.
+/// Whether two routers under this table want the same; nothing is known where a making is refused.
 fn wants_are_compared(alloc: Global, routes: &Routes<V4>) -> bool {
-    match after(alloc, &THREE, routes, &EVENTS) {
-        Some(a) => same_as_another(alloc, &a, routes),
-        None => true,
+    match (after(alloc, routes), after(alloc, routes), writer()) {
+        (Some(a), Some(b), Some(writer)) => same_again(alloc, &a, &b, &writer),
+        (_, _, writer) => writer.is_some(),
     }
 }
 
 #[test]
 fn wants_are_compared_again(rt: HostRuntime) {
-    let Some(routes) = table(rt.alloc(), &ONE_EACH) else {
+    let Some(routes) = table(rt.alloc(), [10, 0, 0, 2]) else {
         return;
     };
     assert!(rt; wants_are_compared(rt.alloc(), &routes));

@@ -1,5 +1,6 @@
-//! Messages that are cut anywhere, or in which any byte is changed to any other, with their checksum mended and not:
-//! what a router tells of them, beside what a reader of its own, in another language, tells (`tools/changed_bytes.py`).
+//! Messages that are cut anywhere, or in which any byte is changed to any other, with their
+//! checksum mended and not: what a router answers to them, beside what a reader of its own, in
+//! another language, answers (`tools/changed_bytes.py`).
 
 use super::spoilt_rows::{
     HELLO, LISTS, LISTS_V6, OF_ANOTHER_TYPE, OF_ANOTHER_TYPE_V6, OF_HELLO, OF_HELLO_V6, OF_LISTS,
@@ -11,16 +12,6 @@ use pim_hello::{Heard, HelloKind};
 use pim_jp::JpKind;
 use pim_router::{Config, Malformed, PortConfig, Router, Verdict};
 use std::alloc::{AllocError, Global};
-use std::test::Fail;
-
-fn number_of_frame(fault: FrameFault) -> usize {
-    match fault {
-        FrameFault::Short => 1,
-        FrameFault::Version(_) => 2,
-        FrameFault::Checksum => 3,
-        FrameFault::NotAllRouters => 4,
-    }
-}
 
 fn number_of_hello(kind: HelloKind) -> usize {
     match kind {
@@ -48,10 +39,10 @@ fn number_of_join_prune(kind: JpKind) -> usize {
 /// The number of a fault, and its place or version.
 fn of_fault(fault: Malformed) -> (usize, usize) {
     match fault {
-        Malformed::Frame(fault) => match fault {
-            FrameFault::Version(version) => (2, usize::from(version)),
-            _ => (number_of_frame(fault), 0),
-        },
+        Malformed::Frame(FrameFault::Short) => (1, 0),
+        Malformed::Frame(FrameFault::Version(version)) => (2, usize::from(version)),
+        Malformed::Frame(FrameFault::Checksum) => (3, 0),
+        Malformed::Frame(FrameFault::NotAllRouters) => (4, 0),
         Malformed::Hello(fault) => (number_of_hello(fault.kind), fault.at),
         Malformed::JoinPrune(fault) => (number_of_join_prune(fault.kind), fault.at),
     }
@@ -66,7 +57,8 @@ fn number_of_heard(heard: Heard) -> usize {
     }
 }
 
-/// The number of a verdict, and its fault's place or version, its type, or what became of a Hello's sender.
+/// The number of a verdict, and its fault's place or version, its type, or what became of a Hello's
+/// sender.
 fn of_verdict(verdict: Verdict) -> (usize, usize) {
     match verdict {
         Verdict::HelloTaken(heard) => (0, number_of_heard(heard)),
@@ -151,7 +143,7 @@ struct Change {
     mends: bool,
 }
 
-/// What the port is told of one more message.
+/// What the port answers to one more message.
 fn tell<F: Family>(
     router: &mut Router<'_, F>,
     from: F::Addr,
@@ -166,7 +158,7 @@ fn tell<F: Family>(
     Ok(())
 }
 
-/// What is told of a message with a byte changed to each value.
+/// What is answered to a message with a byte changed to each value.
 fn tell_change<F: Family>(
     router: &mut Router<'_, F>,
     from: F::Addr,
@@ -184,7 +176,7 @@ fn tell_change<F: Family>(
     Ok(())
 }
 
-/// What is told of a message with each byte changed to each value, byte by byte.
+/// What is answered to a message with each byte changed to each value, byte by byte.
 fn changed<F: Family>(
     router: &mut Router<'_, F>,
     from: F::Addr,
@@ -202,7 +194,8 @@ fn changed<F: Family>(
     Ok(told)
 }
 
-/// What is told of a message's fronts, from the shortest to the whole of it, each with its checksum mended.
+/// What is answered to a message's fronts, from the shortest to the whole of it, each with its
+/// checksum mended.
 fn cut<F: Family>(
     router: &mut Router<'_, F>,
     from: F::Addr,
@@ -219,7 +212,7 @@ fn cut<F: Family>(
     Ok(told)
 }
 
-/// What is told of a message that is cut, changed, and changed and mended.
+/// What is answered to a message that is cut, changed, and changed and mended.
 fn spoilt<F: Family>(
     router: &mut Router<'_, F>,
     from: F::Addr,
@@ -255,30 +248,6 @@ fn made<'a, F: Family>(
     Router::new(alloc, &config).ok()
 }
 
-/// What is told on a new router under this table, and how many records it keeps.
-fn spoilt_under<F: Family>(
-    alloc: Global,
-    ports: &[PortConfig<F::Addr>],
-    routes: &Routes<F>,
-    from: F::Addr,
-    bytes: &mut [u8],
-) -> Option<([Told; 3], usize)> {
-    let mut router = made(alloc, ports, routes)?;
-    spoilt_and_kept(&mut router, from, bytes)
-}
-
-/// The same on a new router of one port, to which the sender of a Join/Prune is unknown; `None` where a growth is
-/// refused.
-fn spoilt_on<F: Family>(
-    alloc: Global,
-    ports: &[PortConfig<F::Addr>],
-    from: F::Addr,
-    bytes: &mut [u8],
-) -> Option<([Told; 3], usize)> {
-    let routes = Routes::<F>::new(alloc);
-    spoilt_under(alloc, ports, &routes, from, bytes)
-}
-
 /// A Hello of the sender comes, with a holdtime for ever.
 fn greet<F: Family>(router: &mut Router<'_, F>, from: F::Addr) -> Result<(), AllocError> {
     let mut hello = GREETING;
@@ -287,33 +256,35 @@ fn greet<F: Family>(router: &mut Router<'_, F>, from: F::Addr) -> Result<(), All
     tell(router, from, &mut told, &hello)
 }
 
-/// The same on a new router under this table, behind a Hello of the sender.
-fn spoilt_by_neighbour_under<F: Family>(
+/// What is answered on a new router under this table, and how many records it keeps.
+fn spoilt_under<F: Family>(
     alloc: Global,
     ports: &[PortConfig<F::Addr>],
     routes: &Routes<F>,
-    from: F::Addr,
+    (from, greets): (F::Addr, bool),
     bytes: &mut [u8],
 ) -> Option<([Told; 3], usize)> {
     let mut router = made(alloc, ports, routes)?;
-    greet(&mut router, from).ok()?;
+    if greets {
+        greet(&mut router, from).ok()?;
+    }
     spoilt_and_kept(&mut router, from, bytes)
 }
 
-/// What is told on a new router of one port, of which the sender is a neighbour, and how many records it keeps; `None` where a
-/// growth is refused.
-fn spoilt_by_neighbour<F: Family>(
+/// The same on a new router of one port, of which the sender is a neighbour if it greets; `None`
+/// where a growth is refused.
+fn spoilt_on<F: Family>(
     alloc: Global,
     ports: &[PortConfig<F::Addr>],
-    from: F::Addr,
+    sender: (F::Addr, bool),
     bytes: &mut [u8],
 ) -> Option<([Told; 3], usize)> {
     let routes = Routes::<F>::new(alloc);
-    spoilt_by_neighbour_under(alloc, ports, &routes, from, bytes)
+    spoilt_under(alloc, ports, &routes, sender, bytes)
 }
 
 /// A port of 10.0.0.2.
-pub(super) const PORT: PortConfig<[u8; 4]> = PortConfig {
+const PORT: PortConfig<[u8; 4]> = PortConfig {
     address: [10, 0, 0, 2],
     propagation: 500,
     override_ms: 2500,
@@ -332,73 +303,64 @@ const PORT_V6: PortConfig<[u8; 16]> = PortConfig {
 const SENDER_V6: [u8; 16] = [0xfe, 0x80, 0, 0, 0, 0, 0, 0, 0, 0, 0, 0, 0, 0, 0, 9];
 
 #[test]
-fn spoilt_hellos(rt: HostRuntime) -> Result<(), Fail> {
+fn spoilt_hellos(rt: HostRuntime) {
     let mut hello = HELLO;
-    let told = spoilt_on::<V4>(rt.alloc(), &[PORT], SENDER, &mut hello);
+    let told = spoilt_on::<V4>(rt.alloc(), &[PORT], (SENDER, false), &mut hello);
     assert_eq!(rt; told, Some((OF_HELLO, 0)));
-    Ok(())
 }
 
 #[test]
-fn spoilt_hellos_of_ipv6(rt: HostRuntime) -> Result<(), Fail> {
+fn spoilt_hellos_of_ipv6(rt: HostRuntime) {
     let mut hello = HELLO;
-    let told = spoilt_on::<V6>(rt.alloc(), &[PORT_V6], SENDER_V6, &mut hello);
+    let told = spoilt_on::<V6>(rt.alloc(), &[PORT_V6], (SENDER_V6, false), &mut hello);
     assert_eq!(rt; told, Some((OF_HELLO_V6, 0)));
-    Ok(())
 }
 
 #[test]
-fn spoilt_join_prunes(rt: HostRuntime) -> Result<(), Fail> {
+fn spoilt_join_prunes(rt: HostRuntime) {
     let mut lists = LISTS;
-    let told = spoilt_on::<V4>(rt.alloc(), &[PORT], SENDER, &mut lists);
+    let told = spoilt_on::<V4>(rt.alloc(), &[PORT], (SENDER, false), &mut lists);
     assert_eq!(rt; told, Some((OF_LISTS, 0)));
-    Ok(())
 }
 
 #[test]
-fn spoilt_join_prunes_of_ipv6(rt: HostRuntime) -> Result<(), Fail> {
+fn spoilt_join_prunes_of_ipv6(rt: HostRuntime) {
     let mut lists = LISTS_V6;
-    let told = spoilt_on::<V6>(rt.alloc(), &[PORT_V6], SENDER_V6, &mut lists);
+    let told = spoilt_on::<V6>(rt.alloc(), &[PORT_V6], (SENDER_V6, false), &mut lists);
     assert_eq!(rt; told, Some((OF_LISTS_V6, 0)));
-    Ok(())
 }
 
 #[test]
-fn spoilt_messages_of_another_type(rt: HostRuntime) -> Result<(), Fail> {
+fn spoilt_messages_of_another_type(rt: HostRuntime) {
     let mut other = OTHER;
-    let told = spoilt_on::<V4>(rt.alloc(), &[PORT], SENDER, &mut other);
+    let told = spoilt_on::<V4>(rt.alloc(), &[PORT], (SENDER, false), &mut other);
     assert_eq!(rt; told, Some((OF_ANOTHER_TYPE, 0)));
-    Ok(())
 }
 
 #[test]
-fn spoilt_messages_of_another_type_over_ipv6(rt: HostRuntime) -> Result<(), Fail> {
+fn spoilt_messages_of_another_type_over_ipv6(rt: HostRuntime) {
     let mut other = OTHER;
-    let told = spoilt_on::<V6>(rt.alloc(), &[PORT_V6], SENDER_V6, &mut other);
+    let told = spoilt_on::<V6>(rt.alloc(), &[PORT_V6], (SENDER_V6, false), &mut other);
     assert_eq!(rt; told, Some((OF_ANOTHER_TYPE_V6, 0)));
-    Ok(())
 }
 
 #[test]
-fn spoilt_stars_of_a_neighbour(rt: HostRuntime) -> Result<(), Fail> {
+fn spoilt_stars_of_a_neighbour(rt: HostRuntime) {
     let mut star = STAR;
-    let told = spoilt_by_neighbour::<V4>(rt.alloc(), &[PORT], SENDER, &mut star);
+    let told = spoilt_on::<V4>(rt.alloc(), &[PORT], (SENDER, true), &mut star);
     assert_eq!(rt; told, Some((OF_STAR, 1)));
-    Ok(())
 }
 
 #[test]
-fn spoilt_join_prunes_of_a_neighbour(rt: HostRuntime) -> Result<(), Fail> {
+fn spoilt_join_prunes_of_a_neighbour(rt: HostRuntime) {
     let mut lists = LISTS;
-    let told = spoilt_by_neighbour::<V4>(rt.alloc(), &[PORT], SENDER, &mut lists);
+    let told = spoilt_on::<V4>(rt.alloc(), &[PORT], (SENDER, true), &mut lists);
     assert_eq!(rt; told, Some((OF_NEIGHBOUR, 3538)));
-    Ok(())
 }
 
 #[test]
-fn spoilt_join_prunes_of_a_neighbour_over_ipv6(rt: HostRuntime) -> Result<(), Fail> {
+fn spoilt_join_prunes_of_a_neighbour_over_ipv6(rt: HostRuntime) {
     let mut lists = LISTS_V6;
-    let told = spoilt_by_neighbour::<V6>(rt.alloc(), &[PORT_V6], SENDER_V6, &mut lists);
+    let told = spoilt_on::<V6>(rt.alloc(), &[PORT_V6], (SENDER_V6, true), &mut lists);
     assert_eq!(rt; told, Some((OF_NEIGHBOUR_V6, 15809)));
-    Ok(())
 }

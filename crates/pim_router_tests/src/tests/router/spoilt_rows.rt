@@ -1,6 +1,7 @@
-//! Messages of each kind, and what is told of them when they are spoilt (`spoilt.rt`).
+//! Messages of each kind, and what is answered to them when they are spoilt (`spoilt.rt`).
 
-/// A Hello with each option, two of which are in it twice, an unknown one, and an address of each family.
+/// A Hello with each option, two of which are in it twice, an unknown one, and an address of each
+/// family.
 pub(super) const HELLO: [u8; 80] = [
     0x20, 0, 0, 0, 0, 1, 0, 2, 0, 105, 0, 2, 0, 4, 0x81, 0xf4, 9, 0xc4, 0, 19, 0, 4, 0, 0, 0, 1, 0,
     20, 0, 4, 1, 2, 3, 4, 0xfd, 0xe8, 0, 2, 7, 7, 0, 24, 0, 24, 1, 0, 192, 0, 2, 1, 2, 0, 0xfe,
@@ -13,16 +14,17 @@ pub(super) const STAR: [u8; 34] = [
     32, 10, 9, 9, 9,
 ];
 
-/// A set of 239.1.1.1 that joins the RP 10.9.9.9, the source 192.0.2.1 and, on the RP's tree, 192.0.2.2, and prunes
-/// 192.0.2.2 and, on the RP's tree, 192.0.2.1; and a set of 239.1.1.2 that prunes the RP. Upstream is 10.0.0.2.
+/// A set of 239.1.1.1 that joins the RP 10.9.9.9, the source 192.0.2.1 and, on the RP's tree,
+/// 192.0.2.2, and prunes 192.0.2.2 and, on the RP's tree, 192.0.2.1; and a set of 239.1.1.2 that
+/// prunes the RP. Upstream is 10.0.0.2.
 pub(super) const LISTS: [u8; 86] = [
     0x23, 0, 0, 0, 1, 0, 10, 0, 0, 2, 0, 2, 0, 210, 1, 0, 0, 32, 239, 1, 1, 1, 0, 3, 0, 2, 1, 0, 7,
     32, 10, 9, 9, 9, 1, 0, 4, 32, 192, 0, 2, 1, 1, 0, 5, 32, 192, 0, 2, 2, 1, 0, 4, 32, 192, 0, 2,
     2, 1, 0, 5, 32, 192, 0, 2, 1, 1, 0, 0, 32, 239, 1, 1, 2, 0, 0, 0, 1, 1, 0, 7, 32, 10, 9, 9, 9,
 ];
 
-/// The same over IPv6: ff0e::1 and ff0e::2, the RP 2001:db8::9, the sources 2001:db8::1 and 2001:db8::2, and upstream
-/// fe80::2.
+/// The same over IPv6: ff0e::1 and ff0e::2, the RP 2001:db8::9, the sources 2001:db8::1 and
+/// 2001:db8::2, and upstream fe80::2.
 pub(super) const LISTS_V6: [u8; 194] = [
     0x23, 0, 0, 0, 2, 0, 0xfe, 0x80, 0, 0, 0, 0, 0, 0, 0, 0, 0, 0, 0, 0, 0, 2, 0, 2, 0, 210, 2, 0,
     0, 128, 0xff, 0x0e, 0, 0, 0, 0, 0, 0, 0, 0, 0, 0, 0, 0, 0, 1, 0, 3, 0, 2, 2, 0, 7, 128, 0x20,
@@ -37,17 +39,18 @@ pub(super) const LISTS_V6: [u8; 194] = [
 /// A message of another type.
 pub(super) const OTHER: [u8; 10] = [0x25, 0, 0, 0, 1, 0, 10, 9, 9, 9];
 
-/// What is told of many messages.
+/// What is answered to many messages.
 #[derive(Clone, Copy, Debug, PartialEq, Eq)]
 pub(super) struct Told {
-    /// How many were told of each number.
+    /// How many answers have each number.
     pub(super) counts: [u32; 23],
-    /// All that was told, in the order of the messages: 31 times what came before, 32 times the place, version, type or what
-    /// became of a Hello's sender, and the number more, modulo 2^32.
+    /// All answers, in the order of the messages: 31 times what came before, 32 times the place,
+    /// version, type or what became of a Hello's sender, and the number more, modulo 2^32.
     pub(super) digest: u32,
 }
 
-/// What the reader in the other language tells of each message that is cut, changed, and changed and mended.
+/// What the reader in the other language answers to each message that is cut, changed, and changed
+/// and mended.
 pub(super) const OF_HELLO: [Told; 3] = [
     Told {
         counts: [
@@ -176,7 +179,7 @@ pub(super) const OF_ANOTHER_TYPE_V6: [Told; 3] = [
     },
 ];
 
-/// What is told of the star where its sender is a neighbour.
+/// What is answered to the star where its sender is a neighbour.
 pub(super) const OF_STAR: [Told; 3] = [
     Told {
         counts: [

@@ -16,4 +16,4 @@ pub returns-clause-only : goal.returns-clause-only
 returns-clause-only c n small is =
     let rest = append_cancel_left c.args.words.now c.in_ok-rest.rest.now (decimal n ++ (10 ∷ [])) (sym c.in_ok-rest.ensures ∙ is) in
     let cut = c.cut_field-front.ensures.only (decimal n) (10 ∷ []) (decimal_is_field n (omega (arith, small, c.ranges.limit.fits))) feed_is_led rest in
-    c.read_number.ensures.only n small cut.0
+    c.read_decimal.ensures.only n small cut.0

@@ -1,7 +1,6 @@
-use Rattle.std.specs.Prelude.{map, IsSomeAnd, Option, List}
-use Rattle.std.proofs.Common.{sym, subst}
-use Rattle.clap.specs.Words.{Row, Text, app_of}
-use Rattle.pim_words.specs.Plan.{IsTaskOf}
+use Rattle.std.specs.Prelude.{map}
+use Rattle.std.proofs.Common.{sym}
+use Rattle.clap.specs.Words.{app_of, subcommand_rows_of}
 use Rattle.pim_words.proofs.Planned.{planned}
 use Rattle.pim_words.proofs.Refusals.{caused}
 use Rattle.pim_words.proofs.planning.plan_by.Goals as goal
@@ -13,6 +12,4 @@ returns-in-Err g c =
 
 pub returns : goal.returns
 returns g c =
-    planned (app_of c.args.whole) (map g.S.AsStr.text c.args.words.now) c.in-Ok.ensures.refused c.in_ok-task.task c.plan_task.result
-    (subst (λ (o : Option (Text × List Row)). IsSomeAnd o (λ met. IsTaskOf met c.in_ok-task.task)) c.in-Ok.ensures.met c.in_ok-task.ensures)
-    c.plan_task.ensures
+    planned (app_of c.args.whole) (map g.S.AsStr.text c.args.words.now) c.in-Ok.ensures.refused (subcommand_rows_of c.in-Ok.matches) c.plan_met.result c.in-Ok.ensures.met c.plan_met.ensures

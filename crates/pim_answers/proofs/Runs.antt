@@ -1,0 +1,125 @@
+-- On the way to a moment, run by run.
+use Rattle.std.proofs.Common.{◌≡◌, ℕ, List, [], ◌∷◌, ◌++◌, Option, Result, Ok, Err, IsErr, refl, sym, subst, ap, append_assoc, append-nil}
+use Rattle.std.specs.Io.KnownBytes.{Appends}
+use Rattle.std.proofs.KnownBytes.{Appends-nil, Appends-trans}
+use Rattle.pim_addr.specs.declared.family.AddressFamily.{AddressFamily}
+use Rattle.pim_device.specs.Device.{AppendsFront, AppendsAll}
+use Rattle.pim_down.specs.declared.key.What.{What}
+use Rattle.pim_router.specs.declared.step.Step.{Step}
+use Rattle.pim_router.specs.declared.step.Step.TheVariants.{Echo, Refresh, Reached}
+use Rattle.pim_router.specs.Course.{Telling, echo, refresh, verdict, runs_to, Reaches, IsCourse}
+use Rattle.pim_router.specs.Seen.{step_seen}
+use Rattle.pim_router.specs.State.{RouterState}
+use Rattle.pim_router.specs.Time.{Runs}
+use Rattle.pim_router.specs.Laws.{EveryListHasACourse}
+use Rattle.pim_replay.specs.EchoLine.{echo_line}
+use Rattle.pim_replay.specs.RefreshLine.{refresh_line}
+use Rattle.pim_answers.specs.Answered.{Answered}
+use Rattle.pim_answers.specs.Lines.{ok_line}
+use Rattle.pim_answers.specs.Running.{Passes, AnswersRun}
+use Rattle.pim_answers.specs.RunningSeen.{step_line}
+use Rattle.pim_answers.proofs.Told.{answered_text}
+use Rattle.pim_answers.proofs.Written.{front-longer, front-more, both}
+
+-- Some way on from a state.
+pub record SomeWay (family : AddressFamily) (moment : ℕ) (state : RouterState) : Type 0 where
+  pub told : List Telling
+  pub lines : List ℕ
+  pub after : RouterState
+  pub passes : Passes family moment told lines state after
+
+-- What is told on the way from here is told on the way from the start, after what was told so far.
+pub record IsOnTheWay (family : AddressFamily) (moment : ℕ) (start now : RouterState) (old new : Option (List ℕ)) : Type 0 where
+  pub done : List ℕ
+  pub goes_on : (way : SomeWay family moment now) → (told : List Telling) × Passes family moment told (done ++ way.lines) start way.after
+  pub written : Appends old new done
+
+-- One line that is told on the way from a state, to the state after it.
+pub record IsStep (family : AddressFamily) (moment : ℕ) (now : RouterState) (line : List ℕ) (between : RouterState) : Type 0 where
+  pub one : Telling
+  pub goes_on : (way : SomeWay family moment between) → Passes family moment (one ∷ way.told) (line ++ way.lines) now way.after
+
+-- a run that stopped early
+pub not_reached : {A : Type 0} (bytes_of : A → List ℕ) (step : Step A) → (step ≡ Reached → ⊥) → step_seen bytes_of step ≡ Reached → ⊥
+not_reached bytes_of (Echo port group what) never is = cc
+not_reached bytes_of Refresh never is = cc
+not_reached bytes_of Reached never is = never refl
+
+module _ (family : AddressFamily) (moment : ℕ) where
+  -- a run of the router tells its lines
+  tells_lines : (told : List Telling) (state after : RouterState) → Reaches moment told state after → (lines : List ℕ) × Passes family moment told lines state after
+  unfolding Reaches Passes
+  tells_lines [] state after reaches = ([], (reaches, refl))
+  tells_lines (echo port group what ∷ more) state after (between, runs, reaches) =
+      let rest = tells_lines more between after reaches in
+      (echo_line family between.machines.moment port group what ++ rest.0, (between, rest.0, runs, refl, rest.1))
+  tells_lines (refresh ∷ more) state after (between, runs, reaches) =
+      let rest = tells_lines more between after reaches in
+      (refresh_line between.machines.moment ++ rest.0, (between, rest.0, runs, refl, rest.1))
+  tells_lines (verdict of_packet ∷ more) state after reaches = absurd reaches
+
+  -- from each state there is some way
+  pub some_way : EveryListHasACourse → (state : RouterState) → SomeWay family moment state
+  unfolding IsCourse
+  some_way law state =
+      let course = law family (runs_to moment ∷ []) state in
+      let told = tells_lines course.course.before state course.course.between course.course.begins in
+      record { told = course.course.before; lines = told.0; after = course.course.between; passes = told.1 }
+
+  -- an echo and a refresh are steps
+  echoes : (now between : RouterState) (port : ℕ) (group : List ℕ) (what : What (List ℕ)) → Runs moment now (Echo port group what) between → IsStep family moment now (echo_line family between.machines.moment port group what) between
+  unfolding Passes
+  echoes now between port group what runs = record { one = echo port group what; goes_on = λ way. (between, way.lines, runs, refl, way.passes) }
+
+  refreshes : (now between : RouterState) → Runs moment now Refresh between → IsStep family moment now (refresh_line between.machines.moment) between
+  unfolding Passes
+  refreshes now between runs = record { one = refresh; goes_on = λ way. (between, way.lines, runs, refl, way.passes) }
+
+  -- each end of a run but the last is a step
+  pub steps : (now between : RouterState) (step : Step (List ℕ)) → Runs moment now step between → (step ≡ Reached → ⊥) → IsStep family moment now (step_line family between.machines.moment step) between
+  steps now between (Echo port group what) runs never = echoes now between port group what runs
+  steps now between Refresh runs never = refreshes now between runs
+  steps now between Reached runs never = absurd (never refl)
+
+  -- the way after a step
+  abbrev more_way : (now between : RouterState) (line : List ℕ) (s : IsStep family moment now line between) → SomeWay family moment between → SomeWay family moment now
+  more_way now between line s way = record { told = s.one ∷ way.told; lines = line ++ way.lines; after = way.after; passes = s.goes_on way }
+
+  module _ (start : RouterState) (old : Option (List ℕ)) where
+    pub begin : IsOnTheWay family moment start start old old
+    begin = record { done = []; goes_on = λ way. (way.told, way.passes); written = Appends-nil old }
+
+    module _ (now : RouterState) (new : Option (List ℕ)) (w : IsOnTheWay family moment start now old new) where
+      -- a step whose line was written
+      pub stepped : (line : List ℕ) (between : RouterState) (newer : Option (List ℕ)) → IsStep family moment now line between → Appends new newer line → IsOnTheWay family moment start between old newer
+      stepped line between newer s written = record {
+        done = w.done ++ line;
+        goes_on = λ way. let g = w.goes_on (more_way now between line s way) in
+            (g.0, subst (λ (l : List ℕ). Passes family moment g.0 l start way.after) (sym (append_assoc w.done line way.lines)) g.1);
+        written = Appends-trans old new newer w.done line w.written written;
+      }
+
+      -- a step whose line was written in part
+      pub stopped : {A E : Type 0} (line : List ℕ) (between : RouterState) (newer : Option (List ℕ)) (r : Result A E) (after : A → RouterState) → EveryListHasACourse → IsStep family moment now line between → IsErr r → AppendsFront new newer line
+          → Answered (AnswersRun family moment start) old newer r after
+      stopped line between newer (Ok x) after law s is front = absurd cc
+      stopped line between newer (Err e) after law s is front =
+          let way = some_way law between in
+          let g = w.goes_on (more_way now between line s way) in
+          let lines : List ℕ = w.done ++ (line ++ way.lines) in
+          record {
+            text = lines ++ ok_line;
+            after = way.after;
+            does = record { told = g.0; lines = lines; passes = g.1; text_is = refl };
+            written = front-longer old newer lines ok_line (front-more old new newer w.done (line ++ way.lines) w.written (front-longer new newer line way.lines front));
+          }
+
+      -- the end of the way
+      pub arrived : {A E : Type 0} (after : RouterState) (newer : Option (List ℕ)) (r : Result A E) → Runs moment now Reached after → AppendsAll new newer r ok_line → Answered (AnswersRun family moment start) old newer r (λ _. after)
+      unfolding Passes
+      arrived after newer r runs written =
+          let way : SomeWay family moment now = record { told = []; lines = []; after = after; passes = (runs, refl) } in
+          let g = w.goes_on way in
+          answered_text (AnswersRun family moment start) old newer r after (w.done ++ ok_line)
+          (record { told = g.0; lines = w.done ++ []; passes = g.1; text_is = ap (λ (l : List ℕ). l ++ ok_line) (sym (append-nil w.done)) })
+          (both old new newer r w.done ok_line w.written written)

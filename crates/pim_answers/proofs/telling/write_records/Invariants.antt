@@ -1,0 +1,12 @@
+use Rattle.std.proofs.Common.{◌≡◌}
+use Rattle.std.specs.List.{flat_map}
+use Rattle.pim_replay.specs.RecordLine.{record_line}
+use Rattle.pim_answers.proofs.Written.{IsLeft}
+use Rattle.pim_answers.proofs.telling.write_records.Given as goal
+
+-- the lines of the records that are left are still to be written
+abbrev pub invariant-loop-record : goal.invariant-loop-record
+invariant-loop-record g l =
+    IsLeft (g.W.Drain.contents l.fn.answers) (g.W.Drain.contents l.answers) (flat_map (record_line g.F.Family.family) l.record-iterator)
+    (flat_map (record_line g.F.Family.family) l.fn.records)
+    × (g.W.Drain.failures l.answers ≡ g.W.Drain.failures l.fn.answers)

@@ -1,0 +1,15 @@
+-- The definitions of the answers of a router.
+pub mod Lines
+pub mod Fault
+pub mod Answered
+pub mod Families
+pub mod Packets
+pub mod PacketsSeen
+pub mod Running
+pub mod RunningSeen
+pub mod Telling
+pub mod Kept
+pub mod StoreSeen
+pub mod Asking
+pub mod AskingSeen
+pub mod Neighbours

@@ -1,0 +1,270 @@
+//! The commands by which a packet arrives: `packet`, and `from` with the text of a message.
+
+ghost use Rattle.std.specs.Prelude.{◌≡◌, ◌<◌, ◌≤◌, ◌^◌, ◌+◌, ◌++◌, ◌∷◌, [], true, false, length, drop, None};
+ghost use Rattle.std.specs.Prelude.{IfOk, IfErr, IfSome, IfNone};
+ghost use Rattle.pim_device.specs.Device.{AppendsAll, failures_after};
+ghost use Rattle.pim_frame.specs.Seal.{IsSealed};
+ghost use Rattle.pim_text.specs.Spell.{stated_in};
+ghost use Rattle.pim_request.specs.Forms.{IsHex};
+ghost use Rattle.pim_router.specs.Seen.{packet_seen};
+ghost use Rattle.pim_replay.specs.PacketLine.{verdict_line};
+ghost use Rattle.pim_answers.specs.Answered.{OrMemory, Answered};
+ghost use Rattle.pim_answers.specs.Families.{differ_from};
+ghost use Rattle.pim_answers.specs.Lines.{ok_line};
+ghost use Rattle.pim_answers.specs.Packets.{Takes, AnswersPacket, addresses_of, type_of};
+ghost use Rattle.pim_answers.specs.Packets.{IsMessageOf, AnswersFrom};
+ghost use Rattle.pim_answers.specs.PacketsSeen.{IsPort, AreEnds, AreEndsOf, has_other_family, IsFillFault};
+
+use crate::fault::{Fault, write_fault, write_ok};
+use pim_addr::{AddressFamily, Drain, Failed, Family};
+use pim_frame::{MessageType, all_routers, seal};
+use pim_replay::write_verdict_line;
+use pim_request::{Packet, Sender, decode_hex, of_family};
+use pim_router::{Router, Verdict};
+use pim_text::{AnyAddress, Spelled, Stated, TextFault, spell};
+use std::alloc::{AllocError, Global};
+
+/// A packet whose message is given as a text.
+#[derive(Clone, Copy, Debug)]
+pub struct FromText<'a> {
+    /// The port, the source and the destination.
+    pub sender: Sender,
+    /// The families of the addresses in the text.
+    pub stated: Stated,
+    /// The text, which states a message.
+    pub text: &'a [u8],
+}
+
+/// The source and the destination of a packet, in the router's family.
+#[derive(Clone, Copy, Debug)]
+struct Ends<A> {
+    source: A,
+    destination: A,
+}
+
+/// The source and the destination in the family, if both are of it.
+fn both_of<F: Family>(source: AnyAddress, destination: AnyAddress) -> Option<Ends<F::Addr>>
+    ensures ends { IfSome result (AreEnds F.bytes_of source destination) }
+    ensures same { IfSome result (λ _. differ_from F.family (source ∷ destination ∷ []) ≡ false) }
+    ensures other { IfNone result (differ_from F.family (source ∷ destination ∷ []) ≡ true) }
+{
+    Some(Ends {
+        source: of_family::<F>(source)?,
+        destination: of_family::<F>(destination)?,
+    })
+}
+
+/// The port with this number, where there are `count` ports.
+fn port_of(port: u64, count: usize) -> Result<usize, Fault<'static>>
+    ensures { IsPort port count result }
+{
+    if port < count as u64 {
+        Ok(port as usize)
+    } else {
+        Err(Fault::numbered(b"port ", port))
+    }
+}
+
+/// Writes the line of a verdict, and `ok`.
+fn tell_verdict<W: Drain>(answers: &mut W, verdict: Verdict) -> Result<(), Failed>
+    ensures bytes { AppendsAll (W.contents answers.old) (W.contents answers.new) result
+        (verdict_line verdict ++ ok_line) }
+    ensures count { W.failures answers.new ≡ failures_after (W.failures answers.old) result }
+{
+    write_verdict_line(answers, verdict)?;
+    write_ok(answers)
+}
+
+/// The port takes a packet, and the verdict is the answer. No timer fires.
+fn take<F: Family, W: Drain>(
+    router: &mut Router<'_, F>,
+    port: usize,
+    ends: Ends<F::Addr>,
+    message: &[u8],
+    answers: &mut W,
+) -> Result<(), Failed>
+    requires port { port < length router.old.ports }
+    requires bytes { length message.now < 2 ^ 32 }
+    ensures answered { Answered (OrMemory router.old
+        (Takes F.family (packet_seen F.bytes_of port ends.source ends.destination message.now) router.old))
+        (W.contents answers.old) (W.contents answers.new) result (λ _. router.new) }
+    ensures count { W.failures answers.new ≡ failures_after (W.failures answers.old) result }
+{
+    match router.take_packet(port, ends.source, ends.destination, message) {
+        Ok(verdict) => tell_verdict(answers, verdict),
+        Err(_) => write_fault(answers, &Fault::memory()),
+    }
+}
+
+/// Answers `packet`. `bytes` is room for the message.
+///
+/// # Errors
+/// The device failed: a prefix of the answer was written.
+pub fn answer_packet<F: Family, W: Drain>(
+    router: &mut Router<'_, F>,
+    packet: &Packet<'_>,
+    bytes: &mut Vec<u8>,
+    answers: &mut W,
+) -> Result<(), Failed>
+    requires hex { IsHex packet.now.hex.now }
+    requires short { length packet.now.hex.now < 2 ^ 32 }
+    ensures answered { Answered (AnswersPacket F.family packet.now router.old)
+        (W.contents answers.old) (W.contents answers.new) result (λ _. router.new) }
+    ensures count { W.failures answers.new ≡ failures_after (W.failures answers.old) result }
+{
+    let Some(ends) = both_of::<F>(packet.source, packet.destination) else {
+        return write_fault(answers, &Fault::family());
+    };
+    let port = match port_of(packet.port, router.port_count()) {
+        Ok(port) => port,
+        Err(fault) => return write_fault(answers, &fault),
+    };
+    match decode_hex(packet.hex, bytes) {
+        Ok(()) => take::<F, W>(router, port, ends, bytes, answers),
+        Err(_) => write_fault(answers, &Fault::memory()),
+    }
+}
+
+/// Whether each address of the text is of the family.
+fn is_stated_in<F: Family>(stated: Stated) -> bool
+    ensures { result ≡ stated_in F.family stated }
+{
+    match F::family() {
+        AddressFamily::Ipv4 => stated.all_ipv4,
+        AddressFamily::Ipv6 => stated.all_ipv6,
+    }
+}
+
+/// The source, and ALL-PIM-ROUTERS, if the source is of the family.
+fn ends_to_all<F: Family>(source: AnyAddress) -> Option<Ends<F::Addr>>
+    ensures ends { IfSome result (AreEndsOf F.family F.bytes_of source None) }
+    ensures same { IfSome result (λ _. differ_from F.family (source ∷ []) ≡ false) }
+    ensures other { IfNone result (differ_from F.family (source ∷ []) ≡ true) }
+{
+    Some(Ends {
+        source: of_family::<F>(source)?,
+        destination: all_routers::<F>(),
+    })
+}
+
+/// The source and the destination of a sender. Without a destination it is ALL-PIM-ROUTERS.
+fn ends_of<F: Family>(sender: &Sender) -> Option<Ends<F::Addr>>
+    ensures ends { IfSome result (AreEndsOf F.family F.bytes_of sender.now.source sender.now.destination) }
+    ensures same { IfSome result (λ _. differ_from F.family (addresses_of sender.now) ≡ false) }
+    ensures other { IfNone result (differ_from F.family (addresses_of sender.now) ≡ true) }
+{
+    match sender.destination {
+        Some(destination) => both_of::<F>(sender.source, destination),
+        None => ends_to_all::<F>(sender.source),
+    }
+}
+
+/// The source and the destination of a sender, if all addresses are of the family, those of the
+/// text too.
+fn ends_of_text<F: Family>(from: &FromText<'_>) -> Option<Ends<F::Addr>>
+    ensures ends { IfSome result
+        (AreEndsOf F.family F.bytes_of from.now.sender.source from.now.sender.destination) }
+    ensures same { IfSome result (λ _. has_other_family F.family from.now ≡ false) }
+    ensures other { IfNone result (has_other_family F.family from.now ≡ true) }
+{
+    if is_stated_in::<F>(from.stated) {
+        ends_of::<F>(&from.sender)
+    } else {
+        None
+    }
+}
+
+/// The type of a spelled message.
+fn type_of(is_hello: bool) -> MessageType
+    ensures { result ≡ type_of is_hello }
+{
+    if is_hello {
+        MessageType::Hello
+    } else {
+        MessageType::JoinPrune
+    }
+}
+
+/// Fills `bytes` with a header's room and the body.
+fn fill(body: &[u8], bytes: &mut Vec<u8>) -> Result<(), AllocError>
+    ensures { IfOk result (λ _. (drop 4 bytes.new.items ≡ body.now) × (length bytes.new.items ≡ 4 + length body.now)) }
+{
+    bytes.clear();
+    bytes.extend_from_slice(&[0; 4])?;
+    bytes.extend_from_slice(body)?;
+    Ok(())
+}
+
+/// Fills `bytes` with the sealed message.
+fn fill_sealed<F: Family>(
+    ends: Ends<F::Addr>,
+    spelled: &Spelled,
+    bytes: &mut Vec<u8>,
+) -> Result<(), AllocError>
+    requires { length spelled.now.body.items ≤ 65532 }
+    ensures sealed { IfOk result (λ _. IsSealed F.family (F.bytes_of ends.source) (F.bytes_of ends.destination)
+        (type_of spelled.now.is_hello) spelled.now.body.items bytes.new.items) }
+    ensures short { IfOk result (λ _. length bytes.new.items ≤ 65536) }
+{
+    fill(&spelled.body, bytes)?;
+    seal::<F>(
+        ends.source,
+        ends.destination,
+        type_of(spelled.is_hello),
+        bytes,
+    );
+    Ok(())
+}
+
+/// Fills `bytes` with the message that a text spells.
+fn fill_spelled<F: Family>(
+    alloc: Global,
+    ends: Ends<F::Addr>,
+    from: &FromText<'_>,
+    bytes: &mut Vec<u8>,
+) -> Result<(), Fault<'static>>
+    requires { length from.now.text.now < 2 ^ 32 }
+    ensures message { IfOk result (λ _. IsMessageOf F.family from.now.text.now
+        (F.bytes_of ends.source) (F.bytes_of ends.destination) bytes.new.items) }
+    ensures short { IfOk result (λ _. length bytes.new.items ≤ 65536) }
+    ensures fault { IfErr result (IsFillFault F.family from.now.text.now) }
+{
+    let spelled = match spell::<F>(alloc, from.text) {
+        Ok(spelled) => spelled,
+        Err(TextFault::TooLong) => return Err(Fault::plain(b"text too-long")),
+        Err(_) => return Err(Fault::memory()),
+    };
+    match fill_sealed::<F>(ends, &spelled, bytes) {
+        Ok(()) => Ok(()),
+        Err(_) => Err(Fault::memory()),
+    }
+}
+
+/// Answers `from` with a text that states a message. `bytes` is room for the message.
+///
+/// # Errors
+/// The device failed: a prefix of the answer was written.
+pub fn answer_from<F: Family, W: Drain>(
+    alloc: Global,
+    router: &mut Router<'_, F>,
+    from: &FromText<'_>,
+    bytes: &mut Vec<u8>,
+    answers: &mut W,
+) -> Result<(), Failed>
+    requires { length from.now.text.now < 2 ^ 32 }
+    ensures answered { Answered (AnswersFrom F.family from.now router.old)
+        (W.contents answers.old) (W.contents answers.new) result (λ _. router.new) }
+    ensures count { W.failures answers.new ≡ failures_after (W.failures answers.old) result }
+{
+    let Some(ends) = ends_of_text::<F>(from) else {
+        return write_fault(answers, &Fault::family());
+    };
+    let port = match port_of(from.sender.port, router.port_count()) {
+        Ok(port) => port,
+        Err(fault) => return write_fault(answers, &fault),
+    };
+    match fill_spelled::<F>(alloc, ends, from, bytes) {
+        Ok(()) => take::<F, W>(router, port, ends, bytes, answers),
+        Err(fault) => write_fault(answers, &fault),
+    }
+}

@@ -1,0 +1,4 @@
+mod Pieces
+mod ReadBack
+mod Sizes
+mod Built

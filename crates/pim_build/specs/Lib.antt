@@ -1,0 +1,3 @@
+-- The definitions of `pim_build`.
+pub mod Reading
+pub mod Building

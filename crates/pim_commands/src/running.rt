@@ -1,0 +1,56 @@
+//! What a task asks for, done by the command of the task.
+
+ghost use Rattle.std.specs.Prelude.{◌≡◌};
+ghost use Rattle.pim_words.specs.Plan.{IsInRange};
+ghost use Rattle.pim_commands.specs.Report.{write_failures_after};
+ghost use Rattle.pim_commands.specs.Running.{DoesTask};
+
+use crate::build::build_task;
+use crate::changing::change;
+use crate::check::check_task;
+use crate::comparing::same;
+use crate::emitting::emit;
+use crate::fault::Fault;
+use crate::mirroring::mirror;
+use crate::replaying::replay;
+use pim_addr::{Drain, Family, Feed};
+use pim_files::Opener;
+use pim_words::Task;
+use std::alloc::Global;
+
+/// Does what a task asks for, with this standard input and output and the files that this opener
+/// opens. Returns the status.
+///
+/// # Errors
+/// Those of the command.
+pub fn run_task<'a, F: Family, O: Opener, R: Feed, W: Drain>(
+    alloc: Global,
+    opener: &mut O,
+    task: &Task<'a, F::Addr>,
+    input: &mut R,
+    output: &mut W,
+) -> Result<u8, Fault<'a>>
+    requires { IsInRange task.now }
+    ensures done { DoesTask F.family F.bytes_of O.Reader.remaining O.Reader.failures
+        (O.known opener.old) (O.known opener.new) (R.remaining input.old)
+        (W.contents output.old) (W.contents output.new) result task.now }
+    ensures output { W.failures output.new ≡ write_failures_after (W.failures output.old) result }
+{
+    match task {
+        Task::Check { .. } => check_task::<F, _, _>(alloc, input, output, task),
+        Task::Build { .. } => build_task::<F, _, _>(alloc, input, output, task),
+        Task::Replay(captures) => replay::<F, O, W>(alloc, opener, captures, output),
+        Task::Same(captures, writing) => {
+            same::<F, O, W>(alloc, opener, captures, writing, output)
+        }
+        Task::Mirror(captures, writing) => {
+            mirror::<F, O, W>(alloc, opener, captures, writing, output)
+        }
+        Task::Emit(captures, writing) => {
+            emit::<F, O, W>(alloc, opener, captures, writing, output)
+        }
+        Task::Change(captures, writing) => {
+            change::<F, O, W>(alloc, opener, captures, writing, output)
+        }
+    }
+}

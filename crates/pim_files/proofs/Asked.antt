@@ -1,0 +1,47 @@
+-- Names that an opener is asked for, one after another.
+use Rattle.std.proofs.Common.{◌≡◌, ◌∙◌, sym, ap, subst, refl, ℕ, List, [], ◌++◌, take, drop, map, Option, None, Some, Result, Ok, Err, append_assoc, append-nil}
+use Rattle.std.proofs.lemmas.List.{take-append-drop, map-append}
+use Rattle.pim_files.specs.Files.{Known, Grows, AsksFor, AsksFront, AsksAll}
+
+Grows-none : (a : Option (List (List ℕ))) → Grows a a []
+Grows-none None = tt
+Grows-none (Some xs) = sym (append-nil xs)
+
+Grows-more : (a b c : Option (List (List ℕ))) (xs ys : List (List ℕ)) → Grows a b xs → Grows b c ys → Grows a c (xs ++ ys)
+Grows-more a b None xs ys p q = tt
+Grows-more a None (Some third) xs ys p q = absurd q
+Grows-more None (Some second) (Some third) xs ys p q = absurd p
+Grows-more (Some first) (Some second) (Some third) xs ys p q = q ∙ ap (λ l. l ++ ys) p ∙ append_assoc first xs ys
+
+-- it was asked for nothing
+pub asks_none : (a : Known) → AsksFor a a []
+asks_none a = record { files = refl; asked = Grows-none a.asked }
+
+-- it was asked for more
+pub asks_more : (a b c : Known) (xs ys : List (List ℕ)) → AsksFor a b xs → AsksFor b c ys → AsksFor a c (xs ++ ys)
+asks_more a b c xs ys p q = record {
+  files = q.files ∙ p.files;
+  asked = Grows-more a.asked b.asked c.asked xs ys p.asked q.asked;
+}
+
+-- all names are a front of themselves
+pub all_in_front : (a b : Known) (names : List (List ℕ)) → AsksFor a b names → AsksFront a b names
+all_in_front a b names p = record { front = names; others = []; cut = sym (append-nil names); asks = p }
+
+-- it was asked for none of the names
+pub none_in_front : (a : Known) (names : List (List ℕ)) → AsksFront a a names
+none_in_front a names = record { front = []; others = names; cut = refl; asks = asks_none a }
+
+-- it was asked for the names of some first items
+pub some_in_front : {X : Type 0} (name : X → List ℕ) (a b : Known) (items : List X) (count : ℕ) → AsksFor a b (map name (take count items)) → AsksFront a b (map name items)
+some_in_front name a b items count p = record {
+  front = map name (take count items);
+  others = map name (drop count items);
+  cut = ap (map name) (sym (take-append-drop count items)) ∙ map-append name (take count items) (drop count items);
+  asks = p;
+}
+
+-- it was asked for nothing where there are no names
+pub asks_no_names : {X E : Type 0} (a : Known) (names : List (List ℕ)) (result : Result X E) → names ≡ [] → AsksAll a a names result
+asks_no_names a names (Ok x) none = subst (AsksFor a a) (sym none) (asks_none a)
+asks_no_names a names (Err e) none = none_in_front a names

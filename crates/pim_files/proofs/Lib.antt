@@ -1,0 +1,3 @@
+pub mod Asked
+pub mod Opened
+pub mod InMemory

@@ -1,0 +1,148 @@
+-- Captures that are opened one by one.
+use Rattle.std.proofs.Common.{◌≡◌, ◌∙◌, sym, ap, subst, refl, ℕ, suc, ◌<◌, Bool, cond, true, false, List, [], ◌∷◌, ◌++◌, length, take, drop, get_or, map, option_map, Option, None, Some, append-nil, take-suc, drop-cons}
+use Rattle.std.specs.Prelude.{IsSome, IfSome}
+use Rattle.std.specs.List.{filter}
+use Rattle.std.proofs.lemmas.List.{take-append-drop, map-append}
+use Rattle.std.proofs.lemmas.List.Elements.{filter-append}
+use Rattle.std.proofs.lemmas.Bool.{false≢true}
+use Rattle.pim_capture.specs.Capture.{answers}
+use Rattle.pim_merge.specs.Lane.{LaneState, coming_on}
+use Rattle.pim_words.specs.declared.fault.Side.{Side}
+use Rattle.pim_words.specs.declared.task.Port.{Port}
+use Rattle.pim_words.specs.Faults.{is_side}
+use Rattle.pim_files.specs.declared.fault.OpenFault.{OpenFault}
+use Rattle.pim_files.specs.Files.{Files, Known, AsksFor}
+use Rattle.pim_files.specs.Captures.{file_name, IsPortFault, AreContents, CanOpen, AreFiles, HoldFiles, StopsAtPort, is_of, AddsLane}
+use Rattle.pim_files.proofs.Asked.{asks_more}
+
+-- no captures of no ports
+pub none_held : (A : Type 0) (known : Option Files) (lanes : List LaneState) → lanes ≡ [] → HoldFiles {A = A} known [] lanes
+none_held A None lanes none = tt
+none_held A (Some files) lanes none = record { contents = []; are = refl; coming = ap (map coming_on) none }
+
+-- no ports can be opened
+pub none_present : (A : Type 0) (known : Option Files) → CanOpen {A = A} known []
+none_present A None = tt
+none_present A (Some files) = ([], refl)
+
+module _ {A : Type 0} where
+  -- ---- ports before a place
+
+  -- one more port
+  one_more_port : (ports : List (Port A)) (place next : ℕ) (port : Port A) → next ≡ suc place → place < length ports → port ≡ get_or ports place port → take next ports ≡ take place ports ++ port ∷ []
+  one_more_port ports place next port is below here =
+      ap (λ n. take n ports) is ∙ take-suc ports place port below ∙ ap (λ p. take place ports ++ p ∷ []) (sym here)
+
+  -- the names of one more port's file
+  pub one_more_name : (a b c : Known) (ports : List (Port A)) (place next : ℕ) (port : Port A) → next ≡ suc place → place < length ports → port ≡ get_or ports place port
+      → AsksFor a b (map file_name (take place ports)) → AsksFor b c (file_name port ∷ []) → AsksFor a c (map file_name (take next ports))
+  one_more_name a b c ports place next port is below here p q =
+      subst (AsksFor a c) (sym (ap (map file_name) (one_more_port ports place next port is below here) ∙ map-append file_name (take place ports) (port ∷ [])))
+      (asks_more a b c (map file_name (take place ports)) (file_name port ∷ []) p q)
+
+  -- ---- captures
+
+  one_more_content : (files : Files) (ports : List (Port A)) (port : Port A) (held remaining : Option (List ℕ)) (lanes lanes' : List LaneState)
+      → files (file_name port) ≡ held → AreFiles files ports lanes → IsSome held × (remaining ≡ held)
+      → map coming_on lanes' ≡ map coming_on lanes ++ option_map answers remaining ∷ [] → AreFiles files (ports ++ port ∷ []) lanes'
+  one_more_content files ports port None remaining lanes lanes' is are opened more = absurd (false≢true opened.0)
+  one_more_content files ports port (Some content) remaining lanes lanes' is are opened more = record {
+    contents = are.contents ++ content ∷ [];
+    are = map-append (λ p. files (file_name p)) ports (port ∷ [])
+        ∙ ap (λ l. l ++ files (file_name port) ∷ []) are.are
+        ∙ ap (λ o. map Some are.contents ++ o ∷ []) is
+        ∙ sym (map-append Some are.contents (content ∷ []));
+    coming = more
+        ∙ ap (λ l. l ++ option_map answers remaining ∷ []) are.coming
+        ∙ ap (λ o. map Some (map answers are.contents) ++ option_map answers o ∷ []) opened.1
+        ∙ sym (map-append Some (map answers are.contents) (answers content ∷ []))
+        ∙ sym (ap (map Some) (map-append answers are.contents (content ∷ [])));
+  }
+
+  -- one more capture
+  one_more_held : (known : Option Files) (ports : List (Port A)) (port : Port A) (remaining : Option (List ℕ)) (lanes lanes' : List LaneState)
+      → HoldFiles known ports lanes → IfSome known (λ files. IsSome (files (file_name port)) × (remaining ≡ files (file_name port)))
+      → map coming_on lanes' ≡ map coming_on lanes ++ option_map answers remaining ∷ [] → HoldFiles known (ports ++ port ∷ []) lanes'
+  one_more_held None ports port remaining lanes lanes' are opened more = tt
+  one_more_held (Some files) ports port remaining lanes lanes' are opened more =
+      one_more_content files ports port (files (file_name port)) remaining lanes lanes' refl are opened more
+
+  -- the capture of the port at this place
+  pub one_more_lane : (known known' : Option Files) (ports : List (Port A)) (place next : ℕ) (port : Port A) (remaining : Option (List ℕ)) (lanes lanes' : List LaneState)
+      → known' ≡ known → next ≡ suc place → place < length ports → port ≡ get_or ports place port
+      → HoldFiles known (take place ports) lanes → IfSome known' (λ files. IsSome (files (file_name port)) × (remaining ≡ files (file_name port)))
+      → map coming_on lanes' ≡ map coming_on lanes ++ option_map answers remaining ∷ [] → HoldFiles known (take next ports) lanes'
+  one_more_lane known known' ports place next port remaining lanes lanes' same is below here are opened more =
+      subst (λ l. HoldFiles known l lanes') (sym (one_more_port ports place next port is below here))
+      (one_more_held known (take place ports) port remaining lanes lanes' are
+      (subst (λ (k : Option Files). IfSome k (λ files. IsSome (files (file_name port)) × (remaining ≡ files (file_name port)))) same opened) more)
+
+  -- ---- a port whose file isn't open
+
+  present : (known : Option Files) (ports : List (Port A)) (lanes : List LaneState) → HoldFiles known ports lanes → CanOpen known ports
+  present None ports lanes are = tt
+  present (Some files) ports lanes are = (are.contents, are.are)
+
+  pub stops_after : (known known' : Option Files) (ports : List (Port A)) (place : ℕ) (port : Port A) (fault : OpenFault)
+      → known' ≡ known → place < length ports → port ≡ get_or ports place port → CanOpen known (take place ports) → IsPortFault known' port fault → StopsAtPort known ports fault
+  stops_after known known' ports place port fault same below here are wrong = record {
+    before = take place ports;
+    port = port;
+    others = drop (suc place) ports;
+    cut = sym (take-append-drop place ports) ∙ ap (λ l. take place ports ++ l) (drop-cons ports place port below ∙ ap (λ p. p ∷ drop (suc place) ports) (sym here));
+    wrong = subst (λ (k : Option Files). IsPortFault k port fault) same wrong;
+    opened = are;
+  }
+
+  pub stops : (known known' : Option Files) (ports : List (Port A)) (place : ℕ) (port : Port A) (lanes : List LaneState) (fault : OpenFault)
+      → known' ≡ known → place < length ports → port ≡ get_or ports place port → HoldFiles known (take place ports) lanes → IsPortFault known' port fault → StopsAtPort known ports fault
+  stops known known' ports place port lanes fault same below here are wrong =
+      stops_after known known' ports place port fault same below here (present known (take place ports) lanes are) wrong
+
+  -- ---- two routers
+
+  coming_same : (known : Option Files) (ports : List (Port A)) (lanes lanes' : List LaneState) → map coming_on lanes' ≡ map coming_on lanes → HoldFiles known ports lanes → HoldFiles known ports lanes'
+  coming_same None ports lanes lanes' same are = tt
+  coming_same (Some files) ports lanes lanes' same are = record { contents = are.contents; are = are.are; coming = same ∙ are.coming }
+
+  one_more_if : (known : Option Files) (ports : List (Port A)) (port : Port A) (remaining : Option (List ℕ)) (lanes lanes' : List LaneState) (b : Bool)
+      → HoldFiles known ports lanes → IfSome known (λ files. IsSome (files (file_name port)) × (remaining ≡ files (file_name port)))
+      → map coming_on lanes' ≡ map coming_on lanes ++ cond b (option_map answers remaining ∷ []) [] → HoldFiles known (ports ++ cond b (port ∷ []) []) lanes'
+  one_more_if known ports port remaining lanes lanes' true are opened more = one_more_held known ports port remaining lanes lanes' are opened more
+  one_more_if known ports port remaining lanes lanes' false are opened more =
+      subst (λ l. HoldFiles known l lanes') (sym (append-nil ports)) (coming_same known ports lanes lanes' (more ∙ append-nil (map coming_on lanes)) are)
+
+  -- the capture of the port at this place, if it is one of this router
+  pub one_more_of : (side : Side) (known known' : Option Files) (ports : List (Port A)) (place next : ℕ) (port : Port A) (remaining : Option (List ℕ)) (lanes lanes' : List LaneState)
+      → known' ≡ known → next ≡ suc place → place < length ports → port ≡ get_or ports place port
+      → HoldFiles known (filter (is_of side) (take place ports)) lanes → IfSome known' (λ files. IsSome (files (file_name port)) × (remaining ≡ files (file_name port)))
+      → AddsLane side port.side remaining lanes lanes' → HoldFiles known (filter (is_of side) (take next ports)) lanes'
+  one_more_of side known known' ports place next port remaining lanes lanes' same is below here are opened more =
+      subst (λ l. HoldFiles known l lanes') (sym (ap (filter (is_of side)) (one_more_port ports place next port is below here) ∙ filter-append (is_of side) (take place ports) (port ∷ [])))
+      (one_more_if known (filter (is_of side) (take place ports)) port remaining lanes lanes' (is_side side port.side) are
+      (subst (λ (k : Option Files). IfSome k (λ files. IsSome (files (file_name port)) × (remaining ≡ files (file_name port)))) same opened) more)
+
+  one_more_there : (files : Files) (ports : List (Port A)) (port : Port A) (held : Option (List ℕ)) → files (file_name port) ≡ held → IsSome held
+      → (contents : List (List ℕ)) × AreContents files ports contents → (contents : List (List ℕ)) × AreContents files (ports ++ port ∷ []) contents
+  one_more_there files ports port None is some are = absurd (false≢true some)
+  one_more_there files ports port (Some content) is some (contents, are) = (
+    contents ++ content ∷ [],
+    map-append (λ p. files (file_name p)) ports (port ∷ [])
+        ∙ ap (λ l. l ++ files (file_name port) ∷ []) are
+        ∙ ap (λ o. map Some contents ++ o ∷ []) is
+        ∙ sym (map-append Some contents (content ∷ [])),
+  )
+
+  one_more_can : (known : Option Files) (ports : List (Port A)) (port : Port A) (remaining : Option (List ℕ)) → CanOpen known ports
+      → IfSome known (λ files. IsSome (files (file_name port)) × (remaining ≡ files (file_name port))) → CanOpen known (ports ++ port ∷ [])
+  one_more_can None ports port remaining are opened = tt
+  one_more_can (Some files) ports port remaining are opened = one_more_there files ports port (files (file_name port)) refl opened.0 are
+
+  -- the file of the port at this place can be opened
+  pub one_more_present : (known known' : Option Files) (ports : List (Port A)) (place next : ℕ) (port : Port A) (remaining : Option (List ℕ))
+      → known' ≡ known → next ≡ suc place → place < length ports → port ≡ get_or ports place port
+      → CanOpen known (take place ports) → IfSome known' (λ files. IsSome (files (file_name port)) × (remaining ≡ files (file_name port))) → CanOpen known (take next ports)
+  one_more_present known known' ports place next port remaining same is below here are opened =
+      subst (CanOpen known) (sym (one_more_port ports place next port is below here))
+      (one_more_can known (take place ports) port remaining are
+      (subst (λ (k : Option Files). IfSome k (λ files. IsSome (files (file_name port)) × (remaining ≡ files (file_name port)))) same opened))

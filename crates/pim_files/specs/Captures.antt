@@ -1,0 +1,76 @@
+-- The captures of ports that are opened one by one. `known` is what files hold, where it is known.
+use Rattle.std.specs.Prelude.{◌≡◌, ⊤, ℕ, Bool, cond, List, [], ◌∷◌, ◌++◌, map}
+use Rattle.std.specs.Prelude.{Option, None, Some, IsSome, IfSome, option_map}
+use Rattle.pim_capture.specs.Capture.{answers}
+use Rattle.pim_merge.specs.Lane.{LaneState, IsComing, coming_on}
+use Rattle.pim_words.specs.declared.fault.Side.{Side}
+use Rattle.pim_words.specs.declared.task.Port.{Port}
+use Rattle.pim_words.specs.Faults.{is_side}
+use Rattle.pim_files.specs.declared.fault.OpenFault.{OpenFault}
+use Rattle.pim_files.specs.declared.fault.OpenFault.TheVariants.{File, Memory}
+use Rattle.pim_files.specs.Files.{Files}
+
+-- The name of a port's file.
+abbrev pub file_name : {A : Type 0} → Port A → List ℕ
+file_name port = port.file.now
+
+-- ---- one capture
+
+-- The reader has all of the port's file to give.
+abbrev pub IsReaderOf : {A R : Type 0} → (R → Option (List ℕ)) → Option Files → Port A → R → Type 0
+IsReaderOf remaining known port reader = IfSome known (λ files.
+    IsSome (files (file_name port)) × (remaining reader ≡ files (file_name port)))
+
+-- Why the port's file isn't open: it can't be opened, and the fault has the port's whole word. Or
+-- memory is refused.
+abbrev pub IsPortFault : {A : Type 0} → Option Files → Port A → OpenFault → Type 0
+IsPortFault known port (File word) =
+    (word.now ≡ port.word.now) × IfSome known (λ files. files (file_name port) ≡ None)
+IsPortFault known port Memory = ⊤
+IsPortFault known port fault = ⊥
+
+-- ---- the captures of ports
+
+-- The files of these ports, each with what it holds.
+abbrev pub AreContents : {A : Type 0} → Files → List (Port A) → List (List ℕ) → Type 0
+AreContents files ports contents = map (λ port. files (file_name port)) ports ≡ map Some contents
+
+-- The files of these ports can be opened, where it is known what files hold.
+abbrev pub CanOpen : {A : Type 0} → Option Files → List (Port A) → Type 0
+CanOpen known ports = IfSome known (λ files. (contents : List (List ℕ)) × AreContents files ports contents)
+
+-- These captures are those of the ports' files, in their order. Nothing of them is read: each has
+-- all results of its file to return.
+pub record AreFiles {A : Type 0} (files : Files) (ports : List (Port A)) (lanes : List LaneState) : Type 0 where
+  pub contents : List (List ℕ)
+  pub are : AreContents files ports contents
+  pub coming : IsComing lanes (map answers contents)
+
+-- The same, where it is known what files hold.
+abbrev pub HoldFiles : {A : Type 0} → Option Files → List (Port A) → List LaneState → Type 0
+HoldFiles known ports lanes = IfSome known (λ files. AreFiles files ports lanes)
+
+-- This port's file isn't open. It is the first such one: the files of the ports before it can be
+-- opened.
+pub record StopsAtPort {A : Type 0} (known : Option Files) (ports : List (Port A)) (fault : OpenFault) : Type 0 where
+  pub before : List (Port A)
+  pub port : Port A
+  pub others : List (Port A)
+  pub cut : ports ≡ before ++ port ∷ others
+  pub wrong : IsPortFault known port fault
+  pub opened : CanOpen known before
+
+-- ---- two routers
+
+-- Whether the port belongs to this router.
+abbrev pub is_of : {A : Type 0} → Side → Port A → Bool
+is_of side port = is_side side port.side
+
+-- 1 if the port belongs to this router, otherwise 0.
+abbrev pub one_of : Side → Side → ℕ
+one_of side other = cond (is_side side other) 1 0
+
+-- The capture of this reader is one more of the router `side` if its port is one of that router.
+abbrev pub AddsLane : Side → Side → Option (List ℕ) → List LaneState → List LaneState → Type 0
+AddsLane side other remaining old new =
+    map coming_on new ≡ map coming_on old ++ cond (is_side side other) (option_map answers remaining ∷ []) []

@@ -1,0 +1,22 @@
+-- What is known of an opener of files in memory.
+use Rattle.std.specs.Prelude.{ℕ, List, [], ◌∷◌, map, cond, bytes_eq, string_bytes, Option, None, Some}
+use Rattle.pim_files.specs.declared.held.HeldFile.{HeldFile}
+use Rattle.pim_files.specs.declared.held.HeldFiles.{HeldFiles}
+use Rattle.pim_files.specs.Files.{Files, Known}
+
+-- The bytes of the first file of this name.
+abbrev pub held_content : List HeldFile → Files
+held_content [] name = None
+held_content (file ∷ files) name = cond (bytes_eq file.name.now name) (Some file.bytes.now) (held_content files name)
+
+-- The files of the opener.
+abbrev pub held_files : HeldFiles → List HeldFile
+held_files opener = opener.files.now
+
+-- The names that it was asked for, if it could note all of them.
+abbrev pub held_asked : HeldFiles → Option (List (List ℕ))
+held_asked opener = cond opener.is_whole (Some (map string_bytes opener.asked.items)) None
+
+-- What is known of it.
+abbrev pub held_known : HeldFiles → Known
+held_known opener = record { files = Some (held_content (held_files opener)); asked = held_asked opener }

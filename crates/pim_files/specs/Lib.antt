@@ -1,0 +1,5 @@
+-- The definitions of `pim_files`.
+pub mod Files
+pub mod Table
+pub mod Captures
+pub mod Held

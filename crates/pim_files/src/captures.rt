@@ -1,0 +1,60 @@
+//! The captures of a router.
+
+ghost use Rattle.std.specs.Prelude.{◌≡◌, [], ◌∷◌, length, map, None, IfOk, IfErr, MatchResult};
+ghost use Rattle.pim_files.specs.Files.{AsksFor, AsksAll};
+ghost use Rattle.pim_files.specs.Captures.{file_name, IsReaderOf, IsPortFault};
+ghost use Rattle.pim_files.specs.Captures.{HoldFiles, StopsAtPort};
+
+use crate::fault::OpenFault;
+use crate::opener::{Opener, Unopened};
+use pim_merge::Merge;
+use pim_words::Port;
+use std::alloc::Global;
+
+/// Opens the capture of a port.
+///
+/// # Errors
+/// `File` with the whole word of the port, or `Memory`.
+pub fn open_port<'a, A, O: Opener>(
+    alloc: Global,
+    opener: &mut O,
+    port: &Port<'a, A>,
+) -> Result<O::Reader, OpenFault<'a>>
+    ensures opened { MatchResult result
+        (IsReaderOf O.Reader.remaining (O.known opener.old).files port.now)
+        (IsPortFault (O.known opener.old).files port.now) }
+    ensures asked { AsksFor (O.known opener.old) (O.known opener.new) (file_name port.now ∷ []) }
+{
+    match opener.open(alloc, port.file) {
+        Ok(reader) => Ok(reader),
+        Err(Unopened::File) => Err(OpenFault::File(port.word)),
+        Err(Unopened::Memory) => Err(OpenFault::Memory),
+    }
+}
+
+/// Opens the capture of each port, in the order of the words. Nothing is read.
+///
+/// # Errors
+/// That of the first port whose capture isn't open.
+pub fn open_all<'a, A, O: Opener>(
+    alloc: Global,
+    opener: &mut O,
+    ports: &[Port<'a, A>],
+) -> Result<Merge<O::Reader>, OpenFault<'a>>
+    ensures each { IfOk result (λ merge. length merge.lanes ≡ length ports.now) }
+    ensures untaken { IfOk result (λ merge. merge.clock ≡ None) }
+    ensures opened { IfOk result (λ merge.
+        HoldFiles (O.known opener.old).files ports.now merge.lanes) }
+    ensures fault { IfErr result (StopsAtPort (O.known opener.old).files ports.now) }
+    ensures asked { AsksAll (O.known opener.old) (O.known opener.new) (map file_name ports.now)
+        result }
+{
+    let mut merge = Merge::new(alloc);
+    for port in ports {
+        let reader = open_port(alloc, opener, port)?;
+        let Ok(()) = merge.add(alloc, reader) else {
+            return Err(OpenFault::Memory);
+        };
+    }
+    Ok(merge)
+}

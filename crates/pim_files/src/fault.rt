@@ -1,0 +1,19 @@
+//! Why the files of a command aren't open.
+
+use pim_routes_file::RoutesFault;
+
+/// Why there is no route table, or a file isn't open.
+#[derive(Debug, PartialEq, Eq)]
+pub enum OpenFault<'a> {
+    /// The upstream neighbour isn't a valid source.
+    Upstream,
+    /// The RP isn't a valid source.
+    Rp,
+    /// The file of a port or of the routes can't be opened. This is the word of the port, or the
+    /// name of the file of routes.
+    File(&'a str),
+    /// The file of routes has a fault.
+    Routes(RoutesFault),
+    /// An allocation was refused.
+    Memory,
+}

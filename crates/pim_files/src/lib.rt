@@ -1,0 +1,31 @@
+//! The files that the words of a command name: who opens them, in which order, and what is told of
+//! one that can't be opened.
+//!
+//! - `Opener` opens files by name. It tells what they hold, and which names it was asked for, only
+//!   where it can: files in memory do, files of the system do not.
+//! - `table` makes the route table. It reads the file of routes, if one is named.
+//! - `open_all` opens the captures of one router, `open_both` those of two, in the order of the
+//!   words.
+//! - `HeldFiles` is an opener of files in memory, for tests.
+//!
+//! Where the opener tells what files hold, the contracts say that each port has the capture of its
+//! own file, of which nothing is read. They also say which rows the table has, and the first file
+//! that can't be opened is the fault. Elsewhere they say how many captures there are, and which
+//! words a fault may have.
+//!
+//! The crate is apart from `pim_commands`, so that each is checked alone.
+#![tactic(auto)]
+
+mod captures;
+mod fault;
+mod held;
+mod opener;
+mod pair;
+mod route_table;
+
+pub use captures::{open_all, open_port};
+pub use fault::OpenFault;
+pub use held::{HeldFile, HeldFiles};
+pub use opener::{Opener, Unopened};
+pub use pair::{Pair, add_to, open_both};
+pub use route_table::{first_rows, table};

@@ -1,0 +1,34 @@
+//! What opens files.
+
+ghost use Rattle.std.specs.Prelude.{[], ◌∷◌, IfSome};
+ghost use Rattle.pim_files.specs.Files.{Known, AsksFor, Opens};
+
+use pim_addr::Feed;
+use std::alloc::Global;
+
+/// Why a file isn't open.
+#[derive(Clone, Copy, Debug, PartialEq, Eq)]
+pub enum Unopened {
+    /// There is no file of this name, or it can't be opened.
+    File,
+    /// An allocation was refused.
+    Memory,
+}
+
+/// A device that opens files by name.
+pub trait Opener {
+    /// What reads an open file.
+    type Reader: Feed + Drop;
+
+    // What is known of the files, and of the names that it was asked for.
+    ghost known: { Self → Known };
+
+    /// Opens the file of this name, at its beginning.
+    ///
+    /// # Errors
+    /// Why it isn't open.
+    fn open(&mut self, alloc: Global, name: &str) -> Result<Self::Reader, Unopened>
+        ensures asked { AsksFor (known self.old) (known self.new) (name.now ∷ []) }
+        ensures opened { IfSome (known self.old).files (λ files.
+            Opens Self.Reader.remaining (files name.now) result) };
+}

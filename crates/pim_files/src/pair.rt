@@ -1,0 +1,83 @@
+//! The captures of two routers.
+
+ghost use Rattle.std.specs.Prelude.{◌≡◌, ◌+◌, length, map, filter, None, IfOk, IfErr};
+ghost use Rattle.pim_files.specs.Files.{AsksAll};
+ghost use Rattle.pim_files.specs.Captures.{file_name, is_of, one_of};
+ghost use Rattle.pim_files.specs.Captures.{HoldFiles, StopsAtPort, AddsLane};
+
+use crate::captures::open_port;
+use crate::fault::OpenFault;
+use crate::opener::Opener;
+use pim_addr::Feed;
+use pim_merge::Merge;
+use pim_words::{Port, Side};
+use std::alloc::{AllocError, Global};
+
+/// The captures of two routers: of each router one for each of its ports.
+#[derive(Drop)]
+pub struct Pair<R: Feed + Drop> {
+    /// The captures of router a.
+    pub a: Merge<R>,
+    /// The captures of router b.
+    pub b: Merge<R>,
+}
+
+/// Adds the capture of this reader to those of a router. It is that of the router's next port.
+pub fn add_to<R: Feed + Drop>(
+    alloc: Global,
+    pair: &mut Pair<R>,
+    side: Side,
+    reader: R,
+) -> Result<(), AllocError>
+    ensures a { IfOk result (λ done.
+        length pair.new.a.lanes ≡ length pair.old.a.lanes + one_of Side.A side) }
+    ensures b { IfOk result (λ done.
+        length pair.new.b.lanes ≡ length pair.old.b.lanes + one_of Side.B side) }
+    ensures lanes_of_a { IfOk result (λ done.
+        AddsLane Side.A side (R.remaining reader) pair.old.a.lanes pair.new.a.lanes) }
+    ensures lanes_of_b { IfOk result (λ done.
+        AddsLane Side.B side (R.remaining reader) pair.old.b.lanes pair.new.b.lanes) }
+    ensures clock_of_a { pair.new.a.clock ≡ pair.old.a.clock }
+    ensures clock_of_b { pair.new.b.clock ≡ pair.old.b.clock }
+{
+    match side {
+        Side::A => pair.a.add(alloc, reader),
+        Side::B => pair.b.add(alloc, reader),
+    }
+}
+
+/// Opens the capture of each port, in the order of the words, for its router. Nothing is read.
+///
+/// # Errors
+/// That of the first port whose capture isn't open.
+pub fn open_both<'a, A, O: Opener>(
+    alloc: Global,
+    opener: &mut O,
+    ports: &[Port<'a, A>],
+) -> Result<Pair<O::Reader>, OpenFault<'a>>
+    ensures a { IfOk result (λ pair.
+        length pair.a.lanes ≡ length (filter (is_of Side.A) ports.now)) }
+    ensures b { IfOk result (λ pair.
+        length pair.b.lanes ≡ length (filter (is_of Side.B) ports.now)) }
+    ensures untaken_of_a { IfOk result (λ pair. pair.a.clock ≡ None) }
+    ensures untaken_of_b { IfOk result (λ pair. pair.b.clock ≡ None) }
+    ensures opened_of_a { IfOk result (λ pair.
+        HoldFiles (O.known opener.old).files (filter (is_of Side.A) ports.now) pair.a.lanes) }
+    ensures opened_of_b { IfOk result (λ pair.
+        HoldFiles (O.known opener.old).files (filter (is_of Side.B) ports.now) pair.b.lanes) }
+    ensures fault { IfErr result (StopsAtPort (O.known opener.old).files ports.now) }
+    ensures asked { AsksAll (O.known opener.old) (O.known opener.new) (map file_name ports.now)
+        result }
+{
+    let mut pair = Pair {
+        a: Merge::new(alloc),
+        b: Merge::new(alloc),
+    };
+    for port in ports {
+        let reader = open_port(alloc, opener, port)?;
+        let Ok(()) = add_to(alloc, &mut pair, port.side, reader) else {
+            return Err(OpenFault::Memory);
+        };
+    }
+    Ok(pair)
+}

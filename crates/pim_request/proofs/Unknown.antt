@@ -1,0 +1,28 @@
+-- A command that none of the usages has.
+use Rattle.std.proofs.Common.{◌≡◌, ◌∙◌, sym, ap, subst, refl, ℕ, Bool, false, cond, List, [], ◌∷◌}
+use Rattle.std.specs.Borrow.{Bor}
+use Rattle.std.specs.List.{AllByRecursion}
+use Rattle.std.specs.Str.{bytes_eq}
+use Rattle.std.proofs.lemmas.Slice.Eq.{bytes_eq-Decides}
+use Rattle.std.proofs.lemmas.Bool.{false_from_ne_true}
+use Rattle.pim_request.specs.declared.command.WordsFault.TheVariants.{Word}
+use Rattle.pim_request.specs.Forms.{Slot, words_of}
+use Rattle.pim_request.specs.Commands.{Usage, usages, forms_in, IsFaultOf, IsFaultAmong, IsWordsFault}
+use Rattle.pim_request.specs.Steps.{IsNone, names_of_setup, names_of_kept, names_of_router}
+
+no_forms : (among : List Usage) (command : List ℕ) → AllByRecursion (λ usage. command ≡ usage.command → ⊥) among → forms_in among command ≡ []
+no_forms [] command none = refl
+no_forms (usage ∷ others) command none =
+    let other : bytes_eq usage.command command ≡ false = false_from_ne_true (bytes_eq usage.command command) (λ same. none.0 (sym ((bytes_eq-Decides usage.command command).0 same))) in
+    ap (λ (b : Bool). cond b usage.forms (forms_in others command)) other ∙ no_forms others command none.1
+
+pub unknown_among : (among : List Usage) (line : List ℕ) (command : Bor (List ℕ)) (words : List (List ℕ)) → words_of line ≡ command.now ∷ words → AllByRecursion (λ usage. command.now ≡ usage.command → ⊥) among → IsFaultAmong among line (Word command)
+unknown_among among line command words same none =
+    (command.now, words, same, subst (λ (forms : List (List Slot)). IsFaultOf forms command.now words (Word command)) (sym (no_forms among command.now none)) refl)
+
+pub unknown : (line : List ℕ) (command : Bor (List ℕ)) (words : List (List ℕ)) → words_of line ≡ command.now ∷ words → IsNone command.now names_of_router → IsNone command.now names_of_kept → IsNone command.now names_of_setup → IsWordsFault line (Word command)
+unknown line command words same r k s =
+    unknown_among usages line command words same (
+      s.0,
+      (s.1.0, (s.1.1.0, (s.1.1.1.0, (s.1.1.1.1.0, (r.1.0, (r.0, (r.1.1.0, (r.1.1.1.0, (r.1.1.1.1.0, (r.1.1.1.1.1.0, (r.1.1.1.1.1.1.0, (k.0, (k.1.0, (k.1.1.0, (k.1.1.1.0, (s.1.1.1.1.1.0, tt)))))))))))))))),
+    )

@@ -1,0 +1,10 @@
+use Rattle.std.proofs.Common.{◌≡◌, ◌++◌, length}
+use Rattle.pim_request.specs.Forms.{IsHex, hex_bytes}
+use Rattle.pim_request.proofs.hex.decode_hex.Given as goal
+
+-- the bytes so far and those of the digits that are left are all bytes
+abbrev pub invariant-loop-decoded : goal.invariant-loop-decoded
+invariant-loop-decoded l = record { digits : IsHex l.left; bytes : l.bytes.items ++ hex_bytes l.left ≡ hex_bytes l.hex }
+
+abbrev pub decreases-loop-decoded : goal.decreases-loop-decoded
+decreases-loop-decoded l = length l.left

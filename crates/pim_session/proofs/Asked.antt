@@ -1,0 +1,62 @@
+-- What an item asks for, by what is held of it.
+use Rattle.std.proofs.Common.{◌≡◌, ℕ, ◌≤◌, Bool, true, false, List, [], ◌∷◌, ◌++◌, length, codes, Option, None, Some, is_some, Result, Ok, Err, refl, sym, ap, subst, ◌∙◌, inl, inr}
+use Rattle.pim_text.specs.Read.{IsRead}
+use Rattle.pim_request.specs.declared.command.Sender.{Sender}
+use Rattle.pim_request.specs.Commands.{StatesSender}
+use Rattle.pim_items.specs.declared.held_text.Unheld.{Unheld}
+use Rattle.pim_items.specs.declared.items.Item.TheVariants.{Line, LongLine, Text as TextOf}
+use Rattle.pim_items.specs.declared.items.TextItem.{TextItem}
+use Rattle.pim_items.specs.Items.{Text, Item, a_line, a_long_line, a_text, bytes_of_lines, has_long_line, text_limit}
+use Rattle.pim_items.specs.Reading.{Reading, Holds, IsText, IsItem}
+use Rattle.pim_session.specs.declared.request.Request.{Request}
+use Rattle.pim_session.specs.declared.request.Request.TheVariants.{Command, From}
+use Rattle.pim_session.specs.Request.{long_line_words, AsksLine, AsksText, Asks}
+use Rattle.pim_session.specs.Seen.{AsksFrom}
+
+-- ---- what is held
+
+pub all_held : (fault : Option Unheld) (text : Text) (from_line bytes : List ℕ) → Holds fault text from_line bytes → is_some fault ≡ false → (from_line ≡ text.head) × (bytes ≡ bytes_of_lines text.lines)
+all_held None text from_line bytes holds none = (holds.0, holds.1)
+all_held (Some fault) text from_line bytes holds none = absurd cc
+
+-- ---- a held text
+
+pub from_asked : (text : Text) (sender : Sender) (bytes : List ℕ) (is_sent : Bool) (asked : Result Request (List ℕ)) → StatesSender text.head sender → bytes ≡ bytes_of_lines text.lines → length bytes ≤ text_limit → is_sent ≡ text.is_sent
+    → AsksFrom sender bytes is_sent asked → AsksText text asked
+from_asked text sender bytes is_sent (Ok (Command command)) states is short same asks = absurd asks
+from_asked text sender bytes is_sent (Ok (From from)) states is short same asks =
+    record {
+      sender = subst (StatesSender text.head) (sym asks.0) states;
+      is_sent = sym same ∙ asks.2;
+      bytes = asks.1 ∙ is;
+      short = subst (λ (l : List ℕ). length l ≤ text_limit) (sym asks.1) short;
+      stated = subst (λ (l : List ℕ). IsRead l from.stated) (sym asks.1) asks.3;
+    }
+from_asked text sender bytes is_sent (Err words) states is short same asks =
+    let limit : length (bytes_of_lines text.lines) ≤ text_limit = subst (λ (l : List ℕ). length l ≤ text_limit) is short in
+    inl (inr (sender, states, inr (limit, rw (sym is, sym same) asks)))
+
+-- ---- items
+
+pub line_asked : (some : Item) (reading : Reading) (asked : Result Request (List ℕ)) → IsItem some Line reading → AsksLine reading.line asked → Asks some asked
+line_asked (a_line line) reading asked is asks = subst (λ (l : List ℕ). AsksLine l asked) is asks
+line_asked a_long_line reading asked is asks = absurd is
+line_asked (a_text text) reading asked is asks = absurd is
+
+pub long_asked : (some : Item) (reading : Reading) (words : List ℕ) → IsItem some LongLine reading → words ≡ long_line_words → Asks some (Err words)
+long_asked (a_line line) reading words is same = absurd is
+long_asked a_long_line reading words is same = ap Err same
+long_asked (a_text text) reading words is same = absurd is
+
+pub long_text_asked : (some : Item) (item : TextItem) (reading : Reading) (words : List ℕ) → IsItem some (TextOf item) reading → item.has_long_line ≡ true → words ≡ long_line_words → Asks some (Err words)
+long_text_asked (a_line line) item reading words is long same = absurd is
+long_text_asked a_long_line item reading words is long same = absurd is
+long_text_asked (a_text text) item reading words is long same =
+    let s : has_long_line text ≡ true = sym is.has_long_line ∙ long in rw s (ap Err same)
+
+pub text_asked : (some : Item) (item : TextItem) (reading : Reading) (asked : Result Request (List ℕ)) → IsItem some (TextOf item) reading → item.has_long_line ≡ false
+    → ((text : Text) → IsText text item reading → has_long_line text ≡ false → AsksText text asked) → Asks some asked
+text_asked (a_line line) item reading asked is short asks = absurd is
+text_asked a_long_line item reading asked is short asks = absurd is
+text_asked (a_text text) item reading asked is short asks =
+    let s : has_long_line text ≡ false = sym is.has_long_line ∙ short in rw s (asks text is s)

@@ -1,0 +1,135 @@
+-- Dialogs and what was written of them, one after the other.
+use Rattle.std.proofs.Common.{◌≡◌, ℕ, ◌+◌, ◌≤◌, List, [], ◌∷◌, ◌++◌, length, take, Option, None, Some, Result, Ok, Err, refl, sym, ap, subst, ◌∙◌, arith, append_assoc, append-nil, length-append}
+use Rattle.std.proofs.lemmas.List.{take-append-le, take_all, length-take}
+use Rattle.std.proofs.KnownBytes.{Appends-nil, Appends-trans}
+use Rattle.std.specs.Io.KnownBytes.{Appends, Keeps}
+use Rattle.pim_device.specs.Device.{AppendsFront}
+use Rattle.pim_items.specs.Items.{Item}
+use Rattle.pim_session.specs.Dialog.{IsAnswer, IsDialog, AnswersFirst, AnswersAll, Wrote}
+use Rattle.pim_session.specs.State.{Session}
+use Rattle.pim_session.specs.Underway.{Went}
+
+-- ---- bytes
+
+-- nothing behind the first piece was written
+pub front-longer : (a b : Option (List ℕ)) (bs cs : List ℕ) → AppendsFront a b bs → AppendsFront a b (bs ++ cs)
+front-longer None b bs cs p = tt
+front-longer (Some xs) None bs cs p = absurd p
+front-longer (Some xs) (Some ys) bs cs p =
+    let short : length ys ≤ length (xs ++ bs) = omega (arith, ap length p.1 ∙ length-take (length ys) (xs ++ bs)) in
+    (p.0, p.1 ∙ sym (take-append-le (length ys) (xs ++ bs) cs short) ∙ ap (take (length ys)) (append_assoc xs bs cs))
+
+-- all of the first piece was written, and a front of the second
+pub front-more : (a b c : Option (List ℕ)) (bs cs : List ℕ) → Appends a b bs → AppendsFront b c cs → AppendsFront a c (bs ++ cs)
+front-more None b c bs cs p q = tt
+front-more (Some xs) None c bs cs p q = absurd p
+front-more (Some xs) (Some ys) None bs cs p q = absurd q
+front-more (Some xs) (Some ys) (Some zs) bs cs p q =
+    let long : length ys ≡ length xs + length bs = ap length p ∙ length-append xs bs in
+    (omega (arith, q.0), q.1 ∙ ap (λ l. take (length zs) (l ++ cs)) p ∙ ap (take (length zs)) (append_assoc xs bs cs))
+
+-- bytes that stay grow by nothing
+pub keeps_nil : (old new : Option (List ℕ)) → Keeps old new → Appends old new []
+keeps_nil None new keeps = tt
+keeps_nil (Some xs) None keeps = absurd keeps
+keeps_nil (Some xs) (Some ys) keeps = keeps ∙ sym (append-nil xs)
+
+-- what grows by bytes grows by a front of them
+pub front_all : (old new : Option (List ℕ)) (bs : List ℕ) → Appends old new bs → AppendsFront old new bs
+front_all None new bs p = tt
+front_all (Some xs) None bs p = absurd p
+front_all (Some xs) (Some ys) bs p =
+    let long : length ys ≡ length (xs ++ bs) = ap length p in
+    let more : length (xs ++ bs) ≡ length xs + length bs = length-append xs bs in
+    (omega arith, p ∙ sym (take_all (length ys) (xs ++ bs) (omega arith)))
+
+-- ---- dialogs
+
+-- a dialog after another
+pub dialog_trans : (start mid end : Session) (xs ys : List Item) (t u : List ℕ) → IsDialog start xs t mid → IsDialog mid ys u end → IsDialog start (xs ++ ys) (t ++ u) end
+unfolding IsDialog
+dialog_trans start mid end [] ys t u (none, same) more =
+    subst (λ (l : List ℕ). IsDialog start ys (l ++ u) end) (sym none) (subst (λ (s : Session). IsDialog s ys u end) same more)
+dialog_trans start mid end (x ∷ xs) ys t u (first, between, others, answer, is, rest) more =
+    (first, between, others ++ u, answer, ap (λ (l : List ℕ). l ++ u) is ∙ append_assoc first others u, dialog_trans between mid end xs ys others u rest more)
+
+-- the dialog of one item
+pub dialog_one : (start after : Session) (item : Item) (text : List ℕ) → IsAnswer start item text after → IsDialog start (item ∷ []) text after
+unfolding IsDialog
+dialog_one start after item text answer = (text, after, [], answer, sym (append-nil text), (refl, refl))
+
+-- the dialog of none
+pub dialog_none : (start : Session) → IsDialog start [] [] start
+unfolding IsDialog
+dialog_none start = (refl, refl)
+
+-- ---- parts of a session
+
+pub went_none : (start : Session) (items : List Item) (old new : Option (List ℕ)) → Keeps old new → Went start items old new items start
+went_none start items old new keeps = record { done = []; text = []; are = refl; dialog = dialog_none start; written = keeps_nil old new keeps }
+
+pub went_one : (now after : Session) (item : Item) (left : List Item) (old new : Option (List ℕ)) (text : List ℕ) → IsAnswer now item text after → Appends old new text → Went now (item ∷ left) old new left after
+went_one now after item left old new text answer written =
+    record { done = item ∷ []; text = text; are = refl; dialog = dialog_one now after item text answer; written = written }
+
+module _ (start now : Session) (items left : List Item) (old mid new : Option (List ℕ)) (w : Went start items old mid left now) where
+  pub went_on : (end : Session) (rest : List Item) → Went now left mid new rest end → Went start items old new rest end
+  went_on end rest v = record {
+    done = w.done ++ v.done;
+    text = w.text ++ v.text;
+    are = w.are ∙ ap (λ (l : List Item). w.done ++ l) v.are ∙ sym (append_assoc w.done v.done rest);
+    dialog = dialog_trans start now end w.done v.done w.text v.text w.dialog v.dialog;
+    written = Appends-trans old mid new w.text v.text w.written v.written;
+  }
+
+  pub went_all : Wrote (AnswersAll now left) (Appends mid new) → Wrote (AnswersAll start items) (Appends old new)
+  went_all v = record {
+    text = w.text ++ v.text;
+    is = record {
+      after = v.is.after;
+      dialog = subst (λ (l : List Item). IsDialog start l (w.text ++ v.text) v.is.after) (sym w.are)
+          (dialog_trans start now v.is.after w.done left w.text v.text w.dialog v.is.dialog);
+    };
+    written = Appends-trans old mid new w.text v.text w.written v.written;
+  }
+
+  first_too : (text : List ℕ) → AnswersFirst now left text → AnswersFirst start items (w.text ++ text)
+  first_too text f = record {
+    done = w.done ++ f.done;
+    left = f.left;
+    are = w.are ∙ ap (λ (l : List Item). w.done ++ l) f.are ∙ sym (append_assoc w.done f.done f.left);
+    after = f.after;
+    dialog = dialog_trans start now f.after w.done f.done w.text text w.dialog f.dialog;
+  }
+
+  pub went_first : Wrote (AnswersFirst now left) (Appends mid new) → Wrote (AnswersFirst start items) (Appends old new)
+  went_first v = record { text = w.text ++ v.text; is = first_too v.text v.is; written = Appends-trans old mid new w.text v.text w.written v.written }
+
+  pub went_front : Wrote (AnswersFirst now left) (AppendsFront mid new) → Wrote (AnswersFirst start items) (AppendsFront old new)
+  went_front v = record { text = w.text ++ v.text; is = first_too v.text v.is; written = front-more old mid new w.text v.text w.written v.written }
+
+-- none is left
+pub all_none : (now : Session) (left : List Item) (old new : Option (List ℕ)) → left ≡ [] → Keeps old new → Wrote (AnswersAll now left) (Appends old new)
+all_none now left old new none keeps = record {
+  text = [];
+  is = record { after = now; dialog = subst (λ (l : List Item). IsDialog now l [] now) (sym none) (dialog_none now) };
+  written = keeps_nil old new keeps;
+}
+
+-- no more is answered
+no_more : (now : Session) (left : List Item) → AnswersFirst now left []
+no_more now left = record { done = []; left = left; are = refl; after = now; dialog = dialog_none now }
+
+pub first_none : (now : Session) (left : List Item) (old new : Option (List ℕ)) → Keeps old new → Wrote (AnswersFirst now left) (Appends old new)
+first_none now left old new keeps = record { text = []; is = no_more now left; written = keeps_nil old new keeps }
+
+pub front_none : (now : Session) (left : List Item) (old new : Option (List ℕ)) → Keeps old new → Wrote (AnswersFirst now left) (AppendsFront old new)
+front_none now left old new keeps = record { text = []; is = no_more now left; written = front_all old new [] (keeps_nil old new keeps) }
+
+-- a front of the answer to an item was written
+pub front_one : (now after : Session) (item : Item) (left : List Item) (old new : Option (List ℕ)) (text : List ℕ) → IsAnswer now item text after → AppendsFront old new text → Wrote (AnswersFirst now (item ∷ left)) (AppendsFront old new)
+front_one now after item left old new text answer written = record {
+  text = text;
+  is = record { done = item ∷ []; left = left; are = refl; after = after; dialog = dialog_one now after item text answer };
+  written = written;
+}

@@ -1,0 +1,9 @@
+pub mod Dialogs
+pub mod Underway
+pub mod Setups
+pub mod Requests
+pub mod Capped
+pub mod Adding
+pub mod Asked
+mod Served
+mod Commanded

@@ -1,0 +1,103 @@
+-- The loops over items: each way on and each end.
+use Rattle.std.proofs.Common.{◌≡◌, ◌×◌, ◌<◌, ℕ, List, ◌∷◌, Option, None, Some, Result, Ok, Err, refl, sym, subst}
+use Rattle.std.specs.Option.{IfSome}
+use Rattle.std.specs.Io.KnownBytes.{Appends, Keeps}
+use Rattle.pim_device.specs.Device.{AppendsFront}
+use Rattle.pim_request.specs.declared.command.Command.TheVariants.{Start}
+use Rattle.pim_items.specs.declared.input.Stopped.{Stopped}
+use Rattle.pim_items.specs.declared.input.Stopped.TheVariants as stopped
+use Rattle.pim_items.specs.declared.items.Item.{Item as Given}
+use Rattle.pim_items.specs.Items.{Item, items_of}
+use Rattle.pim_items.specs.Reading.{Reading, IsItem, GivesItem, LeavesLess}
+use Rattle.pim_session.specs.declared.request.Request.{Request}
+use Rattle.pim_session.specs.declared.request.Request.TheVariants.{Command}
+use Rattle.pim_session.specs.declared.serving.Ending.{Ending}
+use Rattle.pim_session.specs.declared.serving.Ending.TheVariants.{Refused, Reset, Input}
+use Rattle.pim_answers.specs.Kept.{Kept}
+use Rattle.pim_answers.specs.Lines.{ok_line, fault_line}
+use Rattle.pim_session.specs.Answers.{session_in}
+use Rattle.pim_session.specs.Dialog.{IsAnswer}
+use Rattle.pim_session.specs.Gathering.{Starts}
+use Rattle.pim_session.specs.Request.{Asks}
+use Rattle.pim_session.specs.State.{Gathered, Phase, Session, gathering}
+use Rattle.pim_session.specs.Underway.{GoesOn, Ended, Begins, BeginsServing, AllEnded, IsRefused}
+use Rattle.pim_session.proofs.Underway.{on_some, at_failed_read, at_failed_flush, started, ended_after}
+use Rattle.pim_session.proofs.Dialogs.{went_one, front_one}
+
+module _ (from old mid later coming : Option (List ℕ)) (start now : Session) (w : IfSome from (λ bytes. GoesOn start (items_of bytes) old mid coming now)) (keeps : Keeps mid later) where
+  -- the next item could not be read
+  pub ended_stopped : (s : Stopped) (left : Option (List ℕ)) (kept : List Kept) (refused : Session) → IfSome from (λ bytes. Ended start (items_of bytes) old later left kept refused (Err s))
+  ended_stopped stopped.Input left kept refused = at_failed_read from old mid later coming start now w keeps
+  ended_stopped stopped.Output left kept refused = at_failed_flush from old mid later coming start now w keeps
+
+  pub all_stopped : (s : Stopped) → IfSome from (λ bytes. AllEnded bytes start old later (Err s))
+  all_stopped stopped.Input = at_failed_read from old mid later coming start now w keeps
+  all_stopped stopped.Output = at_failed_flush from old mid later coming start now w keeps
+
+  -- a start, after it was recognised
+  pub started_so : (later' new left : Option (List ℕ)) (now' : Session) (item : Given) (reading : Reading) (asked : Result Request (List ℕ)) (kept : List Kept) (r : Result Ending Stopped)
+      → IfSome coming (λ bytes. GivesItem bytes (Ok (Some item)) reading) → ((some : Item) → IsItem some item reading → Asks some asked)
+      → (asked ≡ Ok (Command Start)) × (later' ≡ later) × (now' ≡ now)
+      → IfSome reading.coming (λ bytes. Begins now' bytes later' new left kept r) → IfSome from (λ bytes. Ended start (items_of bytes) old new left kept now' r)
+  started_so later' new left now' item reading asked kept r gives asks (recognised, same, after) begins =
+      subst (λ (n : Session). IfSome from (λ bytes. Ended start (items_of bytes) old new left kept n r)) (sym after)
+      (started from old mid later coming start now item reading asked w keeps gives asks new left kept r recognised
+      (subst (λ (l : Option (List ℕ)). IfSome reading.coming (λ bytes. Begins now bytes l new left kept r)) same
+      (subst (λ (n : Session). IfSome reading.coming (λ bytes. Begins n bytes later' new left kept r)) after begins)))
+
+-- the end of all, where a start ended it
+pub all_by_start : (from old new left : Option (List ℕ)) (start refused : Session) (kept : List Kept) (s : Stopped) → IfSome from (λ bytes. Ended start (items_of bytes) old new left kept refused (Err s))
+    → IfSome from (λ bytes. AllEnded bytes start old new (Err s))
+all_by_start from old new left start refused kept stopped.Input it = it
+all_by_start from old new left start refused kept stopped.Output it = it
+
+-- ---- what a call gave
+
+pub nothing_given : (coming : Option (List ℕ)) (found : Option Given) (reading : Reading) → ((item : Given) → found ≡ Some item → ⊥) → IfSome coming (λ bytes. GivesItem bytes (Ok found) reading) → IfSome coming (λ bytes. GivesItem bytes (Ok None) reading)
+nothing_given coming None reading never gives = gives
+nothing_given coming (Some item) reading never gives = absurd (never item refl)
+
+pub one_given : (coming : Option (List ℕ)) (found : Option Given) (item : Given) (reading : Reading) → found ≡ Some item → IfSome coming (λ bytes. GivesItem bytes (Ok found) reading) → IfSome coming (λ bytes. GivesItem bytes (Ok (Some item)) reading)
+one_given coming found item reading is gives = subst (λ (f : Option Given). IfSome coming (λ bytes. GivesItem bytes (Ok f) reading)) is gives
+
+pub one_less : (found : Option Given) (item : Given) (old new : ℕ) → found ≡ Some item → LeavesLess {A = Given} (Ok found) old new → new < old
+one_less found item old new is less = subst (λ (f : Option Given). LeavesLess {A = Given} (Ok f) old new) is less
+
+-- ---- the start
+
+same_keeps : (now : Option (List ℕ)) → Keeps now now
+same_keeps None = tt
+same_keeps (Some xs) = refl
+
+pub begun_serving : (from old mid new coming : Option (List ℕ)) (start served : Session) (kept : List Kept) (r : Result Ending Stopped) → Appends old mid ok_line
+    → IfSome from (λ bytes. Ended served (items_of bytes) mid new coming kept start r) → IfSome from (λ bytes. BeginsServing start bytes served old new coming kept r)
+begun_serving from old mid new coming start served kept r written = on_some from (λ bytes. Ended served (items_of bytes) mid new coming kept start r) (λ bytes. BeginsServing start bytes served old new coming kept r)
+    (λ bytes it item answer. ended_after start served (item ∷ items_of bytes) (items_of bytes) old mid mid new coming kept start
+    (went_one start served item (items_of bytes) old mid ok_line answer written) (same_keeps mid) r it)
+
+pub begun_failed : (from old new coming : Option (List ℕ)) (start served : Session) (kept : List Kept) → AppendsFront old new ok_line → IfSome from (λ bytes. BeginsServing start bytes served old new coming kept (Err stopped.Output))
+begun_failed None old new coming start served kept written = tt
+begun_failed (Some bytes) old new coming start served kept written = λ item answer. front_one start served item (items_of bytes) old new ok_line answer written
+
+module _ (gathered : Gathered) (kept : List Kept) where
+  answer_start : (item : Item) (text : List ℕ) (phase : Phase) → Asks item (Ok (Command Start)) → Starts gathered.family gathered text phase → IsAnswer (session_in (gathering gathered) kept) item text (session_in phase kept)
+  answer_start item text phase asks starts = record { asked = Ok (Command Start); asks = asks; answers = (phase, starts, refl) }
+
+  pub start_served : (from old new coming : Option (List ℕ)) (phase : Phase) (later : List Kept) (r : Result Ending Stopped) → Starts gathered.family gathered ok_line phase
+      → IfSome from (λ bytes. BeginsServing (session_in (gathering gathered) kept) bytes (session_in phase kept) old new coming later r) → IfSome from (λ bytes. Begins (session_in (gathering gathered) kept) bytes old new coming later r)
+  start_served from old new coming phase later r starts = on_some from (λ bytes. BeginsServing (session_in (gathering gathered) kept) bytes (session_in phase kept) old new coming later r)
+      (λ bytes. Begins (session_in (gathering gathered) kept) bytes old new coming later r) (λ bytes it item asks. it item (answer_start item ok_line phase asks starts))
+
+  pub start_refused : (from old new : Option (List ℕ)) (words : List ℕ) (r : Result Ending Stopped) → Starts gathered.family gathered (fault_line words) (gathering gathered) → IsRefused words old new r
+      → IfSome from (λ bytes. Begins (session_in (gathering gathered) kept) bytes old new from kept r)
+  start_refused None old new words r starts it = tt
+  start_refused (Some bytes) old new words (Ok Refused) starts it = λ item asks. record {
+    rest = bytes;
+    known = refl;
+    went = went_one (session_in (gathering gathered) kept) (session_in (gathering gathered) kept) item (items_of bytes) old new (fault_line words) (answer_start item (fault_line words) (gathering gathered) asks starts) it;
+  }
+  start_refused (Some bytes) old new words (Ok Reset) starts it = absurd it
+  start_refused (Some bytes) old new words (Ok Input) starts it = absurd it
+  start_refused (Some bytes) old new words (Err stopped.Input) starts it = absurd it
+  start_refused (Some bytes) old new words (Err stopped.Output) starts it = λ item asks.
+      front_one (session_in (gathering gathered) kept) (session_in (gathering gathered) kept) item (items_of bytes) old new (fault_line words) (answer_start item (fault_line words) (gathering gathered) asks starts) it

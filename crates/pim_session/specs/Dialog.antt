@@ -1,0 +1,57 @@
+-- A session: the answers to the items of its input, in order.
+use Rattle.std.specs.Prelude.{◌≡◌, ℕ, ◌+◌, min, List, [], ◌∷◌, ◌++◌, Option, Result, Ok, Err}
+use Rattle.std.specs.Io.KnownBytes.{Appends, Keeps}
+use Rattle.pim_device.specs.Device.{AppendsFront, top_count}
+use Rattle.pim_items.specs.Items.{Item, items_of}
+use Rattle.pim_session.specs.declared.request.Request.{Request}
+use Rattle.pim_session.specs.declared.session.SessionFault.{SessionFault}
+use Rattle.pim_session.specs.declared.session.SessionFault.TheVariants.{Input, Output, Memory}
+use Rattle.pim_session.specs.Answers.{Answers}
+use Rattle.pim_session.specs.Request.{Asks}
+use Rattle.pim_session.specs.State.{Session, new_session}
+
+-- An item is answered by this text, and this is the session after it.
+pub record IsAnswer (session : Session) (item : Item) (text : List ℕ) (after : Session) : Type 0 where
+  pub asked : Result Request (List ℕ)
+  pub asks : Asks item asked
+  pub answers : Answers session asked text after
+
+-- The items are answered by this text, and this is the session after them.
+unfoldable pub IsDialog : Session → List Item → List ℕ → Session → Type 0
+IsDialog session [] text after = (text ≡ []) × (after ≡ session)
+IsDialog session (item ∷ items) text after =
+    (first : List ℕ) × (between : Session) × (others : List ℕ) × IsAnswer session item first between
+    × (text ≡ first ++ others) × IsDialog between items others after
+
+-- Some first items are answered by this text.
+pub record AnswersFirst (session : Session) (items : List Item) (text : List ℕ) : Type 0 where
+  pub done : List Item
+  pub left : List Item
+  pub are : items ≡ done ++ left
+  pub after : Session
+  pub dialog : IsDialog session done text after
+
+-- All items are answered by this text.
+pub record AnswersAll (session : Session) (items : List Item) (text : List ℕ) : Type 0 where
+  pub after : Session
+  pub dialog : IsDialog session items text after
+
+-- A text for which `Is` holds was written, as `Wrote` says.
+pub record Wrote (Is : List ℕ → Type 0) (HasWritten : List ℕ → Type 0) : Type 0 where
+  pub text : List ℕ
+  pub is : Is text
+  pub written : HasWritten text
+
+-- What `session_into` returns and writes over an input. At Ok all items were answered. Where the
+-- reader failed, some first items were. Where the writer failed, a front of such answers was
+-- written. Without memory at the begin, nothing was.
+abbrev pub Converses : List ℕ → Option (List ℕ) → Option (List ℕ) → Result ℕ SessionFault → Type 0
+Converses input old new (Ok status) = (status ≡ 0) × Wrote (AnswersAll new_session (items_of input)) (Appends old new)
+Converses input old new (Err Input) = Wrote (AnswersFirst new_session (items_of input)) (Appends old new)
+Converses input old new (Err Output) = Wrote (AnswersFirst new_session (items_of input)) (AppendsFront old new)
+Converses input old new (Err Memory) = Keeps old new
+
+-- How often the writer has failed after the session: once more at `Output`, up to 2^64 - 1.
+abbrev pub failures_of : ℕ → Result ℕ SessionFault → ℕ
+failures_of before (Err Output) = min (before + 1) top_count
+failures_of before result = before

@@ -1,0 +1,40 @@
+-- What contracts of private functions see of requests.
+use Rattle.std.specs.Prelude.{◌≡◌, ℕ, ◌<◌, ◌≤◌, ◌^◌, Bool, true, List, length, Result, Ok, Err}
+use Rattle.pim_text.specs.Read.{IsRead}
+use Rattle.pim_request.specs.declared.command.Command.{Command as AnyCommand}
+use Rattle.pim_request.specs.declared.command.Command.TheVariants as of_line
+use Rattle.pim_request.specs.declared.command.Sender.{Sender}
+use Rattle.pim_request.specs.Forms.{IsHex}
+use Rattle.pim_answers.specs.declared.fault.Fault.{Fault}
+use Rattle.pim_session.specs.declared.request.Request.{Request}
+use Rattle.pim_session.specs.declared.request.Request.TheVariants.{Command, From}
+use Rattle.pim_answers.specs.Fault.{fault_words}
+use Rattle.pim_session.specs.Request.{SaysWrong}
+
+-- What is asked for, or the words of its fault.
+abbrev pub asked_seen : Result Request Fault → Result Request (List ℕ)
+asked_seen (Ok request) = Ok request
+asked_seen (Err fault) = Err (fault_words fault)
+
+-- The command has what the calls of a router require.
+abbrev pub IsFitCommand : AnyCommand → Type 0
+IsFitCommand (of_line.Packet packet) = IsHex packet.hex.now × (length packet.hex.now < 2 ^ 32)
+IsFitCommand (of_line.Run moment) = moment ≤ 10 ^ 15
+IsFitCommand command = Unit {0}
+
+-- The request has what the calls of a router require.
+abbrev pub IsFit : Request → Type 0
+IsFit (Command command) = IsFitCommand command
+IsFit (From from) = length from.text.now < 2 ^ 32
+
+-- The same, if there is a request.
+abbrev pub IsFitIfAny : Result Request Fault → Type 0
+IsFitIfAny (Ok request) = IsFit request
+IsFitIfAny (Err fault) = Unit {0}
+
+-- What a text of these bytes asks for, which isn't too long, after a `from` line with this sender.
+abbrev pub AsksFrom : Sender → List ℕ → Bool → Result Request (List ℕ) → Type 0
+AsksFrom sender bytes is_sent (Ok (Command command)) = ⊥
+AsksFrom sender bytes is_sent (Ok (From from)) =
+    (from.sender ≡ sender) × (from.text.now ≡ bytes) × (is_sent ≡ true) × IsRead bytes from.stated
+AsksFrom sender bytes is_sent (Err words) = SaysWrong bytes is_sent words

@@ -1,0 +1,181 @@
+//! A session after its start: it answers commands over its router.
+
+ghost use Rattle.std.specs.Prelude.{◌≡◌, ◌≢◌, ◌≤◌, Ok, IfSome};
+ghost use Rattle.pim_device.specs.Device.{failures_after};
+ghost use Rattle.pim_items.specs.Reading.{flush_failures_after};
+ghost use Rattle.pim_items.specs.Items.{items_of};
+ghost use Rattle.pim_answers.specs.Answered.{Answered};
+ghost use Rattle.pim_answers.specs.Fault.{fault_words};
+ghost use Rattle.pim_answers.specs.StoreSeen.{store_seen};
+ghost use Rattle.pim_session.specs.Answers.{Answers, Serves, session_in};
+ghost use Rattle.pim_session.specs.RouterSeen.{family_in, state_in};
+ghost use Rattle.pim_session.specs.Seen.{asked_seen, IsFitCommand, IsFitIfAny};
+ghost use Rattle.pim_session.specs.SetupSeen.{gathered_seen};
+ghost use Rattle.pim_session.specs.State.{Session, gathering, serving};
+ghost use Rattle.pim_session.specs.Underway.{session_after, IsRefused, Ended, Begins, BeginsServing};
+
+use crate::request::{Request, request_of};
+use crate::routers::{AnyRouter, from_any, keep_any, make_router, packet_any, run_any, tell_any};
+use crate::setup::Setup;
+use pim_addr::{Drain, Failed, Feed};
+use pim_answers::{Fault, Store, write_fault, write_ok};
+use pim_items::{Answers, Items, Stopped};
+use pim_request::Command;
+use std::alloc::Global;
+
+/// How a session with a router ends.
+#[derive(Clone, Copy, Debug, PartialEq, Eq)]
+pub(crate) enum Ending {
+    /// There is no router: its configuration has a fault.
+    Refused,
+    /// The router was forgotten.
+    Reset,
+    /// The input is at its end.
+    Input,
+}
+
+/// Answers a command other than `reset`.
+fn answer_command<W: Drain>(
+    alloc: Global,
+    router: &mut AnyRouter<'_>,
+    store: &mut Store,
+    bytes: &mut Vec<u8>,
+    command: &Command<'_>,
+    answers: &mut W,
+) -> Result<(), Failed>
+    requires { IsFitCommand command.now }
+    ensures answered { Answered
+        (Serves (family_in router.old) command.now (state_in router.old, store_seen store.old))
+        (W.contents answers.old) (W.contents answers.new) result
+        (λ _. (state_in router.new, store_seen store.new)) }
+    ensures family { family_in router.new ≡ family_in router.old }
+    ensures count { W.failures answers.new ≡ failures_after (W.failures answers.old) result }
+{
+    match command {
+        Command::Run(moment) => run_any(router, *moment, answers),
+        Command::Packet(packet) => packet_any(router, packet, bytes, answers),
+        Command::Keep(kept) => keep_any(alloc, router, store, kept, answers),
+        _ => tell_any(alloc, router, store, command, answers),
+    }
+}
+
+/// Answers a request, or its fault. Returns whether the router is still there.
+fn answer_request<W: Drain>(
+    alloc: Global,
+    router: &mut AnyRouter<'_>,
+    store: &mut Store,
+    bytes: &mut Vec<u8>,
+    request: Result<Request<'_>, Fault<'_>>,
+    answers: &mut W,
+) -> Result<bool, Failed>
+    requires { IsFitIfAny request }
+    ensures answered { Answered
+        (Answers (session_in (serving (family_in router.old) (state_in router.old)) (store_seen store.old))
+        (asked_seen request.entry))
+        (W.contents answers.old) (W.contents answers.new) result
+        (λ serves. session_after serves (family_in router.new) (state_in router.new) (store_seen store.new)) }
+    ensures count { W.failures answers.new ≡ failures_after (W.failures answers.old) result }
+{
+    match request {
+        Ok(Request::Command(Command::Reset)) => {
+            write_ok(answers)?;
+            Ok(false)
+        }
+        Ok(Request::Command(command)) => {
+            answer_command(alloc, router, store, bytes, &command, answers)?;
+            Ok(true)
+        }
+        Ok(Request::From(from)) => {
+            from_any(alloc, router, &from, bytes, answers)?;
+            Ok(true)
+        }
+        Err(fault) => {
+            write_fault(answers, &fault)?;
+            Ok(true)
+        }
+    }
+}
+
+/// Answers items until the router is forgotten, or to the end of the input.
+fn serve<R: Feed, W: Answers>(
+    alloc: Global,
+    router: &mut AnyRouter<'_>,
+    items: &mut Items<R>,
+    store: &mut Store,
+    answers: &mut W,
+) -> Result<Ending, Stopped>
+    ensures ended { (refused : Session) → IfSome items.old.coming (λ bytes. Ended
+        (session_in (serving (family_in router.old) (state_in router.old)) (store_seen store.old))
+        (items_of bytes) (W.contents answers.old) (W.contents answers.new) items.new.coming
+        (store_seen store.new) refused result) }
+    ensures started { result ≢ Ok Ending.Refused }
+    ensures left { items.new.left ≤ items.old.left }
+    ensures count { W.failures answers.new ≡ flush_failures_after (W.failures answers.old) result }
+{
+    let mut bytes = Vec::new(alloc);
+    'items: loop {
+        let Some(item) = items.next(answers)? else {
+            return Ok(Ending::Input);
+        };
+        let request = request_of(items, item);
+        match answer_request(alloc, router, store, &mut bytes, request, answers) {
+            Ok(true) => {}
+            Ok(false) => return Ok(Ending::Reset),
+            Err(_) => return Err(Stopped::Output),
+        }
+    }
+}
+
+/// Writes why there is no router.
+fn refuse<W: Drain>(answers: &mut W, fault: &Fault<'_>) -> Result<Ending, Stopped>
+    ensures refused { IsRefused (fault_words fault.now)
+        (W.contents answers.old) (W.contents answers.new) result }
+    ensures count { W.failures answers.new ≡ flush_failures_after (W.failures answers.old) result }
+{
+    match write_fault(answers, fault) {
+        Ok(()) => Ok(Ending::Refused),
+        Err(_) => Err(Stopped::Output),
+    }
+}
+
+/// Answers `start` with `ok`, and then items.
+fn begin<R: Feed, W: Answers>(
+    alloc: Global,
+    router: &mut AnyRouter<'_>,
+    items: &mut Items<R>,
+    store: &mut Store,
+    answers: &mut W,
+) -> Result<Ending, Stopped>
+    ensures begun { (start : Session) → IfSome items.old.coming (λ bytes. BeginsServing start bytes
+        (session_in (serving (family_in router.old) (state_in router.old)) (store_seen store.old))
+        (W.contents answers.old) (W.contents answers.new) items.new.coming (store_seen store.new) result) }
+    ensures started { result ≢ Ok Ending.Refused }
+    ensures left { items.new.left ≤ items.old.left }
+    ensures count { W.failures answers.new ≡ flush_failures_after (W.failures answers.old) result }
+{
+    match write_ok(answers) {
+        Ok(()) => serve(alloc, router, items, store, answers),
+        Err(_) => Err(Stopped::Output),
+    }
+}
+
+/// Answers `start`, and then items until the router is forgotten, or to the end of the input.
+pub(crate) fn start<R: Feed, W: Answers>(
+    alloc: Global,
+    setup: &Setup,
+    items: &mut Items<R>,
+    store: &mut Store,
+    answers: &mut W,
+) -> Result<Ending, Stopped>
+    ensures begins { IfSome items.old.coming (λ bytes. Begins
+        (session_in (gathering (gathered_seen setup.now)) (store_seen store.old)) bytes
+        (W.contents answers.old) (W.contents answers.new) items.new.coming (store_seen store.new) result) }
+    ensures left { items.new.left ≤ items.old.left }
+    ensures refused { result ≡ Ok Ending.Refused → store_seen store.new ≡ store_seen store.old }
+    ensures count { W.failures answers.new ≡ flush_failures_after (W.failures answers.old) result }
+{
+    match make_router(alloc, setup) {
+        Ok(mut router) => begin(alloc, &mut router, items, store, answers),
+        Err(fault) => refuse(answers, &fault),
+    }
+}

@@ -1,0 +1,184 @@
+//! A session from its first line to its end.
+
+ghost use Rattle.std.specs.Prelude.{◌≡◌, List, None, IfSome};
+ghost use Rattle.pim_device.specs.Device.{failures_after};
+ghost use Rattle.pim_items.specs.Reading.{flush_failures_after};
+ghost use Rattle.pim_answers.specs.Answered.{Answered};
+ghost use Rattle.pim_session.specs.Answers.{Gathers, session_in};
+ghost use Rattle.pim_session.specs.Dialog.{Converses, failures_of};
+ghost use Rattle.pim_session.specs.Seen.{asked_seen};
+ghost use Rattle.pim_session.specs.SetupSeen.{gathered_seen, row_in};
+ghost use Rattle.pim_session.specs.State.{gathering, new_session};
+ghost use Rattle.pim_answers.specs.Kept.{Kept};
+ghost use Rattle.pim_answers.specs.StoreSeen.{store_seen};
+ghost use Rattle.pim_session.specs.Underway.{AllEnded, Configured};
+
+use crate::request::{Request, request_of};
+use crate::serving::{Ending, start};
+use crate::setup::{AnyRow, Setup};
+use pim_addr::{Drain, Failed, Feed};
+use pim_answers::{Fault, Store, write_done, write_fault, write_ok};
+use pim_items::{Answers, Items, Stopped};
+use pim_request::Command;
+use std::alloc::Global;
+use thiserror::Error;
+
+/// Why a session stops before the end of its input.
+#[derive(Clone, Copy, Debug, PartialEq, Eq, Error)]
+pub enum SessionFault {
+    /// The reader failed.
+    #[error("input read")]
+    Input,
+    /// The device that takes the answers failed.
+    #[error("output")]
+    Output,
+    /// Memory was refused before the first line.
+    #[error("memory")]
+    Memory,
+}
+
+/// The row that a command adds to the set-up.
+fn row_of(command: &Command<'_>) -> Option<AnyRow>
+    ensures { result ≡ row_in command.now }
+{
+    match command {
+        Command::Port(row) => Some(AnyRow::Port(*row)),
+        Command::Rp(row) => Some(AnyRow::Rp(*row)),
+        Command::Via(row) => Some(AnyRow::Via(*row)),
+        _ => None,
+    }
+}
+
+/// Answers a command before the start, other than `start` and those that add a row.
+fn set_up<W: Drain>(
+    setup: &mut Setup,
+    command: &Command<'_>,
+    answers: &mut W,
+) -> Result<(), Failed>
+    ensures answered { row_in command.now ≡ None → Answered (Gathers command.now (gathered_seen setup.old))
+        (W.contents answers.old) (W.contents answers.new) result (λ _. gathered_seen setup.new) }
+    ensures count { W.failures answers.new ≡ failures_after (W.failures answers.old) result }
+{
+    match command {
+        Command::Limit(limit) => {
+            setup.limit = *limit;
+            write_ok(answers)
+        }
+        Command::Reset => {
+            *setup = Setup::new();
+            write_ok(answers)
+        }
+        _ => write_fault(answers, &Fault::plain(b"not started")),
+    }
+}
+
+/// Answers a command before the start, other than `start`.
+fn configure<W: Drain>(
+    alloc: Global,
+    setup: &mut Setup,
+    command: &Command<'_>,
+    answers: &mut W,
+) -> Result<(), Failed>
+    ensures answered { Answered (Gathers command.now (gathered_seen setup.old))
+        (W.contents answers.old) (W.contents answers.new) result (λ _. gathered_seen setup.new) }
+    ensures count { W.failures answers.new ≡ failures_after (W.failures answers.old) result }
+{
+    match row_of(command) {
+        Some(row) => {
+            let added = setup.add(alloc, &row);
+            write_done(answers, added)
+        }
+        None => set_up(setup, command, answers),
+    }
+}
+
+/// Answers a request before the start, or its fault. Returns whether it is `start`, which isn't
+/// answered here.
+fn configure_by<W: Drain>(
+    alloc: Global,
+    setup: &mut Setup,
+    request: Result<Request<'_>, Fault<'_>>,
+    answers: &mut W,
+) -> Result<bool, Failed>
+    ensures configured { (kept : List Kept) → Configured
+        (session_in (gathering (gathered_seen setup.old)) kept) (asked_seen request.entry)
+        (W.contents answers.old) (W.contents answers.new) result
+        (session_in (gathering (gathered_seen setup.new)) kept) }
+    ensures count { W.failures answers.new ≡ failures_after (W.failures answers.old) result }
+{
+    match request {
+        Ok(Request::Command(Command::Start)) => Ok(true),
+        Ok(Request::Command(command)) => {
+            configure(alloc, setup, &command, answers)?;
+            Ok(false)
+        }
+        Ok(Request::From(_)) => {
+            write_fault(answers, &Fault::plain(b"not started"))?;
+            Ok(false)
+        }
+        Err(fault) => {
+            write_fault(answers, &fault)?;
+            Ok(false)
+        }
+    }
+}
+
+/// Answers the items of the input to its end.
+fn answer_all<R: Feed, W: Answers>(
+    alloc: Global,
+    items: &mut Items<R>,
+    answers: &mut W,
+) -> Result<(), Stopped>
+    ensures ended { IfSome items.old.coming (λ bytes. AllEnded bytes new_session
+        (W.contents answers.old) (W.contents answers.new) result) }
+    ensures count { W.failures answers.new ≡ flush_failures_after (W.failures answers.old) result }
+{
+    let mut setup = Setup::new();
+    let mut store = Store::new(alloc);
+    'items: loop {
+        let Some(item) = items.next(answers)? else {
+            return Ok(());
+        };
+        let request = request_of(items, item);
+        let Ok(starts) = configure_by(alloc, &mut setup, request, answers) else {
+            return Err(Stopped::Output);
+        };
+        if starts {
+            match start(alloc, &setup, items, &mut store, answers)? {
+                Ending::Refused => {}
+                Ending::Reset => setup = Setup::new(),
+                Ending::Input => return Ok(()),
+            }
+        }
+    }
+}
+
+/// Reads commands line by line to the end of the input, and answers each before it reads on. It
+/// returns the status, 0.
+///
+/// A command is answered by its lines and `ok`, or by `fault` and the words of its first fault,
+/// which leaves everything as it was. A command for which memory is refused is answered `fault
+/// memory`.
+///
+/// # Errors
+/// - `Input`: the reader failed. The commands that were read are answered.
+/// - `Output`: the device that takes the answers failed. A prefix of the answers was written.
+/// - `Memory`: there is no room for a line. Nothing was read or written.
+pub fn session_into<R: Feed + Drop, W: Answers>(
+    alloc: Global,
+    reader: R,
+    answers: &mut W,
+) -> Result<u8, SessionFault>
+    ensures converses { IfSome (R.remaining reader) (λ input. Converses input
+        (W.contents answers.old) (W.contents answers.new) result) }
+    ensures count { W.failures answers.new ≡ failures_of (W.failures answers.old) result }
+{
+    let Ok(mut items) = Items::new(alloc, reader) else {
+        return Err(SessionFault::Memory);
+    };
+    match answer_all(alloc, &mut items, answers) {
+        Ok(()) => Ok(0),
+        Err(Stopped::Input) => Err(SessionFault::Input),
+        Err(Stopped::Output) => Err(SessionFault::Output),
+    }
+}
