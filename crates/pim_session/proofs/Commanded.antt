@@ -1,5 +1,5 @@
 -- What commands do, from what their calls do.
-use Rattle.std.proofs.Common.{◌≡◌, ◌×◌, ℕ, Bool, true, false, List, Option, None, Some, Result, Ok, Err, codes, refl, sym, subst, ap}
+use Rattle.std.proofs.Common.{◌≡◌, ℕ, Bool, true, false, List, Option, None, Some, Result, Ok, Err, codes, refl, sym, subst, ap}
 use Rattle.std.specs.Io.KnownBytes.{Appends}
 use Rattle.pim_addr.specs.declared.family.AddressFamily.{AddressFamily}
 use Rattle.pim_device.specs.Device.{AppendsFront, AppendsAll}
@@ -18,6 +18,7 @@ use Rattle.pim_answers.specs.Running.{AnswersRun}
 use Rattle.pim_session.specs.declared.request.Request.{Request}
 use Rattle.pim_session.specs.declared.request.Request.TheVariants.{Command, From}
 use Rattle.pim_session.specs.declared.setup.AnyRow.{AnyRow}
+use Rattle.pim_session.specs.declared.setup.AnyRow.TheVariants as kind
 use Rattle.pim_session.specs.Answers.{Answers, AnswersBefore, AnswersAfter, Gathers, Serves, Tells, session_in}
 use Rattle.pim_session.specs.SetupSeen.{Adds, row_in}
 use Rattle.pim_session.specs.State.{Gathered, gathering, serving, Session, nothing_gathered}
@@ -36,9 +37,9 @@ answered_text Does old new (Err e) after text does written = record { text = tex
 -- ---- before `start`
 
 pub added_row : (command : AnyCommand) (row : AnyRow) (begin end : Gathered) (text : List ℕ) → Some row ≡ row_in command → Adds row begin text end → Gathers command begin text end
-added_row (Port one) row begin end text is it = subst (λ (r : AnyRow). Adds r begin text end) (let same : row ≡ _ = cc in same) it
-added_row (Rp one) row begin end text is it = subst (λ (r : AnyRow). Adds r begin text end) (let same : row ≡ _ = cc in same) it
-added_row (Via one) row begin end text is it = subst (λ (r : AnyRow). Adds r begin text end) (let same : row ≡ _ = cc in same) it
+added_row (Port one) row begin end text is it = let same : row ≡ kind.Port one = cc in subst (λ (r : AnyRow). Adds r begin text end) same it
+added_row (Rp one) row begin end text is it = let same : row ≡ kind.Rp one = cc in subst (λ (r : AnyRow). Adds r begin text end) same it
+added_row (Via one) row begin end text is it = let same : row ≡ kind.Via one = cc in subst (λ (r : AnyRow). Adds r begin text end) same it
 added_row (Limit n) row begin end text is it = absurd cc
 added_row Start row begin end text is it = absurd cc
 added_row (Run moment) row begin end text is it = absurd cc

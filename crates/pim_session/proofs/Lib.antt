@@ -7,3 +7,4 @@ pub mod Adding
 pub mod Asked
 mod Served
 mod Commanded
+mod Making

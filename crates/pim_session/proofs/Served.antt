@@ -1,5 +1,5 @@
 -- The loops over items: each way on and each end.
-use Rattle.std.proofs.Common.{◌≡◌, ◌×◌, ◌<◌, ℕ, List, ◌∷◌, Option, None, Some, Result, Ok, Err, refl, sym, subst}
+use Rattle.std.proofs.Common.{◌≡◌, ◌<◌, ℕ, List, ◌∷◌, Option, None, Some, Result, Ok, Err, refl, sym, subst}
 use Rattle.std.specs.Option.{IfSome}
 use Rattle.std.specs.Io.KnownBytes.{Appends, Keeps}
 use Rattle.pim_device.specs.Device.{AppendsFront}

@@ -1,0 +1,74 @@
+-- A router of either family: how it starts, and what is kept of it.
+use Rattle.std.proofs.Common.{◌≡◌, ◌⊎◌, ℕ, true, false, List, [], ◌∷◌, map, Option, Result, Ok, Err, codes, refl, sym, ap, subst, ◌∙◌, inl, inr}
+use Rattle.pim_addr.specs.declared.family.AddressFamily.{AddressFamily}
+use Rattle.pim_device.specs.Device.{AppendsAll}
+use Rattle.pim_request.specs.declared.command.Kept.{Kept as Keeping}
+use Rattle.pim_router.specs.declared.config.ConfigFault.{ConfigFault}
+use Rattle.pim_router.specs.Config.{config_faults, IsMadeUnless}
+use Rattle.pim_router.specs.State.{RouterState, new_router}
+use Rattle.pim_answers.specs.declared.fault.Fault.{Fault}
+use Rattle.pim_answers.specs.declared.kept.AnyForm.{AnyForm}
+use Rattle.pim_answers.specs.Answered.{Answered}
+use Rattle.pim_answers.specs.Asking.{AnswersKeep}
+use Rattle.pim_answers.specs.Fault.{fault_words}
+use Rattle.pim_answers.specs.Kept.{Kept, with_kept}
+use Rattle.pim_answers.specs.Lines.{ok_line, fault_line}
+use Rattle.pim_answers.specs.StoreSeen.{any_seen}
+use Rattle.pim_session.specs.Gathering.{config_words, setup_of, StartsIn}
+use Rattle.pim_session.specs.RouterSeen.{IsKeptFor}
+use Rattle.pim_session.specs.State.{Gathered, gathering, serving}
+use Rattle.pim_session.proofs.Commanded.{answered_text}
+
+-- ---- the start
+
+module _ (family : AddressFamily) (gathered : Gathered) where
+  started : (router : RouterState) (list : List ConfigFault) → config_faults family (setup_of gathered) ≡ list → IsMadeUnless list (new_router (setup_of gathered)) (Ok router)
+      → StartsIn family gathered ok_line (serving family router)
+  started router [] none made = rw none (inl (refl, ap (serving family) made))
+  started router (first ∷ others) some made = absurd cc
+
+  -- a router was made
+  pub starts_made : (router : RouterState) → IsMadeUnless (config_faults family (setup_of gathered)) (new_router (setup_of gathered)) (Ok router) → StartsIn family gathered ok_line (serving family router)
+  starts_made router made = started router (config_faults family (setup_of gathered)) refl made
+
+  refused : (fault : ConfigFault) (words : List ℕ) (list : List ConfigFault) → words ≡ config_words fault → config_faults family (setup_of gathered) ≡ list
+      → IsMadeUnless list (new_router (setup_of gathered)) (Err fault) → StartsIn family gathered (fault_line words) (gathering gathered)
+  refused fault words [] are none made = rw none (inr (ap fault_line (are ∙ ap config_words made), refl))
+  refused fault words (first ∷ others) are some made = let same : fault ≡ first = cc in rw some (ap fault_line (are ∙ ap config_words same), refl)
+
+  -- its configuration has a fault
+  pub starts_refused : (fault : ConfigFault) (words : List ℕ) → words ≡ config_words fault → IsMadeUnless (config_faults family (setup_of gathered)) (new_router (setup_of gathered)) (Err fault)
+      → StartsIn family gathered (fault_line words) (gathering gathered)
+  starts_refused fault words are made = refused fault words (config_faults family (setup_of gathered)) are refl made
+
+-- ---- what is kept
+
+module _ (family : AddressFamily) (keeping : Keeping) (router : RouterState) (kept : List Kept) where
+  refused_text : (fault : Fault) → IsKeptFor family keeping router kept (Err fault) → AnswersKeep family keeping router kept (fault_line (fault_words fault)) kept
+  refused_text fault (inl (other, words)) = rw other (ap fault_line words, refl)
+  refused_text fault (inr (inl (same, lacks, words))) = rw (same, lacks) (ap fault_line words, refl)
+  refused_text fault (inr (inr (same, has, words))) = rw (same, has) (inr (ap fault_line words, refl))
+
+  kept_text : (form : AnyForm) (after : List Kept) → IsKeptFor family keeping router kept (Ok form) → after ≡ with_kept (any_seen keeping.name.now form) kept → AnswersKeep family keeping router kept ok_line after
+  kept_text form after (same, has, (asked_form, is, seen)) holds =
+      rw (same, has) (inl (asked_form, is, (refl, holds ∙ ap (λ (one : Kept). with_kept one kept) (seen keeping.name.now))))
+
+  unheld_text : (form : AnyForm) (words : List ℕ) → IsKeptFor family keeping router kept (Ok form) → words ≡ codes "memory" → AnswersKeep family keeping router kept (fault_line words) kept
+  unheld_text form words (same, has, rest) are = rw (same, has) (inr (ap fault_line are, refl))
+
+  module _ {A E : Type 0} (old new : Option (List ℕ)) (result : Result A E) where
+    -- `keep` was refused
+    pub keep_refused : (fault : Fault) → IsKeptFor family keeping router kept (Err fault) → AppendsAll old new result (fault_line (fault_words fault))
+        → Answered (AnswersKeep family keeping router kept) old new result (λ _. kept)
+    keep_refused fault why written = answered_text (AnswersKeep family keeping router kept) old new result kept (fault_line (fault_words fault)) (refused_text fault why) written
+
+    -- the form is kept
+    pub keep_done : (form : AnyForm) (after : List Kept) → IsKeptFor family keeping router kept (Ok form) → after ≡ with_kept (any_seen keeping.name.now form) kept → AppendsAll old new result ok_line
+        → Answered (AnswersKeep family keeping router kept) old new result (λ _. after)
+    keep_done form after made holds written = answered_text (AnswersKeep family keeping router kept) old new result after ok_line (kept_text form after made holds) written
+
+    -- there is no memory to keep it
+    pub keep_unheld : (form : AnyForm) (words : List ℕ) (after : List Kept) → IsKeptFor family keeping router kept (Ok form) → words ≡ codes "memory" → after ≡ kept → AppendsAll old new result (fault_line words)
+        → Answered (AnswersKeep family keeping router kept) old new result (λ _. after)
+    keep_unheld form words after made are same written = subst (λ (k : List Kept). Answered (AnswersKeep family keeping router kept) old new result (λ _. k)) (sym same)
+        (answered_text (AnswersKeep family keeping router kept) old new result kept (fault_line words) (unheld_text form words made are) written)

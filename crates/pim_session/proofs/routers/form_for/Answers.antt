@@ -1,0 +1,18 @@
+use Rattle.std.proofs.Common.{Ok, sym, subst}
+use Rattle.pim_answers.specs.declared.kept.AnyForm.TheVariants as form
+use Rattle.pim_answers.specs.StoreSeen.{store_seen}
+use Rattle.pim_session.specs.declared.routers.AnyRouter.{AnyRouter}
+use Rattle.pim_session.specs.RouterSeen.{family_in, state_in, IsKeptFor}
+use Rattle.pim_session.proofs.routers.form_for.Goals as goal
+
+pub returns-in-Ok : goal.returns-in-Ok
+returns-in-Ok c =
+    let e = c.in-Ok.ensures in
+    subst (λ (any : AnyRouter). IsKeptFor (family_in any) c.args.command.now (state_in any) (store_seen c.args.store.now) (Ok (form.Ipv4 c.in-Ok.form))) (sym c.in-Ipv4.is)
+    (e.0, e.1, (c.in-Ok.form.form, e.2.is, e.2.seen))
+
+pub returns-in-Ok-asked_for : goal.returns-in-Ok-asked_for
+returns-in-Ok-asked_for c =
+    let e = c.in-Ok-asked_for.ensures in
+    subst (λ (any : AnyRouter). IsKeptFor (family_in any) c.args.command.now (state_in any) (store_seen c.args.store.now) (Ok (form.Ipv6 c.in-Ok-asked_for.form))) (sym c.in-Ipv6.is)
+    (e.0, e.1, (c.in-Ok-asked_for.form.form, e.2.is, e.2.seen))

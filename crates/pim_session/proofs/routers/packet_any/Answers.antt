@@ -1,0 +1,16 @@
+use Rattle.std.proofs.Common.{sym, subst}
+use Rattle.pim_answers.specs.Answered.{Answered}
+use Rattle.pim_answers.specs.Packets.{AnswersPacket}
+use Rattle.pim_session.specs.declared.routers.AnyRouter.{AnyRouter}
+use Rattle.pim_session.specs.RouterSeen.{family_in, state_in}
+use Rattle.pim_session.proofs.routers.packet_any.Goals as goal
+
+pub returns-in-Ipv4-clause-answered : goal.returns-in-Ipv4-clause-answered
+returns-in-Ipv4-clause-answered g c =
+    subst (λ (any : AnyRouter). Answered (AnswersPacket (family_in any) c.args.packet.now (state_in any)) (g.W.Drain.contents c.args.answers.now) (g.W.Drain.contents c.answer_packet.new.answers) c.answer_packet.result (λ _. c.answer_packet.new.router))
+    (sym c.in-Ipv4.is) c.answer_packet.ensures.answered
+
+pub returns-in-Ipv6-clause-answered : goal.returns-in-Ipv6-clause-answered
+returns-in-Ipv6-clause-answered g c =
+    subst (λ (any : AnyRouter). Answered (AnswersPacket (family_in any) c.args.packet.now (state_in any)) (g.W.Drain.contents c.args.answers.now) (g.W.Drain.contents c.answer_packet-in-Ipv6.new.answers) c.answer_packet-in-Ipv6.result (λ _. c.answer_packet-in-Ipv6.new.router))
+    (sym c.in-Ipv6.is) c.answer_packet-in-Ipv6.ensures.answered
