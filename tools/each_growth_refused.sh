@@ -70,7 +70,6 @@ done << 'LIST'
 pim_codec_tests addr::routes::refusals_change_nothing Routes::add_via
 pim_codec_tests hello::neighbours::refusals_change_nothing Neighbours::hear
 pim_down_tests limits::refusals_change_nothing Ports::hear
-pim_down_tests orders::entries_come_in_no_order Ports::hear of entries in no order
 pim_form_tests form::forms::refusals_leave_the_ports NormalForm::of
 pim_form_tests form::toward::refusals_of_toward_change_nothing NormalForm::toward
 pim_form_tests form::kept::refusals_leave_the_form normal_again

@@ -9,7 +9,6 @@ mod courses;
 mod limits;
 mod looks;
 mod nexts;
-mod orders;
 mod random;
 mod running;
 mod slow;
