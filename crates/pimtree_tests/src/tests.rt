@@ -5,6 +5,5 @@ mod failing;
 mod faults;
 mod help;
 mod messages;
-mod neighbours;
 mod refused;
 mod running;

@@ -2,7 +2,6 @@
 //! or whose memory is refused. The other examples of a router are scenarios of `pimtree_cases`.
 
 mod configurations;
-mod crowds;
 mod jumps;
 mod memory;
 mod refused;
@@ -43,9 +42,6 @@ const PORTS: [PortConfig<[u8; 4]>; 3] = [
 
 /// A Hello whose sender is kept for ever.
 const FOR_EVER: [u8; 10] = [0x20, 0, 0xdf, 0xfc, 0, 1, 0, 2, 255, 255];
-
-/// A Hello with holdtime 0.
-const GOODBYE: [u8; 10] = [0x20, 0, 0xdf, 0xfc, 0, 1, 0, 2, 0, 0];
 
 /// Lets a port receive some bytes; `None` where the port isn't there or there are too many bytes.
 fn receive(

@@ -1,4 +1,4 @@
-//! Neighbours: calls that no command of a session makes, as many as a port may have, and growths that are refused.
+//! Neighbours: calls that no command of a session makes, and growths that are refused.
 
 use pim_addr::V4;
 use pim_hello::{Heard, Hello, LanDelay, NeighbourFault, Neighbours, Parameters, PortDelays};
@@ -65,8 +65,6 @@ type Answer = Result<Heard, NeighbourFault>;
 const NEW: Answer = Ok(Heard::New);
 
 const SAME: Answer = Ok(Heard::Same);
-
-const GONE: Answer = Ok(Heard::Gone);
 
 /// What happens to a table of neighbours, and what it tells.
 #[derive(Clone, Copy)]
@@ -192,44 +190,6 @@ const TIMES: [Row; 5] = [
 #[test]
 fn ends_times_until_the_last_moment(rt: HostRuntime) {
     assert_eq!(rt; first_wrong(rt.alloc(), &TIMES), None);
-}
-
-/// Lets so many new neighbours come as a table may hold, from 10.1.0.0 on: whether each is told as new.
-fn crowd_comes(neighbours: &mut Neighbours<V4>) -> bool {
-    for number in 0..1024u16 {
-        let [third, fourth] = number.to_be_bytes();
-        if !goes(
-            neighbours,
-            Row::Hears([10, 1, third, fourth], Says::Nothing, 0, NEW),
-        ) {
-            return false;
-        }
-    }
-    true
-}
-
-const FIRST_COMER: [u8; 4] = [10, 1, 0, 0];
-
-const NEWCOMER: [u8; 4] = [10, 1, 4, 0];
-
-const FULL: [Row; 9] = [
-    Row::Count(1024),
-    Row::Hears(NEWCOMER, Says::Nothing, 0, Err(NeighbourFault::Full)),
-    Row::Hears(NEWCOMER, Says::Holdtime(0), 0, GONE),
-    Row::Hears(FIRST_COMER, Says::Nothing, 0, SAME),
-    Row::Hears(FIRST_COMER, Says::Holdtime(0), 0, GONE),
-    Row::Hears(NEWCOMER, Says::Nothing, 0, NEW),
-    Row::Count(1024),
-    Row::Expires(105_000),
-    Row::Count(0),
-];
-
-#[test]
-fn holds_1024(rt: HostRuntime) {
-    let mut neighbours: Neighbours<V4> = Neighbours::new(rt.alloc());
-    assert!(rt; crowd_comes(&mut neighbours));
-    let wrong = FULL.iter().position(|row| !goes(&mut neighbours, *row));
-    assert_eq!(rt; wrong, None);
 }
 
 /// Whether a Hello is told so, at once or, where a growth is refused, with nothing changed and then again; so many are
