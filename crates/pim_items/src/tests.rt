@@ -1,4 +1,5 @@
-//! The lines and texts of a session, from devices that give few bytes or fail.
+//! The lines and texts of a session, from devices that give few bytes, and answers that aren't passed
+//! on. Long lines, long texts and failed reads are cases of `pimtree_cases`.
 
 ghost use Rattle.std.specs.Prelude.{◌≡◌, ◌+◌, min, None};
 ghost use Rattle.pim_device.specs.Device.{top_count};
@@ -12,8 +13,7 @@ use std::test::Fail;
 const NEVER: usize = usize::MAX;
 
 /// Inputs, and their items: `L` and a line, or `T`, a `from` line, `|`, its text and `.` if it was
-/// sent, `,` if not. `!`, `T?` and `T`, a `from` line and `!` have a long line or a long text. Each
-/// item ends with `;`.
+/// sent, `,` if not. Each item ends with `;`.
 const INPUTS: [(&[u8], &[u8]); 22] = [
     (b"", b""),
     (b"\n\n", b""),
@@ -123,129 +123,6 @@ fn items_are_read(rt: HostRuntime) {
         ));
         assert_eq!(rt; wrong, None);
     }
-}
-
-/// Inputs of which a read fails from a byte on, and the items before it.
-const FAILING: [(&[u8], usize, &[u8]); 5] = [
-    (b"now", 0, b"I"),
-    (b"now\nnext\n", 3, b"I"),
-    (b"now\nnext\n", 4, b"Lnow;I"),
-    (b"now\nnext", 8, b"Lnow;I"),
-    (b"from 0\nhello\n", 13, b"I"),
-];
-
-#[test]
-fn failed_read_stops_the_items(rt: HostRuntime) {
-    let alloc = rt.alloc();
-    let wrong = FAILING.iter().position(|row| !has(
-        alloc,
-        ScriptedFeed::new(row.0, NEVER, row.1),
-        row.2,
-    ));
-    assert_eq!(rt; wrong, None);
-}
-
-/// The longest line.
-const LONGEST: usize = 1_048_576;
-
-/// A front, a number of letters `a`, and a rest.
-type Long = (&'static [u8], usize, &'static [u8]);
-
-/// Inputs with a long line, and their items.
-const LONG: [(Long, Long); 11] = [
-    ((b"", LONGEST, b"\nnow"), (b"L", LONGEST, b";Lnow;")),
-    ((b"", LONGEST + 1, b"\nnow"), (b"!;Lnow;", 0, b"")),
-    ((b"", LONGEST, b""), (b"L", LONGEST, b";")),
-    ((b"", LONGEST + 1, b""), (b"!;", 0, b"")),
-    (
-        (b"now\n", LONGEST, b"\nnow"),
-        (b"Lnow;L", LONGEST, b";Lnow;"),
-    ),
-    ((b"", 3 * LONGEST, b"\nnow"), (b"!;Lnow;", 0, b"")),
-    ((b"#", 2 * LONGEST, b"\nnow"), (b"Lnow;", 0, b"")),
-    (
-        (b"from ", LONGEST, b"\nnow\nsend\nnow"),
-        (b"T?;Lnow;", 0, b""),
-    ),
-    (
-        (b"from\nnow\n", LONGEST + 1, b"\nreset\nsend\nnow"),
-        (b"T?;Lnow;", 0, b""),
-    ),
-    ((b"from\n#", LONGEST, b""), (b"T?;", 0, b"")),
-    (
-        (b"from\n", LONGEST, b"\nsend\nnow"),
-        (b"Tfrom|", LONGEST, b"\n.;Lnow;"),
-    ),
-];
-
-/// Writes the bytes of a row.
-fn write_long(out: &mut Vec<u8>, row: &Long) -> Result<(), AllocError> {
-    out.extend_from_slice(row.0)?;
-    for _ in 0..row.1 {
-        out.push(b'a')?;
-    }
-    out.extend_from_slice(row.2)
-}
-
-/// Whether the input of a row has its items.
-fn has_long(alloc: Global, input: &Long, wanted: &Long, most: usize) -> bool {
-    let mut bytes = Vec::new(alloc);
-    let mut shown = Vec::new(alloc);
-    let written = write_long(&mut bytes, input).is_ok() && write_long(&mut shown, wanted).is_ok();
-    written && has(alloc, ScriptedFeed::new(&bytes, most, NEVER), &shown)
-}
-
-#[test]
-fn long_lines_are_passed_over(rt: HostRuntime) {
-    let alloc = rt.alloc();
-    for most in [64, NEVER] {
-        let wrong = LONG
-            .iter()
-            .position(|row| !has_long(alloc, &row.0, &row.1, most));
-        assert_eq!(rt; wrong, None);
-    }
-}
-
-/// Writes a text of eight lines with this many letters each, and a line more.
-fn write_text(out: &mut Vec<u8>, letters: usize, more: &[u8]) -> Result<(), AllocError> {
-    for _ in 0..8 {
-        write_long(out, &(b"", letters, b"\n"))?;
-    }
-    out.extend_from_slice(more)
-}
-
-/// Writes a `from` line, such a text and its end.
-fn write_from(out: &mut Vec<u8>, letters: usize, more: &[u8]) -> Result<(), AllocError> {
-    out.extend_from_slice(b"from 0\n")?;
-    write_text(out, letters, more)?;
-    out.extend_from_slice(b"send\nnow")
-}
-
-/// Writes the items of such an input.
-fn write_wanted(out: &mut Vec<u8>, letters: usize, fits: bool) -> Result<(), AllocError> {
-    if !fits {
-        return out.extend_from_slice(b"Tfrom 0!;Lnow;");
-    }
-    out.extend_from_slice(b"Tfrom 0|")?;
-    write_text(out, letters, b"")?;
-    out.extend_from_slice(b".;Lnow;")
-}
-
-/// Whether a text of eight lines with this many letters each, and a line more, is held.
-fn is_held(alloc: Global, letters: usize, more: &[u8], fits: bool) -> bool {
-    let mut bytes = Vec::new(alloc);
-    let mut wanted = Vec::new(alloc);
-    let written = write_from(&mut bytes, letters, more).is_ok()
-        && write_wanted(&mut wanted, letters, fits).is_ok();
-    written && has(alloc, ScriptedFeed::new(&bytes, NEVER, NEVER), &wanted)
-}
-
-#[test]
-fn long_texts_are_not_held(rt: HostRuntime) {
-    let alloc = rt.alloc();
-    assert!(rt; is_held(alloc, LONGEST - 1, b"", true));
-    assert!(rt; is_held(alloc, LONGEST - 1, b"\n", false));
-    assert!(rt; is_held(alloc, LONGEST, b"", false));
 }
 
 /// A device for answers that takes none and passes none on.
