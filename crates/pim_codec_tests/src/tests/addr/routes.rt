@@ -1,4 +1,4 @@
-//! Tables of routes: rows in every order, walks, as many rows as a table may have, and growths that are refused.
+//! Tables of routes: rows in every order, walks, and growths that are refused.
 
 use pim_addr::{Family, Route, RouteFault, Routes, V4, read_text};
 use std::alloc::Global;
@@ -149,46 +149,6 @@ fn rows_are_walked(rt: HostRuntime) {
         Some(routes) => assert!(rt; are_walked(&routes, &rps, &vias)),
         None => assert!(rt; false),
     }
-}
-
-/// The prefix of 24 bits of this number behind 10.
-fn numbered(number: u16) -> [u8; 4] {
-    let [high, low] = number.to_be_bytes();
-    [10, high, low, 0]
-}
-
-/// Adds so many rows as a table may have: whether each was taken.
-fn fill(routes: &mut Routes<V4>) -> bool {
-    for number in 0..4096u16 {
-        let row = number.wrapping_mul(1171) % 4096;
-        if routes.add_via(numbered(row), 24, [10, 0, 0, 1]).is_err() {
-            return false;
-        }
-    }
-    true
-}
-
-const FULL: Result<(), RouteFault> = Err(RouteFault::Full);
-
-const TWICE: Result<(), RouteFault> = Err(RouteFault::Twice);
-
-#[test]
-fn full_at_the_limit(rt: HostRuntime) {
-    let mut routes: Routes<V4> = Routes::new(rt.alloc());
-    assert!(rt; fill(&mut routes));
-    let rows = [
-        ((false, "10.16.0.0", 24, "10.0.0.1"), FULL),
-        ((false, "0.0.0.0", 0, "10.0.0.1"), FULL),
-        ((false, "10.0.0.0", 24, "10.0.0.2"), TWICE),
-        ((true, "239.0.0.0", 8, "10.0.0.3"), Ok(())),
-    ];
-    assert!(rt;
-        rows.iter()
-            .all(|(row, want)| add(&mut routes, *row) == *want)
-    );
-    assert!(rt; leads(&routes, false, "10.15.255.9", Some("10.0.0.1")));
-    assert!(rt; leads(&routes, false, "10.16.0.9", None));
-    assert!(rt; leads(&routes, true, "239.1.1.1", Some("10.0.0.3")));
 }
 
 /// Whether so many neighbours' rows, and none of an RP, are in the table, and an address leads so.
