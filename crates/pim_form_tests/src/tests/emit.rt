@@ -4,22 +4,14 @@ mod long;
 mod many;
 
 use super::state::{GROUP, RP, State, hear, hear_200, source, state4};
-use long::hear_excepted;
 use pim_addr::{V4, V6};
 use pim_device::ScriptedDrain;
 use pim_emit::{WriteFault, canonical_messages, write_canonical};
-use pim_form::{FormFault, Messages, NormalForm, is_toward, pack};
-use pim_jp::Entry;
+use pim_form::{Messages, NormalForm, is_toward, pack};
 use std::alloc::Global;
 use std::test::Fail;
 
 const NEXT_GROUP: [u8; 4] = [239, 1, 1, 2];
-
-/// The star of the group, after its length.
-const STAR: [u8; 36] = [
-    0, 0x22, 0x23, 0, 0xc4, 0xd4, 1, 0, 10, 0, 0, 2, 0, 1, 0, 210, 1, 0, 0, 32, 239, 1, 1, 1, 0, 1,
-    0, 0, 1, 0, 7, 32, 10, 9, 9, 9,
-];
 
 /// The star but 192.0.2.1, after its length.
 const EXCEPT_A: [u8; 44] = [
@@ -81,11 +73,6 @@ fn kept(alloc: Global, state: &State) -> Option<Messages> {
     canonical_messages::<V4>(alloc, &state.ports, &state.writer, &state.routes).ok()
 }
 
-/// Why they aren't kept, if they aren't.
-fn fault_of_kept(alloc: Global, state: &State) -> Option<FormFault<V4>> {
-    canonical_messages::<V4>(alloc, &state.ports, &state.writer, &state.routes).err()
-}
-
 /// Whether there are messages, and these are they.
 fn are_bytes(found: Option<Messages>, bytes: &[u8]) -> bool {
     match found {
@@ -105,81 +92,6 @@ fn is_written(alloc: Global, state: &State, messages: u64, bytes: &[u8]) -> bool
     written(alloc, state, &mut out) == Some(messages)
         && out.written() == bytes
         && is_packed(alloc, state, bytes)
-}
-
-/// Whether nothing is written of no records, and then the star of the group.
-fn tells_a_star(alloc: Global, state: &mut State) -> bool {
-    is_written(alloc, state, 0, &[])
-        && hear(alloc, state, 0, GROUP, &[Entry::Star(RP)], &[])
-        && is_written(alloc, state, 1, &STAR)
-}
-
-/// The same of a new state.
-fn star_is_told(alloc: Global) -> bool {
-    match state4(alloc, 1, 1480) {
-        Some(mut state) => tells_a_star(alloc, &mut state),
-        None => false,
-    }
-}
-
-#[test]
-fn writes_a_star(rt: HostRuntime) {
-    assert!(rt; star_is_told(rt.alloc()));
-}
-
-/// Whether the star but 192.0.2.1 is written where two ports join it without that source, one of them without another
-/// one, too, and a third port prunes that one; and when the first message comes again.
-fn tells_an_exception(alloc: Global, state: &mut State) -> bool {
-    let star = [Entry::Star(RP)];
-    let (a, b) = (Entry::Rpt([192, 0, 2, 1]), Entry::Rpt([192, 0, 2, 2]));
-    hear(alloc, state, 0, GROUP, &star, &[a])
-        && hear(alloc, state, 1, GROUP, &star, &[a, b])
-        && hear(alloc, state, 2, GROUP, &[], &[b])
-        && is_written(alloc, state, 1, &EXCEPT_A)
-        && hear(alloc, state, 0, GROUP, &star, &[a])
-        && is_written(alloc, state, 1, &EXCEPT_A)
-}
-
-/// The same of a new state.
-fn exception_is_told(alloc: Global) -> bool {
-    match state4(alloc, 3, 1480) {
-        Some(mut state) => tells_an_exception(alloc, &mut state),
-        None => false,
-    }
-}
-
-#[test]
-fn writes_a_star_with_an_exception(rt: HostRuntime) {
-    assert!(rt; exception_is_told(rt.alloc()));
-}
-
-/// Whether the group is told to be too big, and nothing is written.
-fn is_too_big(alloc: Global, state: &State) -> bool {
-    let mut out = ScriptedDrain::new(alloc, 64, 10_000);
-    write_to(alloc, state, &mut out) == Some(Err(WriteFault::TooBig(GROUP)))
-        && out.written().is_empty()
-        && fault_of_kept(alloc, state) == Some(FormFault::TooBig(GROUP))
-}
-
-/// The same where a star of the group before and 181 exceptions are heard now.
-fn tells_too_big(alloc: Global, state: &mut State) -> bool {
-    let before = [239, 1, 1, 0];
-    hear(alloc, state, 0, before, &[Entry::Star(RP)], &[])
-        && hear_excepted(alloc, state, 181)
-        && is_too_big(alloc, state)
-}
-
-/// The same of a new state.
-fn too_big_is_told(alloc: Global) -> bool {
-    match state4(alloc, 1, 1480) {
-        Some(mut state) => tells_too_big(alloc, &mut state),
-        None => false,
-    }
-}
-
-#[test]
-fn writes_nothing_of_a_star_that_is_too_big(rt: HostRuntime) {
-    assert!(rt; too_big_is_told(rt.alloc()));
 }
 
 #[test]

@@ -60,23 +60,6 @@ fn expect<R: Feed + Drop>(
     assert_eq!(rt; place(merge.next()), after);
 }
 
-#[test]
-fn the_first_fault_ends_it(rt: HostRuntime) -> Result<(), Fail> {
-    let alloc = rt.alloc();
-    let good = both(alloc)?;
-    let mut merge = Merge::new(alloc);
-    merge.add(alloc, ScriptedFeed::new(good.as_slice(), 64, NEVER))?;
-    merge.add(alloc, ScriptedFeed::new(&RECORDS, 64, NEVER))?;
-    merge.add(alloc, ScriptedFeed::new(&[], 64, NEVER))?;
-    assert_eq!(&rt; merge.count(), 3);
-    let fault = MergeFault {
-        capture: 1,
-        fault: CaptureFault::Magic,
-    };
-    expect(&rt, &mut merge, &[], Err(fault));
-    Ok(())
-}
-
 /// The turns of two such captures, of which the first ends or fails at this byte inside a record.
 fn turns_before(length: usize) -> &'static [(usize, u64)] {
     match length {

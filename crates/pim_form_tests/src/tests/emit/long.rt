@@ -1,9 +1,8 @@
 //! Long messages, byte by byte, and a device that fails at each byte.
 
-use super::{GROUP, RP, State, hear, hear_200, is_written, source, state4, write_to};
+use super::{State, hear_200, is_written, state4, write_to};
 use pim_device::ScriptedDrain;
 use pim_emit::WriteFault;
-use pim_jp::Entry;
 use std::alloc::{AllocError, Global};
 
 /// The front of the first message of 200 sources, after its length; the second one's.
@@ -41,22 +40,6 @@ fn is_cut(alloc: Global, state: &State, bytes: &[u8], fails_from: usize) -> bool
     write_to(alloc, state, &mut out) == Some(Err(WriteFault::Output { sent }))
         && Some(out.written()) == bytes.get(..fails_from)
         && out.failures() == 1
-}
-
-fn push_exceptions(pruned: &mut Vec<Entry<[u8; 4]>>, count: u8) -> Result<(), AllocError> {
-    for number in 1..=count {
-        pruned.push(Entry::Rpt(source(number)))?;
-    }
-    Ok(())
-}
-
-/// Hears the star of the group, with so many exceptions.
-pub(super) fn hear_excepted(alloc: Global, state: &mut State, count: u8) -> bool {
-    let mut pruned = Vec::new(alloc);
-    match push_exceptions(&mut pruned, count) {
-        Ok(()) => hear(alloc, state, 0, GROUP, &[Entry::Star(RP)], &pruned),
-        Err(_) => false,
-    }
 }
 
 /// Whether these are the bytes of two messages, and a device that fails at any of them was written the ones before.

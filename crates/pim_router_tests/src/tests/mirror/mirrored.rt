@@ -36,9 +36,6 @@ const EXCEPT: [u8; 42] = [
     32, 10, 9, 9, 9, 1, 0, 5, 32, 192, 0, 2, 1,
 ];
 
-/// A message without a set.
-const NOTHING: [u8; 14] = [0, 0, 0, 0, 1, 0, 10, 1, 0, 1, 0, 0, 0, 210];
-
 /// A fresh router and what comes to it, and when it is looked at.
 #[derive(Clone, Copy)]
 struct Course<'a> {
@@ -270,19 +267,5 @@ fn star_lasts_longer_than_the_longest_override_interval(rt: HostRuntime) {
     let mut message = STAR;
     let seen = (98_302, 1, [1, 0], [true, true, false]);
     let told = asked_is_heard(rt.alloc(), &mut message, 99, course);
-    assert_eq!(rt; told, Some(Ok(seen)));
-}
-
-#[test]
-fn nothing_is_mirrored_by_nothing(rt: HostRuntime) {
-    let course = Course {
-        deliveries: &[],
-        limit: 1,
-        moments: [1, 2],
-        ..BESIDE
-    };
-    let mut message = NOTHING;
-    let seen = (0, 0, [0, 0], [true, true, true]);
-    let told = asked_is_heard(rt.alloc(), &mut message, 210, course);
     assert_eq!(rt; told, Some(Ok(seen)));
 }
