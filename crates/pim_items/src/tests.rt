@@ -1,5 +1,5 @@
-//! The lines and texts of a session, from devices that give few bytes, and answers that aren't passed
-//! on. Long lines, long texts and failed reads are cases of `pimtree_cases`.
+//! The lines and texts of a session, from devices that give few bytes, and answers that aren't
+//! passed on. Long lines, long texts and failed reads are cases of `pimtree_cases`.
 
 ghost use Rattle.std.specs.Prelude.{◌≡◌, ◌+◌, min, None};
 ghost use Rattle.pim_device.specs.Device.{top_count};
