@@ -94,11 +94,12 @@ fn push_times(bytes: &mut Vec<u8>, rest: &str) -> Result<bool, AllocError> {
     let Ok(count) = count.parse::<u32>() else {
         return Ok(false);
     };
-    for _ in 0..count {
-        if !push_hex(bytes, hex)? {
-            return Ok(false);
-        }
+    let mut piece = Vec::new(*bytes.allocator());
+    if !push_hex(&mut piece, hex)? {
+        return Ok(false);
     }
+    let mut pieces = piece.as_slice().repeat(*bytes.allocator(), count as usize)?;
+    bytes.append(&mut pieces)?;
     Ok(true)
 }
 
