@@ -4,8 +4,11 @@ use pim_addr::ScriptedFeed;
 use pim_files::HeldFile;
 use std::alloc::{AllocError, Global};
 
-/// The most bytes that a read gives, so that most lines and records come in pieces.
+/// The most bytes that a read of a short file gives, so that most lines and records come in pieces.
 pub const MOST_READ: usize = 7;
+
+/// The most reads, about, that a file takes.
+const MOST_READS: usize = 100_000;
 
 /// What a file or standard input holds.
 #[derive(Drop)]
@@ -39,7 +42,8 @@ impl<'a> Held<'a> {
 
     /// Returns a reader at the beginning.
     pub fn reader(&self) -> ScriptedFeed<'_> {
-        ScriptedFeed::new(&self.bytes, MOST_READ, self.fails_from())
+        let most = MOST_READ.max(self.bytes.len() / MOST_READS);
+        ScriptedFeed::new(&self.bytes, most, self.fails_from())
     }
 
     /// Returns the file, for an opener.
