@@ -1,6 +1,7 @@
 -- What commands do, from what their calls do.
 use Rattle.std.proofs.Common.{◌≡◌, ℕ, Bool, true, false, List, Option, None, Some, Result, Ok, Err, codes, refl, sym, subst, ap}
 use Rattle.std.specs.Io.KnownBytes.{Appends}
+use Rattle.core.specs.Result.{result_and}
 use Rattle.pim_addr.specs.declared.family.AddressFamily.{AddressFamily}
 use Rattle.pim_device.specs.Device.{AppendsFront, AppendsAll}
 use Rattle.pim_request.specs.declared.command.Command.{Command as AnyCommand}
@@ -19,9 +20,13 @@ use Rattle.pim_session.specs.declared.request.Request.{Request}
 use Rattle.pim_session.specs.declared.request.Request.TheVariants.{Command, From}
 use Rattle.pim_session.specs.declared.setup.AnyRow.{AnyRow}
 use Rattle.pim_session.specs.declared.setup.AnyRow.TheVariants as kind
+use Rattle.pim_session.specs.declared.setup.AnyRows.{AnyRows}
+use Rattle.pim_session.specs.declared.setup.AnyRows.TheVariants.{Free, Ipv4, Ipv6}
+use Rattle.pim_session.specs.Gathering.{with_limit}
 use Rattle.pim_session.specs.Answers.{Answers, AnswersBefore, AnswersAfter, Gathers, Serves, Tells, session_in}
-use Rattle.pim_session.specs.SetupSeen.{Adds, row_in}
+use Rattle.pim_session.specs.SetupSeen.{Adds, any_seen, row_in}
 use Rattle.pim_session.specs.State.{Gathered, gathering, serving, Session, nothing_gathered}
+use Rattle.pim_session.specs.Underway.{Configured, session_after}
 
 -- what was answered, said otherwise
 pub answered_as : {S T A E : Type 0} (Does : List ℕ → S → Type 0) (More : List ℕ → T → Type 0) (seen : S → T) (old new : Option (List ℕ)) (r : Result A E) (after : S)
@@ -33,6 +38,11 @@ answered_as Does More seen old new (Err e) after more it = record { text = it.te
 pub answered_text : {S A E : Type 0} (Does : List ℕ → S → Type 0) (old new : Option (List ℕ)) (r : Result A E) (after : S) (text : List ℕ) → Does text after → AppendsAll old new r text → Answered Does old new r (λ _. after)
 answered_text Does old new (Ok x) after text does written = record { text = text; does = does; written = written }
 answered_text Does old new (Err e) after text does written = record { text = text; after = after; does = does; written = written }
+
+-- an answer of a command that changes nothing
+pub told_as : {S A E : Type 0} {Says : List ℕ → Type 0} (Does : List ℕ → S → Type 0) (old new : Option (List ℕ)) (r : Result A E) (state : S) → ((text : List ℕ) → Says text → Does text state) → Told Says old new r
+    → Answered Does old new r (λ _. state)
+told_as Does old new r state more it = answered_text Does old new r state it.text (more it.text it.says) it.written
 
 -- ---- before `start`
 
@@ -146,3 +156,109 @@ module _ (family : AddressFamily) (router after : RouterState) (kept kept' : Lis
 
   pub takes_after : (from : FromText) → AnswersFrom family from router text after → AnswersAfter family (From from) (router, kept) text (session_in (serving family after) kept)
   takes_after from it = ((after, kept), (it, refl), refl)
+
+-- ---- an answer, and whether the session goes on
+
+-- what was answered, said otherwise, with a value beside it
+pub answered_and : {S T E : Type 0} (Does : List ℕ → S → Type 0) (More : List ℕ → T → Type 0) (seen : S → T) (old new : Option (List ℕ)) (r : Result (Unit {0}) E) (value : Bool) (q : Result Bool E) (after : S) (f : Bool → T)
+    → q ≡ result_and r (Ok value) → f value ≡ seen after → ((text : List ℕ) (end : S) → Does text end → More text (seen end)) → Answered Does old new r (λ _. after) → Answered More old new q f
+answered_and Does More seen old new (Ok x) value q after f is same more it =
+    subst (λ p. Answered More old new p f) (sym is)
+    (record { text = it.text; does = subst (λ t. More it.text t) (sym same) (more it.text after it.does); written = it.written })
+answered_and Does More seen old new (Err e) value q after f is same more it =
+    subst (λ p. Answered More old new p f) (sym is)
+    (record { text = it.text; after = seen it.after; does = more it.text it.after it.does; written = it.written })
+
+-- a text that was written, with a value beside it
+pub text_and : {T E : Type 0} (More : List ℕ → T → Type 0) (old new : Option (List ℕ)) (r : Result (Unit {0}) E) (value : Bool) (q : Result Bool E) (after : T) (f : Bool → T) (text : List ℕ)
+    → q ≡ result_and r (Ok value) → f value ≡ after → More text after → AppendsAll old new r text → Answered More old new q f
+text_and More old new r value q after f text is same does written =
+    answered_and More More (λ t. t) old new r value q after f is same (λ text end it. it) (answered_text More old new r after text does written)
+
+module _ (family : AddressFamily) (router : RouterState) (kept : List Kept) where
+  serves_pair : (command : AnyCommand) (text : List ℕ) (end : RouterState × List Kept) → (command ≡ Reset → ⊥) → Serves family command (router, kept) text end
+      → AnswersAfter family (Command command) (router, kept) text (session_in (serving family end.0) end.1)
+  serves_pair command text (after, kept') never it = serves_after family router after kept kept' text command never it
+
+  module _ {E : Type 0} (old new : Option (List ℕ)) (r : Result (Unit {0}) E) (q : Result Bool E) where
+    -- a command that leaves the router
+    pub command_answered : (command : AnyCommand) (family' : AddressFamily) (router' : RouterState) (kept' : List Kept) → (command ≡ Reset → ⊥) → family' ≡ family → q ≡ result_and r (Ok true)
+        → Answered (Serves family command (router, kept)) old new r (λ _. (router', kept'))
+        → Answered (AnswersAfter family (Command command) (router, kept)) old new q (λ serves. session_after serves family' router' kept')
+    command_answered command family' router' kept' never same is it =
+        answered_and (Serves family command (router, kept)) (AnswersAfter family (Command command) (router, kept)) (λ (s : RouterState × List Kept). session_in (serving family s.0) s.1) old new r true q
+        (router', kept') (λ serves. session_after serves family' router' kept') is (ap (λ (f : AddressFamily). session_in (serving f router') kept') same)
+        (λ text end does. serves_pair command text end never does) it
+
+    -- `reset`
+    pub reset_answered : (command : AnyCommand) → command ≡ Reset → q ≡ result_and r (Ok false) → AppendsAll old new r ok_line
+        → Answered (AnswersAfter family (Command command) (router, kept)) old new q (λ serves. session_after serves family router kept)
+    reset_answered command reset is written =
+        subst (λ (c : AnyCommand). Answered (AnswersAfter family (Command c) (router, kept)) old new q (λ serves. session_after serves family router kept)) (sym reset)
+        (text_and (AnswersAfter family (Command Reset) (router, kept)) old new r false q (session_in (gathering nothing_gathered) kept) (λ serves. session_after serves family router kept) ok_line is refl
+        (refl, refl) written)
+
+    -- a packet whose message is given as a text
+    pub from_answered : (from : FromText) (family' : AddressFamily) (router' : RouterState) → family' ≡ family → q ≡ result_and r (Ok true)
+        → Answered (AnswersFrom family from router) old new r (λ _. router')
+        → Answered (AnswersAfter family (From from) (router, kept)) old new q (λ serves. session_after serves family' router' kept)
+    from_answered from family' router' same is it =
+        answered_and (AnswersFrom family from router) (AnswersAfter family (From from) (router, kept)) (λ (s : RouterState). session_in (serving family s) kept) old new r true q
+        router' (λ serves. session_after serves family' router' kept) is (ap (λ (f : AddressFamily). session_in (serving f router') kept) same)
+        (λ text end does. takes_after family router end kept kept text from does) it
+
+    -- a fault
+    pub fault_answered : (words : List ℕ) → q ≡ result_and r (Ok true) → AppendsAll old new r (fault_line words)
+        → Answered (Answers (session_in (serving family router) kept) (Err words)) old new q (λ serves. session_after serves family router kept)
+    fault_answered words is written =
+        text_and (Answers (session_in (serving family router) kept) (Err words)) old new r true q (session_in (serving family router) kept) (λ serves. session_after serves family router kept)
+        (fault_line words) is refl (refl, refl) written
+
+-- ---- before `start`, and whether it is asked for
+
+configured_text : {E : Type 0} (start after : Session) (asked : Result Request (List ℕ)) (old new : Option (List ℕ)) (r : Result (Unit {0}) E) (q : Result Bool E) (text : List ℕ)
+    → q ≡ result_and r (Ok false) → Answers start asked text after → AppendsAll old new r text → Configured start asked old new q after
+configured_text start after asked old new (Ok x) q text is does written =
+    subst (λ p. Configured start asked old new p after) (sym is) (record { text = text; does = does; written = written })
+configured_text start after asked old new (Err e) q text is does written =
+    subst (λ p. Configured start asked old new p after) (sym is) (record { text = text; after = after; does = does; written = written })
+
+module _ {E : Type 0} (begin : Gathered) (kept : List Kept) (old new : Option (List ℕ)) where
+  -- a command other than `start`
+  pub command_configured : (r : Result (Unit {0}) E) (q : Result Bool E) (command : AnyCommand) (end : Gathered) → (command ≡ Start → ⊥) → q ≡ result_and r (Ok false)
+      → Answered (Gathers command begin) old new r (λ _. end) → Configured (session_in (gathering begin) kept) (Ok (Command command)) old new q (session_in (gathering end) kept)
+  command_configured (Ok x) q command end never is it =
+      subst (λ p. Configured (session_in (gathering begin) kept) (Ok (Command command)) old new p (session_in (gathering end) kept)) (sym is)
+      (record { text = it.text; does = gathers_before command begin end kept it.text never it.does; written = it.written })
+  command_configured (Err e) q command end never is it =
+      subst (λ p. Configured (session_in (gathering begin) kept) (Ok (Command command)) old new p (session_in (gathering end) kept)) (sym is)
+      (record { text = it.text; after = session_in (gathering it.after) kept; does = gathers_before command begin it.after kept it.text never it.does; written = it.written })
+
+  -- a text for a router that isn't there
+  pub from_configured : (r : Result (Unit {0}) E) (q : Result Bool E) (from : FromText) (words : List ℕ) → words ≡ codes "not started" → q ≡ result_and r (Ok false) → AppendsAll old new r (fault_line words)
+      → Configured (session_in (gathering begin) kept) (Ok (From from)) old new q (session_in (gathering begin) kept)
+  from_configured r q from words are is written =
+      configured_text (session_in (gathering begin) kept) (session_in (gathering begin) kept) (Ok (From from)) old new r q (fault_line words) is (begin, (ap fault_line are, refl), refl) written
+
+  -- a fault
+  pub fault_configured : (r : Result (Unit {0}) E) (q : Result Bool E) (words : List ℕ) → q ≡ result_and r (Ok false) → AppendsAll old new r (fault_line words)
+      → Configured (session_in (gathering begin) kept) (Err words) old new q (session_in (gathering begin) kept)
+  fault_configured r q words is written =
+      configured_text (session_in (gathering begin) kept) (session_in (gathering begin) kept) (Err words) old new r q (fault_line words) is (refl, refl) written
+
+-- the limit of what is gathered
+limit_seen : (rows : AnyRows) (before limit : ℕ) → any_seen limit rows ≡ with_limit limit (any_seen before rows)
+limit_seen Free before limit = refl
+limit_seen (Ipv4 rows) before limit = refl
+limit_seen (Ipv6 rows) before limit = refl
+
+pub limit_answered : {A E : Type 0} (command : AnyCommand) (limit before : ℕ) (rows : AnyRows) (old new : Option (List ℕ)) (r : Result A E) → command ≡ Limit limit → AppendsAll old new r ok_line
+    → Answered (Gathers command (any_seen before rows)) old new r (λ _. any_seen limit rows)
+limit_answered command limit before rows old new r is written =
+    subst (λ (c : AnyCommand). Answered (Gathers c (any_seen before rows)) old new r (λ _. any_seen limit rows)) (sym is)
+    (answered_text (Gathers (Limit limit) (any_seen before rows)) old new r (any_seen limit rows) ok_line (refl, limit_seen rows before limit) written)
+
+pub forgotten : {A E : Type 0} (command : AnyCommand) (begin end : Gathered) (old new : Option (List ℕ)) (r : Result A E) → command ≡ Reset → end ≡ nothing_gathered → AppendsAll old new r ok_line
+    → Answered (Gathers command begin) old new r (λ _. end)
+forgotten command begin end old new r is none written =
+    subst (λ (c : AnyCommand). Answered (Gathers c begin) old new r (λ _. end)) (sym is) (answered_text (Gathers Reset begin) old new r end ok_line (refl, none) written)

@@ -1,5 +1,5 @@
 -- The loops over items: each way on and each end.
-use Rattle.std.proofs.Common.{◌≡◌, ◌<◌, ℕ, List, ◌∷◌, Option, None, Some, Result, Ok, Err, refl, sym, subst}
+use Rattle.std.proofs.Common.{◌≡◌, ◌<◌, ℕ, Bool, true, false, List, ◌∷◌, Option, None, Some, Result, Ok, Err, refl, sym, subst}
 use Rattle.std.specs.Option.{IfSome}
 use Rattle.std.specs.Io.KnownBytes.{Appends, Keeps}
 use Rattle.pim_device.specs.Device.{AppendsFront}
@@ -13,14 +13,15 @@ use Rattle.pim_session.specs.declared.request.Request.{Request}
 use Rattle.pim_session.specs.declared.request.Request.TheVariants.{Command}
 use Rattle.pim_session.specs.declared.serving.Ending.{Ending}
 use Rattle.pim_session.specs.declared.serving.Ending.TheVariants.{Refused, Reset, Input}
+use Rattle.pim_answers.specs.Answered.{Whole}
 use Rattle.pim_answers.specs.Kept.{Kept}
 use Rattle.pim_answers.specs.Lines.{ok_line, fault_line}
-use Rattle.pim_session.specs.Answers.{session_in}
+use Rattle.pim_session.specs.Answers.{Answers, session_in}
 use Rattle.pim_session.specs.Dialog.{IsAnswer}
 use Rattle.pim_session.specs.Gathering.{Starts}
 use Rattle.pim_session.specs.Request.{Asks}
 use Rattle.pim_session.specs.State.{Gathered, Phase, Session, gathering}
-use Rattle.pim_session.specs.Underway.{GoesOn, Ended, Begins, BeginsServing, AllEnded, IsRefused}
+use Rattle.pim_session.specs.Underway.{Configured, GoesOn, Ended, Begins, BeginsServing, AllEnded, IsRefused}
 use Rattle.pim_session.proofs.Underway.{on_some, at_failed_read, at_failed_flush, started, ended_after}
 use Rattle.pim_session.proofs.Dialogs.{went_one, front_one}
 
@@ -101,3 +102,15 @@ module _ (gathered : Gathered) (kept : List Kept) where
   start_refused (Some bytes) old new words (Err stopped.Input) starts it = absurd it
   start_refused (Some bytes) old new words (Err stopped.Output) starts it = λ item asks.
       front_one (session_in (gathering gathered) kept) (session_in (gathering gathered) kept) item (items_of bytes) old new (fault_line words) (answer_start item (fault_line words) (gathering gathered) asks starts) it
+
+-- ---- whether a start is asked for
+
+pub recognised : (E : Type 0) (begin after : Session) (asked : Result Request (List ℕ)) (old new : Option (List ℕ)) (starts : Bool) → starts ≡ true → Configured {E = E} begin asked old new (Ok starts) after
+    → (asked ≡ Ok (Command Start)) × (new ≡ old) × (after ≡ begin)
+recognised E begin after asked old new true is it = it
+recognised E begin after asked old new false is it = absurd cc
+
+pub not_recognised : (E : Type 0) (begin after : Session) (asked : Result Request (List ℕ)) (old new : Option (List ℕ)) (starts : Bool) → starts ≡ false → Configured {E = E} begin asked old new (Ok starts) after
+    → Whole (Answers begin asked) old new after
+not_recognised E begin after asked old new true is it = absurd cc
+not_recognised E begin after asked old new false is it = it

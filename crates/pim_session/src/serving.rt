@@ -7,9 +7,9 @@ ghost use Rattle.pim_items.specs.Items.{items_of};
 ghost use Rattle.pim_answers.specs.Answered.{Answered};
 ghost use Rattle.pim_answers.specs.Fault.{fault_words};
 ghost use Rattle.pim_answers.specs.StoreSeen.{store_seen};
-ghost use Rattle.pim_session.specs.Answers.{Answers, Serves, session_in};
+ghost use Rattle.pim_session.specs.Answers.{Answers, AnswersAfter, Serves, session_in};
 ghost use Rattle.pim_session.specs.RouterSeen.{family_in, state_in};
-ghost use Rattle.pim_session.specs.Seen.{asked_seen, IsFitCommand, IsFitIfAny};
+ghost use Rattle.pim_session.specs.Seen.{asked_seen, IsFit, IsFitCommand, IsFitIfAny};
 ghost use Rattle.pim_session.specs.SetupSeen.{gathered_seen};
 ghost use Rattle.pim_session.specs.State.{Session, gathering, serving};
 ghost use Rattle.pim_session.specs.Underway.{session_after, IsRefused, Ended, Begins, BeginsServing};
@@ -59,40 +59,72 @@ fn answer_command<W: Drain>(
     }
 }
 
-/// Answers a request, or its fault. Returns whether the router is still there.
+/// Answers a command. Returns whether the router is still there.
+fn answer_any_command<W: Drain>(
+    alloc: Global,
+    router: &mut AnyRouter<'_>,
+    store: &mut Store,
+    bytes: &mut Vec<u8>,
+    command: &Command<'_>,
+    answers: &mut W,
+) -> Result<bool, Failed>
+    requires { IsFitCommand command.now }
+    ensures answered { Answered (AnswersAfter (family_in router.old) (Request.Command command.now)
+        (state_in router.old, store_seen store.old))
+        (W.contents answers.old) (W.contents answers.new) result
+        (λ serves. session_after serves (family_in router.new) (state_in router.new) (store_seen store.new)) }
+    ensures count { W.failures answers.new ≡ failures_after (W.failures answers.old) result }
+{
+    match command {
+        Command::Reset => write_ok(answers).and(Ok(false)),
+        _ => answer_command(alloc, router, store, bytes, command, answers).and(Ok(true)),
+    }
+}
+
+/// Answers a request. Returns whether the router is still there.
 fn answer_request<W: Drain>(
     alloc: Global,
     router: &mut AnyRouter<'_>,
     store: &mut Store,
     bytes: &mut Vec<u8>,
-    request: Result<Request<'_>, Fault<'_>>,
+    request: &Request<'_>,
     answers: &mut W,
 ) -> Result<bool, Failed>
-    requires { IsFitIfAny request }
-    ensures answered { Answered
-        (Answers (session_in (serving (family_in router.old) (state_in router.old)) (store_seen store.old))
-        (asked_seen request.entry))
+    requires { IsFit request.now }
+    ensures answered { Answered (AnswersAfter (family_in router.old) request.now
+        (state_in router.old, store_seen store.old))
         (W.contents answers.old) (W.contents answers.new) result
         (λ serves. session_after serves (family_in router.new) (state_in router.new) (store_seen store.new)) }
     ensures count { W.failures answers.new ≡ failures_after (W.failures answers.old) result }
 {
     match request {
-        Ok(Request::Command(Command::Reset)) => {
-            write_ok(answers)?;
-            Ok(false)
+        Request::Command(command) => {
+            answer_any_command(alloc, router, store, bytes, command, answers)
         }
-        Ok(Request::Command(command)) => {
-            answer_command(alloc, router, store, bytes, &command, answers)?;
-            Ok(true)
-        }
-        Ok(Request::From(from)) => {
-            from_any(alloc, router, &from, bytes, answers)?;
-            Ok(true)
-        }
-        Err(fault) => {
-            write_fault(answers, &fault)?;
-            Ok(true)
-        }
+        Request::From(from) => from_any(alloc, router, from, bytes, answers).and(Ok(true)),
+    }
+}
+
+/// Answers what an item asks for, or its fault. Returns whether the router is still there.
+fn answer_asked<W: Drain>(
+    alloc: Global,
+    router: &mut AnyRouter<'_>,
+    store: &mut Store,
+    bytes: &mut Vec<u8>,
+    asked: Result<Request<'_>, Fault<'_>>,
+    answers: &mut W,
+) -> Result<bool, Failed>
+    requires { IsFitIfAny asked }
+    ensures answered { Answered
+        (Answers (session_in (serving (family_in router.old) (state_in router.old)) (store_seen store.old))
+        (asked_seen asked.entry))
+        (W.contents answers.old) (W.contents answers.new) result
+        (λ serves. session_after serves (family_in router.new) (state_in router.new) (store_seen store.new)) }
+    ensures count { W.failures answers.new ≡ failures_after (W.failures answers.old) result }
+{
+    match asked {
+        Ok(request) => answer_request(alloc, router, store, bytes, &request, answers),
+        Err(fault) => write_fault(answers, &fault).and(Ok(true)),
     }
 }
 
@@ -117,8 +149,8 @@ fn serve<R: Feed, W: Answers>(
         let Some(item) = items.next(answers)? else {
             return Ok(Ending::Input);
         };
-        let request = request_of(items, item);
-        match answer_request(alloc, router, store, &mut bytes, request, answers) {
+        let asked = request_of(items, item);
+        match answer_asked(alloc, router, store, &mut bytes, asked, answers) {
             Ok(true) => {}
             Ok(false) => return Ok(Ending::Reset),
             Err(_) => return Err(Stopped::Output),

@@ -1,6 +1,6 @@
 //! A session from its first line to its end.
 
-ghost use Rattle.std.specs.Prelude.{◌≡◌, List, None, IfSome};
+ghost use Rattle.std.specs.Prelude.{◌≡◌, List, None, Ok, IfSome};
 ghost use Rattle.pim_device.specs.Device.{failures_after};
 ghost use Rattle.pim_items.specs.Reading.{flush_failures_after};
 ghost use Rattle.pim_answers.specs.Answered.{Answered};
@@ -65,7 +65,7 @@ fn set_up<W: Drain>(
             write_ok(answers)
         }
         Command::Reset => {
-            *setup = Setup::new();
+            setup.reset();
             write_ok(answers)
         }
         _ => write_fault(answers, &Fault::plain(b"not started")),
@@ -92,39 +92,97 @@ fn configure<W: Drain>(
     }
 }
 
-/// Answers a request before the start, or its fault. Returns whether it is `start`, which isn't
-/// answered here.
-fn configure_by<W: Drain>(
+/// Answers a command before the start. Returns whether it is `start`, which isn't answered here.
+fn configure_unless_start<W: Drain>(
     alloc: Global,
     setup: &mut Setup,
-    request: Result<Request<'_>, Fault<'_>>,
+    command: &Command<'_>,
     answers: &mut W,
 ) -> Result<bool, Failed>
     ensures configured { (kept : List Kept) → Configured
-        (session_in (gathering (gathered_seen setup.old)) kept) (asked_seen request.entry)
+        (session_in (gathering (gathered_seen setup.old)) kept) (Ok (Request.Command command.now))
+        (W.contents answers.old) (W.contents answers.new) result
+        (session_in (gathering (gathered_seen setup.new)) kept) }
+    ensures count { W.failures answers.new ≡ failures_after (W.failures answers.old) result }
+{
+    match command {
+        Command::Start => Ok(true),
+        _ => configure(alloc, setup, command, answers).and(Ok(false)),
+    }
+}
+
+/// Answers a request before the start. Returns whether it is `start`, which isn't answered here.
+fn configure_by_request<W: Drain>(
+    alloc: Global,
+    setup: &mut Setup,
+    request: &Request<'_>,
+    answers: &mut W,
+) -> Result<bool, Failed>
+    ensures configured { (kept : List Kept) → Configured
+        (session_in (gathering (gathered_seen setup.old)) kept) (Ok request.now)
         (W.contents answers.old) (W.contents answers.new) result
         (session_in (gathering (gathered_seen setup.new)) kept) }
     ensures count { W.failures answers.new ≡ failures_after (W.failures answers.old) result }
 {
     match request {
-        Ok(Request::Command(Command::Start)) => Ok(true),
-        Ok(Request::Command(command)) => {
-            configure(alloc, setup, &command, answers)?;
-            Ok(false)
-        }
-        Ok(Request::From(_)) => {
-            write_fault(answers, &Fault::plain(b"not started"))?;
-            Ok(false)
-        }
-        Err(fault) => {
-            write_fault(answers, &fault)?;
-            Ok(false)
+        Request::Command(command) => configure_unless_start(alloc, setup, command, answers),
+        Request::From(_) => write_fault(answers, &Fault::plain(b"not started")).and(Ok(false)),
+    }
+}
+
+/// Answers what an item asks for before the start, or its fault. Returns whether that is `start`,
+/// which isn't answered here.
+fn configure_by<W: Drain>(
+    alloc: Global,
+    setup: &mut Setup,
+    asked: Result<Request<'_>, Fault<'_>>,
+    answers: &mut W,
+) -> Result<bool, Failed>
+    ensures configured { (kept : List Kept) → Configured
+        (session_in (gathering (gathered_seen setup.old)) kept) (asked_seen asked.entry)
+        (W.contents answers.old) (W.contents answers.new) result
+        (session_in (gathering (gathered_seen setup.new)) kept) }
+    ensures count { W.failures answers.new ≡ failures_after (W.failures answers.old) result }
+{
+    match asked {
+        Ok(request) => configure_by_request(alloc, setup, &request, answers),
+        Err(fault) => write_fault(answers, &fault).and(Ok(false)),
+    }
+}
+
+/// Answers the items of the input to its end, after this set-up and with this store.
+fn answer_all<R: Feed, W: Answers>(
+    alloc: Global,
+    setup: &mut Setup,
+    store: &mut Store,
+    items: &mut Items<R>,
+    answers: &mut W,
+) -> Result<(), Stopped>
+    ensures ended { IfSome items.old.coming (λ bytes. AllEnded bytes
+        (session_in (gathering (gathered_seen setup.old)) (store_seen store.old))
+        (W.contents answers.old) (W.contents answers.new) result) }
+    ensures count { W.failures answers.new ≡ flush_failures_after (W.failures answers.old) result }
+{
+    'items: loop {
+        let Some(item) = items.next(answers)? else {
+            return Ok(());
+        };
+        let asked = request_of(items, item);
+        let Ok(starts) = configure_by(alloc, setup, asked, answers) else {
+            return Err(Stopped::Output);
+        };
+        if starts {
+            match start(alloc, setup, items, store, answers)? {
+                Ending::Refused => {}
+                Ending::Reset => setup.reset(),
+                Ending::Input => return Ok(()),
+            }
         }
     }
 }
 
 /// Answers the items of the input to its end.
-fn answer_all<R: Feed, W: Answers>(
+fn answer_from_nothing<R: Feed, W: Answers>(
     alloc: Global,
     items: &mut Items<R>,
     answers: &mut W,
@@ -135,22 +193,7 @@ fn answer_all<R: Feed, W: Answers>(
 {
     let mut setup = Setup::new();
     let mut store = Store::new(alloc);
-    'items: loop {
-        let Some(item) = items.next(answers)? else {
-            return Ok(());
-        };
-        let request = request_of(items, item);
-        let Ok(starts) = configure_by(alloc, &mut setup, request, answers) else {
-            return Err(Stopped::Output);
-        };
-        if starts {
-            match start(alloc, &setup, items, &mut store, answers)? {
-                Ending::Refused => {}
-                Ending::Reset => setup = Setup::new(),
-                Ending::Input => return Ok(()),
-            }
-        }
-    }
+    answer_all(alloc, &mut setup, &mut store, items, answers)
 }
 
 /// Reads commands line by line to the end of the input, and answers each before it reads on. It
@@ -176,7 +219,7 @@ pub fn session_into<R: Feed + Drop, W: Answers>(
     let Ok(mut items) = Items::new(alloc, reader) else {
         return Err(SessionFault::Memory);
     };
-    match answer_all(alloc, &mut items, answers) {
+    match answer_from_nothing(alloc, &mut items, answers) {
         Ok(()) => Ok(0),
         Err(Stopped::Input) => Err(SessionFault::Input),
         Err(Stopped::Output) => Err(SessionFault::Output),

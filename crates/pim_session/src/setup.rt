@@ -202,6 +202,13 @@ impl Setup {
         }
     }
 
+    /// Forgets all that is set up.
+    pub(crate) fn reset(&mut self)
+        ensures { gathered_seen self.new ≡ nothing_gathered }
+    {
+        *self = Setup::new();
+    }
+
     /// Adds a row. The first row that is accepted fixes the family. After a fault nothing has
     /// changed.
     pub(crate) fn add(&mut self, alloc: Global, row: &AnyRow) -> Result<(), Fault<'static>>

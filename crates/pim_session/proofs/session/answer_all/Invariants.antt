@@ -4,15 +4,15 @@ use Rattle.pim_items.specs.Items.{items_of}
 use Rattle.pim_answers.specs.StoreSeen.{store_seen}
 use Rattle.pim_session.specs.Answers.{session_in}
 use Rattle.pim_session.specs.SetupSeen.{gathered_seen}
-use Rattle.pim_session.specs.State.{gathering, new_session}
+use Rattle.pim_session.specs.State.{gathering}
 use Rattle.pim_session.specs.Underway.{GoesOn}
 use Rattle.pim_session.proofs.session.answer_all.Given as goal
 
 -- some items were answered, and there is no router
 abbrev pub invariant-items : goal.invariant-items
 invariant-items g l = record {
-  way : IfSome l.fn.items.coming (λ bytes. GoesOn new_session (items_of bytes) (g.W.Drain.contents l.fn.answers) (g.W.Drain.contents l.answers) l.items.coming
-      (session_in (gathering (gathered_seen l.setup)) (store_seen l.store)));
+  way : IfSome l.fn.items.coming (λ bytes. GoesOn (session_in (gathering (gathered_seen l.fn.setup)) (store_seen l.fn.store)) (items_of bytes) (g.W.Drain.contents l.fn.answers) (g.W.Drain.contents l.answers)
+      l.items.coming (session_in (gathering (gathered_seen l.setup)) (store_seen l.store)));
   failures : g.W.Drain.failures l.answers ≡ g.W.Drain.failures l.fn.answers;
 }
 
