@@ -2,7 +2,7 @@
 
 ghost use Rattle.std.specs.Prelude.{◌≡◌, length, map, filter, IfOk};
 ghost use Rattle.pim_form.specs.Seen.{writing_seen};
-ghost use Rattle.pim_words.specs.Plan.{IsBounded, IsWritable};
+ghost use Rattle.pim_words.specs.Plan.{IsBounded, IsLimited, IsWritable};
 ghost use Rattle.pim_commands.specs.Replaying.{config_of};
 ghost use Rattle.pim_files.specs.Captures.{is_of};
 ghost use Rattle.pim_commands.specs.Comparing.{same_fault, compared, side_setup, ComparesNew};
@@ -83,6 +83,7 @@ pub fn same_opened<F: Family, R: Feed + Drop, W: Drain>(
     writer: &mut W,
 ) -> Result<u8, Fault<'static>>
     requires after { IsBounded captures.now }
+    requires limit { IsLimited captures.now }
     requires writing { IsWritable writing.now }
     requires a { length pair.old.a.lanes ≡ length (filter (is_of Side.A) captures.now.ports.items) }
     requires b { length pair.old.b.lanes ≡ length (filter (is_of Side.B) captures.now.ports.items) }
@@ -139,6 +140,7 @@ pub fn same<'a, F: Family, O: Opener, W: Drain>(
     writer: &mut W,
 ) -> Result<u8, Fault<'a>>
     requires after { IsBounded captures.now }
+    requires limit { IsLimited captures.now }
     requires writing { IsWritable writing.now }
     ensures report { ComparesFiles F.family F.bytes_of O.Reader.remaining O.Reader.failures
         (O.known opener.old) (O.known opener.new) captures.now writing.now

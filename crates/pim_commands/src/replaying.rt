@@ -2,10 +2,11 @@
 //!
 //! All files are opened before any record is read. So a fault of opening comes before all output.
 
-ghost use Rattle.std.specs.Prelude.{◌≡◌, ◌≤◌, [], length, map, is_some, IfOk, MatchResult};
+ghost use Rattle.std.specs.Prelude.{◌≡◌, [], length, map, is_some, IfOk, MatchResult};
 ghost use Rattle.pim_router.specs.Config.{config_faults};
 ghost use Rattle.pim_router.specs.Seen.{setup_seen};
 ghost use Rattle.pim_router.specs.State.{new_router};
+ghost use Rattle.pim_words.specs.Plan.{IsBounded, IsLimited};
 ghost use Rattle.pim_commands.specs.Replaying.{config_of, config_fault, capture_fault, replay_fault, answer_of};
 ghost use Rattle.pim_commands.specs.Replaying.{IsUnmade, ReplaysNew};
 ghost use Rattle.pim_commands.specs.Opening.{ReplaysFiles};
@@ -136,7 +137,8 @@ pub fn replay_opened<F: Family, R: Feed + Drop, W: Drain>(
     merge: &mut Merge<R>,
     writer: &mut W,
 ) -> Result<u8, Fault<'static>>
-    requires after { captures.now.after_ms ≤ 1000000000 }
+    requires after { IsBounded captures.now }
+    requires limit { IsLimited captures.now }
     requires ports { length merge.old.lanes ≡ length captures.now.ports.items }
     ensures report { ReplaysNew F.family (is_some captures.now.routes) captures.now.after_ms merge.old merge.new
         (setup_seen F.bytes_of (map config_of captures.now.ports.items) routes.now captures.now.limit)
@@ -173,7 +175,8 @@ pub fn replay<'a, F: Family, O: Opener, W: Drain>(
     captures: &Captures<'a, F::Addr>,
     writer: &mut W,
 ) -> Result<u8, Fault<'a>>
-    requires { captures.now.after_ms ≤ 1000000000 }
+    requires after { IsBounded captures.now }
+    requires limit { IsLimited captures.now }
     ensures report { ReplaysFiles F.family F.bytes_of O.Reader.remaining O.Reader.failures
         (O.known opener.old) (O.known opener.new) captures.now
         (W.contents writer.old) (W.contents writer.new) result }
