@@ -74,7 +74,7 @@ module _ {F A N : Type 0} (family : AddressFamily) (bytes_of : A → List ℕ) (
       let words : List ℕ = fault_words fault in
       let text : List ℕ = fault_line words in
       let p : Adds row (any_seen limit Free) text (rows_seen bytes_of None limit new) =
-          subst (λ (g : Gathered). Adds row g text (rows_seen bytes_of None limit new)) (none_seen old limit ports routes) (adds None limit same) in
+      subst (λ (g : Gathered). Adds row g text (rows_seen bytes_of None limit new)) (none_seen old limit ports routes) (adds None limit same) in
       subst (λ (g : Gathered). Adds row (any_seen limit Free) text g) (fault_keeps row (any_seen limit Free) (rows_seen bytes_of None limit new) words p) p
 
   pub more_added : (old new : Rows F A N) (result : Result (Unit {0}) Fault) → AddsTo family bytes_of (Adds row) (first_address row) old result new

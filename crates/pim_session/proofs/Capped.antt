@@ -111,10 +111,10 @@ module _ (family : AddressFamily) (row : Row) (gathered : Gathered) (same : fami
       → AddsRp row gathered (done_text result) (after family gathered result new)
   rp_at small new told result is ok err refused added =
       let said : Same family (address_bytes row.prefix) rp_others row.length small told =
-          same_told family (address_bytes row.prefix) rp_others row.length small told (capped_fits family row.length small is) refused in
+      same_told family (address_bytes row.prefix) rp_others row.length small told (capped_fits family row.length small is) refused in
       let held : OnOk told (new ≡ with_rp (prefix_of row) (address_bytes row.to) gathered.routes) =
-          both_ok told (small ≡ row.length) (new ≡ with_rp (record { bits = small; address = address_bytes row.prefix }) (address_bytes row.to) gathered.routes) (new ≡ with_rp (prefix_of row) (address_bytes row.to) gathered.routes)
-          (λ e p. subst (λ (n : ℕ). new ≡ with_rp (record { bits = n; address = address_bytes row.prefix }) (address_bytes row.to) gathered.routes) e p) said.taken ok in
+      both_ok told (small ≡ row.length) (new ≡ with_rp (record { bits = small; address = address_bytes row.prefix }) (address_bytes row.to) gathered.routes) (new ≡ with_rp (prefix_of row) (address_bytes row.to) gathered.routes)
+      (λ e p. subst (λ (n : ℕ). new ≡ with_rp (record { bits = n; address = address_bytes row.prefix }) (address_bytes row.to) gathered.routes) e p) said.taken ok in
       by_faults (λ family. rp_faults family (prefix_of row) (address_bytes row.to) gathered.routes.rps) (with_rp (prefix_of row) (address_bytes row.to) gathered.routes) new told result
       (rp_faults family (prefix_of row) (address_bytes row.to) gathered.routes.rps) refl said.refused added held err
 
@@ -136,10 +136,10 @@ module _ (family : AddressFamily) (row : Row) (gathered : Gathered) (same : fami
       → AddsVia row gathered (done_text result) (after family gathered result new)
   via_at small new told result is ok err refused added =
       let said : Same family (address_bytes row.prefix) via_others row.length small told =
-          same_told family (address_bytes row.prefix) via_others row.length small told (capped_fits family row.length small is) refused in
+      same_told family (address_bytes row.prefix) via_others row.length small told (capped_fits family row.length small is) refused in
       let held : OnOk told (new ≡ with_via (prefix_of row) (address_bytes row.to) gathered.routes) =
-          both_ok told (small ≡ row.length) (new ≡ with_via (record { bits = small; address = address_bytes row.prefix }) (address_bytes row.to) gathered.routes) (new ≡ with_via (prefix_of row) (address_bytes row.to) gathered.routes)
-          (λ e p. subst (λ (n : ℕ). new ≡ with_via (record { bits = n; address = address_bytes row.prefix }) (address_bytes row.to) gathered.routes) e p) said.taken ok in
+      both_ok told (small ≡ row.length) (new ≡ with_via (record { bits = small; address = address_bytes row.prefix }) (address_bytes row.to) gathered.routes) (new ≡ with_via (prefix_of row) (address_bytes row.to) gathered.routes)
+      (λ e p. subst (λ (n : ℕ). new ≡ with_via (record { bits = n; address = address_bytes row.prefix }) (address_bytes row.to) gathered.routes) e p) said.taken ok in
       by_faults (λ family. via_faults family (prefix_of row) (address_bytes row.to) gathered.routes.vias) (with_via (prefix_of row) (address_bytes row.to) gathered.routes) new told result
       (via_faults family (prefix_of row) (address_bytes row.to) gathered.routes.vias) refl said.refused added held err
 

@@ -2,7 +2,10 @@
 use Rattle.std.specs.Prelude.{◌≡◌, ℕ, List, codes, Result, Ok, Err}
 use Rattle.pim_addr.specs.declared.family.AddressFamily.{AddressFamily}
 use Rattle.pim_request.specs.declared.command.Command.{Command as AnyCommand}
-use Rattle.pim_request.specs.declared.command.Command.TheVariants.{Port, Rp, Via, Limit, Start, Run, Packet, Now, Next, State, Wants, Neighbours, Messages, Keep, Change, Same, Reset}
+use Rattle.pim_request.specs.declared.command.Command.TheVariants.{Port, Rp, Via, Limit, Start, Run}
+use Rattle.pim_request.specs.declared.command.Command.TheVariants.{Packet, Now, Next, State, Wants}
+use Rattle.pim_request.specs.declared.command.Command.TheVariants.{Neighbours, Messages, Keep}
+use Rattle.pim_request.specs.declared.command.Command.TheVariants.{Change, Same, Reset}
 use Rattle.pim_router.specs.State.{RouterState}
 use Rattle.pim_session.specs.declared.request.Request.{Request}
 use Rattle.pim_session.specs.declared.request.Request.TheVariants.{Command, From}
@@ -37,7 +40,8 @@ Gathers Reset gathered = Done nothing_gathered
 Gathers other gathered = NotStarted gathered
 
 -- A request that leaves the session before `start`.
-abbrev pub Gathering : (Gathered → List ℕ → Gathered → Type 0) → Gathered → List Kept → List ℕ → Session → Type 0
+abbrev pub Gathering : (Gathered → List ℕ → Gathered → Type 0) → Gathered → List Kept → List ℕ →
+    Session → Type 0
 Gathering Answer gathered kept text after =
     (end : Gathered) × Answer gathered text end × (after ≡ session_in (gathering end) kept)
 
@@ -67,22 +71,27 @@ Tells family (Same named) router kept = AnswersSame family named router kept
 Tells family other router kept = λ (text : List ℕ). text ≡ fault_line (codes "started")
 
 -- A command other than `reset`: the router and what is kept after it.
-abbrev pub Serves : AddressFamily → AnyCommand → RouterState × List Kept → List ℕ → RouterState × List Kept → Type 0
-Serves family (Run moment) (router, kept) text (router', kept') = AnswersRun family moment router text router' × (kept' ≡ kept)
+abbrev pub Serves : AddressFamily → AnyCommand → RouterState × List Kept → List ℕ →
+    RouterState × List Kept → Type 0
+Serves family (Run moment) (router, kept) text (router', kept') =
+    AnswersRun family moment router text router' × (kept' ≡ kept)
 Serves family (Packet packet) (router, kept) text (router', kept') =
     AnswersPacket family packet router text router' × (kept' ≡ kept)
 Serves family (Keep keeping) (router, kept) text (router', kept') =
     AnswersKeep family keeping router kept text kept' × (router' ≡ router)
-Serves family other (router, kept) text after = Tells family other router kept text × (after ≡ (router, kept))
+Serves family other (router, kept) text after =
+    Tells family other router kept text × (after ≡ (router, kept))
 
 -- A request that leaves the router in the session.
-abbrev pub Serving : AddressFamily → (RouterState × List Kept → List ℕ → RouterState × List Kept → Type 0) →
+abbrev pub Serving : AddressFamily → (RouterState × List Kept → List ℕ → RouterState × List Kept →
+    Type 0) →
     RouterState × List Kept → List ℕ → Session → Type 0
 Serving family Answer state text after = (end : RouterState × List Kept) × Answer state text end
     × (after ≡ session_in (serving family end.0) end.1)
 
 -- A request after `start`.
-abbrev pub AnswersAfter : AddressFamily → Request → RouterState × List Kept → List ℕ → Session → Type 0
+abbrev pub AnswersAfter : AddressFamily → Request → RouterState × List Kept → List ℕ → Session →
+    Type 0
 AnswersAfter family (Command Reset) state = Done (session_in (gathering nothing_gathered) state.1)
 AnswersAfter family (Command command) state = Serving family (Serves family command) state
 AnswersAfter family (From from) state = Serving family

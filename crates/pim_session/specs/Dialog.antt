@@ -46,9 +46,12 @@ pub record Wrote (Is : List ℕ → Type 0) (HasWritten : List ℕ → Type 0) :
 -- reader failed, some first items were. Where the writer failed, a front of such answers was
 -- written. Without memory at the begin, nothing was.
 abbrev pub Converses : List ℕ → Option (List ℕ) → Option (List ℕ) → Result ℕ SessionFault → Type 0
-Converses input old new (Ok status) = (status ≡ 0) × Wrote (AnswersAll new_session (items_of input)) (Appends old new)
-Converses input old new (Err Input) = Wrote (AnswersFirst new_session (items_of input)) (Appends old new)
-Converses input old new (Err Output) = Wrote (AnswersFirst new_session (items_of input)) (AppendsFront old new)
+Converses input old new (Ok status) = (status ≡ 0) × Wrote (AnswersAll new_session (items_of input))
+    (Appends old new)
+Converses input old new (Err Input) = Wrote (AnswersFirst new_session (items_of input))
+    (Appends old new)
+Converses input old new (Err Output) = Wrote (AnswersFirst new_session (items_of input))
+    (AppendsFront old new)
 Converses input old new (Err Memory) = Keeps old new
 
 -- How often the writer has failed after the session: once more at `Output`, up to 2^64 - 1.

@@ -1,5 +1,6 @@
 -- The commands before `start`: rows for the router to come.
-use Rattle.std.specs.Prelude.{◌≡◌, ℕ, List, [], ◌∷◌, ◌++◌, map, codes, Option, None, Some, unwrap_or}
+use Rattle.std.specs.Prelude.{◌≡◌, ℕ, List, [], ◌∷◌, ◌++◌, map, codes, Option, None, Some}
+use Rattle.std.specs.Prelude.{unwrap_or}
 use Rattle.pim_addr.specs.declared.family.AddressFamily.{AddressFamily}
 use Rattle.pim_addr.specs.declared.family.AddressFamily.TheVariants.{Ipv4, Ipv6}
 use Rattle.pim_addr.specs.declared.route_fault.RouteFault.{RouteFault}
@@ -31,12 +32,19 @@ family_with gathered address = unwrap_or gathered.family (family_of address)
 
 -- ---- rows
 
+-- The port of a row.
+abbrev pub port_of : PortRow → Port
+port_of row = record {
+  address = address_bytes row.address;
+  propagation = row.propagation;
+  override_ms = row.override_ms;
+}
+
 -- The session before `start`, with one more port of this family.
 abbrev pub with_port : AddressFamily → PortRow → Gathered → Gathered
 with_port family row gathered = record {
   family = Some family;
-  ports = gathered.ports
-      ++ (record { address = address_bytes row.address; propagation = row.propagation; override_ms = row.override_ms }) ∷ [];
+  ports = gathered.ports ++ port_of row ∷ [];
   routes = gathered.routes;
   limit = gathered.limit;
 }
@@ -61,38 +69,48 @@ route_words route.Memory = codes "memory"
 
 -- `port`
 abbrev pub AddsPort : PortRow → Gathered → List ℕ → Gathered → Type 0
-AddsPort row gathered = RefusedIf (differ_from (family_with gathered row.address) (row.address ∷ [])) family_words gathered
+AddsPort row gathered =
+    RefusedIf (differ_from (family_with gathered row.address) (row.address ∷ [])) family_words gathered
     (OrMemory gathered (Done (with_port (family_with gathered row.address) row gathered)))
 
 -- `rp` and `via`: these are the faults of the row, and this is the table with it.
-abbrev pub AddsRow : Row → (AddressFamily → List RouteFault) → RouteTable → Gathered → List ℕ → Gathered → Type 0
+abbrev pub AddsRow : Row → (AddressFamily → List RouteFault) → RouteTable → Gathered → List ℕ →
+    Gathered → Type 0
 AddsRow row faults table gathered =
-    RefusedIf (differ_from (family_with gathered row.prefix) (row.prefix ∷ row.to ∷ [])) family_words gathered
+    RefusedIf (differ_from (family_with gathered row.prefix) (row.prefix ∷ row.to ∷ [])) family_words
+    gathered
     (RefusedBy (map route_words (faults (family_with gathered row.prefix))) gathered
     (OrMemory gathered (Done (with_routes (family_with gathered row.prefix) table gathered))))
 
 -- `rp`
 abbrev pub AddsRp : Row → Gathered → List ℕ → Gathered → Type 0
 AddsRp row gathered =
-    AddsRow row (λ family. rp_faults family (prefix_of row) (address_bytes row.to) gathered.routes.rps)
+    AddsRow row (λ family. rp_faults family (prefix_of row) (address_bytes row.to)
+    gathered.routes.rps)
     (with_rp (prefix_of row) (address_bytes row.to) gathered.routes) gathered
 
 -- `via`
 abbrev pub AddsVia : Row → Gathered → List ℕ → Gathered → Type 0
 AddsVia row gathered =
-    AddsRow row (λ family. via_faults family (prefix_of row) (address_bytes row.to) gathered.routes.vias)
+    AddsRow row (λ family. via_faults family (prefix_of row) (address_bytes row.to)
+    gathered.routes.vias)
     (with_via (prefix_of row) (address_bytes row.to) gathered.routes) gathered
 
 -- The same with this limit.
 abbrev pub with_limit : ℕ → Gathered → Gathered
-with_limit limit gathered =
-    record { family = gathered.family; ports = gathered.ports; routes = gathered.routes; limit = limit }
+with_limit limit gathered = record {
+  family = gathered.family;
+  ports = gathered.ports;
+  routes = gathered.routes;
+  limit = limit;
+}
 
 -- ---- the start
 
 -- What the router is made from.
 abbrev pub setup_of : Gathered → Setup
-setup_of gathered = record { ports = gathered.ports; routes = gathered.routes; limit = gathered.limit }
+setup_of gathered =
+    record { ports = gathered.ports; routes = gathered.routes; limit = gathered.limit }
 
 -- The words of a configuration that a router refuses. Its delays and its limit are in their ranges
 -- by the words of the commands.
@@ -103,7 +121,8 @@ config_words other = codes "config ports"
 
 -- `start`, where this family is fixed.
 abbrev pub StartsIn : AddressFamily → Gathered → List ℕ → Phase → Type 0
-StartsIn family gathered = RefusedBy (map config_words (config_faults family (setup_of gathered))) (gathering gathered)
+StartsIn family gathered = RefusedBy (map config_words (config_faults family (setup_of gathered)))
+    (gathering gathered)
     (OrMemory (gathering gathered) (Done (serving family (new_router (setup_of gathered)))))
 
 -- `start`. Without a family there is no port.

@@ -1,5 +1,6 @@
 -- What an item of the input asks for, and the faults that depend on no state.
-use Rattle.std.specs.Prelude.{◌≡◌, ◌⊎◌, ℕ, ◌+◌, ◌<◌, ◌≤◌, ◌==◌, Bool, true, false, List, [], ◌∷◌, ◌++◌, length, count_by, codes}
+use Rattle.std.specs.Prelude.{◌≡◌, ◌⊎◌, ℕ, ◌+◌, ◌<◌, ◌≤◌, ◌==◌, Bool, true, false, List, [], ◌∷◌}
+use Rattle.std.specs.Prelude.{◌++◌, length, count_by, codes}
 use Rattle.std.specs.Prelude.{decimal, Result, Ok, Err}
 use Rattle.pim_text.specs.declared.line.Stated.{Stated}
 use Rattle.pim_text.specs.Read.{IsRead, IsWrongLine}
@@ -7,7 +8,8 @@ use Rattle.pim_request.specs.declared.command.Sender.{Sender}
 use Rattle.pim_request.specs.declared.command.WordsFault.{WordsFault}
 use Rattle.pim_request.specs.declared.command.WordsFault.TheVariants.{Word, Address, Hex}
 use Rattle.pim_request.specs.Commands.{States, StatesSender, IsWordsFault, IsSenderFault}
-use Rattle.pim_items.specs.Items.{Item, a_line, a_long_line, a_text, Text, bytes_of_lines, has_long_line, text_limit}
+use Rattle.pim_items.specs.Items.{Item, a_line, a_long_line, a_text, Text, bytes_of_lines}
+use Rattle.pim_items.specs.Items.{has_long_line, text_limit}
 use Rattle.pim_answers.specs.declared.packets.FromText.{FromText}
 use Rattle.pim_session.specs.declared.request.Request.{Request}
 use Rattle.pim_session.specs.declared.request.Request.TheVariants.{Command, From}
@@ -30,11 +32,13 @@ long_line_words = codes "line too-long"
 -- at its end. Where the text states a message and `send` didn't end it, that is the next line.
 abbrev pub IsWrongIn : List ℕ → ℕ → Bool → Type 0
 IsWrongIn bytes number is_sent = IsWrongLine bytes number
-    ⊎ (is_sent ≡ false) × ((stated : Stated) × IsRead bytes stated) × (number ≡ count_by (λ byte. byte == 10) bytes + 1)
+    ⊎ (is_sent ≡ false) × ((stated : Stated) × IsRead bytes stated)
+    × (number ≡ count_by (λ byte. byte == 10) bytes + 1)
 
 -- The words say which line of these bytes is wrong.
 abbrev pub SaysWrong : List ℕ → Bool → List ℕ → Type 0
-SaysWrong bytes is_sent words = (number : ℕ) × IsWrongIn bytes number is_sent × (words ≡ codes "text line " ++ decimal number)
+SaysWrong bytes is_sent words = (number : ℕ) × IsWrongIn bytes number is_sent
+    × (words ≡ codes "text line " ++ decimal number)
 
 -- Why a text, of these bytes, states no message: it is above 8 MiB, or a line is wrong.
 abbrev pub IsBadText : List ℕ → Bool → List ℕ → Type 0
@@ -46,7 +50,8 @@ IsBadText bytes is_sent words =
 abbrev pub IsTextFault : Text → List ℕ → Type 0
 IsTextFault text words =
     ((fault : WordsFault) × IsSenderFault text.head fault × (words ≡ wrong_words fault))
-    ⊎ ((sender : Sender) × StatesSender text.head sender × IsBadText (bytes_of_lines text.lines) text.is_sent words)
+    ⊎ ((sender : Sender) × StatesSender text.head sender × IsBadText (bytes_of_lines text.lines)
+    text.is_sent words)
 
 -- The `from` line states this sender, and the text, which `send` ended, states a message.
 pub record IsFrom (text : Text) (from : FromText) : Type 0 where
@@ -62,7 +67,8 @@ pub record IsFrom (text : Text) (from : FromText) : Type 0 where
 abbrev pub AsksLine : List ℕ → Result Request (List ℕ) → Type 0
 AsksLine line (Ok (Command command)) = States line command
 AsksLine line (Ok (From from)) = ⊥
-AsksLine line (Err words) = (fault : WordsFault) × IsWordsFault line fault × (words ≡ wrong_words fault)
+AsksLine line (Err words) = (fault : WordsFault) × IsWordsFault line fault
+    × (words ≡ wrong_words fault)
 
 -- What a text asks for, or the words of its fault. Memory may be refused for it.
 abbrev pub AsksText : Text → Result Request (List ℕ) → Type 0

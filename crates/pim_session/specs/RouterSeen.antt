@@ -40,19 +40,26 @@ name_in other = []
 
 -- The router that `start` makes, or why there is none.
 abbrev pub StartsSo : Gathered → Result AnyRouter Fault → Type 0
-StartsSo gathered (Ok router) = Starts gathered.family gathered ok_line (serving (family_in router) (state_in router))
-StartsSo gathered (Err fault) = Starts gathered.family gathered (fault_line (fault_words fault)) (gathering gathered)
+StartsSo gathered (Ok router) = Starts gathered.family gathered ok_line (serving (family_in router)
+    (state_in router))
+StartsSo gathered (Err fault) = Starts gathered.family gathered (fault_line (fault_words fault))
+    (gathering gathered)
 
 -- What `keep` makes: the form of what is asked of the neighbour now, where the command has no fault;
 -- else its first fault, or memory is refused.
-abbrev pub IsKeptFor : AddressFamily → Keeping → RouterState → List Kept → Result AnyForm Fault → Type 0
+abbrev pub IsKeptFor : AddressFamily → Keeping → RouterState → List Kept → Result AnyForm Fault →
+    Type 0
 IsKeptFor family keeping router kept (Ok form) =
-    (differ_from family (keeping.upstream ∷ []) ≡ false) × (lacks_place keeping.name.now kept ≡ false)
-    × ((asked_form : List GroupForm) × IsFormOf family (asked family (address_bytes keeping.upstream) router) asked_form
+    (differ_from family (keeping.upstream ∷ []) ≡ false)
+    × (lacks_place keeping.name.now kept ≡ false)
+    × ((asked_form : List GroupForm) × IsFormOf family (asked family (address_bytes
+    keeping.upstream) router) asked_form
     × ((name : List ℕ) → any_seen name form ≡ kept_now family name asked_form router))
 IsKeptFor family keeping router kept (Err fault) =
     (differ_from family (keeping.upstream ∷ []) ≡ true) × (fault_words fault ≡ family_words)
-    ⊎ (differ_from family (keeping.upstream ∷ []) ≡ false) × (lacks_place keeping.name.now kept ≡ true)
+    ⊎ (differ_from family (keeping.upstream ∷ []) ≡ false)
+    × (lacks_place keeping.name.now kept ≡ true)
     × (fault_words fault ≡ name_words keeping.name.now)
-    ⊎ (differ_from family (keeping.upstream ∷ []) ≡ false) × (lacks_place keeping.name.now kept ≡ false)
+    ⊎ (differ_from family (keeping.upstream ∷ []) ≡ false)
+    × (lacks_place keeping.name.now kept ≡ false)
     × (fault_words fault ≡ codes "memory")

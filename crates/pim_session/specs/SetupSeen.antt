@@ -22,9 +22,16 @@ use Rattle.pim_answers.specs.Lines.{ok_line, fault_line}
 use Rattle.pim_router.specs.State.{RouterState}
 
 -- The rows of a family, where this one is fixed.
-abbrev pub rows_seen : {F A N : Type 0} → (A → List ℕ) → Option AddressFamily → ℕ → Rows F A N → Gathered
+abbrev pub rows_seen : {F A N : Type 0} → (A → List ℕ) → Option AddressFamily → ℕ → Rows F A N →
+    Gathered
 rows_seen bytes_of fixed limit rows =
-    record { family = fixed; ports = map (port_seen bytes_of) rows.ports.items; routes = rows.routes; limit = limit }
+    record {
+      family = fixed;
+      ports = map (port_seen bytes_of) rows.ports.items;
+      routes =
+          rows.routes;
+      limit = limit;
+    }
 
 -- The rows of either family.
 abbrev pub any_seen : ℕ → AnyRows → Gathered
@@ -49,17 +56,21 @@ Adds (row.Rp one) = AddsRp one
 Adds (row.Via one) = AddsVia one
 
 -- The family that is fixed after a row of this family: by it, unless it was refused.
-abbrev pub fixed_after : Option AddressFamily → AddressFamily → Result (Unit {0}) Fault → Option AddressFamily
+abbrev pub fixed_after : Option AddressFamily → AddressFamily → Result (Unit {0}) Fault →
+    Option AddressFamily
 fixed_after fixed family (Ok done) = Some family
 fixed_after fixed family (Err fault) = fixed
 
 module _ {F A N : Type 0} (family : AddressFamily) (bytes_of : A → List ℕ) where
   -- What adding a row to the rows of a family does, whether the family was fixed before or is the
   -- one of the row's first address.
-  abbrev pub AddsTo : (Gathered → List ℕ → Gathered → Type 0) → AnyAddress → Rows F A N → Result (Unit {0}) Fault → Rows F A N →
+  abbrev pub AddsTo : (Gathered → List ℕ → Gathered → Type 0) → AnyAddress → Rows F A N →
+      Result (Unit {0}) Fault → Rows F A N →
       Type 0
-  AddsTo Does address old result new = (fixed : Option AddressFamily) (limit : ℕ) → unwrap_or fixed (family_of address) ≡ family →
-      Does (rows_seen bytes_of fixed limit old) (done_text result) (rows_seen bytes_of (fixed_after fixed family result) limit new)
+  AddsTo Does address old result new = (fixed : Option AddressFamily) (limit : ℕ) →
+      unwrap_or fixed (family_of address) ≡ family →
+      Does (rows_seen bytes_of fixed limit old) (done_text result) (rows_seen bytes_of
+      (fixed_after fixed family result) limit new)
 
 -- What is gathered after the first row, where these rows are then there; nothing but the limit after a
 -- fault.
@@ -69,7 +80,8 @@ first_seen seen limit (Err fault) = any_seen limit Free
 
 -- What adding the first row does.
 abbrev pub AddsFirst : {X : Type 0} → (ℕ → X → Gathered) → AnyRow → Result X Fault → Type 0
-AddsFirst seen row result = (limit : ℕ) → Adds row (any_seen limit Free) (done_text result) (first_seen seen limit result)
+AddsFirst seen row result = (limit : ℕ) → Adds row (any_seen limit Free) (done_text result)
+    (first_seen seen limit result)
 
 -- The fault of a row that the table refuses, as one of the command.
 abbrev pub IsAdded : Result (Unit {0}) RouteFault → Result (Unit {0}) Fault → Type 0
@@ -88,4 +100,5 @@ row_in other = None
 -- The router that `start` makes of rows of this family, or why there is none.
 abbrev pub StartsRows : AddressFamily → Gathered → Result RouterState Fault → Type 0
 StartsRows family gathered (Ok router) = StartsIn family gathered ok_line (serving family router)
-StartsRows family gathered (Err fault) = StartsIn family gathered (fault_line (fault_words fault)) (gathering gathered)
+StartsRows family gathered (Err fault) = StartsIn family gathered (fault_line (fault_words fault))
+    (gathering gathered)

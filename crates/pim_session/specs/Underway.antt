@@ -1,5 +1,6 @@
 -- A session in progress. These definitions serve private functions only.
-use Rattle.std.specs.Prelude.{◌≡◌, ℕ, Bool, true, false, List, ◌∷◌, ◌++◌, Option, Some, Result, Ok, Err}
+use Rattle.std.specs.Prelude.{◌≡◌, ℕ, Bool, true, false, List, ◌∷◌, ◌++◌, Option, Some, Result, Ok}
+use Rattle.std.specs.Prelude.{Err}
 use Rattle.std.specs.Io.KnownBytes.{Appends}
 use Rattle.pim_addr.specs.declared.family.AddressFamily.{AddressFamily}
 use Rattle.pim_device.specs.Device.{AppendsFront}
@@ -26,7 +27,8 @@ session_after true family router kept = session_in (serving family router) kept
 session_after false family router kept = session_in (gathering nothing_gathered) kept
 
 -- Of these items, all but `left` were answered, and this is the session now.
-pub record Went (start : Session) (items : List Item) (old new : Option (List ℕ)) (left : List Item) (now : Session) : Type 0 where
+pub record Went (start : Session) (items : List Item) (old new : Option (List ℕ)) (left : List Item)
+    (now : Session) : Type 0 where
   pub done : List Item
   pub text : List ℕ
   pub are : items ≡ done ++ left
@@ -34,45 +36,59 @@ pub record Went (start : Session) (items : List Item) (old new : Option (List �
   pub written : Appends old new text
 
 -- The same, where the items that are left are those of the bytes to come.
-pub record GoesOn (start : Session) (items : List Item) (old new coming : Option (List ℕ)) (now : Session) : Type 0 where
+pub record GoesOn (start : Session) (items : List Item) (old new coming : Option (List ℕ))
+    (now : Session) : Type 0 where
   pub rest : List ℕ
   pub known : coming ≡ Some rest
   pub went : Went start items old new (items_of rest) now
 
 -- How a part of a session ends, where `kept` is then kept. `refused` is the session where the router
 -- was refused.
-abbrev pub Ended : Session → List Item → Option (List ℕ) → Option (List ℕ) → Option (List ℕ) → List Kept → Session →
+abbrev pub Ended : Session → List Item → Option (List ℕ) → Option (List ℕ) → Option (List ℕ) →
+    List Kept → Session →
     Result Ending Stopped → Type 0
 Ended start items old new coming kept refused (Ok Reset) =
     GoesOn start items old new coming (session_in (gathering nothing_gathered) kept)
-Ended start items old new coming kept refused (Ok Refused) = GoesOn start items old new coming refused
-Ended start items old new coming kept refused (Ok Input) = Wrote (AnswersAll start items) (Appends old new)
-Ended start items old new coming kept refused (Err stopped.Input) = Wrote (AnswersFirst start items) (Appends old new)
-Ended start items old new coming kept refused (Err stopped.Output) = Wrote (AnswersFirst start items) (AppendsFront old new)
+Ended start items old new coming kept refused (Ok Refused) =
+    GoesOn start items old new coming refused
+Ended start items old new coming kept refused (Ok Input) = Wrote (AnswersAll start items)
+    (Appends old new)
+Ended start items old new coming kept refused (Err stopped.Input) = Wrote (AnswersFirst start items)
+    (Appends old new)
+Ended start items old new coming kept refused (Err stopped.Output) =
+    Wrote (AnswersFirst start items) (AppendsFront old new)
 
 -- The same of a part that begins with an item that asks for a start, before these bytes.
-abbrev pub Begins : Session → List ℕ → Option (List ℕ) → Option (List ℕ) → Option (List ℕ) → List Kept →
+abbrev pub Begins : Session → List ℕ → Option (List ℕ) → Option (List ℕ) → Option (List ℕ) →
+    List Kept →
     Result Ending Stopped → Type 0
 Begins start bytes old new coming kept result = (item : Item) → Asks item (Ok (Command Start)) →
     Ended start (item ∷ items_of bytes) old new coming kept start result
 
 -- The same of a part that begins with an item that `ok` answers, after which this is the session.
-abbrev pub BeginsServing : Session → List ℕ → Session → Option (List ℕ) → Option (List ℕ) → Option (List ℕ) → List Kept →
+abbrev pub BeginsServing : Session → List ℕ → Session → Option (List ℕ) → Option (List ℕ) →
+    Option (List ℕ) → List Kept →
     Result Ending Stopped → Type 0
-BeginsServing start bytes served old new coming kept result = (item : Item) → IsAnswer start item ok_line served →
+BeginsServing start bytes served old new coming kept result = (item : Item) →
+    IsAnswer start item ok_line served →
     Ended start (item ∷ items_of bytes) old new coming kept start result
 
 -- What the answers to all items return and write.
-abbrev pub AllEnded : List ℕ → Session → Option (List ℕ) → Option (List ℕ) → Result (Unit {0}) Stopped → Type 0
+abbrev pub AllEnded : List ℕ → Session → Option (List ℕ) → Option (List ℕ) →
+    Result (Unit {0}) Stopped → Type 0
 AllEnded bytes start old new (Ok done) = Wrote (AnswersAll start (items_of bytes)) (Appends old new)
-AllEnded bytes start old new (Err stopped.Input) = Wrote (AnswersFirst start (items_of bytes)) (Appends old new)
-AllEnded bytes start old new (Err stopped.Output) = Wrote (AnswersFirst start (items_of bytes)) (AppendsFront old new)
+AllEnded bytes start old new (Err stopped.Input) = Wrote (AnswersFirst start (items_of bytes))
+    (Appends old new)
+AllEnded bytes start old new (Err stopped.Output) = Wrote (AnswersFirst start (items_of bytes))
+    (AppendsFront old new)
 
 -- The answer to a request before the start: `true` where it asks for the start, which isn't
 -- answered yet.
-abbrev pub Configured : {E : Type 0} → Session → Result Request (List ℕ) → Option (List ℕ) → Option (List ℕ) →
+abbrev pub Configured : {E : Type 0} → Session → Result Request (List ℕ) → Option (List ℕ) →
+    Option (List ℕ) →
     Result Bool E → Session → Type 0
-Configured start asked old new (Ok true) after = (asked ≡ Ok (Command Start)) × (new ≡ old) × (after ≡ start)
+Configured start asked old new (Ok true) after = (asked ≡ Ok (Command Start)) × (new ≡ old)
+    × (after ≡ start)
 Configured start asked old new (Ok false) after = Whole (Answers start asked) old new after
 Configured start asked old new (Err failed) after = Part (Answers start asked) old new
 

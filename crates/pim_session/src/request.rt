@@ -1,8 +1,10 @@
 //! What an item of the input asks for, before any state is looked at.
 
-ghost use Rattle.std.specs.Prelude.{◌≡◌, ◌≤◌, ◌<◌, ◌^◌, ◌==◌, count_by, true, false, length, IfOk, IfErr};
+ghost use Rattle.std.specs.Prelude.{◌≡◌, ◌≤◌, ◌<◌, ◌^◌, ◌==◌, count_by, true, false, length, IfOk};
+ghost use Rattle.std.specs.Prelude.{IfErr};
 ghost use Rattle.pim_text.specs.Read.{IsRead};
-ghost use Rattle.pim_items.specs.Items.{Item as SomeItem, Text as SomeText, has_long_line, line_limit, text_limit};
+ghost use Rattle.pim_items.specs.Items.{Item as SomeItem, Text as SomeText, has_long_line};
+ghost use Rattle.pim_items.specs.Items.{line_limit, text_limit};
 ghost use Rattle.pim_items.specs.Reading.{IsItem, IsText};
 ghost use Rattle.pim_answers.specs.Fault.{fault_words};
 ghost use Rattle.pim_session.specs.Request.{wrong_words, IsWrongIn, AsksLine, AsksText, Asks};

@@ -112,7 +112,8 @@ pub(crate) fn packet_any<W: Drain>(
 ) -> Result<(), Failed>
     requires hex { IsHex packet.now.hex.now }
     requires short { length packet.now.hex.now < 2 ^ 32 }
-    ensures answered { Answered (AnswersPacket (family_in router.old) packet.now (state_in router.old))
+    ensures answered { Answered (AnswersPacket (family_in router.old) packet.now
+        (state_in router.old))
         (W.contents answers.old) (W.contents answers.new) result (λ _. state_in router.new) }
     ensures family { family_in router.new ≡ family_in router.old }
     ensures count { W.failures answers.new ≡ failures_after (W.failures answers.old) result }
@@ -150,7 +151,8 @@ fn form_for<'c>(
     store: &Store,
     command: &Kept<'c>,
 ) -> Result<AnyForm, Fault<'c>>
-    ensures { IsKeptFor (family_in router.now) command.now (state_in router.now) (store_seen store.now) result }
+    ensures { IsKeptFor (family_in router.now) command.now (state_in router.now)
+        (store_seen store.now) result }
 {
     match router {
         AnyRouter::Ipv4(router) => match asked_for::<V4>(alloc, router, store, command) {
@@ -173,7 +175,8 @@ pub(crate) fn keep_any<W: Drain>(
     answers: &mut W,
 ) -> Result<(), Failed>
     ensures answered { Answered
-        (AnswersKeep (family_in router.now) command.now (state_in router.now) (store_seen store.old))
+        (AnswersKeep (family_in router.now) command.now (state_in router.now)
+        (store_seen store.old))
         (W.contents answers.old) (W.contents answers.new) result (λ _. store_seen store.new) }
     ensures count { W.failures answers.new ≡ failures_after (W.failures answers.old) result }
 {
@@ -206,7 +209,8 @@ fn tell<F: Family, W: Drain>(
     command: &Command<'_>,
     answers: &mut W,
 ) -> Result<(), Failed>
-    ensures told { (kept : List KeptSeen) → IsFound F.family F.bytes_of (name_in command.now) found.now
+    ensures told { (kept : List KeptSeen) → IsFound F.family F.bytes_of (name_in command.now)
+        found.now
         (kept_as (name_in command.now) kept) → Told (Tells F.family command.now router.now kept)
         (W.contents answers.old) (W.contents answers.new) result }
     ensures count { W.failures answers.new ≡ failures_after (W.failures answers.old) result }

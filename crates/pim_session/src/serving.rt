@@ -12,7 +12,8 @@ ghost use Rattle.pim_session.specs.RouterSeen.{family_in, state_in};
 ghost use Rattle.pim_session.specs.Seen.{asked_seen, IsFit, IsFitCommand, IsFitIfAny};
 ghost use Rattle.pim_session.specs.SetupSeen.{gathered_seen};
 ghost use Rattle.pim_session.specs.State.{Session, gathering, serving};
-ghost use Rattle.pim_session.specs.Underway.{session_after, IsRefused, Ended, Begins, BeginsServing};
+ghost use Rattle.pim_session.specs.Underway.{session_after, IsRefused, Ended, Begins};
+ghost use Rattle.pim_session.specs.Underway.{BeginsServing};
 
 use crate::request::{Request, request_of};
 use crate::routers::{AnyRouter, from_any, keep_any, make_router, packet_any, run_any, tell_any};
@@ -72,7 +73,8 @@ fn answer_any_command<W: Drain>(
     ensures answered { Answered (AnswersAfter (family_in router.old) (Request.Command command.now)
         (state_in router.old, store_seen store.old))
         (W.contents answers.old) (W.contents answers.new) result
-        (λ serves. session_after serves (family_in router.new) (state_in router.new) (store_seen store.new)) }
+        (λ serves. session_after serves (family_in router.new) (state_in router.new)
+        (store_seen store.new)) }
     ensures count { W.failures answers.new ≡ failures_after (W.failures answers.old) result }
 {
     match command {
@@ -94,7 +96,8 @@ fn answer_request<W: Drain>(
     ensures answered { Answered (AnswersAfter (family_in router.old) request.now
         (state_in router.old, store_seen store.old))
         (W.contents answers.old) (W.contents answers.new) result
-        (λ serves. session_after serves (family_in router.new) (state_in router.new) (store_seen store.new)) }
+        (λ serves. session_after serves (family_in router.new) (state_in router.new)
+        (store_seen store.new)) }
     ensures count { W.failures answers.new ≡ failures_after (W.failures answers.old) result }
 {
     match request {
@@ -116,10 +119,12 @@ fn answer_asked<W: Drain>(
 ) -> Result<bool, Failed>
     requires { IsFitIfAny asked }
     ensures answered { Answered
-        (Answers (session_in (serving (family_in router.old) (state_in router.old)) (store_seen store.old))
+        (Answers (session_in (serving (family_in router.old) (state_in router.old))
+        (store_seen store.old))
         (asked_seen asked.entry))
         (W.contents answers.old) (W.contents answers.new) result
-        (λ serves. session_after serves (family_in router.new) (state_in router.new) (store_seen store.new)) }
+        (λ serves. session_after serves (family_in router.new) (state_in router.new)
+        (store_seen store.new)) }
     ensures count { W.failures answers.new ≡ failures_after (W.failures answers.old) result }
 {
     match asked {
@@ -180,7 +185,8 @@ fn begin<R: Feed, W: Answers>(
 ) -> Result<Ending, Stopped>
     ensures begun { (start : Session) → IfSome items.old.coming (λ bytes. BeginsServing start bytes
         (session_in (serving (family_in router.old) (state_in router.old)) (store_seen store.old))
-        (W.contents answers.old) (W.contents answers.new) items.new.coming (store_seen store.new) result) }
+        (W.contents answers.old) (W.contents answers.new) items.new.coming (store_seen store.new)
+        result) }
     ensures started { result ≢ Ok Ending.Refused }
     ensures left { items.new.left ≤ items.old.left }
     ensures count { W.failures answers.new ≡ flush_failures_after (W.failures answers.old) result }
@@ -201,7 +207,8 @@ pub(crate) fn start<R: Feed, W: Answers>(
 ) -> Result<Ending, Stopped>
     ensures begins { IfSome items.old.coming (λ bytes. Begins
         (session_in (gathering (gathered_seen setup.now)) (store_seen store.old)) bytes
-        (W.contents answers.old) (W.contents answers.new) items.new.coming (store_seen store.new) result) }
+        (W.contents answers.old) (W.contents answers.new) items.new.coming (store_seen store.new)
+        result) }
     ensures left { items.new.left ≤ items.old.left }
     ensures refused { result ≡ Ok Ending.Refused → store_seen store.new ≡ store_seen store.old }
     ensures count { W.failures answers.new ≡ flush_failures_after (W.failures answers.old) result }

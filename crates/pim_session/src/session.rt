@@ -50,12 +50,9 @@ fn row_of(command: &Command<'_>) -> Option<AnyRow>
 }
 
 /// Answers a command before the start, other than `start` and those that add a row.
-fn set_up<W: Drain>(
-    setup: &mut Setup,
-    command: &Command<'_>,
-    answers: &mut W,
-) -> Result<(), Failed>
-    ensures answered { row_in command.now ≡ None → Answered (Gathers command.now (gathered_seen setup.old))
+fn set_up<W: Drain>(setup: &mut Setup, command: &Command<'_>, answers: &mut W) -> Result<(), Failed>
+    ensures answered { row_in command.now ≡ None → Answered (Gathers command.now (gathered_seen
+        setup.old))
         (W.contents answers.old) (W.contents answers.new) result (λ _. gathered_seen setup.new) }
     ensures count { W.failures answers.new ≡ failures_after (W.failures answers.old) result }
 {

@@ -5,7 +5,8 @@ ghost use Rattle.std.specs.Prelude.{◌≡◌, [], min, Some};
 ghost use Rattle.pim_addr.specs.Routes.{no_routes};
 ghost use Rattle.pim_answers.specs.Fault.{fault_words, done_text};
 ghost use Rattle.pim_session.specs.Gathering.{AddsPort, AddsRp, AddsVia, family_of, route_words};
-ghost use Rattle.pim_session.specs.SetupSeen.{rows_seen, any_seen, gathered_seen, first_address, Adds, AddsTo, IsAdded};
+ghost use Rattle.pim_session.specs.SetupSeen.{rows_seen, any_seen, gathered_seen, first_address};
+ghost use Rattle.pim_session.specs.SetupSeen.{Adds, AddsTo, IsAdded};
 ghost use Rattle.pim_session.specs.SetupSeen.{AddsFirst};
 ghost use Rattle.pim_session.specs.State.{nothing_gathered};
 
@@ -107,7 +108,8 @@ impl<F: Family> Rows<F> {
 
     /// Adds a port.
     fn add_port(&mut self, row: &PortRow) -> Result<(), Fault<'static>>
-        ensures { AddsTo F.family F.bytes_of (AddsPort row.now) row.now.address self.old result self.new }
+        ensures { AddsTo F.family F.bytes_of (AddsPort row.now) row.now.address self.old result
+            self.new }
     {
         let Some(address) = of_family::<F>(row.address) else {
             return Err(Fault::family());
@@ -125,7 +127,8 @@ impl<F: Family> Rows<F> {
 
     /// Adds a row to an RP.
     fn add_rp(&mut self, row: &Row) -> Result<(), Fault<'static>>
-        ensures { AddsTo F.family F.bytes_of (AddsRp row.now) row.now.prefix self.old result self.new }
+        ensures { AddsTo F.family F.bytes_of (AddsRp row.now) row.now.prefix self.old result
+            self.new }
     {
         let Some(prefix) = of_family::<F>(row.prefix) else {
             return Err(Fault::family());
@@ -138,7 +141,8 @@ impl<F: Family> Rows<F> {
 
     /// Adds a row to an upstream neighbour.
     fn add_via(&mut self, row: &Row) -> Result<(), Fault<'static>>
-        ensures { AddsTo F.family F.bytes_of (AddsVia row.now) row.now.prefix self.old result self.new }
+        ensures { AddsTo F.family F.bytes_of (AddsVia row.now) row.now.prefix self.old result
+            self.new }
     {
         let Some(prefix) = of_family::<F>(row.prefix) else {
             return Err(Fault::family());
@@ -151,7 +155,8 @@ impl<F: Family> Rows<F> {
 
     /// Adds a row. After a fault the rows are unchanged.
     fn add(&mut self, row: &AnyRow) -> Result<(), Fault<'static>>
-        ensures { AddsTo F.family F.bytes_of (Adds row.now) (first_address row.now) self.old result self.new }
+        ensures { AddsTo F.family F.bytes_of (Adds row.now) (first_address row.now) self.old result
+            self.new }
     {
         match row {
             AnyRow::Port(row) => self.add_port(row),

@@ -40,8 +40,8 @@ pub items-preserved-in-Refused : goal.items-preserved-in-Refused
 items-preserved-in-Refused g c = record {
   way = subst (λ (k : List Kept). IfSome c.args.items.now.coming (λ bytes. GoesOn (session_in (gathering (gathered_seen c.args.setup.now)) (store_seen c.args.store.now)) (items_of bytes) (g.W.Drain.contents c.args.answers.now) (g.W.Drain.contents c.start.new.answers) c.start.new.items.coming (session_in (gathering (gathered_seen c.configure_by.new.setup)) k))) (sym (c.in_ok-start.ensures.refused (ap (λ (e : Ending). Ok e) c.in-Refused.is)))
       (subst (λ (e : Ending). IfSome c.args.items.now.coming (λ bytes. Ended (session_in (gathering (gathered_seen c.args.setup.now)) (store_seen c.args.store.now)) (items_of bytes) (g.W.Drain.contents c.args.answers.now) (g.W.Drain.contents c.start.new.answers) c.start.new.items.coming (store_seen c.start.new.store) (session_in (gathering (gathered_seen c.configure_by.new.setup)) (store_seen c.items.store)) (Ok e))) c.in-Refused.is (started_so c.args.items.now.coming (g.W.Drain.contents c.args.answers.now) (g.W.Drain.contents c.items.answers) (g.W.Drain.contents c.next.new.answers) c.items.items.coming (session_in (gathering (gathered_seen c.args.setup.now)) (store_seen c.args.store.now)) (session_in (gathering (gathered_seen c.items.setup)) (store_seen c.items.store)) c.items.invariant.way c.in_ok-item.ensures.contents
-    (g.W.Drain.contents c.configure_by.new.answers) (g.W.Drain.contents c.start.new.answers) c.start.new.items.coming (session_in (gathering (gathered_seen c.configure_by.new.setup)) (store_seen c.items.store)) c.in-Some.item c.next.new.self (asked_seen c.request_of-asked.result) (store_seen c.start.new.store) (Ok c.in_ok-start.field-0) (one_given c.items.items.coming c.in_ok-item.field-0 c.in-Some.item c.next.new.self c.in-Some.is c.in_ok-item.ensures.item) c.request_of-asked.ensures.asks
-    (recognised Failed (session_in (gathering (gathered_seen c.items.setup)) (store_seen c.items.store)) (session_in (gathering (gathered_seen c.configure_by.new.setup)) (store_seen c.items.store)) (asked_seen c.request_of-asked.result) (g.W.Drain.contents c.next.new.answers) (g.W.Drain.contents c.configure_by.new.answers) c.in-Ok.starts c.if-starts.true (c.in-Ok.ensures.configured (store_seen c.items.store))) c.in_ok-start.ensures.begins));
+      (g.W.Drain.contents c.configure_by.new.answers) (g.W.Drain.contents c.start.new.answers) c.start.new.items.coming (session_in (gathering (gathered_seen c.configure_by.new.setup)) (store_seen c.items.store)) c.in-Some.item c.next.new.self (asked_seen c.request_of-asked.result) (store_seen c.start.new.store) (Ok c.in_ok-start.field-0) (one_given c.items.items.coming c.in_ok-item.field-0 c.in-Some.item c.next.new.self c.in-Some.is c.in_ok-item.ensures.item) c.request_of-asked.ensures.asks
+      (recognised Failed (session_in (gathering (gathered_seen c.items.setup)) (store_seen c.items.store)) (session_in (gathering (gathered_seen c.configure_by.new.setup)) (store_seen c.items.store)) (asked_seen c.request_of-asked.result) (g.W.Drain.contents c.next.new.answers) (g.W.Drain.contents c.configure_by.new.answers) c.in-Ok.starts c.if-starts.true (c.in-Ok.ensures.configured (store_seen c.items.store))) c.in_ok-start.ensures.begins));
   failures = c.in_ok-start.ensures.count ∙ c.in-Ok.ensures.count ∙ c.in_ok-item.ensures.output ∙ c.items.invariant.failures;
 }
 
@@ -49,8 +49,8 @@ pub items-preserved-in-Reset : goal.items-preserved-in-Reset
 items-preserved-in-Reset g c = record {
   way = subst (λ (gathered : Gathered). IfSome c.args.items.now.coming (λ bytes. GoesOn (session_in (gathering (gathered_seen c.args.setup.now)) (store_seen c.args.store.now)) (items_of bytes) (g.W.Drain.contents c.args.answers.now) (g.W.Drain.contents c.start.new.answers) c.start.new.items.coming (session_in (gathering gathered) (store_seen c.start.new.store)))) (sym c.reset.ensures)
       (subst (λ (e : Ending). IfSome c.args.items.now.coming (λ bytes. Ended (session_in (gathering (gathered_seen c.args.setup.now)) (store_seen c.args.store.now)) (items_of bytes) (g.W.Drain.contents c.args.answers.now) (g.W.Drain.contents c.start.new.answers) c.start.new.items.coming (store_seen c.start.new.store) (session_in (gathering (gathered_seen c.configure_by.new.setup)) (store_seen c.items.store)) (Ok e))) c.in-Reset.is (started_so c.args.items.now.coming (g.W.Drain.contents c.args.answers.now) (g.W.Drain.contents c.items.answers) (g.W.Drain.contents c.next.new.answers) c.items.items.coming (session_in (gathering (gathered_seen c.args.setup.now)) (store_seen c.args.store.now)) (session_in (gathering (gathered_seen c.items.setup)) (store_seen c.items.store)) c.items.invariant.way c.in_ok-item.ensures.contents
-    (g.W.Drain.contents c.configure_by.new.answers) (g.W.Drain.contents c.start.new.answers) c.start.new.items.coming (session_in (gathering (gathered_seen c.configure_by.new.setup)) (store_seen c.items.store)) c.in-Some.item c.next.new.self (asked_seen c.request_of-asked.result) (store_seen c.start.new.store) (Ok c.in_ok-start.field-0) (one_given c.items.items.coming c.in_ok-item.field-0 c.in-Some.item c.next.new.self c.in-Some.is c.in_ok-item.ensures.item) c.request_of-asked.ensures.asks
-    (recognised Failed (session_in (gathering (gathered_seen c.items.setup)) (store_seen c.items.store)) (session_in (gathering (gathered_seen c.configure_by.new.setup)) (store_seen c.items.store)) (asked_seen c.request_of-asked.result) (g.W.Drain.contents c.next.new.answers) (g.W.Drain.contents c.configure_by.new.answers) c.in-Ok.starts c.if-starts.true (c.in-Ok.ensures.configured (store_seen c.items.store))) c.in_ok-start.ensures.begins));
+      (g.W.Drain.contents c.configure_by.new.answers) (g.W.Drain.contents c.start.new.answers) c.start.new.items.coming (session_in (gathering (gathered_seen c.configure_by.new.setup)) (store_seen c.items.store)) c.in-Some.item c.next.new.self (asked_seen c.request_of-asked.result) (store_seen c.start.new.store) (Ok c.in_ok-start.field-0) (one_given c.items.items.coming c.in_ok-item.field-0 c.in-Some.item c.next.new.self c.in-Some.is c.in_ok-item.ensures.item) c.request_of-asked.ensures.asks
+      (recognised Failed (session_in (gathering (gathered_seen c.items.setup)) (store_seen c.items.store)) (session_in (gathering (gathered_seen c.configure_by.new.setup)) (store_seen c.items.store)) (asked_seen c.request_of-asked.result) (g.W.Drain.contents c.next.new.answers) (g.W.Drain.contents c.configure_by.new.answers) c.in-Ok.starts c.if-starts.true (c.in-Ok.ensures.configured (store_seen c.items.store))) c.in_ok-start.ensures.begins));
   failures = c.in_ok-start.ensures.count ∙ c.in-Ok.ensures.count ∙ c.in_ok-item.ensures.output ∙ c.items.invariant.failures;
 }
 
