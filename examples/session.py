@@ -6,22 +6,22 @@
 PIMTREE is the program, ADDRESS the router's own on the link, FILE a classic pcap file, RP the RP of
 all groups. The lines are those of `pimtree replay`, without the state at the end.
 """
-import ipaddress
 import struct
-import subprocess
 import sys
+from ipaddress import ip_address
+from subprocess import PIPE, Popen
 
 
 def records(data):
     """Gives the time in milliseconds and the bytes of each record, from its IP header on."""
     order = "<" if data[0] in (0xD4, 0x4D) else ">"
-    nano = 0x3C in data[:4]
+    unit = 10**6 if 0x3C in data[:4] else 1000
     at, is_ethernet = 24, struct.unpack(order + "I", data[20:24])[0] & 0xFFFF == 1
     while at < len(data):
         seconds, fraction, length, _ = struct.unpack(order + "IIII", data[at : at + 16])
         frame = data[at + 16 : at + 16 + length]
         at += 16 + length
-        yield seconds * 1000 + fraction // (10**6 if nano else 1000), untagged(frame) if is_ethernet else frame
+        yield seconds * 1000 + fraction // unit, untagged(frame) if is_ethernet else frame
 
 
 def untagged(frame):
@@ -36,15 +36,15 @@ def pim(packet, family):
     if len(packet) < (20 if family == 4 else 40) or packet[0] >> 4 != family:
         return None
     if family == 4:
-        start, (length, _, flags) = packet[0] % 16 * 4, struct.unpack(">HHH", packet[2:8])
-        ends, is_pim = packet[12:20], packet[9] == 103 and not flags & 0x3FFF and 20 <= start <= length
+        start, (end, _, flags) = packet[0] % 16 * 4, struct.unpack(">HHH", packet[2:8])
+        ends, is_pim = packet[12:20], packet[9] == 103 and not flags & 0x3FFF and 20 <= start <= end
     else:
-        start, length = 40, 40 + struct.unpack(">H", packet[4:6])[0]
+        start, end = 40, 40 + struct.unpack(">H", packet[4:6])[0]
         ends, is_pim = packet[8:40], packet[6] == 103
-    if not is_pim or length > len(packet):
+    if not is_pim or end > len(packet):
         return None
     half = len(ends) // 2
-    return ipaddress.ip_address(ends[:half]), ipaddress.ip_address(ends[half:]), packet[start:length]
+    return ip_address(ends[:half]), ip_address(ends[half:]), packet[start:end]
 
 
 def ask(session, command):
@@ -60,8 +60,8 @@ def ask(session, command):
 
 
 program, address, file, *rp = sys.argv[1:]
-session = subprocess.Popen([program, "session"], stdin=subprocess.PIPE, stdout=subprocess.PIPE, text=True)
-family = ipaddress.ip_address(address).version
+session = Popen([program, "session"], stdin=PIPE, stdout=PIPE, text=True)
+family = ip_address(address).version
 rows = [f"rp {'224.0.0.0/4' if family == 4 else 'ff00::/8'} {it}" for it in rp]
 for command in [f"port {address}", *rows, "start"]:
     ask(session, command)
