@@ -1,7 +1,7 @@
 -- What commands do, from what their calls do.
 use Rattle.std.proofs.Common.{◌≡◌, ℕ, Bool, true, false, List, Option, None, Some, Result, Ok, Err, codes, refl, sym, subst, ap}
 use Rattle.std.specs.Io.KnownBytes.{Appends}
-use Rattle.core.specs.Result.{result_and}
+use Rattle.std.specs.Result.{result_and}
 use Rattle.pim_addr.specs.declared.family.AddressFamily.{AddressFamily}
 use Rattle.pim_device.specs.Device.{AppendsFront, AppendsAll}
 use Rattle.pim_request.specs.declared.command.Command.{Command as AnyCommand}
