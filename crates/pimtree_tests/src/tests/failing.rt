@@ -3,11 +3,12 @@
 ghost use Rattle.pim_words.specs.Plan.{IsPlanInRange};
 
 use super::running::{
-    CAPTURE, CAPTURE_V6, CHANGE, EMIT, Held, MIRROR, NEVER, REPLAY, Row, SAME, all_files, answer,
+    CAPTURE, CAPTURE_V6, CHANGE, EMIT, MIRROR, NEVER, REPLAY, Row, SAME, all_files, answer,
     file_of, run,
 };
 use pim_addr::ScriptedDrain;
 use pim_commands::{CaptureCause, Fault};
+use pim_files::HeldFile;
 use pim_words::{Plan, plan};
 use std::alloc::Global;
 
@@ -156,7 +157,7 @@ fn of_failure(spoilt: &Spoilt, fails_from: usize) -> &'static str {
 fn ends(
     alloc: Global,
     spoilt: &Spoilt,
-    file: Held<'_>,
+    file: HeldFile<'_>,
     text: &str,
     cause: Option<CaptureCause>,
 ) -> bool {
@@ -184,7 +185,7 @@ fn is_cut(alloc: Global, spoilt: &Spoilt, length: usize) -> bool {
 
 /// Whether the capture, with reads that fail from this byte on, is replayed as it should be.
 fn is_unread(alloc: Global, spoilt: &Spoilt, fails_from: usize) -> bool {
-    let file = Held {
+    let file = HeldFile {
         fails_from,
         ..file_of(spoilt.name, spoilt.bytes)
     };

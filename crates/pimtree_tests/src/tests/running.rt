@@ -3,55 +3,24 @@
 ghost use Rattle.pim_words.specs.Plan.{IsPlanInRange};
 
 use pim_addr::{ScriptedDrain, ScriptedFeed, V4, V6};
-use pim_commands::{Fault, Opener, Unopened, run_task};
+use pim_commands::{Fault, run_task};
+use pim_files::{HeldFile, HeldFiles};
 use pim_words::{Plan, plan};
 use std::alloc::Global;
 
 /// Never in reach of a test.
 pub const NEVER: usize = usize::MAX;
 
-/// A file in memory.
-#[derive(Clone, Copy)]
-pub struct Held<'a> {
-    /// Its name.
-    pub name: &'a str,
-    /// Its bytes.
-    pub bytes: &'a [u8],
-    /// The most bytes that a read gives.
-    pub most: usize,
-    /// The byte from which on reads fail.
-    pub fails_from: usize,
-}
-
-/// Opens files in memory.
-#[derive(Drop)]
-struct Files<'a> {
-    files: &'a [Held<'a>],
-}
-
-impl<'a> Opener for Files<'a> {
-    type Reader = ScriptedFeed<'a>;
-
-    fn open(&mut self, _alloc: Global, name: &str) -> Result<Self::Reader, Unopened> {
-        for held in self.files {
-            if held.name == name {
-                return Ok(ScriptedFeed::new(held.bytes, held.most, held.fails_from));
-            }
-        }
-        Err(Unopened::File)
-    }
-}
-
 /// Does what a plan asks for, without standard input.
 pub fn run<'a>(
     alloc: Global,
     plan: &Plan<'a>,
-    files: &[Held<'_>],
+    files: &[HeldFile<'_>],
     output: &mut ScriptedDrain,
 ) -> Result<u8, Fault<'a>>
     requires { IsPlanInRange plan.now }
 {
-    let mut files = Files { files };
+    let mut files = HeldFiles::new(alloc, files, 7);
     let mut input = ScriptedFeed::new(b"", 1, NEVER);
     match plan {
         Plan::V4(task) => run_task::<V4, _, _, _>(alloc, &mut files, task, &mut input, output),
@@ -64,7 +33,7 @@ pub fn run<'a>(
 pub fn answer<'a>(
     alloc: Global,
     words: &'a [&'a str],
-    files: &[Held<'_>],
+    files: &[HeldFile<'_>],
     output: &mut ScriptedDrain,
 ) -> Result<u8, Fault<'a>> {
     let plan = plan(alloc, words)?;
@@ -102,17 +71,16 @@ pub const HEADER: [u8; 24] = [
 ];
 
 /// A file that never fails.
-pub fn file_of<'a>(name: &'a str, bytes: &'a [u8]) -> Held<'a> {
-    Held {
+pub fn file_of<'a>(name: &'a str, bytes: &'a [u8]) -> HeldFile<'a> {
+    HeldFile {
         name,
         bytes,
-        most: 7,
         fails_from: NEVER,
     }
 }
 
 /// The captures, one without records, and a route to the RP.
-pub fn all_files() -> [Held<'static>; 3] {
+pub fn all_files() -> [HeldFile<'static>; 3] {
     [
         file_of("joined", &CAPTURE),
         file_of("empty", &HEADER),
