@@ -21,7 +21,7 @@ use crate::files::SystemFiles;
 use crate::output::{Output, Replies, is_live};
 use pim_addr::{Counted, Family, V4, V6};
 use pim_commands::{FAULTY, Fault, run_task, tell_into};
-use pim_request::Answers;
+use pim_items::Answers;
 use pim_session::{SessionFault, session_into};
 use pim_words::{Plan, Task, plan};
 use std::io::Write;
