@@ -123,6 +123,12 @@ pub(super) fn hear(
     hear_on(alloc, state, (port, ALONE), group, joined, pruned)
 }
 
+/// What a test tells where memory was refused to a call: that it is wrong, or else that memory is wanting. So a test
+/// passes only if all of its calls succeed at once.
+pub(super) fn refused(is_right: bool) -> Result<bool, AllocError> {
+    if is_right { Err(AllocError) } else { Ok(false) }
+}
+
 /// The source 10.1.0.NUMBER.
 pub(super) fn source(number: u8) -> [u8; 4] {
     [10, 1, 0, number]

@@ -1,11 +1,12 @@
 //! The units of changes.
 
 use super::{new_form, old_form};
-use crate::tests::state::{FIRST, GROUP, SECOND, state4};
+use crate::tests::state::{FIRST, GROUP, SECOND, refused, state4};
 use pim_addr::V4;
 use pim_change::{Kind, Telling, Unit, changed, too_big};
 use pim_form::NormalForm;
-use std::alloc::Global;
+use std::alloc::{AllocError, Global};
+use std::test::Fail;
 
 /// Whether a unit tells this of a source of the group.
 fn is_of(unit: Unit<'_, [u8; 4]>, kind: Kind, source: [u8; 4]) -> bool {
@@ -15,39 +16,46 @@ fn is_of(unit: Unit<'_, [u8; 4]>, kind: Kind, source: [u8; 4]) -> bool {
     }
 }
 
-/// Whether the units of the change are of the exception that went, of the one that came, and of the source that came;
-/// `None` where memory is wanting.
-fn are_units(alloc: Global, old: &NormalForm<V4>, new: &NormalForm<V4>) -> Option<bool> {
-    let units = changed(alloc, old, new).ok()?;
+/// Whether the units of the change are of the exception that went, of the one that came, and of the source that came.
+fn are_units(
+    alloc: Global,
+    old: &NormalForm<V4>,
+    new: &NormalForm<V4>,
+) -> Result<bool, AllocError> {
+    let units = changed(alloc, old, new)?;
     let are = units.len() == 3
         && is_of(units[0], Kind::JoinRpt, FIRST)
         && is_of(units[1], Kind::PruneRpt, SECOND)
         && is_of(units[2], Kind::JoinSource, FIRST);
-    Some(are)
+    Ok(are)
 }
 
 /// The same, at once or with memory.
-fn are_units_at_last(alloc: Global, old: &NormalForm<V4>, new: &NormalForm<V4>) -> bool {
+fn are_units_at_last(
+    alloc: Global,
+    old: &NormalForm<V4>,
+    new: &NormalForm<V4>,
+) -> Result<bool, AllocError> {
     match are_units(alloc, old, new) {
-        Some(answer) => answer,
-        None => are_units(alloc, old, new) == Some(true),
+        Ok(answer) => Ok(answer),
+        Err(_) => refused(are_units(alloc, old, new) == Ok(true)),
     }
 }
 
-/// The same of a change to the new form; no form is no fault.
-fn refusals_leave(alloc: Global, old: &NormalForm<V4>) -> bool {
+/// The same of a change to the new form.
+fn refusals_leave(alloc: Global, old: &NormalForm<V4>) -> Result<bool, AllocError> {
     match new_form(alloc) {
         Some(new) => are_units_at_last(alloc, old, &new),
-        None => true,
+        None => Err(AllocError),
     }
 }
 
 // With each allocation refused in turn (`tools/each_growth_refused.sh`): the same call, with memory, gives the change.
 #[test]
-fn refusals_leave_the_forms(rt: HostRuntime) {
-    if let Some(old) = old_form(rt.alloc()) {
-        assert!(rt; refusals_leave(rt.alloc(), &old));
-    }
+fn refusals_leave_the_forms(rt: HostRuntime) -> Result<(), Fail> {
+    let old = old_form(rt.alloc()).ok_or(AllocError)?;
+    assert!(rt; refusals_leave(rt.alloc(), &old)?);
+    Ok(())
 }
 
 /// The group of a new star of this form that is too big for this budget.

@@ -1,12 +1,14 @@
 //! The normal form of what the ports want.
 
 use crate::tests::state::{
-    FIRST, GROUP, JOIN_FIRST, JOIN_SECOND, RPT_FIRST, RPT_SECOND, SECOND, STAR, State, hear, state4,
+    FIRST, GROUP, JOIN_FIRST, JOIN_SECOND, RPT_FIRST, RPT_SECOND, SECOND, STAR, State, hear,
+    refused, state4,
 };
 use pim_addr::V4;
 use pim_down::Ports;
 use pim_form::{NormalForm, Tree, wants};
 use std::alloc::{AllocError, Global};
+use std::test::Fail;
 
 /// Three ports hear messages: whether all were taken.
 fn hear_held(alloc: Global, state: &mut State) -> bool {
@@ -62,30 +64,37 @@ fn is_wanted(alloc: Global) -> bool {
     }
 }
 
-// So that the test of refusals looks at these ports where no growth is refused.
 #[test]
 fn forms_by_the_macros(rt: HostRuntime) {
     assert!(rt; is_wanted(rt.alloc()));
 }
 
-/// Whether the ports want what they should; where memory is refused they hold what they held, and are asked again.
-fn want_at_last(alloc: Global, ports: &Ports<V4>) -> Option<bool> {
+/// Whether the ports want what they should at once; where memory is refused, whether they hold what they held and want
+/// it then.
+fn want_at_last(alloc: Global, ports: &Ports<V4>) -> Result<bool, AllocError> {
     if let Ok(answer) = want(alloc, ports) {
-        return Some(answer);
+        return Ok(answer);
     }
-    if [ports.count_on(0), ports.count_on(1), ports.count_on(2)] != [4, 2, 1] {
-        return Some(false);
+    let held = [ports.count_on(0), ports.count_on(1), ports.count_on(2)] == [4, 2, 1];
+    refused(held && want(alloc, ports) == Ok(true))
+}
+
+/// The same of three ports that heard the messages.
+fn heard_want_at_last(alloc: Global) -> Result<bool, AllocError> {
+    let Some(mut state) = state4(alloc, 3, 1480) else {
+        return Err(AllocError);
+    };
+    if hear_held(alloc, &mut state) && state.ports.port_count() == 3 {
+        want_at_last(alloc, &state.ports)
+    } else {
+        Err(AllocError)
     }
-    want(alloc, ports).ok()
 }
 
 // With each allocation refused in turn (`tools/each_growth_refused.sh`): the ports hold what they held, and with
 // memory their form is what it would have been.
 #[test]
-fn refusals_leave_the_ports(rt: HostRuntime) {
-    if let Some(mut state) = state4(rt.alloc(), 3, 1480) {
-        if hear_held(rt.alloc(), &mut state) && state.ports.port_count() == 3 {
-            assert_eq!(rt; want_at_last(rt.alloc(), &state.ports), Some(true));
-        }
-    }
+fn refusals_leave_the_ports(rt: HostRuntime) -> Result<(), Fail> {
+    assert!(rt; heard_want_at_last(rt.alloc())?);
+    Ok(())
 }

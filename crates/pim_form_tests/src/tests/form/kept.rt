@@ -1,6 +1,8 @@
 //! A form that holds nothing, and a form of a form.
 
-use crate::tests::state::{FIRST, GROUP, JOIN_FIRST, RPT_SECOND, SECOND, STAR, hear, state4};
+use crate::tests::state::{
+    FIRST, GROUP, JOIN_FIRST, RPT_SECOND, SECOND, STAR, State, hear, refused, state4,
+};
 use pim_addr::V4;
 use pim_down::Ports;
 use pim_form::{Messages, NormalForm, Tree, normal_again};
@@ -64,44 +66,40 @@ fn wants_as_heard(form: &NormalForm<V4>) -> bool {
         && !form.wants(SECOND, GROUP, Tree::Shared)
 }
 
-/// Whether the form of this form wants as it should; `None` where a growth is refused.
-fn wants_again(alloc: Global, form: &NormalForm<V4>) -> Option<bool> {
-    match normal_again(alloc, form) {
-        Ok(again) => Some(wants_as_heard(&again)),
-        Err(_) => None,
-    }
+/// Whether the form of this form wants as it should.
+fn wants_again(alloc: Global, form: &NormalForm<V4>) -> Result<bool, AllocError> {
+    let again = normal_again(alloc, form)?;
+    Ok(wants_as_heard(&again))
 }
 
 /// The same: at once or, where a growth is refused, with the form as it was and then again.
-fn wants_at_last(alloc: Global, form: &NormalForm<V4>) -> bool {
+fn wants_at_last(alloc: Global, form: &NormalForm<V4>) -> Result<bool, AllocError> {
     match wants_again(alloc, form) {
-        Some(wants) => wants,
-        None => wants_as_heard(form) && wants_again(alloc, form) == Some(true),
+        Ok(wants) => Ok(wants),
+        Err(_) => refused(wants_as_heard(form) && wants_again(alloc, form) == Ok(true)),
     }
 }
 
-/// The same of the form of what these ports want; nothing can be told where it is refused.
-fn is_wanted_at_last(alloc: Global, ports: &Ports<V4>) -> bool {
-    match NormalForm::of(alloc, ports) {
-        Ok(form) => wants_at_last(alloc, &form),
-        Err(_) => true,
+/// The same of the form of what these ports want.
+fn is_wanted_at_last(alloc: Global, ports: &Ports<V4>) -> Result<bool, AllocError> {
+    let form = NormalForm::of(alloc, ports)?;
+    wants_at_last(alloc, &form)
+}
+
+/// The same of a port that hears what is wanted.
+fn heard_is_wanted_at_last(alloc: Global, state: &mut State) -> Result<bool, AllocError> {
+    if hear(alloc, state, 0, GROUP, &[STAR, JOIN_FIRST], &[RPT_SECOND]) {
+        is_wanted_at_last(alloc, &state.ports)
+    } else {
+        Err(AllocError)
     }
 }
 
 // With each allocation refused in turn (`tools/each_growth_refused.sh`): the form is as before, and the same call, with
 // memory, gives it again.
 #[test]
-fn refusals_leave_the_form(rt: HostRuntime) {
-    if let Some(mut state) = state4(rt.alloc(), 1, 1480) {
-        if hear(
-            rt.alloc(),
-            &mut state,
-            0,
-            GROUP,
-            &[STAR, JOIN_FIRST],
-            &[RPT_SECOND],
-        ) {
-            assert!(rt; is_wanted_at_last(rt.alloc(), &state.ports));
-        }
-    }
+fn refusals_leave_the_form(rt: HostRuntime) -> Result<(), Fail> {
+    let mut state = state4(rt.alloc(), 1, 1480).ok_or(AllocError)?;
+    assert!(rt; heard_is_wanted_at_last(rt.alloc(), &mut state)?);
+    Ok(())
 }

@@ -1,6 +1,6 @@
 //! Forms that are packed: the form of a form, a growth that is refused, and faults in words.
 
-use crate::tests::state::{GROUP, RPT_FIRST, STAR, State, hear, hear_200, state4};
+use crate::tests::state::{GROUP, RPT_FIRST, STAR, State, hear, hear_200, refused, state4};
 use pim_addr::{Family, V4, V6};
 use pim_form::{FormFault, Messages, NormalForm, is_toward, normal_again, pack};
 use std::alloc::{AllocError, Global};
@@ -136,19 +136,26 @@ const OF_200: (usize, [usize; 2]) = (2, [1474, 178]);
 
 /// Whether the form of 200 sources is packed: at once or, where a growth is refused, with its group as it was and then
 /// again.
-fn is_packed(alloc: Global, state: &State, form: &NormalForm<V4>) -> bool {
+fn is_packed(alloc: Global, state: &State, form: &NormalForm<V4>) -> Result<bool, AllocError> {
     let first = packed(alloc, state, form);
     if first == Err(Refusal::Memory) {
-        return form.groups().count_left() == 1 && packed(alloc, state, form) == Ok(OF_200);
+        return refused(form.groups().count_left() == 1 && packed(alloc, state, form) == Ok(OF_200));
     }
-    first == Ok(OF_200)
+    Ok(first == Ok(OF_200))
 }
 
-/// The same of what the router wants; nothing can be told where its form is refused.
-fn wants_are_packed(alloc: Global, state: &State) -> bool {
-    match NormalForm::of(alloc, &state.ports) {
-        Ok(form) => is_packed(alloc, state, &form),
-        Err(_) => true,
+/// The same of what the router wants.
+fn wants_are_packed(alloc: Global, state: &State) -> Result<bool, AllocError> {
+    let form = NormalForm::of(alloc, &state.ports)?;
+    is_packed(alloc, state, &form)
+}
+
+/// The same where it hears the 200 sources now.
+fn heard_are_packed(alloc: Global, state: &mut State) -> Result<bool, AllocError> {
+    if hear_200(alloc, state) {
+        wants_are_packed(alloc, state)
+    } else {
+        Err(AllocError)
     }
 }
 
@@ -156,10 +163,7 @@ fn wants_are_packed(alloc: Global, state: &State) -> bool {
 // with memory, gives its messages.
 #[test]
 fn refusals_change_nothing(rt: HostRuntime) -> Result<(), Fail> {
-    if let Some(mut state) = state4(rt.alloc(), 1, 1480) {
-        if hear_200(rt.alloc(), &mut state) {
-            assert!(rt; wants_are_packed(rt.alloc(), &state));
-        }
-    }
+    let mut state = state4(rt.alloc(), 1, 1480).ok_or(AllocError)?;
+    assert!(rt; heard_are_packed(rt.alloc(), &mut state)?);
     Ok(())
 }

@@ -1,12 +1,14 @@
 //! What is asked of which upstream neighbour, while growths are refused.
 
 use crate::tests::state::{
-    FIRST, GROUP, JOIN_FIRST, JOIN_SECOND, RP, RPT_FIRST, SECOND, STAR, State, hear, state4,
+    FIRST, GROUP, JOIN_FIRST, JOIN_SECOND, RP, RPT_FIRST, SECOND, STAR, State, hear, refused,
+    state4,
 };
 use pim_addr::{Routes, V4};
 use pim_form::{NormalForm, is_toward};
 use pim_jp::Entry;
 use std::alloc::{AllocError, Global};
+use std::test::Fail;
 
 const OTHER_GROUP: [u8; 4] = [239, 1, 2, 1];
 
@@ -121,27 +123,18 @@ fn tells_what_others_are_asked(rt: HostRuntime) {
 }
 
 /// Whether no case is wrong: at once or, where a growth is refused, when all are tried again.
-fn none_is_wrong(alloc: Global, state: &State) -> bool {
+fn none_is_wrong(alloc: Global, state: &State) -> Result<bool, AllocError> {
     match wrong(alloc, state) {
-        Ok(answer) => answer.is_none(),
-        Err(_) => wrong(alloc, state) == Ok(None),
-    }
-}
-
-/// A port that has heard the messages, at once or at the second time.
-fn heard_at_last(alloc: Global) -> Option<State> {
-    match heard(alloc) {
-        Some(state) => Some(state),
-        None => heard(alloc),
+        Ok(answer) => Ok(answer.is_none()),
+        Err(_) => refused(wrong(alloc, state) == Ok(None)),
     }
 }
 
 // With each allocation refused in turn (`tools/each_growth_refused.sh`): the answer is want of memory, and the same
 // call, with memory, answers what it would have answered.
 #[test]
-fn refusals_of_toward_change_nothing(rt: HostRuntime) {
-    match heard_at_last(rt.alloc()) {
-        Some(state) => assert!(rt; none_is_wrong(rt.alloc(), &state)),
-        None => assert!(rt; false),
-    }
+fn refusals_of_toward_change_nothing(rt: HostRuntime) -> Result<(), Fail> {
+    let state = heard(rt.alloc()).ok_or(AllocError)?;
+    assert!(rt; none_is_wrong(rt.alloc(), &state)?);
+    Ok(())
 }
