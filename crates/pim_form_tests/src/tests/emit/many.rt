@@ -115,25 +115,143 @@ fn hear_on_all(alloc: Global, state: &mut State) -> bool {
     hear(alloc, state, last, GROUP, &some, &[Entry::Rpt(source(199))])
 }
 
-/// Whether the packed messages are written.
-fn are_merged(alloc: Global, state: &State) -> bool {
+/// A set of a message: the last byte of its group, whether its star is joined, and the last bytes of the sources that are
+/// joined. Where a star is joined, the sources 198, 199 and 200 are pruned.
+type Set<'a> = (u8, bool, &'a [u8]);
+
+/// A message: its length, its checksum and its sets.
+type Told<'a> = (u8, [u8; 2], &'a [Set<'a>]);
+
+// The messages of what the ports want, packed by hand: without a star, all of one group, its fronts, and what comes then.
+const NO_STAR: Told<'static> = (42, [0xc1, 0xbb], &[(1, false, &[3, 5])]);
+
+const STAR: Set<'static> = (1, true, &[3, 5]);
+
+const ONE_GROUP: Told<'static> = (74, [0x73, 0xcd], &[STAR]);
+
+const FRONT: Told<'static> = (66, [0x82, 0xf4], &[(1, true, &[3])]);
+
+const FIFTH: Set<'static> = (1, false, &[5]);
+
+const REST: Told<'static> = (34, [0xd0, 0xe0], &[FIFTH]);
+
+const REST_OF_3: Told<'static> = (62, [0xc1, 0x1b], &[FIFTH, (2, false, &[2, 90])]);
+
+const REST_OF_7: Told<'static> = (70, [0xb2, 0x49], &[FIFTH, (2, false, &[2, 4, 6])]);
+
+const REST_OF_64: Told<'static> = (70, [0xb2, 0x4f], &[FIFTH, (2, false, &[1, 2, 3])]);
+
+const LAST: Told<'static> = (34, [0xd0, 0x8a], &[(2, false, &[90])]);
+
+const LAST_OF_64: Told<'static> = (66, [0x93, 0xec], &[(2, false, &[4, 5, 6, 7, 90])]);
+
+const LONG_FRONT: Told<'static> = (94, [0x73, 0x84], &[STAR, (2, false, &[2])]);
+
+const LONG_OF_64: Told<'static> = (94, [0x73, 0x85], &[STAR, (2, false, &[1])]);
+
+const LONG_REST_OF_7: Told<'static> = (50, [0xb2, 0x3c], &[(2, false, &[4, 6, 90])]);
+
+const SEVEN: Set<'static> = (2, false, &[2, 3, 4, 5, 6, 7, 90]);
+
+const LONG_REST_OF_64: Told<'static> = (82, [0x75, 0xa3], &[SEVEN]);
+
+const ALL_OF_3: Told<'static> = (102, [0x64, 0x08], &[STAR, (2, false, &[2, 90])]);
+
+const ALL_OF_7: Told<'static> = (118, [0x45, 0xba], &[STAR, (2, false, &[2, 4, 6, 90])]);
+
+const EIGHT: Set<'static> = (2, false, &[1, 2, 3, 4, 5, 6, 7, 90]);
+
+const ALL_OF_64: Told<'static> = (150, [0x09, 0x22], &[STAR, EIGHT]);
+
+/// How many ports there are, the budget, and the messages.
+const MERGED: [(usize, usize, &[Told<'static>]); 15] = [
+    (1, 70, &[NO_STAR]),
+    (1, 100, &[NO_STAR]),
+    (1, 1480, &[NO_STAR]),
+    (2, 70, &[FRONT, REST]),
+    (2, 100, &[ONE_GROUP]),
+    (2, 1480, &[ONE_GROUP]),
+    (3, 70, &[FRONT, REST_OF_3]),
+    (3, 100, &[LONG_FRONT, LAST]),
+    (3, 1480, &[ALL_OF_3]),
+    (7, 70, &[FRONT, REST_OF_7, LAST]),
+    (7, 100, &[LONG_FRONT, LONG_REST_OF_7]),
+    (7, 1480, &[ALL_OF_7]),
+    (64, 70, &[FRONT, REST_OF_64, LAST_OF_64]),
+    (64, 100, &[LONG_OF_64, LONG_REST_OF_64]),
+    (64, 1480, &[ALL_OF_64]),
+];
+
+/// Appends entries of the sources 10.1.0.N with these flags.
+fn push_of(bytes: &mut Vec<u8>, flags: u8, numbers: &[u8]) -> Result<(), AllocError> {
+    for number in numbers {
+        bytes.extend_from_slice(&[1, 0, flags, 32, 10, 1, 0, *number])?;
+    }
+    Ok(())
+}
+
+/// Appends a set.
+fn push_set(bytes: &mut Vec<u8>, (group, star, joined): Set<'_>) -> Result<(), AllocError> {
+    let count = (joined.len() % 256) as u8;
+    bytes.extend_from_slice(&[1, 0, 0, 32, 239, 1, 1, group, 0])?;
+    if !star {
+        bytes.extend_from_slice(&[count, 0, 0])?;
+        return push_of(bytes, 4, joined);
+    }
+    bytes.extend_from_slice(&[count.saturating_add(1), 0, 3, 1, 0, 7, 32, 10, 9, 9, 9])?;
+    push_of(bytes, 4, joined)?;
+    push_of(bytes, 5, &[198, 199, 200])
+}
+
+/// Appends a message after two bytes of its length.
+fn push_told(bytes: &mut Vec<u8>, (length, sum, sets): Told<'_>) -> Result<(), AllocError> {
+    bytes.extend_from_slice(&[0, length, 0x23, 0, sum[0], sum[1], 1, 0, 10, 0, 0, 2])?;
+    bytes.extend_from_slice(&[0, (sets.len() % 256) as u8, 0, 210])?;
+    for set in sets {
+        push_set(bytes, *set)?;
+    }
+    Ok(())
+}
+
+/// The bytes of these messages, each after its length.
+fn bytes_of(alloc: Global, messages: &[Told<'_>]) -> Result<Vec<u8>, AllocError> {
+    let mut bytes = Vec::new(alloc);
+    for told in messages {
+        push_told(&mut bytes, *told)?;
+    }
+    Ok(bytes)
+}
+
+/// Whether so many messages of these bytes are written, kept and packed.
+fn are_written(alloc: Global, state: &State, messages: u64, bytes: &[u8]) -> bool {
     let mut out = ScriptedDrain::new(alloc, 33, 100_000);
-    written(alloc, state, &mut out).is_some() && is_packed(alloc, state, out.written())
+    written(alloc, state, &mut out) == Some(messages)
+        && out.written() == bytes
+        && is_packed(alloc, state, bytes)
+}
+
+/// Whether these messages are.
+fn are_merged(alloc: Global, state: &State, messages: &[Told<'_>]) -> bool {
+    match bytes_of(alloc, messages) {
+        Ok(bytes) => are_written(alloc, state, messages.len() as u64, &bytes),
+        Err(_) => false,
+    }
 }
 
 /// The same of a new state of so many ports.
-fn merges(alloc: Global, count: usize, budget: usize) -> bool {
+fn merges(alloc: Global, count: usize, budget: usize, messages: &[Told<'_>]) -> bool {
     match state4(alloc, count, budget) {
-        Some(mut state) => hear_on_all(alloc, &mut state) && are_merged(alloc, &state),
+        Some(mut state) => hear_on_all(alloc, &mut state) && are_merged(alloc, &state, messages),
         None => false,
     }
 }
 
 #[test]
 fn merges_the_ports(rt: HostRuntime) {
-    for count in [1, 2, 3, 7, 64] {
-        for budget in [70, 100, 1480] {
-            assert!(rt; merges(rt.alloc(), count, budget));
-        }
+    for (count, budget, messages) in MERGED {
+        assert!(rt;
+            merges(rt.alloc(), count, budget, messages),
+            "{count} ports, {budget} bytes"
+        );
     }
 }
