@@ -14,9 +14,8 @@ mod running;
 mod slow;
 
 use bodies::{body, hear_body, table};
-use nexts::{is_alike_near, place_in};
 use pim_addr::V4;
-use pim_down::{Near, Ports, State, Step, Timing, What};
+use pim_down::{Ports, State, Step, Timing, What};
 use pim_jp::Entry;
 use std::alloc::Global;
 
@@ -196,12 +195,6 @@ fn goes(alloc: Global, ports: &mut Ports<V4>, row: Row) -> bool {
     }
 }
 
-/// Plays a row, and looks up near a place from before and near one of now: whether all goes as it should.
-fn goes_near(alloc: Global, ports: &mut Ports<V4>, row: Row) -> bool {
-    let stale = place_in(ports);
-    goes(alloc, ports, row) && is_alike_near(ports, stale) && is_alike_near(ports, place_in(ports))
-}
-
 /// Plays an example: its first row that doesn't go as it says.
 fn wrong_row(alloc: Global, example: &Example) -> Option<usize> {
     let &Example {
@@ -214,11 +207,7 @@ fn wrong_row(alloc: Global, example: &Example) -> Option<usize> {
         return Some(0);
     }
     let mut ports: Ports<V4> = Ports::new(alloc, ports, limit);
-    if !is_alike_near(&ports, Near::UNKNOWN) {
-        return Some(0);
-    }
-    rows.iter()
-        .position(|row| !goes_near(alloc, &mut ports, *row))
+    rows.iter().position(|row| !goes(alloc, &mut ports, *row))
 }
 
 /// The first example with a wrong row, and that row.

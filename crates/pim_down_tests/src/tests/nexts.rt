@@ -4,7 +4,7 @@ use super::{
     Example, FIRST, GROUP, JOIN_FIRST, JOIN_SECOND, JOIN_STAR, RPT_FIRST, Row, SECOND, goes,
 };
 use pim_addr::{V4, V6};
-use pim_down::{Near, Ports, What, compare_addresses};
+use pim_down::{Near, Ports, State, What, compare_addresses};
 use std::alloc::Global;
 use std::cmp::Ordering;
 
@@ -44,6 +44,30 @@ pub(super) const EXAMPLES: [Example; 2] = [
     },
 ];
 
+const LOWER: [u8; 4] = [239, 1, 1, 0];
+
+const HIGHER: [u8; 4] = [239, 1, 1, 2];
+
+const JOINED: Option<State> = Some(State::Join);
+
+/// What is told of all that the tests below let be heard.
+const OF_ALL: [Told; 5] = [
+    (Some(What::Source(FIRST)), Some(HIGHER), JOINED),
+    (None, Some(GROUP), None),
+    (Some(What::Source(SECOND)), Some(HIGHER), JOINED),
+    (None, None, None),
+    (None, None, None),
+];
+
+/// What is told of the first source alone.
+const OF_FEW: [Told; 5] = [
+    (Some(What::Source(FIRST)), None, None),
+    (None, Some(GROUP), None),
+    (None, None, JOINED),
+    (None, None, None),
+    (None, None, None),
+];
+
 /// Whether no group and no machine comes next on the first port.
 fn is_at_its_end(ports: &Ports<V6>) -> bool {
     let mut left = ports.machines_after_near(0, [0xff; 16], What::Star, Near::UNKNOWN);
@@ -53,32 +77,33 @@ fn is_at_its_end(ports: &Ports<V6>) -> bool {
         && left.next_machine().is_none()
 }
 
-/// Whether the three look-ups near this place answer what those from nothing do.
-fn answers_near(
+/// What is told of a port, a group and a machine: the group's next machine, the next group, and the machine's state.
+type Told = (Option<What<[u8; 4]>>, Option<[u8; 4]>, Option<State>);
+
+/// Whether the three look-ups near this place tell this.
+fn is_told_near(
     ports: &Ports<V4>,
-    port: usize,
-    group: [u8; 4],
-    what: What<[u8; 4]>,
+    (port, group, what): (usize, [u8; 4], What<[u8; 4]>),
     near: Near,
+    told: Told,
 ) -> bool {
     let (next, _place) = ports.record_after_near(port, group, what, near);
     let (above, _place) = ports.group_after_near(port, Some(group), near);
     let (state, _place) = ports.state_of_near(port, group, what, near);
-    next == ports.record_after(port, group, what)
-        && above == ports.group_after(port, Some(group))
-        && state == ports.state_of(port, group, what)
+    next.map(|record| record.key.what) == told.0 && above == told.1 && state == told.2
 }
 
-/// Whether look-ups near this place answer what those from nothing do, before, at and behind records.
-pub(super) fn is_alike_near(ports: &Ports<V4>, near: Near) -> bool {
-    answers_near(ports, 0, GROUP, What::Star, near)
-        && answers_near(ports, 0, [239, 1, 1, 0], What::Rpt(SECOND), near)
-        && answers_near(ports, 0, GROUP, What::Source(FIRST), near)
-        && answers_near(ports, 1, GROUP, What::Rpt(FIRST), near)
+/// Whether look-ups near this place, before, at and behind records, and on a port that isn't there, tell this.
+fn are_told_near(ports: &Ports<V4>, near: Near, told: [Told; 5]) -> bool {
+    is_told_near(ports, (0, GROUP, What::Star), near, told[0])
+        && is_told_near(ports, (0, LOWER, What::Rpt(SECOND)), near, told[1])
+        && is_told_near(ports, (0, GROUP, What::Source(FIRST)), near, told[2])
+        && is_told_near(ports, (1, GROUP, What::Rpt(FIRST)), near, told[3])
+        && is_told_near(ports, (2, GROUP, What::Star), near, told[4])
 }
 
 /// The place behind the first source's record on the first port.
-pub(super) fn place_in(ports: &Ports<V4>) -> Near {
+fn place_in(ports: &Ports<V4>) -> Near {
     let (_next, place) = ports.record_after_near(0, GROUP, What::Source(FIRST), Near::UNKNOWN);
     place
 }
@@ -116,23 +141,28 @@ fn are_told(ports: &Ports<V4>, near: Near) -> bool {
         let Some(told) = left.next_machine() else {
             return false;
         };
-        if told.key.what != *what || !is_alike_near(ports, left.near()) {
+        if told.key.what != *what || !are_told_near(ports, left.near(), OF_ALL) {
             return false;
         }
     }
     left.next_machine().is_none() && left.next_machine().is_none()
 }
 
-const ANOTHER_GROUP: Row = Row::Hear(0, &[([239, 1, 1, 2], &[JOIN_STAR], &[])]);
+const ANOTHER_GROUP: Row = Row::Hear(0, &[(HIGHER, &[JOIN_STAR], &[])]);
 
 const ANOTHER_PORT: Row = Row::Hear(1, &[(GROUP, &[JOIN_SECOND], &[])]);
+
+/// Whether the machines, and those of another group and another port, are heard of.
+fn all_are_heard(alloc: Global, ports: &mut Ports<V4>) -> bool {
+    [MANY, ANOTHER_GROUP, ANOTHER_PORT]
+        .iter()
+        .all(|row| goes(alloc, ports, *row))
+}
 
 /// Whether they are told from a place among them, and from none.
 fn are_told_from_each(alloc: Global) -> bool {
     let mut ports: Ports<V4> = Ports::new(alloc, 2, 100);
-    [MANY, ANOTHER_GROUP, ANOTHER_PORT]
-        .iter()
-        .all(|row| goes(alloc, &mut ports, *row))
+    all_are_heard(alloc, &mut ports)
         && are_told(&ports, Near::UNKNOWN)
         && are_told(&ports, place_in(&ports))
 }
@@ -144,14 +174,17 @@ fn machines_of_a_group_are_told_one_after_another(rt: HostRuntime) {
 
 const FEW: Row = Row::Hear(0, &[(GROUP, &[JOIN_FIRST], &[])]);
 
-/// Whether look-ups in each of two states go right from a place of the other.
+/// Whether look-ups in each of two states go right from a place of the other, of its own, and from none.
 fn hints_are_exchanged(alloc: Global) -> bool {
-    let mut many: Ports<V4> = Ports::new(alloc, 2, 100);
+    let mut all: Ports<V4> = Ports::new(alloc, 2, 100);
     let mut few: Ports<V4> = Ports::new(alloc, 2, 100);
-    goes(alloc, &mut many, MANY)
-        && goes(alloc, &mut few, FEW)
-        && is_alike_near(&few, place_in(&many))
-        && is_alike_near(&many, place_in(&few))
+    let before = place_in(&few);
+    if !all_are_heard(alloc, &mut all) || !goes(alloc, &mut few, FEW) {
+        return false;
+    }
+    let places = [before, place_in(&all), place_in(&few), Near::UNKNOWN];
+    places.iter().all(|near| are_told_near(&few, *near, OF_FEW)
+        && are_told_near(&all, *near, OF_ALL))
 }
 
 #[test]

@@ -4,7 +4,7 @@ use super::bodies::{entry_bytes, hear_body, table};
 use super::slow::{Named, Slow, SlowRecord};
 use super::{ONE_RP, RP};
 use pim_addr::{Routes, V4};
-use pim_down::{HearFault, Key, Machine, Pending, Ports, Record, Timing, What};
+use pim_down::{HearFault, Key, Machine, Near, Pending, Ports, Record, Timing, What};
 use pim_jp::Entry;
 use std::alloc::{AllocError, Global};
 use std::test::Fail;
@@ -199,8 +199,9 @@ fn source_after(
     Some(told(slow.records.iter().find(is_next)?, slow.moment))
 }
 
-/// Whether look-ups of a machine, a group and a machine behind one answer alike.
-fn answers_alike(numbers: &mut Numbers, ports: &Ports<V4>, slow: &Slow) -> bool {
+/// Whether look-ups of a machine, a group and a machine behind one answer alike, from nothing and
+/// near the place of the last call's machine.
+fn answers_alike(numbers: &mut Numbers, ports: &Ports<V4>, slow: &Slow, near: &mut Near) -> bool {
     let port = usize::from(numbers.byte(2));
     let group = [239, 1, 1, numbers.byte(8)];
     let source = numbers.source();
@@ -208,10 +209,17 @@ fn answers_alike(numbers: &mut Numbers, ports: &Ports<V4>, slow: &Slow) -> bool 
     let state = slow
         .course(Key { port, group, what })
         .map(|course| course.state);
+    let above = group_after(slow, port, group);
+    let next = source_after(slow, port, group, source);
+    let before = *near;
+    let (found, place) = ports.record_after_near(port, group, What::Source(source), before);
+    *near = place;
     ports.state_of(port, group, what) == state
-        && ports.group_after(port, Some(group)) == group_after(slow, port, group)
-        && ports.record_after(port, group, What::Source(source))
-            == source_after(slow, port, group, source)
+        && ports.group_after(port, Some(group)) == above
+        && ports.record_after(port, group, What::Source(source)) == next
+        && ports.state_of_near(port, group, what, before).0 == state
+        && ports.group_after_near(port, Some(group), before).0 == above
+        && found == next
 }
 
 /// A step of both: whether they go alike.
@@ -221,13 +229,14 @@ fn step(
     routes: &Routes<V4>,
     ports: &mut Ports<V4>,
     slow: &mut Slow,
+    near: &mut Near,
 ) -> Result<bool, AllocError> {
     let goes = if numbers.below(4) == 0 {
         run(numbers, ports, slow)
     } else {
         hear(alloc, numbers, routes, ports, slow)?
     };
-    Ok(goes && is_alike(ports, slow) && answers_alike(numbers, ports, slow))
+    Ok(goes && is_alike(ports, slow) && answers_alike(numbers, ports, slow, near))
 }
 
 /// The first step after which they differ; each hundredth one compares all records.
@@ -238,8 +247,16 @@ fn first_difference(alloc: Global, seed: u64) -> Result<Option<u32>, AllocError>
     };
     let mut ports: Ports<V4> = Ports::new(alloc, 2, LIMIT);
     let mut slow = Slow::new(alloc, LIMIT);
+    let mut near = Near::UNKNOWN;
     for number in 1..STEPS {
-        let goes = step(alloc, &mut numbers, &routes, &mut ports, &mut slow)?;
+        let goes = step(
+            alloc,
+            &mut numbers,
+            &routes,
+            &mut ports,
+            &mut slow,
+            &mut near,
+        )?;
         if !goes || number % 100 == 0 && !holds_alike(&ports, &slow) {
             return Ok(Some(number));
         }
