@@ -216,7 +216,8 @@ fn packets_passed_over(rt: HostRuntime) -> Result<(), Fail> {
     Ok(())
 }
 
-// `tools/each_growth_refused.sh` runs it with each allocation refused in turn.
+// `tools/each_growth_refused.sh` runs it with each allocation refused in turn. Then it ends with the
+// error of the allocator, if all before is right: so it passes only if each call succeeds.
 #[test]
 fn refused_growth(rt: HostRuntime) -> Result<(), Fail> {
     let mut buffer = Vec::new(rt.alloc());
@@ -227,7 +228,7 @@ fn refused_growth(rt: HostRuntime) -> Result<(), Fail> {
                 assert_eq!(rt; fault, CaptureFault::Memory);
                 assert_eq!(rt; capture.next(&mut buffer), Err(CaptureFault::Failed));
                 assert_eq!(rt; capture.next(&mut buffer), Err(CaptureFault::Failed));
-                return Ok(());
+                return Err(Fail::from(AllocError));
             }
             Ok(event) => assert_eq!(rt; event, want),
         }

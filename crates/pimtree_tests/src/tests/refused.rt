@@ -5,8 +5,9 @@ use super::running::{CHANGE, EMIT, MIRROR, NEVER, REPLAY, Row, SAME, all_files, 
 use pim_addr::ScriptedDrain;
 use pim_commands::Fault;
 use pim_words::Fault as Unplanned;
-use std::alloc::Global;
+use std::alloc::{AllocError, Global};
 use std::process::Abort;
+use std::test::Fail;
 
 /// What a command may have written where it ends for want of memory.
 #[derive(Clone, Copy)]
@@ -49,8 +50,9 @@ fn goes_with(row: &Row, left: Left, written: &[u8], end: &Result<u8, Fault<'_>>)
     }
 }
 
-/// Runs a command, and once more where it was refused.
-fn expect(rt: &impl Abort, alloc: Global, row: &Row, left: Left) {
+/// Runs a command, and once more where it was refused: then the test ends with this error, and so
+/// passes only if the command succeeds at once.
+fn expect(rt: &impl Abort, alloc: Global, row: &Row, left: Left) -> Result<(), AllocError> {
     let mut output = ScriptedDrain::new(alloc, 64, NEVER);
     let files = all_files();
     let end = answer(alloc, row.words, &files, &mut output);
@@ -59,30 +61,32 @@ fn expect(rt: &impl Abort, alloc: Global, row: &Row, left: Left) {
         let mut output = ScriptedDrain::new(alloc, 64, NEVER);
         let again = answer(alloc, row.words, &files, &mut output);
         assert!(rt; again.is_ok() && output.written() == row.text);
+        return Err(AllocError);
     }
+    Ok(())
 }
 
 #[test]
-fn replay_leaves_a_front(rt: HostRuntime) {
-    expect(&rt, rt.alloc(), &REPLAY, Left::Front);
+fn replay_leaves_a_front(rt: HostRuntime) -> Result<(), Fail> {
+    Ok(expect(&rt, rt.alloc(), &REPLAY, Left::Front)?)
 }
 
 #[test]
-fn same_leaves_nothing(rt: HostRuntime) {
-    expect(&rt, rt.alloc(), &SAME, Left::Nothing);
+fn same_leaves_nothing(rt: HostRuntime) -> Result<(), Fail> {
+    Ok(expect(&rt, rt.alloc(), &SAME, Left::Nothing)?)
 }
 
 #[test]
-fn mirror_leaves_whole_lines(rt: HostRuntime) {
-    expect(&rt, rt.alloc(), &MIRROR, Left::Lines);
+fn mirror_leaves_whole_lines(rt: HostRuntime) -> Result<(), Fail> {
+    Ok(expect(&rt, rt.alloc(), &MIRROR, Left::Lines)?)
 }
 
 #[test]
-fn emit_leaves_nothing(rt: HostRuntime) {
-    expect(&rt, rt.alloc(), &EMIT, Left::Nothing);
+fn emit_leaves_nothing(rt: HostRuntime) -> Result<(), Fail> {
+    Ok(expect(&rt, rt.alloc(), &EMIT, Left::Nothing)?)
 }
 
 #[test]
-fn change_leaves_whole_lines(rt: HostRuntime) {
-    expect(&rt, rt.alloc(), &CHANGE, Left::Lines);
+fn change_leaves_whole_lines(rt: HostRuntime) -> Result<(), Fail> {
+    Ok(expect(&rt, rt.alloc(), &CHANGE, Left::Lines)?)
 }
