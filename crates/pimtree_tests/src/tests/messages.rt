@@ -49,7 +49,7 @@ fn is_answered(message: &mut [u8], first: u8) -> bool {
     message[0] = first;
     let opened = open::<V4>([0; 4], all_routers::<V4>(), message);
     match (first >> 4, first & 0x0f) {
-        (2, 3) => opened.is_ok(),
+        (2, 3) => opened == Ok(Body::JoinPrune(&JOIN[4..])),
         (2, 0) => opened == Err(FrameFault::Checksum),
         (2, kind) => opened == Ok(Body::Other(kind)),
         (version, _) => opened == Err(FrameFault::Version(version)),
