@@ -123,8 +123,8 @@ pub(super) fn hear(
     hear_on(alloc, state, (port, ALONE), group, joined, pruned)
 }
 
-/// What a test tells where memory was refused to a call: that it is wrong, or else that memory is wanting. So a test
-/// passes only if all of its calls succeed at once.
+/// What a test tells of a call that was refused memory: that it is wrong, or that memory is wanting.
+/// So a test passes only if its call succeeds at once.
 pub(super) fn refused(is_right: bool) -> Result<bool, AllocError> {
     if is_right { Err(AllocError) } else { Ok(false) }
 }

@@ -1,10 +1,7 @@
 //! Ports that want of one group, up to 64, or of groups by turns.
 
 use super::long::messages_of_200;
-use super::{
-    EXCEPT_A, GROUP, NEXT_GROUP, RP, State, hear, is_packed, is_written, source, state4, written,
-};
-use pim_device::ScriptedDrain;
+use super::{EXCEPT_A, GROUP, NEXT_GROUP, RP, State, hear, is_written, source, state4};
 use pim_jp::Entry;
 use std::alloc::{AllocError, Global};
 
@@ -115,14 +112,14 @@ fn hear_on_all(alloc: Global, state: &mut State) -> bool {
     hear(alloc, state, last, GROUP, &some, &[Entry::Rpt(source(199))])
 }
 
-/// A set of a message: the last byte of its group, whether its star is joined, and the last bytes of the sources that are
-/// joined. Where a star is joined, the sources 198, 199 and 200 are pruned.
+/// A set of a message: the last byte of its group, whether its star is joined, and the last bytes of
+/// the sources that are joined. Where a star is joined, 198, 199 and 200 are pruned from it.
 type Set<'a> = (u8, bool, &'a [u8]);
 
 /// A message: its length, its checksum and its sets.
 type Told<'a> = (u8, [u8; 2], &'a [Set<'a>]);
 
-// The messages of what the ports want, packed by hand: without a star, all of one group, its fronts, and what comes then.
+// The messages of what the ports want, packed by hand.
 const NO_STAR: Told<'static> = (42, [0xc1, 0xbb], &[(1, false, &[3, 5])]);
 
 const STAR: Set<'static> = (1, true, &[3, 5]);
@@ -222,18 +219,10 @@ fn bytes_of(alloc: Global, messages: &[Told<'_>]) -> Result<Vec<u8>, AllocError>
     Ok(bytes)
 }
 
-/// Whether so many messages of these bytes are written, kept and packed.
-fn are_written(alloc: Global, state: &State, messages: u64, bytes: &[u8]) -> bool {
-    let mut out = ScriptedDrain::new(alloc, 33, 100_000);
-    written(alloc, state, &mut out) == Some(messages)
-        && out.written() == bytes
-        && is_packed(alloc, state, bytes)
-}
-
-/// Whether these messages are.
+/// Whether these messages are written, kept and packed.
 fn are_merged(alloc: Global, state: &State, messages: &[Told<'_>]) -> bool {
     match bytes_of(alloc, messages) {
-        Ok(bytes) => are_written(alloc, state, messages.len() as u64, &bytes),
+        Ok(bytes) => is_written(alloc, state, messages.len() as u64, &bytes),
         Err(_) => false,
     }
 }

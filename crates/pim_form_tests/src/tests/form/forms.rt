@@ -69,8 +69,8 @@ fn forms_by_the_macros(rt: HostRuntime) {
     assert!(rt; is_wanted(rt.alloc()));
 }
 
-/// Whether the ports want what they should at once; where memory is refused, whether they hold what they held and want
-/// it then.
+/// Whether the ports want what they should: at once or, where memory is refused, when they hold what
+/// they held and are asked again.
 fn want_at_last(alloc: Global, ports: &Ports<V4>) -> Result<bool, AllocError> {
     if let Ok(answer) = want(alloc, ports) {
         return Ok(answer);
@@ -81,9 +81,7 @@ fn want_at_last(alloc: Global, ports: &Ports<V4>) -> Result<bool, AllocError> {
 
 /// The same of three ports that heard the messages.
 fn heard_want_at_last(alloc: Global) -> Result<bool, AllocError> {
-    let Some(mut state) = state4(alloc, 3, 1480) else {
-        return Err(AllocError);
-    };
+    let mut state = state4(alloc, 3, 1480).ok_or(AllocError)?;
     if hear_held(alloc, &mut state) && state.ports.port_count() == 3 {
         want_at_last(alloc, &state.ports)
     } else {
