@@ -76,4 +76,4 @@ for time, packet in records(data):
             print(line)
     if found := pim(packet, family):
         [verdict] = ask(session, f"packet 0 {found[0]} {found[1]} {found[2].hex()}")
-        print(f"{now} port 0 from {found[0]} {verdict}")
+        print(f"{now} port 0 from {found[0].exploded} {verdict}")
