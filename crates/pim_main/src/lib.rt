@@ -1,0 +1,107 @@
+//! The program `pimtree` but for its `main`, so that small programs beside it can be run by the gate,
+//! each with words of its own.
+//!
+//! `run_program` gives the engines of `pim_commands` and `pim_session` the process's own devices and
+//! files. It has no contract: what a file or a device holds, no contract can name.
+#![tactic(auto)]
+
+mod files;
+mod output;
+
+ghost use Rattle.pim_words.specs.Plan.{IsInRange};
+
+use crate::files::SystemFiles;
+use crate::output::{Output, Replies, is_live};
+use pim_addr::{Counted, Family, V4, V6};
+use pim_commands::{FAULTY, Fault, run_task, tell_into};
+use pim_items::Answers;
+use pim_session::{SessionFault, session_into};
+use pim_words::{Plan, Task, plan};
+use std::io::Write;
+use std::process::ExitCode;
+use std::{env, io};
+
+/// The words of the command line, of which the first is the program's name.
+fn words_given(rt: &HostRuntime) -> io::Result<Vec<String>> {
+    let words = env::args(rt)?;
+    Ok(words.collect(rt.alloc())?)
+}
+
+/// The fault of a session, as one of the program.
+fn session_fault(fault: SessionFault) -> Fault<'static> {
+    match fault {
+        SessionFault::Input => Fault::InputRead,
+        SessionFault::Output => Fault::Output,
+        SessionFault::Memory => Fault::Memory,
+    }
+}
+
+/// Answers a session on standard input, on standard output.
+fn run_session(rt: &HostRuntime) -> Result<u8, Fault<'static>> {
+    let Ok(mut replies) = Replies::new(rt.alloc(), io::writer(rt)) else {
+        return Err(Fault::Memory);
+    };
+    let input = Counted::new(rt.stdin());
+    let status = session_into(rt.alloc(), input, &mut replies);
+    let flushed = replies.flush();
+    match status {
+        Ok(status) if flushed.is_ok() => Ok(status),
+        Ok(_) => Err(Fault::Output),
+        Err(fault) => Err(session_fault(fault)),
+    }
+}
+
+/// Does a task, with standard input and output and the files of the system, and returns the status.
+fn run_on_system<'a, F: Family>(rt: &HostRuntime, task: &Task<'a, F::Addr>) -> Result<u8, Fault<'a>>
+    requires { IsInRange task.now }
+{
+    let Ok(output) = Output::new(rt.alloc(), io::writer(rt), is_live(rt, task)) else {
+        return Err(Fault::Memory);
+    };
+    let mut output = Counted::new(output);
+    let mut files = SystemFiles::new(rt);
+    let mut input = Counted::new(rt.stdin());
+    let alloc = rt.alloc();
+    let status = run_task::<F, _, _, _>(alloc, &mut files, task, &mut input, &mut output);
+    match output.into_inner().flush() {
+        Err(_) if status.is_ok() => Err(Fault::Output),
+        _ => status,
+    }
+}
+
+/// Does what the words ask for, and returns the status.
+fn run<'a>(rt: &HostRuntime, words: &'a [String]) -> Result<u8, Fault<'a>> {
+    match &plan(rt.alloc(), words)? {
+        Plan::V4(task) => run_on_system::<V4>(rt, task),
+        Plan::V6(task) => run_on_system::<V6>(rt, task),
+        Plan::Session => run_session(rt),
+    }
+}
+
+/// Writes a fault to standard output or error, and returns the status.
+fn tell(rt: &HostRuntime, fault: &Fault<'_>) -> u8 {
+    let mut output = Counted::new(io::writer(rt));
+    let mut errors = Counted::new(rt.stderr());
+    tell_into(fault, &mut output, &mut errors)
+}
+
+/// Writes why the words can't be read, and returns the status.
+fn tell_unread(rt: &HostRuntime, error: &io::Error) -> u8 {
+    if error.kind() == io::ErrorKind::InvalidData {
+        let _ = eprintln!(rt; "pimtree: a word of the command line isn't valid UTF-8");
+        return FAULTY;
+    }
+    tell(rt, &Fault::Memory)
+}
+
+/// Does what the words of the process's command line ask for, and returns its status.
+pub fn run_program(rt: &HostRuntime) -> ExitCode {
+    let words = match words_given(rt) {
+        Ok(words) => words,
+        Err(error) => return ExitCode::from(tell_unread(rt, &error)),
+    };
+    match run(rt, words.as_slice()) {
+        Ok(status) => ExitCode::from(status),
+        Err(fault) => ExitCode::from(tell(rt, &fault)),
+    }
+}
