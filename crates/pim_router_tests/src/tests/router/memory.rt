@@ -8,6 +8,7 @@ use pim_frame::{MessageType, all_routers, seal};
 use pim_hello::{Heard, KnownNeighbour};
 use pim_router::{Config, ConfigFault, Router, Step, Verdict};
 use std::alloc::{AllocError, Global};
+use std::test::Fail;
 
 /// A Hello with a holdtime of 60 s, without its header.
 const HELLO: [u8; 10] = [0, 0, 0, 0, 0, 1, 0, 2, 0, 60];
@@ -166,7 +167,8 @@ fn are_told_under(alloc: Global, routes: &Routes<V4>) -> Option<bool> {
 }
 
 #[test]
-fn refusals_change_nothing(rt: HostRuntime) {
+fn refusals_change_nothing(rt: HostRuntime) -> Result<(), Fail> {
     let routes = Routes::new(rt.alloc());
-    assert!(rt; are_told_under(rt.alloc(), &routes) != Some(false));
+    assert!(rt; are_told_under(rt.alloc(), &routes).ok_or(AllocError)?);
+    Ok(())
 }

@@ -7,6 +7,7 @@ use pim_down::{State, What};
 use pim_form::{FormFault, Writer};
 use pim_router::{Router, same_wants};
 use std::alloc::{AllocError, Global};
+use std::test::Fail;
 
 const FIRST: [u8; 4] = [192, 0, 2, 1];
 
@@ -92,14 +93,24 @@ fn asks(
     Ok(messages.count() == 1 && messages.get(0) == Some(ASKED.as_slice()))
 }
 
+/// What a test tells of a call that was refused memory: that it is wrong, or that memory is wanting.
+/// So a test passes only if its call succeeds at once.
+fn refused(is_right: bool) -> Result<bool, AllocError> {
+    if is_right { Err(AllocError) } else { Ok(false) }
+}
+
 /// Whether a router asks by that message: at once or, where a growth is refused, with nothing
 /// changed and then again.
-fn asks_again(alloc: Global, router: &Router<'_, V4>, writer: &Writer<V4>) -> bool {
+fn asks_again(
+    alloc: Global,
+    router: &Router<'_, V4>,
+    writer: &Writer<V4>,
+) -> Result<bool, AllocError> {
     let answer = asks(alloc, router, writer);
-    if answer == Err(FormFault::Memory) && is_as_heard(router) {
-        return asks(alloc, router, writer) == Ok(true);
+    if answer == Err(FormFault::Memory) {
+        return refused(is_as_heard(router) && asks(alloc, router, writer) == Ok(true));
     }
-    answer == Ok(true)
+    Ok(answer == Ok(true))
 }
 
 /// Who asks 10.0.0.2, by messages of up to 1480 bytes.
@@ -107,44 +118,48 @@ fn writer() -> Option<Writer<V4>> {
     Writer::new([10, 0, 0, 2], [10, 0, 0, 1], 210, 1480).ok()
 }
 
-/// Whether a router under this table asks so; nothing is known where its making is refused.
-fn messages_are_made(alloc: Global, routes: &Routes<V4>) -> bool {
+/// Whether a router under this table asks so.
+fn messages_are_made(alloc: Global, routes: &Routes<V4>) -> Result<bool, AllocError> {
     match (after(alloc, routes), writer()) {
         (Some(router), Some(writer)) => asks_again(alloc, &router, &writer),
-        (_, writer) => writer.is_some(),
+        _ => Err(AllocError),
     }
 }
 
 #[test]
-fn messages_are_made_again(rt: HostRuntime) {
-    let Some(routes) = table(rt.alloc(), [10, 0, 0, 2]) else {
-        return;
-    };
-    assert!(rt; messages_are_made(rt.alloc(), &routes));
+fn messages_are_made_again(rt: HostRuntime) -> Result<(), Fail> {
+    let routes = table(rt.alloc(), [10, 0, 0, 2]).ok_or(AllocError)?;
+    assert!(rt; messages_are_made(rt.alloc(), &routes)?);
+    Ok(())
 }
 
 /// Whether two routers want the same: at once or, where a growth is refused, with nothing changed
 /// and then again.
-fn same_again(alloc: Global, a: &Router<'_, V4>, b: &Router<'_, V4>, writer: &Writer<V4>) -> bool {
+fn same_again(
+    alloc: Global,
+    a: &Router<'_, V4>,
+    b: &Router<'_, V4>,
+    writer: &Writer<V4>,
+) -> Result<bool, AllocError> {
     let answer = same_wants(alloc, a, b, writer);
-    if answer == Err(FormFault::Memory) && is_as_heard(a) && is_as_heard(b) {
-        return same_wants(alloc, a, b, writer) == Ok(true);
+    if answer == Err(FormFault::Memory) {
+        let heard = is_as_heard(a) && is_as_heard(b);
+        return refused(heard && same_wants(alloc, a, b, writer) == Ok(true));
     }
-    answer == Ok(true)
+    Ok(answer == Ok(true))
 }
 
-/// Whether two routers under this table want the same; nothing is known where a making is refused.
-fn wants_are_compared(alloc: Global, routes: &Routes<V4>) -> bool {
+/// Whether two routers under this table want the same.
+fn wants_are_compared(alloc: Global, routes: &Routes<V4>) -> Result<bool, AllocError> {
     match (after(alloc, routes), after(alloc, routes), writer()) {
         (Some(a), Some(b), Some(writer)) => same_again(alloc, &a, &b, &writer),
-        (_, _, writer) => writer.is_some(),
+        _ => Err(AllocError),
     }
 }
 
 #[test]
-fn wants_are_compared_again(rt: HostRuntime) {
-    let Some(routes) = table(rt.alloc(), [10, 0, 0, 2]) else {
-        return;
-    };
-    assert!(rt; wants_are_compared(rt.alloc(), &routes));
+fn wants_are_compared_again(rt: HostRuntime) -> Result<(), Fail> {
+    let routes = table(rt.alloc(), [10, 0, 0, 2]).ok_or(AllocError)?;
+    assert!(rt; wants_are_compared(rt.alloc(), &routes)?);
+    Ok(())
 }
