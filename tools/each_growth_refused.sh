@@ -7,11 +7,13 @@
 #   tools/each_growth_refused.sh CRATE..     the tests of these crates
 #   tools/each_growth_refused.sh scenarios   the scenarios
 #
-# A run is right if the test passes. The test checks what the call returned when memory was refused,
-# and what it left or wrote. It also checks what the same call then returns with memory. A run is also right if the test itself was refused memory
-# ("error: AllocError"). Any other run is wrong, such as one that aborts, ends by a signal, or takes
-# more than 60 s. Then the last line says so, and the status is 1. The status is also 1 if a test
-# isn't built, fails with memory, or allocates nothing.
+# The test checks what the call returned when memory was refused, and what it left or wrote. It also
+# checks what the same call then returns with memory. A run is right if the test passes, or ends for
+# want of memory ("error: AllocError"). A test ends so where it was refused memory itself. Most also
+# do so at the end where the call was: without a refusal they pass only if the call succeeds at once.
+# Any other run is wrong, such as one that aborts, ends by a signal, or takes more than 60 s. Then the
+# last line says so, and the status is 1. The status is also 1 if a test isn't built, fails with
+# memory, or allocates nothing.
 #
 # A scenario is a session with its answers. A command that is answered `fault memory` is given
 # again, and then all answers must be as expected; scenarios_refused.py says the rest.
