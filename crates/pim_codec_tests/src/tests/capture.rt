@@ -216,8 +216,8 @@ fn packets_passed_over(rt: HostRuntime) -> Result<(), Fail> {
     Ok(())
 }
 
-// `tools/each_growth_refused.sh` runs it with each allocation refused in turn. Then it ends with the
-// error of the allocator, if all before is right: so it passes only if each call succeeds.
+// `tools/each_growth_refused.sh` runs it with each allocation refused in turn. Then it ends with this
+// error, if nothing else is wrong: so it passes only if each call succeeds.
 #[test]
 fn refused_growth(rt: HostRuntime) -> Result<(), Fail> {
     let mut buffer = Vec::new(rt.alloc());

@@ -50,7 +50,11 @@ const HIGHER: [u8; 4] = [239, 1, 1, 2];
 
 const JOINED: Option<State> = Some(State::Join);
 
-/// What is told of all that the tests below let be heard.
+/// What is told of a port, a group and a machine: the group's next machine, the next group, and the
+/// machine's state.
+type Told = (Option<What<[u8; 4]>>, Option<[u8; 4]>, Option<State>);
+
+/// What is told of all machines that the tests below let be heard of.
 const OF_ALL: [Told; 5] = [
     (Some(What::Source(FIRST)), Some(HIGHER), JOINED),
     (None, Some(GROUP), None),
@@ -77,9 +81,6 @@ fn is_at_its_end(ports: &Ports<V6>) -> bool {
         && left.next_machine().is_none()
 }
 
-/// What is told of a port, a group and a machine: the group's next machine, the next group, and the machine's state.
-type Told = (Option<What<[u8; 4]>>, Option<[u8; 4]>, Option<State>);
-
 /// Whether the three look-ups near this place tell this.
 fn is_told_near(
     ports: &Ports<V4>,
@@ -93,7 +94,7 @@ fn is_told_near(
     next.map(|record| record.key.what) == told.0 && above == told.1 && state == told.2
 }
 
-/// Whether look-ups near this place, before, at and behind records, and on a port that isn't there, tell this.
+/// Whether look-ups near this place tell this: before, at and after records, and on no port.
 fn are_told_near(ports: &Ports<V4>, near: Near, told: [Told; 5]) -> bool {
     is_told_near(ports, (0, GROUP, What::Star), near, told[0])
         && is_told_near(ports, (0, LOWER, What::Rpt(SECOND)), near, told[1])
@@ -154,9 +155,9 @@ const ANOTHER_PORT: Row = Row::Hear(1, &[(GROUP, &[JOIN_SECOND], &[])]);
 
 /// Whether the machines, and those of another group and another port, are heard of.
 fn all_are_heard(alloc: Global, ports: &mut Ports<V4>) -> bool {
-    [MANY, ANOTHER_GROUP, ANOTHER_PORT]
-        .iter()
-        .all(|row| goes(alloc, ports, *row))
+    goes(alloc, ports, MANY)
+        && goes(alloc, ports, ANOTHER_GROUP)
+        && goes(alloc, ports, ANOTHER_PORT)
 }
 
 /// Whether they are told from a place among them, and from none.
@@ -174,7 +175,7 @@ fn machines_of_a_group_are_told_one_after_another(rt: HostRuntime) {
 
 const FEW: Row = Row::Hear(0, &[(GROUP, &[JOIN_FIRST], &[])]);
 
-/// Whether look-ups in each of two states go right from a place of the other, of its own, and from none.
+/// Whether look-ups in each of two states go right from a place of the other, and of its own.
 fn hints_are_exchanged(alloc: Global) -> bool {
     let mut all: Ports<V4> = Ports::new(alloc, 2, 100);
     let mut few: Ports<V4> = Ports::new(alloc, 2, 100);
