@@ -14,8 +14,8 @@ use crate::files::SystemFiles;
 use crate::output::{Output, Replies, is_live};
 use pim_addr::{Counted, Family, V4, V6};
 use pim_commands::{FAULTY, Fault, run_task, tell_into};
-use pim_items::Answers;
-use pim_session::{SessionFault, session_into};
+use pim_items::{Answers, Items, Stopped};
+use pim_session::session_into;
 use pim_words::{Plan, Task, plan};
 use std::io::Write;
 use std::process::ExitCode;
@@ -27,27 +27,28 @@ fn words_given(rt: &HostRuntime) -> io::Result<Vec<String>> {
     Ok(words.collect(rt.alloc())?)
 }
 
-/// The fault of a session, as one of the program.
-fn session_fault(fault: SessionFault) -> Fault<'static> {
-    match fault {
-        SessionFault::Input => Fault::InputRead,
-        SessionFault::Output => Fault::Output,
-        SessionFault::Memory => Fault::Memory,
+/// The fault of a session that stopped, as one of the program.
+fn session_fault(stopped: Stopped) -> Fault<'static> {
+    match stopped {
+        Stopped::Input => Fault::InputRead,
+        Stopped::Output => Fault::Output,
     }
 }
 
-/// Answers a session on standard input, on standard output.
+/// Answers a session on standard input, on standard output, and returns the status.
 fn run_session(rt: &HostRuntime) -> Result<u8, Fault<'static>> {
     let Ok(mut replies) = Replies::new(rt.alloc(), io::writer(rt)) else {
         return Err(Fault::Memory);
     };
-    let input = Counted::new(rt.stdin());
-    let status = session_into(rt.alloc(), input, &mut replies);
+    let Ok(mut items) = Items::new(rt.alloc(), Counted::new(rt.stdin())) else {
+        return Err(Fault::Memory);
+    };
+    let ended = session_into(rt.alloc(), &mut items, &mut replies);
     let flushed = replies.flush();
-    match status {
-        Ok(status) if flushed.is_ok() => Ok(status),
-        Ok(_) => Err(Fault::Output),
-        Err(fault) => Err(session_fault(fault)),
+    match ended {
+        Ok(()) if flushed.is_ok() => Ok(0),
+        Ok(()) => Err(Fault::Output),
+        Err(stopped) => Err(session_fault(stopped)),
     }
 }
 

@@ -17,11 +17,11 @@ use Rattle.pim_answers.specs.Answered.{Whole}
 use Rattle.pim_answers.specs.Kept.{Kept}
 use Rattle.pim_answers.specs.Lines.{ok_line, fault_line}
 use Rattle.pim_session.specs.Answers.{Answers, session_in}
-use Rattle.pim_session.specs.Dialog.{IsAnswer}
+use Rattle.pim_session.specs.Dialog.{Converses, IsAnswer}
 use Rattle.pim_session.specs.Gathering.{Starts}
 use Rattle.pim_session.specs.Request.{Asks}
 use Rattle.pim_session.specs.State.{Gathered, Phase, Session, gathering}
-use Rattle.pim_session.specs.Underway.{Configured, GoesOn, Ended, Begins, BeginsServing, AllEnded, IsRefused}
+use Rattle.pim_session.specs.Underway.{Configured, GoesOn, Ended, Begins, BeginsServing, IsRefused}
 use Rattle.pim_session.proofs.Underway.{on_some, at_failed_read, at_failed_flush, started, ended_after}
 use Rattle.pim_session.proofs.Dialogs.{went_one, front_one}
 
@@ -31,7 +31,7 @@ module _ (from old mid later coming : Option (List ℕ)) (start now : Session) (
   ended_stopped stopped.Input left kept refused = at_failed_read from old mid later coming start now w keeps
   ended_stopped stopped.Output left kept refused = at_failed_flush from old mid later coming start now w keeps
 
-  pub all_stopped : (s : Stopped) → IfSome from (λ bytes. AllEnded bytes start old later (Err s))
+  pub all_stopped : (s : Stopped) → IfSome from (λ bytes. Converses start bytes old later (Err s))
   all_stopped stopped.Input = at_failed_read from old mid later coming start now w keeps
   all_stopped stopped.Output = at_failed_flush from old mid later coming start now w keeps
 
@@ -48,7 +48,7 @@ module _ (from old mid later coming : Option (List ℕ)) (start now : Session) (
 
 -- the end of all, where a start ended it
 pub all_by_start : (from old new left : Option (List ℕ)) (start refused : Session) (kept : List Kept) (s : Stopped) → IfSome from (λ bytes. Ended start (items_of bytes) old new left kept refused (Err s))
-    → IfSome from (λ bytes. AllEnded bytes start old new (Err s))
+    → IfSome from (λ bytes. Converses start bytes old new (Err s))
 all_by_start from old new left start refused kept stopped.Input it = it
 all_by_start from old new left start refused kept stopped.Output it = it
 

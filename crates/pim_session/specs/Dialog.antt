@@ -1,11 +1,11 @@
 -- A session: the answers to the items of its input, in order.
-use Rattle.std.specs.Prelude.{◌≡◌, ℕ, ◌+◌, min, List, [], ◌∷◌, ◌++◌, Option, Result, Ok, Err}
-use Rattle.std.specs.Io.KnownBytes.{Appends, Keeps}
-use Rattle.pim_device.specs.Device.{AppendsFront, top_count}
+use Rattle.std.specs.Prelude.{◌≡◌, ℕ, List, [], ◌∷◌, ◌++◌, Option, Result, Ok, Err}
+use Rattle.std.specs.Io.KnownBytes.{Appends}
+use Rattle.pim_device.specs.Device.{AppendsFront}
+use Rattle.pim_items.specs.declared.input.Stopped.{Stopped}
+use Rattle.pim_items.specs.declared.input.Stopped.TheVariants.{Input, Output}
 use Rattle.pim_items.specs.Items.{Item, items_of}
 use Rattle.pim_session.specs.declared.request.Request.{Request}
-use Rattle.pim_session.specs.declared.session.SessionFault.{SessionFault}
-use Rattle.pim_session.specs.declared.session.SessionFault.TheVariants.{Input, Output, Memory}
 use Rattle.pim_session.specs.Answers.{Answers}
 use Rattle.pim_session.specs.Request.{Asks}
 use Rattle.pim_session.specs.State.{Session, new_session}
@@ -42,19 +42,14 @@ pub record Wrote (Is : List ℕ → Type 0) (HasWritten : List ℕ → Type 0) :
   pub is : Is text
   pub written : HasWritten text
 
--- What `session_into` returns and writes over an input. At Ok all items were answered. Where the
--- reader failed, some first items were. Where the writer failed, a front of such answers was
--- written. Without memory at the begin, nothing was.
-abbrev pub Converses : List ℕ → Option (List ℕ) → Option (List ℕ) → Result ℕ SessionFault → Type 0
-Converses input old new (Ok status) = (status ≡ 0) × Wrote (AnswersAll new_session (items_of input))
+-- What the answers to the items of an input return and write, where this is the session before them.
+-- At Ok all items were answered. Where the reader failed, some first items were. Where the writer
+-- failed, a front of such answers was written.
+abbrev pub Converses : Session → List ℕ → Option (List ℕ) → Option (List ℕ) →
+    Result (Unit {0}) Stopped → Type 0
+Converses start input old new (Ok done) = Wrote (AnswersAll start (items_of input))
     (Appends old new)
-Converses input old new (Err Input) = Wrote (AnswersFirst new_session (items_of input))
+Converses start input old new (Err Input) = Wrote (AnswersFirst start (items_of input))
     (Appends old new)
-Converses input old new (Err Output) = Wrote (AnswersFirst new_session (items_of input))
+Converses start input old new (Err Output) = Wrote (AnswersFirst start (items_of input))
     (AppendsFront old new)
-Converses input old new (Err Memory) = Keeps old new
-
--- How often the writer has failed after the session: once more at `Output`, up to 2^64 - 1.
-abbrev pub failures_of : ℕ → Result ℕ SessionFault → ℕ
-failures_of before (Err Output) = min (before + 1) top_count
-failures_of before result = before

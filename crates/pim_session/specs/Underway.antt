@@ -73,15 +73,6 @@ BeginsServing start bytes served old new coming kept result = (item : Item) →
     IsAnswer start item ok_line served →
     Ended start (item ∷ items_of bytes) old new coming kept start result
 
--- What the answers to all items return and write.
-abbrev pub AllEnded : List ℕ → Session → Option (List ℕ) → Option (List ℕ) →
-    Result (Unit {0}) Stopped → Type 0
-AllEnded bytes start old new (Ok done) = Wrote (AnswersAll start (items_of bytes)) (Appends old new)
-AllEnded bytes start old new (Err stopped.Input) = Wrote (AnswersFirst start (items_of bytes))
-    (Appends old new)
-AllEnded bytes start old new (Err stopped.Output) = Wrote (AnswersFirst start (items_of bytes))
-    (AppendsFront old new)
-
 -- The answer to a request before the start: `true` where it asks for the start, which isn't
 -- answered yet.
 abbrev pub Configured : {E : Type 0} → Session → Result Request (List ℕ) → Option (List ℕ) →

@@ -16,4 +16,4 @@ mod serving;
 mod session;
 mod setup;
 
-pub use session::{SessionFault, session_into};
+pub use session::session_into;

@@ -2,7 +2,7 @@
 
 ghost use Rattle.std.specs.Prelude.{◌≡◌, ◌≢◌, ◌≤◌, Ok, IfSome};
 ghost use Rattle.pim_device.specs.Device.{failures_after};
-ghost use Rattle.pim_items.specs.Reading.{flush_failures_after};
+ghost use Rattle.pim_items.specs.Reading.{CountsReads, flush_failures_after};
 ghost use Rattle.pim_items.specs.Items.{items_of};
 ghost use Rattle.pim_answers.specs.Answered.{Answered};
 ghost use Rattle.pim_answers.specs.Fault.{fault_words};
@@ -147,6 +147,7 @@ fn serve<R: Feed, W: Answers>(
         (store_seen store.new) refused result) }
     ensures started { result ≢ Ok Ending.Refused }
     ensures left { items.new.left ≤ items.old.left }
+    ensures reads { CountsReads result items.new.unread items.old.failures items.new.failures }
     ensures count { W.failures answers.new ≡ flush_failures_after (W.failures answers.old) result }
 {
     let mut bytes = Vec::new(alloc);
@@ -189,6 +190,7 @@ fn begin<R: Feed, W: Answers>(
         result) }
     ensures started { result ≢ Ok Ending.Refused }
     ensures left { items.new.left ≤ items.old.left }
+    ensures reads { CountsReads result items.new.unread items.old.failures items.new.failures }
     ensures count { W.failures answers.new ≡ flush_failures_after (W.failures answers.old) result }
 {
     match write_ok(answers) {
@@ -211,6 +213,7 @@ pub(crate) fn start<R: Feed, W: Answers>(
         result) }
     ensures left { items.new.left ≤ items.old.left }
     ensures refused { result ≡ Ok Ending.Refused → store_seen store.new ≡ store_seen store.old }
+    ensures reads { CountsReads result items.new.unread items.old.failures items.new.failures }
     ensures count { W.failures answers.new ≡ flush_failures_after (W.failures answers.old) result }
 {
     match make_router(alloc, setup) {

@@ -2,16 +2,16 @@
 
 ghost use Rattle.std.specs.Prelude.{◌≡◌, List, None, Ok, IfSome};
 ghost use Rattle.pim_device.specs.Device.{failures_after};
-ghost use Rattle.pim_items.specs.Reading.{flush_failures_after};
+ghost use Rattle.pim_items.specs.Reading.{CountsReads, flush_failures_after};
 ghost use Rattle.pim_answers.specs.Answered.{Answered};
 ghost use Rattle.pim_session.specs.Answers.{Gathers, session_in};
-ghost use Rattle.pim_session.specs.Dialog.{Converses, failures_of};
+ghost use Rattle.pim_session.specs.Dialog.{Converses};
 ghost use Rattle.pim_session.specs.Seen.{asked_seen};
 ghost use Rattle.pim_session.specs.SetupSeen.{gathered_seen, row_in};
 ghost use Rattle.pim_session.specs.State.{gathering, new_session};
 ghost use Rattle.pim_answers.specs.Kept.{Kept};
 ghost use Rattle.pim_answers.specs.StoreSeen.{store_seen};
-ghost use Rattle.pim_session.specs.Underway.{AllEnded, Configured};
+ghost use Rattle.pim_session.specs.Underway.{Configured};
 
 use crate::request::{Request, request_of};
 use crate::serving::{Ending, start};
@@ -21,21 +21,6 @@ use pim_answers::{Fault, Store, write_done, write_fault, write_ok};
 use pim_items::{Answers, Items, Stopped};
 use pim_request::Command;
 use std::alloc::Global;
-use thiserror::Error;
-
-/// Why a session stops before the end of its input.
-#[derive(Clone, Copy, Debug, PartialEq, Eq, Error)]
-pub enum SessionFault {
-    /// The reader failed.
-    #[error("input read")]
-    Input,
-    /// The device that takes the answers failed.
-    #[error("output")]
-    Output,
-    /// Memory was refused before the first line.
-    #[error("memory")]
-    Memory,
-}
 
 /// The row that a command adds to the set-up.
 fn row_of(command: &Command<'_>) -> Option<AnyRow>
@@ -155,9 +140,10 @@ fn answer_all<R: Feed, W: Answers>(
     items: &mut Items<R>,
     answers: &mut W,
 ) -> Result<(), Stopped>
-    ensures ended { IfSome items.old.coming (λ bytes. AllEnded bytes
-        (session_in (gathering (gathered_seen setup.old)) (store_seen store.old))
+    ensures ended { IfSome items.old.coming (λ bytes. Converses
+        (session_in (gathering (gathered_seen setup.old)) (store_seen store.old)) bytes
         (W.contents answers.old) (W.contents answers.new) result) }
+    ensures reads { CountsReads result items.new.unread items.old.failures items.new.failures }
     ensures count { W.failures answers.new ≡ flush_failures_after (W.failures answers.old) result }
 {
     'items: loop {
@@ -178,47 +164,27 @@ fn answer_all<R: Feed, W: Answers>(
     }
 }
 
-/// Answers the items of the input to its end.
-fn answer_from_nothing<R: Feed, W: Answers>(
-    alloc: Global,
-    items: &mut Items<R>,
-    answers: &mut W,
-) -> Result<(), Stopped>
-    ensures ended { IfSome items.old.coming (λ bytes. AllEnded bytes new_session
-        (W.contents answers.old) (W.contents answers.new) result) }
-    ensures count { W.failures answers.new ≡ flush_failures_after (W.failures answers.old) result }
-{
-    let mut setup = Setup::new();
-    let mut store = Store::new(alloc);
-    answer_all(alloc, &mut setup, &mut store, items, answers)
-}
-
-/// Reads commands line by line to the end of the input, and answers each before it reads on. It
-/// returns the status, 0.
+/// Answers the commands of an input to its end, each before more is read.
 ///
 /// A command is answered by its lines and `ok`, or by `fault` and the words of its first fault,
 /// which leaves everything as it was. A command for which memory is refused is answered `fault
 /// memory`.
 ///
 /// # Errors
-/// - `Input`: the reader failed. The commands that were read are answered.
+/// - `Input`: a read failed, or 2^64 - 1 bytes were read. The commands that were read are answered.
 /// - `Output`: the device that takes the answers failed. A prefix of the answers was written.
-/// - `Memory`: there is no room for a line. Nothing was read or written.
-pub fn session_into<R: Feed + Drop, W: Answers>(
+pub fn session_into<R: Feed, W: Answers>(
     alloc: Global,
-    reader: R,
+    items: &mut Items<R>,
     answers: &mut W,
-) -> Result<u8, SessionFault>
-    ensures converses { IfSome (R.remaining reader) (λ input. Converses input
+) -> Result<(), Stopped>
+    ensures converses { IfSome items.old.coming (λ input. Converses new_session input
         (W.contents answers.old) (W.contents answers.new) result) }
-    ensures count { W.failures answers.new ≡ failures_of (W.failures answers.old) result }
+    ensures input_read { CountsReads result items.new.unread items.old.failures items.new.failures }
+    ensures output { W.failures answers.new
+        ≡ flush_failures_after (W.failures answers.old) result }
 {
-    let Ok(mut items) = Items::new(alloc, reader) else {
-        return Err(SessionFault::Memory);
-    };
-    match answer_from_nothing(alloc, &mut items, answers) {
-        Ok(()) => Ok(0),
-        Err(Stopped::Input) => Err(SessionFault::Input),
-        Err(Stopped::Output) => Err(SessionFault::Output),
-    }
+    let mut setup = Setup::new();
+    let mut store = Store::new(alloc);
+    answer_all(alloc, &mut setup, &mut store, items, answers)
 }

@@ -3,16 +3,33 @@
 use crate::case::Case;
 use crate::differing::{Place, tell_difference};
 use crate::memory::{MOST_READ, files_of};
-use pim_addr::{ScriptedDrain, V4, V6};
+use pim_addr::{ScriptedDrain, ScriptedFeed, V4, V6};
 use pim_commands::{Fault, run_task, tell_into};
 use pim_files::HeldFiles;
-use pim_session::{SessionFault, session_into};
+use pim_items::{Items, Stopped};
+use pim_session::session_into;
 use pim_words::{Plan, plan};
 use std::alloc::Global;
 use std::io;
 
 /// The most bytes that a write takes.
 const MOST_WRITTEN: usize = 5;
+
+/// Answers a session, as the program does.
+fn answer_session(
+    alloc: Global,
+    input: ScriptedFeed<'_>,
+    output: &mut ScriptedDrain,
+) -> Result<u8, Fault<'static>> {
+    let Ok(mut items) = Items::new(alloc, input) else {
+        return Err(Fault::Memory);
+    };
+    match session_into(alloc, &mut items, output) {
+        Ok(()) => Ok(0),
+        Err(Stopped::Input) => Err(Fault::InputRead),
+        Err(Stopped::Output) => Err(Fault::Output),
+    }
+}
 
 /// Does what the words of a case ask for, as the program does.
 fn answer<'c>(
@@ -29,12 +46,7 @@ fn answer<'c>(
     match &plan {
         Plan::V4(task) => run_task::<V4, _, _, _>(alloc, &mut opener, task, &mut input, output),
         Plan::V6(task) => run_task::<V6, _, _, _>(alloc, &mut opener, task, &mut input, output),
-        Plan::Session => match session_into(alloc, input, output) {
-            Ok(status) => Ok(status),
-            Err(SessionFault::Input) => Err(Fault::InputRead),
-            Err(SessionFault::Output) => Err(Fault::Output),
-            Err(SessionFault::Memory) => Err(Fault::Memory),
-        },
+        Plan::Session => answer_session(alloc, input, output),
     }
 }
 

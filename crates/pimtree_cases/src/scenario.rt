@@ -7,6 +7,7 @@
 use crate::differing::{Place, tell_line};
 use crate::lines::{cut_line, without_feed};
 use pim_addr::{ScriptedDrain, ScriptedFeed};
+use pim_items::Items;
 use pim_session::session_into;
 use std::io;
 
@@ -111,7 +112,8 @@ fn compare(rt: &HostRuntime, file: &str, text: &[u8], answers: &[u8]) -> io::Res
 pub fn run_scenario(rt: &HostRuntime, file: &str, text: &[u8]) -> io::Result<bool> {
     let input = ScriptedFeed::new(text, usize::MAX, usize::MAX);
     let mut answers = ScriptedDrain::new(rt.alloc(), usize::MAX, usize::MAX);
-    let ended = session_into(rt.alloc(), input, &mut answers);
+    let mut items = Items::new(rt.alloc(), input)?;
+    let ended = session_into(rt.alloc(), &mut items, &mut answers);
     if !compare(rt, file, text, answers.written())? {
         return Ok(false);
     }

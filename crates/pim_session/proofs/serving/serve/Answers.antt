@@ -14,6 +14,7 @@ pub items-init : goal.items-init
 items-init g c = record {
   way = begun (session_in (serving (family_in c.args.router.now) (state_in c.args.router.now)) (store_seen c.args.store.now)) c.args.items.now.coming (g.W.Drain.contents c.args.answers.now);
   left = omega arith;
+  reads = refl;
   failures = refl;
 }
 
@@ -31,6 +32,7 @@ items-preserved g c =
           (g.W.Drain.contents c.answer_asked.new.answers) (after true)
           (subst (λ (b : Bool). Whole (Answers now asked) (g.W.Drain.contents c.next.new.answers) (g.W.Drain.contents c.answer_asked.new.answers) (after b)) c.in-Ok-true.field-0-test c.in-Ok-true.ensures.answered);
       left = omega (arith, less, before);
+      reads = c.in_ok-item.ensures.reads ∙ c.items.invariant.reads;
       failures = c.in-Ok-true.ensures.count ∙ c.in_ok-item.ensures.output ∙ c.items.invariant.failures;
     }
 

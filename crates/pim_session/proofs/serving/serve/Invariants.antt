@@ -14,6 +14,7 @@ invariant-items g l = record {
   way : IfSome l.fn.items.coming (λ bytes. GoesOn (session_in (serving (family_in l.fn.router) (state_in l.fn.router)) (store_seen l.fn.store)) (items_of bytes)
       (g.W.Drain.contents l.fn.answers) (g.W.Drain.contents l.answers) l.items.coming (session_in (serving (family_in l.router) (state_in l.router)) (store_seen l.store)));
   left : l.items.left ≤ l.fn.items.left;
+  reads : l.items.failures ≡ l.fn.items.failures;
   failures : g.W.Drain.failures l.answers ≡ g.W.Drain.failures l.fn.answers;
 }
 
