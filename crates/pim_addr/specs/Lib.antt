@@ -1,5 +1,6 @@
 -- The definitions of addresses, encoded addresses, texts and route tables.
 pub mod Address
+pub mod Families
 pub mod Equality
 pub mod Faults
 pub mod Encoded

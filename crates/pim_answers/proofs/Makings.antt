@@ -14,7 +14,7 @@ use Rattle.pim_request.specs.declared.command.Writing.{Writing}
 use Rattle.pim_request.specs.declared.command.Named.{Named}
 use Rattle.pim_router.specs.Canonical.{IsAskedBy, IsTooBig, ToldTooBig}
 use Rattle.pim_router.specs.State.{RouterState}
-use Rattle.pim_replay.specs.MessageText.{messages_text}
+use Rattle.pim_report.specs.MessageText.{messages_text}
 use Rattle.pim_answers.specs.Answered.{Told}
 use Rattle.pim_answers.specs.Asking.{UnlessIf, UnlessAny, TellsMade, TellsSame, AreCompared, AnswersMessages, AnswersFound, TellsOf, IfUsable, has_other_family, writer_words, writer_of, name_words}
 use Rattle.pim_answers.specs.declared.fault.Fault.{Fault}
@@ -22,7 +22,7 @@ use Rattle.pim_answers.specs.declared.kept.Found.{Found}
 use Rattle.pim_answers.specs.declared.kept.Found.TheVariants.{Unknown, Other, Form}
 use Rattle.pim_answers.specs.declared.kept.KeptForm.{KeptForm}
 use Rattle.pim_text.specs.Spelled.{address_bytes}
-use Rattle.pim_replay.specs.Turn.{is_same}
+use Rattle.pim_addr.specs.Families.{is_same}
 use Rattle.pim_answers.specs.AskingSeen.{made_text, same_text, SaysBig, IsFirst, has_same_tables}
 use Rattle.pim_answers.specs.Fault.{fault_words}
 use Rattle.pim_answers.specs.StoreSeen.{form_seen, IsFound}

@@ -12,8 +12,8 @@ use Rattle.pim_router.specs.Seen.{step_seen}
 use Rattle.pim_router.specs.State.{RouterState}
 use Rattle.pim_router.specs.Time.{Runs}
 use Rattle.pim_router.specs.Laws.{EveryListHasACourse}
-use Rattle.pim_replay.specs.EchoLine.{echo_line}
-use Rattle.pim_replay.specs.RefreshLine.{refresh_line}
+use Rattle.pim_report.specs.EchoLine.{echo_line}
+use Rattle.pim_report.specs.RefreshLine.{refresh_line}
 use Rattle.pim_answers.specs.Answered.{Answered}
 use Rattle.pim_answers.specs.Lines.{ok_line}
 use Rattle.pim_answers.specs.Running.{Passes, AnswersRun}

@@ -10,7 +10,7 @@ use Rattle.pim_addr.specs.declared.family.AddressFamily.{AddressFamily}
 use Rattle.pim_router.specs.declared.verdict.Verdict.{Verdict}
 use Rattle.pim_router.specs.Packets.{Packet, received}
 use Rattle.pim_router.specs.State.{RouterState}
-use Rattle.pim_replay.specs.PacketLine.{verdict_line}
+use Rattle.pim_report.specs.PacketLine.{verdict_line}
 use Rattle.pim_answers.specs.declared.packets.FromText.{FromText}
 use Rattle.pim_answers.specs.Answered.{RefusedIf, OrMemory, Answered, Refused}
 use Rattle.pim_answers.specs.Families.{differ_from, family_words}

@@ -6,7 +6,7 @@ use Rattle.pim_down.specs.Time.{Downstream}
 use Rattle.pim_form.specs.NormalForm.{GroupForm, IsFormOf}
 use Rattle.pim_form.specs.Wants.{wants}
 use Rattle.pim_router.specs.State.{RouterState}
-use Rattle.pim_replay.specs.DemandText.{demand_text}
+use Rattle.pim_report.specs.DemandText.{demand_text}
 use Rattle.pim_answers.specs.Lines.{ok_line, fault_line}
 use Rattle.pim_answers.specs.Telling.{TellsWants}
 

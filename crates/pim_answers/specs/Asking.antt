@@ -13,8 +13,8 @@ use Rattle.pim_request.specs.declared.command.Named.{Named}
 use Rattle.pim_router.specs.Canonical.{asked, IsAskedBy, IsTooBig}
 use Rattle.pim_router.specs.Change.{IsToldOf, IsTooBigToTell}
 use Rattle.pim_router.specs.State.{RouterState}
-use Rattle.pim_replay.specs.MessageText.{messages_text}
-use Rattle.pim_replay.specs.Pieces.{line}
+use Rattle.pim_report.specs.MessageText.{messages_text}
+use Rattle.pim_report.specs.Pieces.{line}
 use Rattle.pim_answers.specs.Answered.{Refused, RefusedIf, RefusedBy, OrMemory}
 use Rattle.pim_text.specs.Spelled.{address_bytes}
 use Rattle.pim_answers.specs.Families.{differ_from, family_words}

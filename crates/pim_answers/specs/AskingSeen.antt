@@ -13,7 +13,7 @@ use Rattle.pim_request.specs.declared.command.Kept.{Kept as Keeping}
 use Rattle.pim_request.specs.declared.command.Writing.{Writing}
 use Rattle.pim_router.specs.Canonical.{asked}
 use Rattle.pim_router.specs.State.{RouterState}
-use Rattle.pim_replay.specs.MessageText.{messages_text}
+use Rattle.pim_report.specs.MessageText.{messages_text}
 use Rattle.pim_answers.specs.declared.asking.WriterEnds.{WriterEnds}
 use Rattle.pim_answers.specs.declared.fault.Fault.{Fault}
 use Rattle.pim_answers.specs.declared.kept.KeptForm.{KeptForm}

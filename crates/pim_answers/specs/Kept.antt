@@ -8,7 +8,7 @@ use Rattle.pim_addr.specs.Routes.{RouteTable, rp_of}
 use Rattle.pim_down.specs.Known.{known_in}
 use Rattle.pim_form.specs.NormalForm.{GroupForm, same_address}
 use Rattle.pim_form.specs.Toward.{via_in, is_toward}
-use Rattle.pim_replay.specs.Turn.{is_same}
+use Rattle.pim_addr.specs.Families.{is_same}
 
 -- What is kept under a name: the form of what was asked of a neighbour, and the RP of the group of
 -- each of its stars.

@@ -13,7 +13,7 @@ use Rattle.pim_request.specs.declared.command.Sender.{Sender}
 use Rattle.pim_request.specs.Forms.{hex_bytes}
 use Rattle.pim_router.specs.Packets.{Packet as Received, received}
 use Rattle.pim_router.specs.State.{RouterState}
-use Rattle.pim_replay.specs.PacketLine.{verdict_line}
+use Rattle.pim_report.specs.PacketLine.{verdict_line}
 use Rattle.pim_answers.specs.declared.packets.FromText.{FromText}
 use Rattle.pim_answers.specs.Answered.{Refused, RefusedIf, OrMemory}
 use Rattle.pim_text.specs.Spelled.{address_bytes}

@@ -5,8 +5,8 @@ use Rattle.pim_router.specs.declared.step.Step.TheVariants.{Echo, Refresh, Reach
 use Rattle.pim_router.specs.Course.{Telling, echo, refresh, verdict}
 use Rattle.pim_router.specs.State.{RouterState}
 use Rattle.pim_router.specs.Time.{Runs}
-use Rattle.pim_replay.specs.EchoLine.{echo_line}
-use Rattle.pim_replay.specs.RefreshLine.{refresh_line}
+use Rattle.pim_report.specs.EchoLine.{echo_line}
+use Rattle.pim_report.specs.RefreshLine.{refresh_line}
 use Rattle.pim_answers.specs.Lines.{ok_line}
 
 -- The router runs to the moment, each run going on where the last one stopped, until nothing is

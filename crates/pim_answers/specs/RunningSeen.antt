@@ -3,8 +3,8 @@ use Rattle.std.specs.Prelude.{ℕ, List, []}
 use Rattle.pim_addr.specs.declared.family.AddressFamily.{AddressFamily}
 use Rattle.pim_router.specs.declared.step.Step.{Step}
 use Rattle.pim_router.specs.declared.step.Step.TheVariants.{Echo, Refresh, Reached}
-use Rattle.pim_replay.specs.EchoLine.{echo_line}
-use Rattle.pim_replay.specs.RefreshLine.{refresh_line}
+use Rattle.pim_report.specs.EchoLine.{echo_line}
+use Rattle.pim_report.specs.RefreshLine.{refresh_line}
 
 -- The line of the end of a run at this moment; nothing where the moment is reached.
 abbrev pub step_line : AddressFamily → ℕ → Step (List ℕ) → List ℕ

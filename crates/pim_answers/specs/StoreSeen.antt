@@ -2,7 +2,7 @@
 use Rattle.std.specs.Prelude.{◌≡◌, ℕ, false, List, map, Option, None, Some, option_map}
 use Rattle.pim_addr.specs.declared.family.AddressFamily.{AddressFamily}
 use Rattle.pim_addr.specs.declared.family.AddressFamily.TheVariants as family
-use Rattle.pim_replay.specs.Turn.{is_same}
+use Rattle.pim_addr.specs.Families.{is_same}
 use Rattle.pim_answers.specs.declared.kept.StarRp.{StarRp}
 use Rattle.pim_answers.specs.declared.kept.KeptForm.{KeptForm}
 use Rattle.pim_answers.specs.declared.kept.AnyForm.{AnyForm}

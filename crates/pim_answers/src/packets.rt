@@ -7,7 +7,7 @@ ghost use Rattle.pim_frame.specs.Seal.{IsSealed};
 ghost use Rattle.pim_text.specs.Spell.{stated_in};
 ghost use Rattle.pim_request.specs.Forms.{IsHex};
 ghost use Rattle.pim_router.specs.Seen.{packet_seen};
-ghost use Rattle.pim_replay.specs.PacketLine.{verdict_line};
+ghost use Rattle.pim_report.specs.PacketLine.{verdict_line};
 ghost use Rattle.pim_answers.specs.Answered.{OrMemory, Answered};
 ghost use Rattle.pim_answers.specs.Families.{differ_from};
 ghost use Rattle.pim_answers.specs.Lines.{ok_line};
@@ -18,7 +18,7 @@ ghost use Rattle.pim_answers.specs.PacketsSeen.{IsPort, AreEnds, AreEndsOf, has_
 use crate::fault::{Fault, write_fault, write_ok};
 use pim_addr::{AddressFamily, Drain, Failed, Family};
 use pim_frame::{MessageType, all_routers, seal};
-use pim_replay::write_verdict_line;
+use pim_report::write_verdict_line;
 use pim_request::{Packet, Sender, decode_hex, of_family};
 use pim_router::{Router, Verdict};
 use pim_text::{AnyAddress, Spelled, Stated, TextFault, spell};

@@ -4,8 +4,8 @@
 ghost use Rattle.std.specs.Prelude.{◌≡◌, ◌++◌, true, Some};
 ghost use Rattle.std.specs.List.{flat_map};
 ghost use Rattle.pim_device.specs.Device.{AppendsAll, failures_after};
-ghost use Rattle.pim_replay.specs.DemandText.{demand_text};
-ghost use Rattle.pim_replay.specs.RecordLine.{record_line};
+ghost use Rattle.pim_report.specs.DemandText.{demand_text};
+ghost use Rattle.pim_report.specs.RecordLine.{record_line};
 ghost use Rattle.pim_answers.specs.Answered.{Told};
 ghost use Rattle.pim_answers.specs.Lines.{ok_line};
 ghost use Rattle.pim_answers.specs.Neighbours.{neighbours_text};
@@ -17,7 +17,7 @@ use itoa::Buffer;
 use pim_addr::{Drain, Failed, Family, Routes};
 use pim_down::Records;
 use pim_form::NormalForm;
-use pim_replay::{number_or, write_demand, write_pieces, write_record_line};
+use pim_report::{number_or, write_demand, write_pieces, write_record_line};
 use pim_router::Router;
 use std::alloc::Global;
 

@@ -2,7 +2,7 @@
 use Rattle.std.specs.Prelude.{ℕ, List, ◌++◌, codes, decimal, unwrap_or}
 use Rattle.clap.specs.declared.error.kind.ErrorKind.{ErrorKind}
 use Rattle.clap.specs.Values.{kind_text}
-use Rattle.pim_replay.specs.Malformed.{frame_words, hello_words, join_prune_words}
+use Rattle.pim_report.specs.Malformed.{frame_words, hello_words, join_prune_words}
 use Rattle.pim_addr.specs.declared.family.AddressFamily.TheVariants.{Ipv4, Ipv6}
 use Rattle.pim_addr.specs.Text.{address_text}
 use Rattle.pim_routes_file.specs.declared.fault.RoutesFault.{RoutesFault}

@@ -2,7 +2,7 @@
 
 ghost use Rattle.std.specs.Prelude.{◌≡◌, ◌≤◌, ◌++◌, take, decimal};
 ghost use Rattle.pim_device.specs.Device.{AppendsAll, failures_after};
-ghost use Rattle.pim_replay.specs.Malformed.{malformed_words};
+ghost use Rattle.pim_report.specs.Malformed.{malformed_words};
 ghost use Rattle.pim_commands.specs.declared.fault.Fault.TheVariants.{Words};
 ghost use Rattle.pim_text.specs.Text.{line};
 ghost use Rattle.pim_commands.specs.Words.{refusal_words, address_words, plan_words, fault_words, fault_text, routes_fault};
@@ -14,7 +14,7 @@ use pim_addr::{Drain, Failed, V4, V6, write_all, write_text};
 use pim_frame::FrameFault;
 use pim_hello::HelloFault;
 use pim_jp::JpFault;
-use pim_replay::write_malformed_words;
+use pim_report::write_malformed_words;
 use pim_router::Malformed;
 use pim_routes_file::RoutesFault;
 use pim_words::Address;

@@ -23,7 +23,7 @@ use Rattle.pim_router.specs.State.{RouterState}
 use Rattle.pim_replay.specs.declared.mirror_text.MirrorTextFault.{MirrorTextFault}
 use Rattle.pim_replay.specs.ChangeHearing.{AreTold, MovedAgain}
 use Rattle.pim_replay.specs.ChangeText.{IsChangeBetween, TellsMove}
-use Rattle.pim_replay.specs.MessageText.{messages_text}
+use Rattle.pim_report.specs.MessageText.{messages_text}
 use Rattle.pim_replay.specs.MirrorText.{Judges, agrees_line, agreed_text, of_mirror}
 use Rattle.pim_replay.specs.Quiet.{RunsAll}
 use Rattle.pim_replay.proofs.FreshHearings.{one_of, sent_by}

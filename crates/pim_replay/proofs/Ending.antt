@@ -8,11 +8,11 @@ use Rattle.pim_merge.specs.Next.{MergeState}
 use Rattle.pim_router.specs.State.{RouterState}
 use Rattle.pim_replay.specs.declared.replay.ReplayFault.{ReplayFault}
 use Rattle.pim_replay.specs.declared.replay.ReplayFault.TheVariants.{Capture, Output, Memory}
-use Rattle.pim_replay.specs.declared.state_text.Counts.{Counts}
-use Rattle.pim_replay.specs.declared.state_text.TextFault.{TextFault}
-use Rattle.pim_replay.specs.declared.state_text.TextFault.TheVariants as text
+use Rattle.pim_report.specs.declared.state_text.Counts.{Counts}
+use Rattle.pim_report.specs.declared.state_text.TextFault.{TextFault}
+use Rattle.pim_report.specs.declared.state_text.TextFault.TheVariants as text
 use Rattle.pim_replay.specs.Passing.{PassesTime, HasPassed, HasStopped}
-use Rattle.pim_replay.specs.StateText.{IsTold, WritesState, text_with}
+use Rattle.pim_report.specs.StateText.{IsTold, WritesState, text_with}
 use Rattle.pim_replay.specs.Turn.{joined, on_the_way, counted, HasTold, HasBegun}
 use Rattle.pim_replay.specs.Report.{TellsAll, Reports, Replays, none_yet}
 use Rattle.pim_replay.specs.Underway.{of_text, HasAll, Steps, RunsTurns}

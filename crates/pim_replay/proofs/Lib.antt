@@ -1,14 +1,10 @@
-pub mod Demands
 pub mod Sames
-pub mod States
 pub mod Ending
 pub mod OneReport
 pub mod OnTheWay
-pub mod Texts
 pub mod Taken
 pub mod Underway
 pub mod Written
 pub mod FreshHearings
-pub mod MessageTexts
 pub mod Moves
 pub mod Changes

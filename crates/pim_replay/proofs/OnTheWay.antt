@@ -12,7 +12,7 @@ use Rattle.pim_router.specs.Course.{Telling, echo, refresh, verdict, runs_to, Re
 use Rattle.pim_router.specs.State.{RouterState}
 use Rattle.pim_router.specs.Time.{Runs}
 use Rattle.pim_router.specs.Laws.{EveryListHasACourse}
-use Rattle.pim_replay.specs.EchoLine.{echo_line}
+use Rattle.pim_report.specs.EchoLine.{echo_line}
 use Rattle.pim_replay.specs.Passing.{Passes, PassesTime, HasPassed, HasStopped}
 use Rattle.pim_replay.proofs.Written.{front-longer, front-more}
 

@@ -17,10 +17,10 @@ use Rattle.pim_router.specs.declared.step.Step.TheVariants.{Echo, Refresh, Reach
 use Rattle.pim_router.specs.Course.{Telling, echo, refresh, verdict}
 use Rattle.pim_router.specs.Laws.{RunHasOneEnd}
 use Rattle.pim_router.specs.State.{RouterState}
-use Rattle.pim_replay.specs.EchoLine.{echo_line}
+use Rattle.pim_report.specs.EchoLine.{echo_line}
 use Rattle.pim_replay.specs.Laws.{BeginsWith, BeginsWithItsLines}
 use Rattle.pim_replay.specs.Passing.{Passes, PassesTime}
-use Rattle.pim_replay.specs.StateText.{text_with}
+use Rattle.pim_report.specs.StateText.{text_with}
 use Rattle.pim_replay.specs.Turn.{Account, nothing, joined, on_the_way, counted, taking, TellsTurn}
 use Rattle.pim_replay.specs.Report.{TellsTurns, Takes, TellsFirst, TellsAll, IsReport, none_yet}
 

@@ -24,14 +24,15 @@ use Rattle.pim_router.specs.Course.{Telling, echo, refresh, verdict}
 use Rattle.pim_router.specs.Packets.{Packet, received, unless, causes, body_taken}
 use Rattle.pim_router.specs.State.{RouterState, Port}
 use Rattle.pim_router.specs.Time.{Outcome, rests, moves, tells, turn, turn_of_timers, run_on, run_within, has_ended, tick}
-use Rattle.pim_replay.specs.declared.state_text.Counts.{Counts}
-use Rattle.pim_replay.specs.declared.state_text.TextFault.{TextFault}
-use Rattle.pim_replay.specs.declared.state_text.TextFault.TheVariants.{Output, Memory}
+use Rattle.pim_report.specs.declared.state_text.Counts.{Counts}
+use Rattle.pim_report.specs.declared.state_text.TextFault.{TextFault}
+use Rattle.pim_report.specs.declared.state_text.TextFault.TheVariants.{Output, Memory}
 use Rattle.pim_replay.specs.declared.turns.Ends.{Ends}
-use Rattle.pim_replay.specs.PacketLine.{packet_line}
+use Rattle.pim_report.specs.PacketLine.{packet_line}
 use Rattle.pim_replay.specs.Passing.{Passes, PassesTime}
 use Rattle.pim_replay.specs.Report.{TellsTurns, TellsAll}
-use Rattle.pim_replay.specs.Turn.{TellsTurn, Account, is_same, packet_on, line_of, heard, passed_over, packet_taken, taking, ends_seen, ends_in, HearsPacket, TakesRecord, counted, joined, on_the_way}
+use Rattle.pim_addr.specs.Families.{is_same}
+use Rattle.pim_replay.specs.Turn.{TellsTurn, Account, packet_on, line_of, heard, passed_over, packet_taken, taking, ends_seen, ends_in, HearsPacket, TakesRecord, counted, joined, on_the_way}
 use Rattle.pim_replay.proofs.Written.{front-longer}
 
 abbrev pub made : ℕ → List ℕ → List ℕ → List ℕ → Packet

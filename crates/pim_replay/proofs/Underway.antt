@@ -15,9 +15,9 @@ use Rattle.pim_merge.specs.Lane.{LaneState, IsComing, lane_at, failures_of}
 use Rattle.pim_merge.specs.Next.{MergeState, TellsTurn as TellsNext, IsCause, KeepsTime, bytes_at, with_fault}
 use Rattle.pim_router.specs.State.{RouterState}
 use Rattle.pim_replay.specs.declared.replay.ReplayFault.{ReplayFault}
-use Rattle.pim_replay.specs.declared.state_text.Counts.{Counts}
-use Rattle.pim_replay.specs.declared.state_text.TextFault.{TextFault}
-use Rattle.pim_replay.specs.declared.state_text.TextFault.TheVariants as text
+use Rattle.pim_report.specs.declared.state_text.Counts.{Counts}
+use Rattle.pim_report.specs.declared.state_text.TextFault.{TextFault}
+use Rattle.pim_report.specs.declared.state_text.TextFault.TheVariants as text
 use Rattle.pim_replay.specs.Turn.{Account, nothing, joined, counted, TellsTurn, turn_seen, HasTold, HasBegun}
 use Rattle.pim_replay.specs.Report.{TellsTurns, Takes, AreAll, AreFirst, StopsAt, none_yet}
 use Rattle.pim_replay.specs.Underway.{stop_by, stopped_by, of_text, IsBehind, IsUnderway, HasAll, HasSome, Steps}

@@ -16,7 +16,7 @@ use Rattle.pim_replay.specs.declared.mirror_text.MirrorTextFault.{MirrorTextFaul
 use Rattle.pim_replay.specs.declared.mirror_text.MirrorTextFault.TheVariants.{Replay, TooBig, Full}
 use Rattle.pim_replay.specs.declared.replay.ReplayFault.TheVariants.{Capture, Output, Memory}
 use Rattle.pim_replay.specs.ChangeHearing.{HasRoom, HasNoRoom}
-use Rattle.pim_replay.specs.MessageText.{messages_text}
+use Rattle.pim_report.specs.MessageText.{messages_text}
 use Rattle.pim_replay.specs.MirrorText.{agreed_text}
 use Rattle.pim_replay.specs.Quiet.{RunsAll}
 use Rattle.pim_replay.specs.Report.{StopsAt}

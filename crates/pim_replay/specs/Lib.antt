@@ -1,13 +1,4 @@
 -- The definitions of `pim_replay`.
-pub mod Pieces
-pub mod Said
-pub mod Malformed
-pub mod PacketLine
-pub mod EchoLine
-pub mod RefreshLine
-pub mod RecordLine
-pub mod DemandText
-pub mod StateText
 pub mod Passing
 pub mod Turn
 pub mod Report
@@ -15,7 +6,6 @@ pub mod Underway
 pub mod Same
 pub mod Laws
 pub mod FreshHearing
-pub mod MessageText
 pub mod Quiet
 pub mod MirrorText
 pub mod Emit

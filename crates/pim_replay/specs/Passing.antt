@@ -8,7 +8,7 @@ use Rattle.pim_router.specs.declared.step.Step.TheVariants.{Echo, Refresh, Reach
 use Rattle.pim_router.specs.Course.{Telling, echo, refresh, verdict}
 use Rattle.pim_router.specs.State.{RouterState}
 use Rattle.pim_router.specs.Time.{Runs}
-use Rattle.pim_replay.specs.EchoLine.{echo_line}
+use Rattle.pim_report.specs.EchoLine.{echo_line}
 
 -- The router runs to the moment, each run continuing where the last one stopped, until nothing is
 -- due. Each echo is a line with the moment at which it falls, and each Refresh counts as one.

@@ -18,9 +18,9 @@ use Rattle.pim_form.specs.Wants.{wants}
 use Rattle.pim_router.specs.State.{RouterState}
 use Rattle.pim_replay.specs.declared.replay.ReplayFault.{ReplayFault}
 use Rattle.pim_replay.specs.declared.replay.ReplayFault.TheVariants.{Capture, Output, Memory}
-use Rattle.pim_replay.specs.declared.state_text.Counts.{Counts}
+use Rattle.pim_report.specs.declared.state_text.Counts.{Counts}
 use Rattle.pim_replay.specs.Passing.{PassesTime}
-use Rattle.pim_replay.specs.StateText.{text_with}
+use Rattle.pim_report.specs.StateText.{text_with}
 use Rattle.pim_replay.specs.Turn.{Account, nothing, joined, on_the_way, counted, TellsTurn, HasBegun}
 
 -- ---- the turns of a merge

@@ -14,7 +14,7 @@ use Rattle.pim_router.specs.State.{RouterState}
 use Rattle.pim_replay.specs.declared.replay.ReplayFault.TheVariants.{Capture, Output, Memory}
 use Rattle.pim_replay.specs.declared.same.SameFault.{SameFault}
 use Rattle.pim_replay.specs.declared.same.SameFault.TheVariants.{Replay, TooBig}
-use Rattle.pim_replay.specs.Pieces.{line}
+use Rattle.pim_report.specs.Pieces.{line}
 use Rattle.pim_replay.specs.Quiet.{RunsAll}
 use Rattle.pim_replay.specs.Report.{StopsAt}
 

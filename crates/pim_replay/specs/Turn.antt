@@ -1,10 +1,9 @@
 -- A turn of a replay: the router runs to the moment of a record, then the port of its capture takes
 -- the record.
-use Rattle.std.specs.Prelude.{◌≡◌, ℕ, ◌+◌, min, Bool, true, false, if◌then◌else◌, List, [], ◌++◌, Option, None, Some}
+use Rattle.std.specs.Prelude.{◌≡◌, ℕ, ◌+◌, min, if◌then◌else◌, List, [], ◌++◌, Option, None, Some}
 use Rattle.std.specs.Prelude.{Result, Ok, Err}
 use Rattle.std.specs.Io.KnownBytes.{Appends, Keeps}
 use Rattle.pim_addr.specs.declared.family.AddressFamily.{AddressFamily}
-use Rattle.pim_addr.specs.declared.family.AddressFamily.TheVariants.{Ipv4, Ipv6}
 use Rattle.pim_device.specs.Device.{AppendsFront, top_count}
 use Rattle.pim_capture.specs.Frame.{Datagram}
 use Rattle.pim_capture.specs.Capture.{Told, packet, skipped, ended}
@@ -13,11 +12,12 @@ use Rattle.pim_merge.specs.declared.merge.Turn.{Turn}
 use Rattle.pim_merge.specs.Merge.{Taken}
 use Rattle.pim_router.specs.Packets.{Packet, received}
 use Rattle.pim_router.specs.State.{RouterState}
-use Rattle.pim_replay.specs.declared.state_text.Counts.{Counts}
-use Rattle.pim_replay.specs.declared.state_text.TextFault.{TextFault}
-use Rattle.pim_replay.specs.declared.state_text.TextFault.TheVariants.{Output, Memory}
+use Rattle.pim_report.specs.declared.state_text.Counts.{Counts}
+use Rattle.pim_report.specs.declared.state_text.TextFault.{TextFault}
+use Rattle.pim_report.specs.declared.state_text.TextFault.TheVariants.{Output, Memory}
 use Rattle.pim_replay.specs.declared.turns.Ends.{Ends}
-use Rattle.pim_replay.specs.PacketLine.{packet_line}
+use Rattle.pim_addr.specs.Families.{is_same}
+use Rattle.pim_report.specs.PacketLine.{packet_line}
 use Rattle.pim_replay.specs.Passing.{PassesTime}
 
 -- ---- accounts
@@ -52,13 +52,6 @@ counted counts account = record {
 }
 
 -- ---- taking a record
-
--- Whether two address families are the same.
-abbrev pub is_same : AddressFamily → AddressFamily → Bool
-is_same Ipv4 Ipv4 = true
-is_same Ipv4 Ipv6 = false
-is_same Ipv6 Ipv4 = false
-is_same Ipv6 Ipv6 = true
 
 -- The packet that a port gets from a datagram.
 abbrev pub packet_on : ℕ → Datagram → Packet

@@ -13,9 +13,9 @@ use Rattle.pim_merge.specs.Next.{MergeState}
 use Rattle.pim_router.specs.State.{RouterState}
 use Rattle.pim_replay.specs.declared.replay.ReplayFault.{ReplayFault}
 use Rattle.pim_replay.specs.declared.replay.ReplayFault.TheVariants.{Capture, Output, Memory}
-use Rattle.pim_replay.specs.declared.state_text.Counts.{Counts}
-use Rattle.pim_replay.specs.declared.state_text.TextFault.{TextFault}
-use Rattle.pim_replay.specs.declared.state_text.TextFault.TheVariants as text
+use Rattle.pim_report.specs.declared.state_text.Counts.{Counts}
+use Rattle.pim_report.specs.declared.state_text.TextFault.{TextFault}
+use Rattle.pim_report.specs.declared.state_text.TextFault.TheVariants as text
 use Rattle.pim_replay.specs.Turn.{Account, HasTold, HasBegun, counted}
 use Rattle.pim_replay.specs.Report.{TellsTurns, Takes, AreAll, TellsFirst, TellsAll, StopsAt, none_yet}
 

@@ -14,7 +14,6 @@ ghost use Rattle.pim_replay.specs.ChangeText.{TellsBetween, TellsChange, TellsMo
 ghost use Rattle.pim_replay.specs.MirrorText.{failures_of_mirror};
 
 use crate::change_hearing::move_again;
-use crate::message_text::write_messages;
 use crate::mirror_text::{MirrorTextFault, ask, judgement, of_mirror};
 use crate::quiet::replay_quietly;
 use crate::replay::ReplayFault;
@@ -22,6 +21,7 @@ use pim_addr::{Drain, Family, Feed, Routes, write_all};
 use pim_form::{FormFault, Messages, NormalForm, Writer, one_normal_form};
 use pim_merge::Merge;
 use pim_moving::change_fits;
+use pim_report::write_messages;
 use pim_router::Router;
 use std::alloc::Global;
 

@@ -12,13 +12,13 @@ ghost use Rattle.pim_replay.specs.MirrorText.{Judges, TellsMirror, TellsExchange
 ghost use Rattle.pim_replay.specs.MirrorText.{failures_of_mirror};
 
 use crate::fresh_hearing::hear_again;
-use crate::message_text::write_messages;
 use crate::quiet::replay_quietly;
 use crate::replay::ReplayFault;
 use pim_addr::{Drain, Family, Feed, Routes, write_all};
 use pim_form::{FormFault, Messages, Writer, one_normal_form};
 use pim_merge::Merge;
 use pim_mirror::MirrorFault;
+use pim_report::write_messages;
 use pim_router::Router;
 use std::alloc::Global;
 

@@ -8,9 +8,9 @@ ghost use Rattle.std.specs.Prelude.{◌≡◌, ◌≤◌, ◌^◌, max, IfOk, On
 ghost use Rattle.pim_device.specs.Device.{failures_after};
 ghost use Rattle.pim_replay.specs.Passing.{HasPassed, HasStopped};
 
-use crate::echo_line::write_echo_line;
 use pim_addr::{Drain, Failed, Family};
 use pim_down::Step;
+use pim_report::write_echo_line;
 use pim_router::{Router, every_list_has_a_course};
 
 /// Lets a router run to this moment, in milliseconds, and writes each echo as a line with the

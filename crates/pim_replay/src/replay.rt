@@ -13,11 +13,11 @@ ghost use Rattle.pim_replay.specs.Report.{Replays, failures_of_device};
 ghost use Rattle.pim_replay.specs.Underway.{stopped_by, of_text, IsUnderway, Steps, RunsTurns, RunsOn, IfMore};
 
 use crate::passing::pass_time;
-use crate::state_text::{Counts, TextFault, write_state};
 use crate::turns::take_turn;
 use pim_addr::{Drain, Family, Feed};
 use pim_capture::CaptureFault;
 use pim_merge::{Merge, MergeFault};
+use pim_report::{Counts, TextFault, write_state};
 use pim_router::Router;
 use std::alloc::Global;
 

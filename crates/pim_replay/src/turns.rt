@@ -8,15 +8,15 @@ ghost use Rattle.pim_capture.specs.Capture.{most_captured};
 ghost use Rattle.pim_capture.specs.Next.{PayloadLiesIn, event_seen};
 ghost use Rattle.pim_capture.specs.Seen.{ip_seen, LiesIn};
 ghost use Rattle.pim_router.specs.Seen.{packet_seen};
-ghost use Rattle.pim_replay.specs.Turn.{is_same, ends_seen, ends_in, HearsPacket, TakesRecord, failures_by, taking, packet_taken};
+ghost use Rattle.pim_addr.specs.Families.{is_same};
+ghost use Rattle.pim_replay.specs.Turn.{ends_seen, ends_in, HearsPacket, TakesRecord, failures_by, taking, packet_taken};
 ghost use Rattle.pim_replay.specs.Turn.{TellsTurn, turn_seen, HasTold, HasBegun};
 
-use crate::packet_line::write_packet_line;
 use crate::passing::pass_time;
-use crate::state_text::{Counts, TextFault};
 use pim_addr::{AddressFamily, Drain, Family};
 use pim_capture::{Event, Ip};
 use pim_merge::Turn;
+use pim_report::{Counts, TextFault, write_packet_line};
 use pim_router::Router;
 
 /// The source and the destination of a packet.

@@ -1,6 +1,6 @@
 use Rattle.std.proofs.Common.{◌++◌}
 use Rattle.pim_router.specs.Seen.{packet_seen}
-use Rattle.pim_replay.specs.PacketLine.{verdict_line}
+use Rattle.pim_report.specs.PacketLine.{verdict_line}
 use Rattle.pim_answers.specs.Fault.{fault_words}
 use Rattle.pim_answers.specs.Lines.{ok_line}
 use Rattle.pim_answers.specs.Packets.{Takes}

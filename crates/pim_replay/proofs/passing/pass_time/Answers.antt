@@ -3,7 +3,7 @@ use Rattle.std.specs.Io.KnownBytes.{Appends}
 use Rattle.pim_device.specs.Device.{AppendsFront}
 use Rattle.pim_down.specs.Seen.{what_seen, step_seen}
 use Rattle.pim_router.specs.Refreshes.{RunsPast, told_behind}
-use Rattle.pim_replay.specs.EchoLine.{echo_line}
+use Rattle.pim_report.specs.EchoLine.{echo_line}
 use Rattle.pim_replay.proofs.OnTheWay.{begin, echoed_past, arrived_past, stopped_past, on_err}
 use Rattle.pim_replay.proofs.passing.pass_time.Goals as goal
 

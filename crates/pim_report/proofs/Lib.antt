@@ -1,0 +1,5 @@
+pub mod Written
+pub mod Texts
+pub mod Demands
+pub mod MessageTexts
+pub mod States

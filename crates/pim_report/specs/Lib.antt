@@ -1,0 +1,11 @@
+-- The definitions of `pim_report`.
+pub mod Pieces
+pub mod Said
+pub mod Malformed
+pub mod PacketLine
+pub mod EchoLine
+pub mod RefreshLine
+pub mod RecordLine
+pub mod DemandText
+pub mod MessageText
+pub mod StateText
