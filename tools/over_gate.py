@@ -4,7 +4,8 @@ its own instead.
 
 Run it in the crate's folder, after `rt ci` has proved the crates below from the same sources:
 
-    tools/over_gate.py libraries              puts the libraries of crates below into crates/*/out
+    tools/over_gate.py libraries              puts the libraries of crates below into crates/*/out,
+                                              where the kit keeps them
     tools/over_gate.py check [--only=FUNCTION ..] [--test] [--allow-holes]
     tools/over_gate.py edits [NAME.edit ..]   tries those of must-fail/, or these of either folder
     tools/over_gate.py build                  makes the library for the crates above, after a check
@@ -15,7 +16,7 @@ Run it in the crate's folder, after `rt ci` has proved the crates below from the
 
 OVER_GATE_JOBS=N lets a check use N processors instead of one.
 
-Its result is no verdict; only `rt ci` gives one. It depends on the inside of rattle-kit-13f.
+Its result is no verdict; only `rt ci` gives one. It depends on the inside of rattle-kit-13b.
 """
 import importlib.machinery
 import importlib.util
@@ -75,7 +76,7 @@ def tests(rt, rtlib, crate):
 
 def libraries(rt, crate):
     if not hasattr(rt, "Kept"):
-        print("this kit keeps no libraries: copy crates/NAME/out/rlib from the copy in which rt ci ran")
+        print("this kit keeps no libraries: cp -al crates/NAME/out/rlib from the copy in which rt ci runs")
         return 1
     there = [it.name for it in crate.below() if os.path.isdir(it.rlib)]
     if there:
