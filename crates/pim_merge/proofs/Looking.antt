@@ -1,9 +1,10 @@
 -- Reading the heads of captures, one after the other.
-use Rattle.std.proofs.Common.{◌≡◌, ◌<◌, ◌≤◌, ◌+◌, ◌∙◌, ◌∷◌, ◌++◌, [], ℕ, zero, suc, List, None, Some, length, get_or, set, take, drop, map, refl, sym, ap, subst, arith}
+use Rattle.std.proofs.Common.{◌≡◌, ◌<◌, ◌≤◌, ◌+◌, ◌∙◌, ◌∷◌, ◌++◌, [], ℕ, zero, suc, List, None, Some, length, get_or, set, take, drop, map, refl, sym, ap, subst, arith, inl, ⊎_elim, add-zero}
 use Rattle.std.specs.List.{AllByRecursion}
-use Rattle.std.proofs.lemmas.List.{map-set, set-get_or, get_or-map, take_more_set, drop-set-lt, drop-drop}
+use Rattle.std.proofs.lemmas.Bool.{cases_eq}
+use Rattle.std.proofs.lemmas.List.{map-set, set-get_or, get_or-map, take_more_set, drop-set-lt, drop-drop, get_or-drop, get_or_default, get_or-set_same, get_or-set_other}
 use Rattle.pim_capture.specs.Capture.{Answer}
-use Rattle.pim_merge.specs.Lane.{LaneState, coming_on, IsComing, IsLooked, lane_left, records_to_come, failures_of}
+use Rattle.pim_merge.specs.Lane.{LaneState, coming_on, IsComing, IsLooked, lane_left, records_to_come, failures_of, lane_at, no_lane, KeepsRoom, KeepRooms}
 use Rattle.pim_merge.specs.Looks.{StillComes}
 
 -- ---- lists of captures
@@ -36,6 +37,23 @@ total_with [] i lane d below = absurd (omega (arith, below))
 total_with (first ∷ lanes) zero lane d below = omega arith
 total_with (first ∷ lanes) (suc i) lane d below = let more = total_with lanes i lane d (omega (arith, below)) in omega (arith, more)
 
+-- ---- how much room the buffers have
+
+-- two lists that are the same from a place on have the same there
+at_front : {A : Type 0} (xs ys : List A) (n : ℕ) (d : A) → drop n xs ≡ drop n ys → get_or xs n d ≡ get_or ys n d
+at_front xs ys n d same =
+    ap (λ k. get_or xs k d) (sym (add-zero n)) ∙ (sym (get_or-drop n xs 0 d) ∙ (ap (λ l. get_or l 0 d) same ∙ (get_or-drop n ys 0 d ∙ ap (λ k. get_or ys k d) (add-zero n))))
+
+pub as_before : (number : ℕ) (old now : List LaneState) (d : LaneState) → number < length now → drop number now ≡ drop number old → get_or now number d ≡ lane_at number old
+as_before number old now d below rest = get_or_default now number d no_lane below ∙ at_front now old number no_lane rest
+
+-- another capture with room comes in its place
+pub set_keeps : (old now : List LaneState) (number : ℕ) (lane : LaneState) → number < length now → KeepRooms old now → KeepsRoom (lane_at number old) lane → KeepRooms old (set now number lane)
+set_keeps old now number lane below rooms kept n = ⊎_elim
+    (λ e. subst (λ j. KeepsRoom (lane_at j old) (lane_at j (set now number lane))) (sym e) (subst (KeepsRoom (lane_at number old)) (sym (get_or-set_same now number lane no_lane below)) kept))
+    (λ other. subst (KeepsRoom (lane_at n old)) (sym (get_or-set_other now number n lane no_lane other)) (rooms n))
+    (cases_eq n number)
+
 -- ---- all up to one
 
 pub all_push : {A : Type 0} (P : A → Type 0) (xs : List A) (y : A) → AllByRecursion P xs → P y → AllByRecursion P (xs ++ y ∷ [])
@@ -49,19 +67,21 @@ pub record IsLookedUpTo (number : ℕ) (old now : List LaneState) : Type 0 where
   pub rest : drop number now ≡ drop number old
   pub lighter : records_to_come now ≤ records_to_come old
   pub reads : failures_of now ≡ failures_of old
+  pub rooms : KeepRooms old now
 
 pub begin_looking : (lanes : List LaneState) → IsLookedUpTo 0 lanes lanes
-begin_looking lanes = record { coming = λ captures coming. coming; looked = tt; rest = refl; lighter = omega arith; reads = refl }
+begin_looking lanes = record { coming = λ captures coming. coming; looked = tt; rest = refl; lighter = omega arith; reads = refl; rooms = λ n. inl refl }
 
 pub look_more : (number : ℕ) (old now : List LaneState) (lane d : LaneState) → number < length now → IsLookedUpTo number old now
     → StillComes (get_or now number d) lane → IsLooked lane → lane_left lane ≤ lane_left (get_or now number d) → lane.failures ≡ (get_or now number d).failures
-    → IsLookedUpTo (number + 1) old (set now number lane)
-look_more number old now lane d below w still looked lighter reads = record {
+    → KeepsRoom (get_or now number d) lane → IsLookedUpTo (number + 1) old (set now number lane)
+look_more number old now lane d below w still looked lighter reads kept = record {
   coming = λ captures coming. same_comes now captures number lane d below (w.coming captures coming) still;
   looked = rw (take_more_set now number lane below) (all_push IsLooked (take number now) lane w.looked looked);
   rest = rest_more;
   lighter = let total = total_with now number lane d below in omega (arith, total, w.lighter, lighter);
   reads = map-set (λ (l : LaneState). l.failures) now number lane ∙ (ap (set (failures_of now) number) reads ∙ (same_failures ∙ w.reads));
+  rooms = set_keeps old now number lane below w.rooms (subst (λ (l : LaneState). KeepsRoom l lane) (as_before number old now d below w.rest) kept);
 }
   where
     rest_more : drop (number + 1) (set now number lane) ≡ drop (number + 1) old

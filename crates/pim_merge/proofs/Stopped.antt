@@ -1,25 +1,20 @@
 -- Where the head of a capture can't be read.
-use Rattle.std.proofs.Common.{◌≡◌, ◌<◌, ◌≤◌, ◌∙◌, ◌∷◌, [], ℕ, List, Err, length, get_or, set, drop, sym, ap, subst, arith, add-zero, inl, inr}
+use Rattle.std.proofs.Common.{◌≡◌, ◌<◌, ◌≤◌, ◌∙◌, ◌∷◌, [], ℕ, List, Err, length, get_or, set, sym, ap, subst, arith, inl, inr}
 use Rattle.std.specs.Bool.{⊤}
-use Rattle.std.proofs.lemmas.List.{map-set, set-get_or, get_or-drop, get_or_default, get_or-set_same}
+use Rattle.std.proofs.lemmas.List.{map-set, set-get_or, get_or-set_same}
 use Rattle.pim_capture.specs.declared.fault.CaptureFault.{CaptureFault}
 use Rattle.pim_capture.specs.Capture.{Answer}
-use Rattle.pim_capture.specs.Next.{IsRefusal, CountsReads}
+use Rattle.pim_capture.specs.Next.{IsRefusal, CountsReads, OnMemory}
 use Rattle.pim_merge.specs.Merge.{turn, fails}
-use Rattle.pim_merge.specs.Lane.{LaneState, IsComing, lane_left, records_to_come, lane_at, no_lane, failures_of}
+use Rattle.pim_merge.specs.Lane.{LaneState, IsComing, lane_left, records_to_come, lane_at, no_lane, failures_of, LacksHeadRoom, KeepsRoom, KeepRooms}
 use Rattle.pim_merge.specs.Looks.{IsToldOrRefused}
-use Rattle.pim_merge.specs.Next.{IsCause, CountsFailures}
-use Rattle.pim_merge.proofs.Looking.{one_comes, total_with, IsLookedUpTo}
+use Rattle.pim_merge.specs.Next.{IsCause, CountsFailures, LacksMemory}
+use Rattle.pim_merge.proofs.Looking.{one_comes, total_with, as_before, set_keeps, IsLookedUpTo}
 use Rattle.pim_merge.proofs.Turning.{turns_to_fault}
 
--- two lists that are the same from a place on have the same there
-at_front : {A : Type 0} (xs ys : List A) (n : ℕ) (d : A) → drop n xs ≡ drop n ys → get_or xs n d ≡ get_or ys n d
-at_front xs ys n d same =
-    ap (λ k. get_or xs k d) (sym (add-zero n)) ∙ (sym (get_or-drop n xs 0 d) ∙ (ap (λ l. get_or l 0 d) same ∙ (get_or-drop n ys 0 d ∙ ap (λ k. get_or ys k d) (add-zero n))))
-
 module _ (number : ℕ) (old now : List LaneState) (lane d : LaneState) (fault : CaptureFault) (below : number < length now) (w : IsLookedUpTo number old now) where
-  as_before : get_or now number d ≡ lane_at number old
-  as_before = get_or_default now number d no_lane below ∙ at_front now old number no_lane w.rest
+  same_before : get_or now number d ≡ lane_at number old
+  same_before = as_before number old now d below w.rest
 
   is_new : lane ≡ lane_at number (set now number lane)
   is_new = sym (get_or-set_same now number lane no_lane below)
@@ -32,7 +27,7 @@ module _ (number : ℕ) (old now : List LaneState) (lane d : LaneState) (fault :
 
   pub stopped_cause : IsToldOrRefused (get_or now number d) lane fault → IsCause old (set now number lane) (record { capture = number; fault = fault })
   stopped_cause (inl refused) = inl (subst (λ (l : LaneState). IsRefusal {A = ⊤} (lane_at number old).failures l.failures (Err fault)) is_new
-      (subst (λ (l : LaneState). IsRefusal {A = ⊤} l.failures lane.failures (Err fault)) as_before refused))
+      (subst (λ (l : LaneState). IsRefusal {A = ⊤} l.failures lane.failures (Err fault)) same_before refused))
   stopped_cause (inr told) = inr (λ captures coming.
       ap (set captures number) (sym (told (get_or captures number []) (one_comes now captures number d [] below (w.coming captures coming)))) ∙ set-get_or captures number [])
 
@@ -41,5 +36,11 @@ module _ (number : ℕ) (old now : List LaneState) (lane d : LaneState) (fault :
   stopped_reads reads = (
     map-set (λ (l : LaneState). l.failures) now number lane ∙ (ap (λ l. set l number lane.failures) w.reads ∙ ap (λ (l : LaneState). set (failures_of old) number l.failures) is_new),
     subst (λ (l : LaneState). CountsReads {A = ⊤} ((lane_at number old).left ≡ 0) (lane_at number old).failures l.failures (Err fault)) is_new
-        (subst (λ (l : LaneState). CountsReads {A = ⊤} (l.left ≡ 0) l.failures lane.failures (Err fault)) as_before reads),
+        (subst (λ (l : LaneState). CountsReads {A = ⊤} (l.left ≡ 0) l.failures lane.failures (Err fault)) same_before reads),
   )
+
+  pub stopped_memory : OnMemory {A = ⊤} (Err fault) (LacksHeadRoom (get_or now number d)) → LacksMemory old (record { capture = number; fault = fault })
+  stopped_memory lacks = subst (λ (l : LaneState). OnMemory {A = ⊤} (Err fault) (LacksHeadRoom l)) same_before lacks
+
+  pub stopped_rooms : KeepsRoom (get_or now number d) lane → KeepRooms old (set now number lane)
+  stopped_rooms kept = set_keeps old now number lane below w.rooms (subst (λ (l : LaneState). KeepsRoom l lane) same_before kept)

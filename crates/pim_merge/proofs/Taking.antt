@@ -8,8 +8,8 @@ use Rattle.pim_capture.specs.declared.event.Event.TheVariants.{Packet, Skipped, 
 use Rattle.pim_capture.specs.Capture.{Told, packet, skipped, ended, Answer}
 use Rattle.pim_capture.specs.Next.{in_front, event_seen, IsBy}
 use Rattle.pim_merge.specs.Merge.{behind_head, time_told, earliest_from, taken, turn, takes, ends, after_turn}
-use Rattle.pim_merge.specs.Lane.{LaneState, with_head, IsComing, IsLooked, time_at, head_time, without_head, counted, records_to_come, no_lane, lane_at, failures_of}
-use Rattle.pim_merge.proofs.Looking.{one_comes, set_comes, total_with}
+use Rattle.pim_merge.specs.Lane.{LaneState, with_head, IsComing, IsLooked, time_at, head_time, without_head, counted, records_to_come, no_lane, lane_at, failures_of, KeepRooms}
+use Rattle.pim_merge.proofs.Looking.{one_comes, set_comes, total_with, set_keeps}
 use Rattle.pim_merge.proofs.Turning.{some_list, told_comes, turns_by_times, Stands, found_stands}
 
 -- no head is taken where all captures are at their ends
@@ -87,3 +87,6 @@ module _ (lanes : List LaneState) (capture time : ℕ) (found : Some (capture, t
 
     pub same_length : length new ≡ length lanes
     same_length = ap length is ∙ length-set lanes capture (without_head (lane_at capture lanes))
+
+    pub keeps_rooms : (old : List LaneState) → KeepRooms old lanes → KeepRooms old new
+    keeps_rooms old rooms = subst (KeepRooms old) (sym is) (set_keeps old lanes capture (without_head (lane_at capture lanes)) found_within rooms (rooms capture))

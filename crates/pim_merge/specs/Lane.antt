@@ -1,10 +1,12 @@
 -- What contracts see of the captures of a merge.
-use Rattle.std.specs.Prelude.{◌≡◌, ℕ, ◌+◌, List, [], ◌∷◌, map, Option, None, Some, Ok, IsSome, slice_index_or}
+use Rattle.std.specs.Prelude.{◌≡◌, ◌⊎◌, ℕ, ◌+◌, max, List, [], ◌∷◌, length, map}
+use Rattle.std.specs.Prelude.{Option, None, Some, Ok, IsSome, slice_index_or}
 use Rattle.std.specs.Option.{option_map}
 use Rattle.pim_capture.specs.declared.event.Event.{Event}
 use Rattle.pim_capture.specs.declared.capture.Capture.{Capture}
 use Rattle.pim_capture.specs.Capture.{Told, packet, skipped, ended, Answer}
 use Rattle.pim_capture.specs.Next.{event_seen, coming, reader_of, state_of, in_front, records_left}
+use Rattle.pim_capture.specs.Next.{named, LacksRoom}
 use Rattle.pim_merge.specs.Merge.{time_told}
 
 -- A capture of a merge.
@@ -19,15 +21,23 @@ pub record LaneState : Type 0 where
   pub left : ℕ
   -- the bytes of the record that was read last
   pub bytes : List ℕ
+  -- the number of bytes that its buffer holds without new memory
+  pub room : ℕ
+  -- the captured length of the record that is read next, where the bytes of its reader are known;
+  -- `Some None` if none is read next
+  pub size : Option (Option ℕ)
 
--- What contracts see of a capture, its head and the bytes in its buffer.
-abbrev pub lane_seen : {R : Type 0} → (R → Option (List ℕ)) → (R → ℕ) → Capture R → Option Event → List ℕ → LaneState
-lane_seen remaining failures capture head bytes = record {
+-- What contracts see of a capture, its head, and the bytes and the capacity of its buffer.
+abbrev pub lane_seen : {R : Type 0} → (R → Option (List ℕ)) → (R → ℕ) → Capture R → Option Event
+    → List ℕ → ℕ → LaneState
+lane_seen remaining failures capture head bytes capacity = record {
   head = option_map (event_seen bytes) head;
   behind = coming remaining capture;
   failures = failures (reader_of capture);
   left = records_left (state_of capture);
   bytes = bytes;
+  room = capacity;
+  size = named remaining capture;
 }
 
 -- ---- the results to come, the head first
@@ -55,11 +65,21 @@ without_head lane = record {
   failures = lane.failures;
   left = lane.left;
   bytes = lane.bytes;
+  room = lane.room;
+  size = lane.size;
 }
 
 -- The head of the capture was read.
 abbrev pub IsLooked : LaneState → Type 0
 IsLooked lane = IsSome lane.head
+
+-- The head of the capture wasn't read, and its buffer has less room than that record needs.
+abbrev pub LacksHeadRoom : LaneState → Type 0
+LacksHeadRoom lane = (lane.head ≡ None) × LacksRoom lane.room lane.size
+
+-- The buffer of the capture keeps its capacity, or that grows to exactly the bytes in it.
+abbrev pub KeepsRoom : LaneState → LaneState → Type 0
+KeepsRoom old new = (new.room ≡ old.room) ⊎ (new.room ≡ max old.room (length new.bytes))
 
 -- The time of a head, if it was read and is a record.
 abbrev pub time_at : Option Told → Option ℕ
@@ -90,9 +110,17 @@ records_to_come (lane ∷ lanes) = lane_left lane + records_to_come lanes
 
 -- ---- a capture by its number
 
--- The state that `lane_at` gives for a number without a capture.
+-- The state that `lane_at` gives for a number without a capture: no record is read next.
 abbrev pub no_lane : LaneState
-no_lane = record { head = None; behind = None; failures = 0; left = 0; bytes = [] }
+no_lane = record {
+  head = None;
+  behind = None;
+  failures = 0;
+  left = 0;
+  bytes = [];
+  room = 0;
+  size = Some None;
+}
 
 -- The capture with this number.
 abbrev pub lane_at : ℕ → List LaneState → LaneState
@@ -101,3 +129,15 @@ lane_at number lanes = slice_index_or lanes number no_lane
 -- The count of failures of each capture's reader.
 abbrev pub failures_of : List LaneState → List ℕ
 failures_of lanes = map (λ (lane : LaneState). lane.failures) lanes
+
+-- The capacity of each capture's buffer.
+abbrev pub rooms_of : List LaneState → List ℕ
+rooms_of lanes = map (λ (lane : LaneState). lane.room) lanes
+
+-- The captured length of the record that is read next of each capture.
+abbrev pub sizes_of : List LaneState → List (Option (Option ℕ))
+sizes_of lanes = map (λ (lane : LaneState). lane.size) lanes
+
+-- Each buffer keeps its capacity, or that grows to exactly the bytes in it.
+abbrev pub KeepRooms : List LaneState → List LaneState → Type 0
+KeepRooms old new = (number : ℕ) → KeepsRoom (lane_at number old) (lane_at number new)

@@ -2,12 +2,13 @@
 use Rattle.std.specs.Prelude.{◌≡◌, ◌≤◌, ◌⊎◌, ⊤, ℕ, List, [], ◌∷◌, length, slice_set}
 use Rattle.std.specs.Prelude.{Option, None, Some, Result, Ok, Err}
 use Rattle.pim_capture.specs.Capture.{Told, Answer, most_captured}
-use Rattle.pim_capture.specs.Next.{event_seen, PayloadLiesIn, IsRefusal, CountsReads}
+use Rattle.pim_capture.specs.Next.{event_seen, PayloadLiesIn, IsRefusal, CountsReads, OnMemory}
 use Rattle.pim_merge.specs.declared.clock.Clock.{Clock}
 use Rattle.pim_merge.specs.declared.merge.Turn.{Turn}
 use Rattle.pim_merge.specs.declared.merge.MergeFault.{MergeFault}
 use Rattle.pim_merge.specs.Merge.{turn, fails, takes, ends, after_turn, clock_after, moment_of, time_told}
 use Rattle.pim_merge.specs.Lane.{LaneState, IsComing, lane_at, failures_of, records_to_come}
+use Rattle.pim_merge.specs.Lane.{LacksHeadRoom}
 
 -- A merge: its captures, and the clock of the records that were taken.
 pub record MergeState : Type 0 where
@@ -41,6 +42,11 @@ abbrev pub IsCause : List LaneState → List LaneState → MergeFault → Type 0
 IsCause old new told =
     IsRefusal {A = ⊤} (lane_at told.capture old).failures (lane_at told.capture new).failures (Err told.fault)
     ⊎ ((captures : List (List Answer)) → IsComing old captures → with_fault told captures ≡ captures)
+
+-- Memory is refused only where the head of the fault's capture wasn't read, and its buffer had less
+-- room than that record needs.
+abbrev pub LacksMemory : List LaneState → MergeFault → Type 0
+LacksMemory old told = OnMemory {A = ⊤} (Err told.fault) (LacksHeadRoom (lane_at told.capture old))
 
 -- Only the failures of the fault's capture rise, and only for a failed read. `Read` without a
 -- failed read means that its capture had all the records that are read of a capture.

@@ -4,7 +4,10 @@ ghost use Rattle.std.specs.Prelude.{◌≡◌, ◌≤◌, ◌⊎◌, ℕ, List, 
 ghost use Rattle.std.specs.Option.{option_map, IfSome};
 ghost use Rattle.pim_capture.specs.Capture.{answers, most_captured, most_records, Answer};
 ghost use Rattle.pim_capture.specs.Next.{event_seen, PayloadLiesIn, IsBy, latest_moment, IsRefusal, CountsReads};
+ghost use Rattle.pim_capture.specs.Next.{OnMemory, named_in};
+ghost use Rattle.pim_capture.specs.declared.capture.State.TheVariants.{Unbegun};
 ghost use Rattle.pim_merge.specs.Lane.{coming_on, without_head, IsLooked, head_time, lane_left};
+ghost use Rattle.pim_merge.specs.Lane.{LacksHeadRoom, KeepsRoom};
 ghost use Rattle.pim_merge.specs.Looks.{StillComes, IsToldOrRefused};
 
 use pim_addr::Feed;
@@ -28,7 +31,10 @@ impl<R: Feed + Drop> Model for Lane<R> {
 
     ghost Value = { LaneState };
 
-    ghost view = { λ lane. lane_seen R.remaining R.failures lane.capture lane.head lane.buffer.items };
+    ghost use Rattle.std.specs.Prelude.{vec_capacity};
+
+    ghost view = { λ lane. lane_seen R.remaining R.failures lane.capture lane.head lane.buffer.items
+        (vec_capacity lane.buffer) };
 
     ghost use Rattle.std.specs.Prelude.{◌≤◌, vec_len};
     ghost use Rattle.std.specs.Option.{IfSome};
@@ -46,6 +52,8 @@ impl<R: Feed + Drop> Lane<R> {
         ensures coming { result.behind ≡ option_map answers (R.remaining reader) }
         ensures failures { result.failures ≡ R.failures reader }
         ensures left { result.left ≡ most_records }
+        ensures room { result.room ≡ 0 }
+        ensures size { result.size ≡ option_map (named_in Unbegun) (R.remaining reader) }
     {
         Lane {
             capture: Capture::new(reader),
@@ -64,6 +72,8 @@ impl<R: Feed + Drop> Lane<R> {
         ensures fault { IfErr result (IsToldOrRefused self.old self.new) }
         ensures left { lane_left self.new ≤ lane_left self.old }
         ensures reads { CountsReads (self.old.left ≡ 0) self.old.failures self.new.failures result }
+        ensures memory { OnMemory result (LacksHeadRoom self.old) }
+        ensures room { KeepsRoom self.old self.new }
     {
         if self.head.is_some() {
             return Ok(());

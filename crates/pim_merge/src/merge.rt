@@ -5,12 +5,13 @@ ghost use Rattle.std.specs.Prelude.{slice_set};
 ghost use Rattle.std.specs.Option.{option_map, IfSome};
 ghost use Rattle.std.specs.List.{AllByRecursion};
 ghost use Rattle.pim_capture.specs.Capture.{answers, most_captured, most_records, Answer};
-ghost use Rattle.pim_capture.specs.Next.{latest_moment, event_seen, PayloadLiesIn, IsBy};
+ghost use Rattle.pim_capture.specs.Next.{latest_moment, event_seen, PayloadLiesIn, IsBy, named_in};
+ghost use Rattle.pim_capture.specs.declared.capture.State.TheVariants.{Unbegun};
 ghost use Rattle.pim_merge.specs.Merge.{turn, fails, earliest_from, clock_by};
 ghost use Rattle.pim_merge.specs.Lane.{IsComing, IsLooked, coming_on, failures_of, records_to_come, head_time, lane_at};
-ghost use Rattle.pim_merge.specs.Lane.{without_head};
+ghost use Rattle.pim_merge.specs.Lane.{without_head, rooms_of, sizes_of, KeepRooms};
 ghost use Rattle.pim_merge.specs.Next.{TellsTurn, IsCause, CountsFailures, KeepsTime, IfTaken, HoldsRecord, turns_left};
-ghost use Rattle.pim_merge.specs.Next.{bytes_at, with_fault};
+ghost use Rattle.pim_merge.specs.Next.{bytes_at, with_fault, LacksMemory};
 
 use crate::clock::Clock;
 use crate::lane::Lane;
@@ -86,6 +87,10 @@ impl<R: Feed + Drop> Merge<R> {
             map coming_on self.old.lanes ++ option_map answers (R.remaining reader) ∷ []) }
         ensures failures { IfOk result (λ _. failures_of self.new.lanes ≡
             failures_of self.old.lanes ++ R.failures reader ∷ []) }
+        ensures rooms { IfOk result (λ _. rooms_of self.new.lanes ≡
+            rooms_of self.old.lanes ++ 0 ∷ []) }
+        ensures sizes { IfOk result (λ _. sizes_of self.new.lanes ≡
+            sizes_of self.old.lanes ++ option_map (named_in Unbegun) (R.remaining reader) ∷ []) }
         ensures clock { self.new.clock ≡ self.old.clock }
         ensures unchanged { OnErr result (self.new ≡ self.old) }
     {
@@ -110,6 +115,8 @@ impl<R: Feed + Drop> Merge<R> {
         ensures cause { IfErr result (IsCause self.old.lanes self.new.lanes) }
         ensures left { records_to_come self.new.lanes ≤ records_to_come self.old.lanes }
         ensures reads { CountsFailures self.old.lanes result self.new.lanes }
+        ensures memory { IfErr result (LacksMemory self.old.lanes) }
+        ensures rooms { KeepRooms self.old.lanes self.new.lanes }
         ensures length { length self.new.lanes ≡ length self.old.lanes }
         ensures clock { self.new.clock ≡ self.old.clock }
     {
@@ -164,6 +171,9 @@ impl<R: Feed + Drop> Merge<R> {
             TellsTurn captures result self.new }
         ensures cause { IfErr result (IsCause self.old.lanes self.new.lanes) }
         ensures reads { CountsFailures self.old.lanes result self.new.lanes }
+        // Memory is refused only if a head wasn't read and its buffer had less room than it needs.
+        ensures memory { IfErr result (LacksMemory self.old.lanes) }
+        ensures rooms { KeepRooms self.old.lanes self.new.lanes }
         ensures clock { KeepsTime self.old.clock result self.new }
         ensures moment { IfTaken result (λ next. next.moment ≤ latest_moment) }
         ensures bytes { IfTaken result (HoldsRecord self.new) }

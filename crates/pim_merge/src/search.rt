@@ -6,7 +6,8 @@ ghost use Rattle.std.specs.List.{AllByRecursion};
 ghost use Rattle.pim_capture.specs.Capture.{Answer};
 ghost use Rattle.pim_merge.specs.Merge.{turn, fails, sooner, numbered, earliest_from};
 ghost use Rattle.pim_merge.specs.Lane.{IsComing, IsLooked, head_time, lane_at, records_to_come};
-ghost use Rattle.pim_merge.specs.Next.{with_fault, IsCause, CountsFailures};
+ghost use Rattle.pim_merge.specs.Lane.{KeepRooms};
+ghost use Rattle.pim_merge.specs.Next.{with_fault, IsCause, CountsFailures, LacksMemory};
 
 use crate::lane::Lane;
 use crate::merge::MergeFault;
@@ -25,6 +26,8 @@ pub(crate) fn look_at_all<R: Feed + Drop>(lanes: &mut [Lane<R>]) -> Result<(), M
     ensures cause { IfErr result (IsCause lanes.old lanes.new) }
     ensures left { records_to_come lanes.new ≤ records_to_come lanes.old }
     ensures reads { CountsFailures lanes.old result lanes.new }
+    ensures memory { IfErr result (LacksMemory lanes.old) }
+    ensures rooms { KeepRooms lanes.old lanes.new }
 {
     for (capture, lane) in lanes.iter_mut().enumerate() {
         if let Err(fault) = lane.look() {

@@ -1,5 +1,5 @@
 use Rattle.pim_merge.proofs.Looking.{begin_looking, look_more}
-use Rattle.pim_merge.proofs.Stopped.{stopped_turn, stopped_left, stopped_cause, stopped_reads}
+use Rattle.pim_merge.proofs.Stopped.{stopped_turn, stopped_left, stopped_cause, stopped_reads, stopped_memory, stopped_rooms}
 use Rattle.pim_merge.proofs.search.look_at_all.Goals as goal
 
 pub loop-capture-init : goal.loop-capture-init
@@ -8,7 +8,7 @@ loop-capture-init g c = begin_looking _
 pub loop-capture-preserved : goal.loop-capture-preserved
 loop-capture-preserved g c =
     look_more c.loop-capture.capture _ c.loop-capture.lanes c.look.new.self c.index-lanes-capture.result (rw c.loop-capture.auto.lanes c.loop-capture-test.true) c.loop-capture.invariant
-    c.in_default.ensures.coming c.in_default.ensures.looked c.look.ensures.left c.in_default.ensures.reads
+    c.in_default.ensures.coming c.in_default.ensures.looked c.look.ensures.left c.in_default.ensures.reads c.look.ensures.room
 
 pub returns-in-Err-clause-fault : goal.returns-in-Err-clause-fault
 returns-in-Err-clause-fault g c =
@@ -28,3 +28,13 @@ pub returns-in-Err-clause-reads : goal.returns-in-Err-clause-reads
 returns-in-Err-clause-reads g c =
     stopped_reads c.loop-capture.capture _ c.loop-capture.lanes c.look.new.self c.index-lanes-capture.result c.in-Err.fault (rw c.loop-capture.auto.lanes c.loop-capture-test.true) c.loop-capture.invariant
     c.in-Err.ensures.reads
+
+pub returns-in-Err-clause-memory : goal.returns-in-Err-clause-memory
+returns-in-Err-clause-memory g c =
+    stopped_memory c.loop-capture.capture _ c.loop-capture.lanes c.look.new.self c.index-lanes-capture.result c.in-Err.fault (rw c.loop-capture.auto.lanes c.loop-capture-test.true) c.loop-capture.invariant
+    c.in-Err.ensures.memory
+
+pub returns-in-Err-clause-rooms : goal.returns-in-Err-clause-rooms
+returns-in-Err-clause-rooms g c =
+    stopped_rooms c.loop-capture.capture _ c.loop-capture.lanes c.look.new.self c.index-lanes-capture.result c.in-Err.fault (rw c.loop-capture.auto.lanes c.loop-capture-test.true) c.loop-capture.invariant
+    c.look.ensures.room

@@ -2,7 +2,7 @@ use Rattle.std.proofs.Common.{◌≤◌, ◌∙◌, sym, ap, subst, arith, Some,
 use Rattle.pim_capture.specs.Capture.{most_captured}
 use Rattle.pim_capture.specs.Next.{latest_moment, PayloadLiesIn}
 use Rattle.pim_merge.specs.Merge.{clock_by, clock_after, moment_of}
-use Rattle.pim_merge.proofs.Taking.{no_turn, by_then, found_within, found_head, same_bytes, timed, takes_turn, takes_one, reads_none, same_length}
+use Rattle.pim_merge.proofs.Taking.{no_turn, by_then, found_within, found_head, same_bytes, timed, takes_turn, takes_one, reads_none, same_length, keeps_rooms}
 use Rattle.pim_merge.proofs.merge.Merge.next.Goals as goal
 
 pub returns-in_default-clause-turn : goal.returns-in_default-clause-turn
@@ -62,3 +62,8 @@ pub returns-clause-left : goal.returns-clause-left
 returns-clause-left g c =
     let one = takes_one c.look.new.self.lanes c.in-Some.capture c.in-Some.time (sym c.in-Some.is ∙ c.earliest.ensures) c.tick-moment.new.self.lanes c.in-Some-take.event c.in-Some-take.ensures.head (c.tick-moment.ensures.lanes ∙ c.take.ensures.lanes) in
     omega (arith, one, c.look.ensures.left)
+
+pub returns-clause-rooms : goal.returns-clause-rooms
+returns-clause-rooms g c =
+    keeps_rooms c.look.new.self.lanes c.in-Some.capture c.in-Some.time (sym c.in-Some.is ∙ c.earliest.ensures) c.tick-moment.new.self.lanes c.in-Some-take.event c.in-Some-take.ensures.head (c.tick-moment.ensures.lanes ∙ c.take.ensures.lanes)
+    _ c.look.ensures.rooms
