@@ -36,9 +36,8 @@ pub(crate) fn count_events<F: Family>(
     events: &[Event<F::Addr>],
 ) -> usize
     requires { IsAscending (records_seen F.bytes_of records.now.items) }
-    ensures count { result ≡ count_new port (records_seen F.bytes_of records.now.items)
+    ensures { result ≡ count_new port (records_seen F.bytes_of records.now.items)
         (map (event_seen F.bytes_of) events.now) }
-    ensures bound { result ≤ length events.now }
 {
     let mut near = Place::START;
     let mut count = 0;

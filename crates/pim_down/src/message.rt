@@ -2,7 +2,8 @@
 //! reserved in one step, before the first change: so a refusal changes nothing. End of Message
 //! comes once, after the last set, since several sets may be of one group.
 
-ghost use Rattle.std.specs.Prelude.{◌≡◌, ◌≤◌, ◌<◌, ◌+◌, ℕ, true, false, List, map, length, slice_index_or, OnOk, OnErr, IfSome};
+ghost use Rattle.std.specs.Prelude.{◌≡◌, ◌≤◌, ◌<◌, ◌+◌, ℕ, true, false, List, map};
+ghost use Rattle.std.specs.Prelude.{length, slice_index_or, OnOk, OnErr, IfOk, IfSome};
 ghost use Rattle.std.specs.List.{flat_map, list_any};
 ghost use Rattle.pim_jp.specs.Message.{GroupSet};
 ghost use Rattle.pim_down.specs.Records.{IsAscending, count_on};
@@ -26,7 +27,7 @@ use crate::hear::{act, event_of, is_star_join};
 use crate::held::Start;
 use crate::key::{Key, OfFamily, What};
 use crate::listed::{count_events, hear_events, star_joins};
-use crate::ordered::in_key_order;
+use crate::ordered::{entry_count, in_key_order};
 use crate::store::Store;
 use crate::walk::count_on;
 use pim_addr::{Family, Routes};
@@ -281,22 +282,62 @@ pub(crate) fn hear_sets<F: Family>(
     joined
 }
 
-/// How many events of a message create a record that isn't held, repeats counted. They may be in a
-/// list of their own.
+/// Judges whether the port's records and the message's new ones, repeats counted, are within the
+/// limit. It takes no memory.
+///
+/// Returns the number of new ones if it counted them. It doesn't where the port's records and all
+/// entries of the message are within the limit.
+fn judge_full<F: Family>(
+    records: &Store<F::Addr, OfFamily<F>>,
+    limit: usize,
+    port: usize,
+    routes: &Routes<F>,
+    message: &JpView<'_, F>,
+) -> Result<Option<usize>, HearFault>
+    requires ascending { IsAscending (records_seen F.bytes_of records.now.items) }
+    requires port { port < 64 }
+    requires within { count_on port (records_seen F.bytes_of records.now.items) ≤ 100000 }
+    ensures counted { IfOk result (λ counted. IfSome counted (λ fresh. fresh
+        ≡ count_new port (records_seen F.bytes_of records.now.items)
+        (events_of (known_in F.family routes.now) message.now))) }
+    ensures memory { MayWantMemory 0 result }
+    ensures room { IsWithin limit (needed port (records_seen F.bytes_of records.now.items)
+        (events_of (known_in F.family routes.now) message.now)) result }
+{
+    let held = count_on::<F>(records, port);
+    if held + entry_count::<F>(message) <= limit {
+        return Ok(None);
+    }
+    let fresh = count_sets::<F>(records, port, routes, message.sets());
+    let needed = held + fresh;
+    if needed > limit {
+        return Err(HearFault::Full { needed });
+    }
+    Ok(Some(fresh))
+}
+
+/// How many events of a message create a record that isn't held, repeats counted. They may be
+/// counted already, or be in a list of their own.
 fn count_fresh<F: Family>(
     records: &Store<F::Addr, OfFamily<F>>,
     port: usize,
     routes: &Routes<F>,
     message: &JpView<'_, F>,
     ordered: &Option<Vec<Event<F::Addr>>>,
+    counted: Option<usize>,
 ) -> usize
     requires ascending { IsAscending (records_seen F.bytes_of records.now.items) }
     requires alike { IfSome ordered.now (λ events. AreAlike (map (event_seen F.bytes_of) events.items)
         (events_of (known_in F.family routes.now) message.now)) }
-    ensures count { result ≡ count_new port (records_seen F.bytes_of records.now.items)
+    requires counted { IfSome counted (λ fresh. fresh
+        ≡ count_new port (records_seen F.bytes_of records.now.items)
+        (events_of (known_in F.family routes.now) message.now)) }
+    ensures { result ≡ count_new port (records_seen F.bytes_of records.now.items)
         (events_of (known_in F.family routes.now) message.now) }
-    ensures bound { result ≤ 9223372036854775807 }
 {
+    if let Some(fresh) = counted {
+        return fresh;
+    }
     match ordered {
         Some(events) => count_events::<F>(records, port, events),
         None => count_sets::<F>(records, port, routes, message.sets()),
@@ -334,9 +375,9 @@ fn hear_all<F: Family>(
     }
 }
 
-/// Hears a message on a port, or refuses it and changes no record. A refusal as `Full` keeps the
-/// capacity, too; one as `Memory` may raise it. All growth of the records comes before the first
-/// change.
+/// Hears a message on a port, or refuses it and changes no record. `Full` is judged before anything
+/// takes memory, the list of sorted events included. A refusal as `Full` keeps the capacity, too;
+/// one as `Memory` may raise it. All growth of the records comes before the first change.
 pub(crate) fn hear_message<F: Family>(
     alloc: Global,
     records: &mut Store<F::Addr, OfFamily<F>>,
@@ -359,12 +400,9 @@ pub(crate) fn hear_message<F: Family>(
     ensures room { IsWithin limit (needed port (records_seen F.bytes_of records.old.items)
         (events_of (known_in F.family routes.now) message.now)) result }
 {
+    let counted = judge_full::<F>(records, limit, port, routes, message)?;
     let ordered = in_key_order::<F>(alloc, routes, message);
-    let fresh = count_fresh::<F>(records, port, routes, message, &ordered);
-    let needed = count_on::<F>(records, port) + fresh;
-    if needed > limit {
-        return Err(HearFault::Full { needed });
-    }
+    let fresh = count_fresh::<F>(records, port, routes, message, &ordered, counted);
     if records.reserve(fresh).is_err() {
         return Err(HearFault::Memory);
     }

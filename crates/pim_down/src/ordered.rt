@@ -7,10 +7,11 @@
 //! 7761, 4.5.3). The code tests before and after a sort whether each Join(*,G) comes first, so that
 //! no proof depends on the order that the sort makes.
 
-ghost use Rattle.std.specs.Prelude.{◌≡◌, ℕ, List, true, ◌++◌, map, OnOk, IfOk, IfSome};
+ghost use Rattle.std.specs.Prelude.{◌≡◌, ◌≤◌, ℕ, List, Option, true, ◌++◌, map, OnOk, IfOk, IfSome};
 ghost use Rattle.std.specs.List.{list_any};
 ghost use Rattle.std.specs.List.Sorted.{IsPermutation, IsStableBy};
-ghost use Rattle.pim_down.specs.Hearing.{key_of, list_events, events_of};
+ghost use Rattle.pim_down.specs.declared.machine.Record.{Record};
+ghost use Rattle.pim_down.specs.Hearing.{key_of, list_events, events_of, count_new};
 ghost use Rattle.pim_down.specs.Key.{key_cmp};
 ghost use Rattle.pim_down.specs.Known.{known_in};
 ghost use Rattle.pim_down.specs.Ordered.{comes_before, source_or_star, source_key_of, comes_before_by_source};
@@ -81,12 +82,17 @@ fn push_list<F: Family>(
     Ok(())
 }
 
-/// How many entries a message has.
-fn entry_count<F: Family>(message: &JpView<'_, F>) -> usize {
-    let mut count = 0usize;
+/// How many entries a message has: at most twice 65,535 in each of its sets, at most 255.
+pub(crate) fn entry_count<F: Family>(message: &JpView<'_, F>) -> usize
+    ensures events { (known : List ℕ → Option (List ℕ)) (port : ℕ)
+        (records : List (Record (List ℕ))) →
+        count_new port records (events_of known message.now) ≤ result }
+    ensures bound { result ≤ 33422850 }
+{
+    let _most = message.set_count();
+    let mut count = 0;
     for set in message.sets() {
-        let both = usize::from(set.joined_count()) + usize::from(set.pruned_count());
-        count = count.saturating_add(both);
+        count += usize::from(set.joined_count()) + usize::from(set.pruned_count());
     }
     count
 }

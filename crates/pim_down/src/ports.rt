@@ -300,6 +300,9 @@ impl<F: Family> Ports<F> {
     /// Entries of one machine keep their order. If a Join(*,G) follows another one of its group, or
     /// an (S,G,rpt) entry of it, the code sorts only the (S,G) entries of each group. If memory for
     /// the sorted list is refused, the code hears the entries in message order.
+    ///
+    /// It judges `Full` before it takes any memory. So it counts new records in message order where
+    /// the port's records and all entries of the message exceed the limit.
     pub fn hear(
         &mut self,
         port: usize,

@@ -23,8 +23,8 @@ loop-event-preserved g c =
           record { so_far = omega (arith, none, so_far, w.count-is); few = omega (arith, c.loop-event.invariant.few, w.count-is) }
     ]
 
-pub returns-clause-count : goal.returns-clause-count
-returns-clause-count g c =
+pub returns : goal.returns
+returns g c =
     let bytes_of = g.F.Family.bytes_of in
     let none = none_new c.args.port (records_seen bytes_of c.args.records.now.items) (seen_from bytes_of c.loop-event.event-index c.args.events.now) (no_event_left bytes_of c.args.events.now c.loop-event.event-index (omega (arith, c.loop-event-test.false))) in
     omega (arith, none, c.loop-event.invariant.so_far)

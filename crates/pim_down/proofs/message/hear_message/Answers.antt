@@ -20,7 +20,7 @@ hear_all-joined-requires-clause-room g c =
     let held = c.args.records.now.items in
     let items = ap length c.reserve.ensures.items in
     let space = ok_then c.reserve.result (length c.reserve.new.self.items + c.count_fresh-fresh.result ≤ c.reserve.new.self.capacity) (sym c.is_err.ensures.value ∙ c.if-is_err.false) c.reserve.ensures.ok in
-    rw c.reserve.ensures.items (omega (arith, items, space, c.count_fresh-fresh.ensures.count))
+    rw c.reserve.ensures.items (omega (arith, items, space, c.count_fresh-fresh.ensures))
 
 pub end_message-requires-clause-ascending : goal.end_message-requires-clause-ascending
 end_message-requires-clause-ascending g c =
