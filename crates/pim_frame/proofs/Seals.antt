@@ -1,5 +1,5 @@
--- The checksum that makes a message sum rightly, and that there is one at most.
-use Rattle.std.proofs.Common.{◌≡◌, ℕ, zero, suc, ◌+◌, ◌*◌, ◌/◌, ◌%◌, ◌<◌, ◌⊎◌, ◌&&◌, IsTrue, nat_lt, nat_eq, List, [], ◌∷◌, ◌++◌, length, drop, sym, ap, subst, ◌∙◌, arith, inl, inr}
+-- The checksum that makes a message sum rightly: there is one, and one at most.
+use Rattle.std.proofs.Common.{◌≡◌, ℕ, zero, suc, ◌+◌, ◌-◌, ◌*◌, ◌/◌, ◌%◌, ◌<◌, ◌≤◌, ◌⊎◌, ◌&&◌, IsTrue, nat_lt, nat_eq, List, [], ◌∷◌, ◌++◌, length, drop, sym, ap, subst, ◌∙◌, arith, inl, inr}
 use Rattle.std.proofs.lemmas.Bool.Decides.{nat_tests}
 use Rattle.pim_addr.specs.declared.family.AddressFamily.{AddressFamily}
 use Rattle.pim_frame.specs.Folded.{folded}
@@ -102,3 +102,67 @@ one_seal family source destination message_type body first second one two =
     one_sum header (first_byte message_type) body (checksum first) (checksum second) one.1 two.1
     (sealed_total family source destination message_type body first one) (sealed_total family source destination message_type body second two) in
     one.0 ∙ ap (λ n. framed message_type n body) same ∙ sym two.0
+
+-- ---- there is one
+
+-- how the checksum field adds to the sum, where it is one word, and where it lies across two
+field_adds : (header : List ℕ) (a b : ℕ) (body : List ℕ)
+    → ((h l : ℕ) → words_sum (header ++ a ∷ b ∷ h ∷ l ∷ body) ≡ words_sum (header ++ a ∷ b ∷ 0 ∷ 0 ∷ body) + (256 * h + l))
+    ⊎ ((h l : ℕ) → words_sum (header ++ a ∷ b ∷ h ∷ l ∷ body) ≡ words_sum (header ++ a ∷ b ∷ 0 ∷ 0 ∷ body) + (256 * l + h))
+unfolding words_sum
+field_adds [] a b body = inl (λ h l. omega arith)
+field_adds (x ∷ []) a b [] = inr (λ h l. omega arith)
+field_adds (x ∷ []) a b (y ∷ ys) = inr (λ h l. omega arith)
+field_adds (x ∷ y ∷ rest) a b body =
+    elim (field_adds rest a b body) [ inl e ↦ inl (λ h l. omega (arith, e h l)) | inr e ↦ inr (λ h l. omega (arith, e h l)) ]
+
+sum_above : (header : List ℕ) (first : ℕ) (body : List ℕ) → 0 < first → 0 < words_sum (header ++ first ∷ 0 ∷ 0 ∷ 0 ∷ body)
+unfolding words_sum
+sum_above [] first body h = omega (arith, h)
+sum_above (x ∷ []) first [] h = omega (arith, h)
+sum_above (x ∷ []) first (y ∷ ys) h = omega (arith, h)
+sum_above (x ∷ y ∷ rest) first body h = omega (arith, sum_above rest first body h)
+
+folded_most : (n : ℕ) → folded n ≤ 65535
+unfolding folded
+folded_most zero = omega arith
+folded_most (suc n) = omega arith
+
+-- a checksum field with which the sum is right
+record RightField (header : List ℕ) (first : ℕ) (body : List ℕ) : Type 0 where
+  sum : ℕ
+  below : sum < 65535
+  right : is_right (words_sum (header ++ first ∷ 0 ∷ sum / 256 % 256 ∷ sum % 256 ∷ body))
+
+right_field : (header : List ℕ) (first : ℕ) (body : List ℕ) → 0 < first → RightField header first body
+right_field header first body h =
+    let total : ℕ = words_sum (header ++ first ∷ 0 ∷ 0 ∷ 0 ∷ body) in
+    let gap : ℕ = 65535 - folded total in
+    let seals = folded-complement total gap (sum_above header first body h) (omega (arith, folded_most total)) in
+    elim (field_adds header first 0 body) [
+      | inl adds ↦
+          let same : words_sum (header ++ first ∷ 0 ∷ gap / 256 % 256 ∷ gap % 256 ∷ body) ≡ total + gap =
+          adds (gap / 256 % 256) (gap % 256) ∙ ap (λ n. total + n) (whole gap seals.0) in
+          record { sum = gap; below = seals.0; right = subst is_right (sym same) seals.1 }
+      | inr adds ↦
+          let back : ℕ = 256 * (gap % 256) + gap / 256 in
+          let same : words_sum (header ++ first ∷ 0 ∷ back / 256 % 256 ∷ back % 256 ∷ body) ≡ total + gap =
+          adds (back / 256 % 256) (back % 256) ∙ ap (λ n. total + n) (turned gap seals.0).1 in
+          record { sum = back; below = (turned gap seals.0).0; right = subst is_right (sym same) seals.1 }
+    ]
+  where
+    whole : (n : ℕ) → n < 65535 → 256 * (n / 256 % 256) + n % 256 ≡ n
+    whole n below = omega (arith, below)
+
+    turned : (n : ℕ) → n < 65535 → (256 * (n % 256) + n / 256 < 65535)
+        × (256 * ((256 * (n % 256) + n / 256) % 256) + (256 * (n % 256) + n / 256) / 256 % 256 ≡ n)
+    turned n below = (omega (arith, below), omega (arith, below))
+
+pub some_seal : (family : AddressFamily) (source destination : List ℕ) (message_type : MessageType) (body : List ℕ)
+    → (message : List ℕ) × IsSealed family source destination message_type body message
+some_seal family source destination message_type body =
+    let found = right_field (pseudo_header family source destination (length (framed message_type 0 body))) (first_byte message_type) body (first_byte_above message_type) in
+    let field : checksum (framed message_type found.sum body) ≡ found.sum = checksum_framed message_type found.sum body found.below in (
+      framed message_type found.sum body,
+      (ap (λ n. framed message_type n body) (sym field), rw field found.below, found.right),
+    )

@@ -38,6 +38,11 @@ OneChecksum = (family : AddressFamily) (source destination : List ℕ) (message_
     → IsSealed family source destination message_type body second
     → first ≡ second
 
+-- At least one message is sealed for a type and a body.
+abbrev pub SomeMessageIsSealed : Type 0
+SomeMessageIsSealed = (family : AddressFamily) (source destination : List ℕ) (message_type : MessageType)
+    (body : List ℕ) → (message : List ℕ) × IsSealed family source destination message_type body message
+
 -- The content that a receiver gets from a message of this type and body.
 abbrev pub type_content : MessageType → List ℕ → Content
 type_content Hello body = hello body

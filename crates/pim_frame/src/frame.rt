@@ -5,6 +5,7 @@ ghost use Rattle.pim_addr.specs.Faults.{judged, Answers};
 ghost use Rattle.pim_frame.specs.Frame.{all_routers, frame_faults, content, version, message_type};
 ghost use Rattle.pim_frame.specs.Frame.{is_hello_or_join_prune, IsAccepted};
 ghost use Rattle.pim_frame.specs.Seal.{first_byte, framed, IsSealed, OneChecksum, SealedOpens};
+ghost use Rattle.pim_frame.specs.Seal.{SomeMessageIsSealed};
 ghost use Rattle.pim_frame.specs.Seen.{content_of};
 
 use crate::checksum::{complement, sums_rightly};
@@ -164,4 +165,10 @@ pub fn one_checksum()
 /// body. It has no effect.
 pub fn sealed_opens()
     ensures { SealedOpens }
+{}
+
+/// A law: at least one message with a given type and body has a correct checksum below 65,535. It
+/// has no effect.
+pub fn some_message_is_sealed()
+    ensures { SomeMessageIsSealed }
 {}

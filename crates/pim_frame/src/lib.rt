@@ -22,4 +22,5 @@ mod frame;
 
 pub use frame::{
     Body, FrameFault, MessageType, all_routers, one_checksum, open, seal, sealed_opens,
+    some_message_is_sealed,
 };
