@@ -3,6 +3,8 @@ pub mod Addresses
 pub mod Counting
 pub mod OneForm
 pub mod OnePacking
+pub mod SomePacking
+pub mod SomeMessages
 pub mod Lists
 pub mod Units
 pub mod Normal

@@ -1,5 +1,6 @@
 -- The statements of the laws in `src/laws.rt`.
-use Rattle.std.specs.Prelude.{◌≡◌, ◌↔◌, ◌≤◌, false, true, List, [], ◌∷◌, ◌++◌, ℕ, Option, Some, length}
+use Rattle.std.specs.Prelude.{◌≡◌, ◌↔◌, ◌≤◌, false, true, List, [], ◌∷◌, ◌++◌, ℕ, Option, None, Some, length}
+use Rattle.std.specs.List.{AllByRecursion}
 use Rattle.pim_addr.specs.declared.family.AddressFamily.{AddressFamily}
 use Rattle.pim_frame.specs.Frame.{join_prune, frame_faults, content, all_routers}
 use Rattle.pim_frame.specs.Seal.{IsSealed}
@@ -14,6 +15,7 @@ use Rattle.pim_form.specs.declared.tree.Tree.{Tree}
 use Rattle.pim_form.specs.Toward.{toward, SharedHaveRps}
 use Rattle.pim_form.specs.Units.{WantUnit, units_of, run_size}
 use Rattle.pim_form.specs.Packing.{IsPacking, fits, IsNonempty, StopsBefore}
+use Rattle.pim_form.specs.TooBig.{too_big}
 use Rattle.pim_form.specs.Messages.{Rps, Writing, IsWriting, HaveRps, AreCanonical, told_message}
 
 -- The bytes, sent from `source` to ALL-PIM-ROUTERS, open as a Join/Prune message. Its body is read
@@ -107,3 +109,18 @@ abbrev pub OneNeighbourIsAskedForAll : Type 0
 OneNeighbourIsAskedForAll = (rps via : List ℕ → Option (List ℕ)) (neighbour : List ℕ) (demand : Demand) →
     ((address : List ℕ) → via address ≡ Some neighbour) → SharedHaveRps rps via demand →
     (source group : List ℕ) (tree : Tree) → toward rps via neighbour demand source group tree ≡ demand source group tree
+
+-- ---- existence
+
+-- A list of units has a packing exactly if each unit fits a message alone.
+abbrev pub UnitsPackIfEachFits : Type 0
+UnitsPackIfEachFits = (family : AddressFamily) (budget : ℕ) (units : List WantUnit) →
+    ((runs : List (List WantUnit)) × IsPacking family budget units runs)
+    ↔ AllByRecursion (λ (this : WantUnit). fits family budget (this ∷ []) ≡ true) units
+
+-- A normal form has canonical messages by a writer exactly if no star is too big.
+abbrev pub MessagesAreThereUnlessTooBig : Type 0
+MessagesAreThereUnlessTooBig = (family : AddressFamily) (writing : Writing) (rps : Rps) (form : List GroupForm) →
+    IsWriting family writing → IsNormal family form →
+    ((messages : List (List ℕ)) × AreCanonical family writing rps form messages)
+    ↔ (too_big family writing.budget form ≡ None)

@@ -3,6 +3,7 @@
 ghost use Rattle.pim_form.specs.Laws.{SealedMessageIsRead, SomeSourceIsOutside, OneNormalForm, OnePacking};
 ghost use Rattle.pim_form.specs.Laws.{MessagesTellTheForm, OneListOfMessages, SameMessagesSameDemand, SizeIsLength};
 ghost use Rattle.pim_form.specs.Laws.{OneNeighbourIsAskedForAll, FirstRunIsTold};
+ghost use Rattle.pim_form.specs.Laws.{UnitsPackIfEachFits, MessagesAreThereUnlessTooBig};
 ghost use Rattle.pim_form.specs.Asked.{GroupsAreCounted};
 
 /// A canonical message that is sealed for ALL-PIM-ROUTERS opens without a fault, and its body is
@@ -78,3 +79,16 @@ pub fn one_neighbour_is_asked_for_all()
 pub fn groups_are_counted()
     ensures { GroupsAreCounted }
 {}
+
+/// A list of units has a packing within a budget exactly if each unit fits a message alone.
+pub fn units_pack_if_each_fits()
+    ensures { UnitsPackIfEachFits }
+{}
+
+/// A normal form has canonical messages by a writer exactly if no star is too big for one message
+/// of that writer.
+pub fn messages_are_there_unless_too_big()
+    ensures { MessagesAreThereUnlessTooBig }
+{
+    pim_frame::some_message_is_sealed();
+}

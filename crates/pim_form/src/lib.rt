@@ -51,9 +51,10 @@ pub use fault::FormFault;
 pub use form::{NormalForm, normal_again};
 pub use groups::{GroupView, Groups};
 pub use laws::{
-    first_run_is_told, groups_are_counted, messages_tell_the_form, one_list_of_messages,
-    one_neighbour_is_asked_for_all, one_normal_form, one_packing, same_messages_same_demand,
-    sealed_message_is_read, size_is_length, some_source_is_outside,
+    first_run_is_told, groups_are_counted, messages_are_there_unless_too_big,
+    messages_tell_the_form, one_list_of_messages, one_neighbour_is_asked_for_all, one_normal_form,
+    one_packing, same_messages_same_demand, sealed_message_is_read, size_is_length,
+    some_source_is_outside, units_pack_if_each_fits,
 };
 pub use messages::Messages;
 pub use packing::pack;
