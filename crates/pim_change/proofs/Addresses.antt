@@ -37,6 +37,9 @@ less_apart a b h = texts_ties a b ∙ ap is_eq h
 pub greater_less : (a b : List ℕ) → slice_cmp nat_cmp a b ≡ Greater → slice_cmp nat_cmp b a ≡ Less
 greater_less a b h = nat_list_cmp_total.antisymm b a ∙ ap ordering_reverse h
 
+pub less_greater : (a b : List ℕ) → slice_cmp nat_cmp a b ≡ Less → slice_cmp nat_cmp b a ≡ Greater
+less_greater a b h = nat_list_cmp_total.antisymm b a ∙ ap ordering_reverse h
+
 pub less_apart_back : (a b : List ℕ) → slice_cmp nat_cmp a b ≡ Less → same_address b a ≡ false
 less_apart_back a b h = texts_ties b a ∙ ap is_eq (nat_list_cmp_total.antisymm b a ∙ ap ordering_reverse h)
 

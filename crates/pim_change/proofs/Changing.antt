@@ -5,57 +5,57 @@ use Rattle.std.specs.List.{AllByRecursion, flat_map}
 use Rattle.std.specs.List.Sorted.{IsStrictlySortedBy}
 use Rattle.std.specs.Ordering.{nat_cmp}
 use Rattle.std.specs.Cmp.Lexicographic.{slice_cmp}
+use Rattle.std.proofs.lemmas.Cmp.{nat_list_cmp_total, tied_itself}
 use Rattle.pim_form.specs.NormalForm.{GroupForm, AreAscending, groups_of}
-use Rattle.pim_form.specs.Merge.{by_order, merged_into, merged_by, itself, first_of, united}
 use Rattle.pim_form.specs.Settled.{unwanted, group_in}
-use Rattle.pim_change.specs.Change.{ChangeUnit, about, group_change, change_at, change}
-use Rattle.pim_change.proofs.Addresses.{same_itself, equal_is, less_apart, greater_less, less_apart_back, all_behind}
+use Rattle.pim_change.specs.Change.{ChangeUnit, about, group_change, inserted, in_order, change_at, change}
+use Rattle.pim_change.proofs.Addresses.{same_itself, equal_is, less_apart, greater_less, less_greater, less_apart_back}
+use Rattle.pim_change.proofs.Addresses.{all_behind}
+use Rattle.pim_change.proofs.Sorted.{either_all}
 
 -- ---- the addresses of two lists in order
 
-all_into : (P : List ℕ → Type 0) (a : List ℕ) (others : List (List ℕ) → List (List ℕ)) → P a
-    → ((ys : List (List ℕ)) → AllByRecursion P ys → AllByRecursion P (others ys))
-    → (ys : List (List ℕ)) → AllByRecursion P ys → AllByRecursion P (merged_into itself first_of a others ys)
-unfolding merged_into
-all_into P a others here step [] all = (here, step [] tt)
-all_into P a others here step (b ∷ ys) all =
-    elim (slice_cmp nat_cmp a b) as
-    (λ r. AllByRecursion P (by_order r (a ∷ others (b ∷ ys)) (a ∷ others ys)
-    (b ∷ merged_into itself first_of a others ys))) [
-      | Less ↦ (here, step (b ∷ ys) all)
-      | Equal ↦ (here, step ys all.1)
-      | Greater ↦ (all.0, all_into P a others here step ys all.1)
-    ]
+abbrev Below : List ℕ → List (List ℕ) → Type 0
+Below x xs = AllByRecursion (λ y. slice_cmp nat_cmp x y ≡ Less) xs
 
-all_united : (P : List ℕ → Type 0) (xs ys : List (List ℕ)) → AllByRecursion P xs → AllByRecursion P ys
-    → AllByRecursion P (united xs ys)
-unfolding merged_by
-all_united P [] ys all_x all_y = all_y
-all_united P (x ∷ xs) ys all_x all_y =
-    all_into P x (merged_by itself first_of xs) all_x.0 (λ zs all. all_united P xs zs all_x.1 all) ys all_y
+inserted_first : (x : List ℕ) (xs : List (List ℕ)) → Below x xs → inserted x xs ≡ x ∷ xs
+unfolding inserted
+inserted_first x [] below = refl
+inserted_first x (y ∷ ys) below = rw below.0 refl
 
-united_less : (x y : List ℕ) (xs ys : List (List ℕ)) → slice_cmp nat_cmp x y ≡ Less
-    → united (x ∷ xs) (y ∷ ys) ≡ x ∷ united xs (y ∷ ys)
-unfolding merged_by merged_into
-united_less x y xs ys less = rw less refl
+inserted_behind : (x z : List ℕ) (zs : List (List ℕ)) → slice_cmp nat_cmp z x ≡ Less
+    → inserted x (z ∷ zs) ≡ z ∷ inserted x zs
+unfolding inserted
+inserted_behind x z zs less = rw (less_greater z x less) refl
 
-united_equal : (x y : List ℕ) (xs ys : List (List ℕ)) → slice_cmp nat_cmp x y ≡ Equal
-    → united (x ∷ xs) (y ∷ ys) ≡ x ∷ united xs ys
-unfolding merged_by merged_into
-united_equal x y xs ys equal = rw equal refl
+inserted_there : (x z : List ℕ) (zs : List (List ℕ)) → x ≡ z → inserted x (z ∷ zs) ≡ z ∷ zs
+unfolding inserted
+inserted_there x z zs same =
+    let tied : slice_cmp nat_cmp x z ≡ Equal = subst (λ a. slice_cmp nat_cmp x a ≡ Equal) same
+    (tied_itself nat_list_cmp_total x) in
+    rw tied refl
 
-united_greater : (x y : List ℕ) (xs ys : List (List ℕ)) → slice_cmp nat_cmp x y ≡ Greater
-    → united (x ∷ xs) (y ∷ ys) ≡ y ∷ united (x ∷ xs) ys
-unfolding merged_by merged_into
-united_greater x y xs ys greater = rw greater refl
+-- an address below the others of both lists is the first of them, wherever it stands
+first_of_one : (x : List ℕ) (xs ys : List (List ℕ)) → Below x xs → Below x ys
+    → in_order ((x ∷ xs) ++ ys) ≡ x ∷ in_order (xs ++ ys)
+unfolding in_order
+first_of_one x xs ys below_x below_y =
+    inserted_first x (in_order (xs ++ ys)) (either_all (λ y. slice_cmp nat_cmp x y ≡ Less) xs ys below_x below_y)
 
-united_first : (x : List ℕ) (xs : List (List ℕ)) → united (x ∷ xs) [] ≡ x ∷ united xs []
-unfolding merged_by merged_into
-united_first x xs = refl
+first_of_other : (y : List ℕ) (xs ys : List (List ℕ)) → Below y xs → Below y ys
+    → in_order (xs ++ y ∷ ys) ≡ y ∷ in_order (xs ++ ys)
+unfolding in_order
+first_of_other y [] ys below_x below_y = first_of_one y [] ys tt below_y
+first_of_other y (x ∷ xs) ys below_x below_y =
+    ap (inserted x) (first_of_other y xs ys below_x.1 below_y)
+    ∙ inserted_behind x y (in_order (xs ++ ys)) below_x.0
 
-united_second : (ys : List (List ℕ)) → united [] ys ≡ ys
-unfolding merged_by
-united_second ys = refl
+first_of_both : (x y : List ℕ) (xs ys : List (List ℕ)) → x ≡ y → Below y xs → Below y ys
+    → in_order ((x ∷ xs) ++ y ∷ ys) ≡ x ∷ in_order (xs ++ ys)
+unfolding in_order
+first_of_both x y xs ys same below_x below_y =
+    ap (inserted x) (first_of_other y xs ys below_x below_y) ∙ inserted_there x y (in_order (xs ++ ys)) same
+    ∙ ap (λ (a : List ℕ). a ∷ in_order (xs ++ ys)) (sym same)
 
 -- ---- what a form has of a group
 
@@ -111,26 +111,26 @@ past_new new olds news groups above =
 
 old_first : (old : GroupForm) (olds news : List GroupForm) → AreAscending (groups_of (old ∷ olds))
     → AllByRecursion (λ g. slice_cmp nat_cmp old.group g ≡ Less) (groups_of news)
-    → flat_map (change_at (old ∷ olds) news) (old.group ∷ united (groups_of olds) (groups_of news)) ≡ about old.group
+    → flat_map (change_at (old ∷ olds) news) (old.group ∷ in_order (groups_of olds ++ groups_of news)) ≡ about old.group
     (group_change old (unwanted old.group)) ++ change olds news
 unfolding change IsStrictlySortedBy
 old_first old olds news up above =
     let here : change_at (old ∷ olds) news old.group ≡ about old.group (group_change old (unwanted old.group)) =
     λ i. about old.group (group_change (in_first old olds i) (in_none news old.group above i)) in
-    let behind = past_old old olds news (united (groups_of olds) (groups_of news))
-    (all_united (λ g. slice_cmp nat_cmp old.group g ≡ Less) (groups_of olds) (groups_of news) up.0 above) in
+    let behind = past_old old olds news (in_order (groups_of olds ++ groups_of news))
+    (either_all (λ g. slice_cmp nat_cmp old.group g ≡ Less) (groups_of olds) (groups_of news) up.0 above) in
     λ i. here i ++ behind i
 
 new_first : (new : GroupForm) (olds news : List GroupForm) → AreAscending (groups_of (new ∷ news))
     → AllByRecursion (λ g. slice_cmp nat_cmp new.group g ≡ Less) (groups_of olds)
-    → flat_map (change_at olds (new ∷ news)) (new.group ∷ united (groups_of olds) (groups_of news)) ≡ about new.group
+    → flat_map (change_at olds (new ∷ news)) (new.group ∷ in_order (groups_of olds ++ groups_of news)) ≡ about new.group
     (group_change (unwanted new.group) new) ++ change olds news
 unfolding change IsStrictlySortedBy
 new_first new olds news up above =
     let here : change_at olds (new ∷ news) new.group ≡ about new.group (group_change (unwanted new.group) new) =
     λ i. about new.group (group_change (in_none olds new.group above i) (in_first new news i)) in
-    let behind = past_new new olds news (united (groups_of olds) (groups_of news))
-    (all_united (λ g. slice_cmp nat_cmp new.group g ≡ Less) (groups_of olds) (groups_of news) above up.0) in
+    let behind = past_new new olds news (in_order (groups_of olds ++ groups_of news))
+    (either_all (λ g. slice_cmp nat_cmp new.group g ≡ Less) (groups_of olds) (groups_of news) above up.0) in
     λ i. here i ++ behind i
 
 module _ (old new : GroupForm) (olds news : List GroupForm) (up_old : AreAscending (groups_of (old ∷ olds)))
@@ -140,9 +140,11 @@ module _ (old new : GroupForm) (olds news : List GroupForm) (up_old : AreAscendi
       ++ change olds (new ∷ news)
   unfolding change IsStrictlySortedBy
   change_less less =
+      let above : Below old.group (groups_of (new ∷ news)) =
+      (less, all_behind old.group new.group (groups_of news) less up_new.0) in
       ap (flat_map (change_at (old ∷ olds) (new ∷ news)))
-      (united_less old.group new.group (groups_of olds) (groups_of news) less)
-      ∙ old_first old olds (new ∷ news) up_old (less, all_behind old.group new.group (groups_of news) less up_new.0)
+      (first_of_one old.group (groups_of olds) (groups_of (new ∷ news)) up_old.0 above)
+      ∙ old_first old olds (new ∷ news) up_old above
 
   pub change_greater : slice_cmp nat_cmp old.group new.group ≡ Greater
       → change (old ∷ olds) (new ∷ news) ≡ about new.group (group_change (unwanted new.group) new)
@@ -150,9 +152,11 @@ module _ (old new : GroupForm) (olds news : List GroupForm) (up_old : AreAscendi
   unfolding change IsStrictlySortedBy
   change_greater greater =
       let less = greater_less old.group new.group greater in
+      let above : Below new.group (groups_of (old ∷ olds)) =
+      (less, all_behind new.group old.group (groups_of olds) less up_old.0) in
       ap (flat_map (change_at (old ∷ olds) (new ∷ news)))
-      (united_greater old.group new.group (groups_of olds) (groups_of news) greater)
-      ∙ new_first new (old ∷ olds) news up_new (less, all_behind new.group old.group (groups_of olds) less up_old.0)
+      (first_of_other new.group (groups_of (old ∷ olds)) (groups_of news) above up_new.0)
+      ∙ new_first new (old ∷ olds) news up_new above
 
   pub change_equal : slice_cmp nat_cmp old.group new.group ≡ Equal
       → change (old ∷ olds) (new ∷ news) ≡ about new.group (group_change old new) ++ change olds news
@@ -162,30 +166,34 @@ module _ (old new : GroupForm) (olds news : List GroupForm) (up_old : AreAscendi
       let here : change_at (old ∷ olds) (new ∷ news) old.group ≡ about new.group (group_change old new) =
       λ i. about (same i) (group_change (in_first old olds i) (in_same new news old.group same i)) in
       let above : AllByRecursion (λ g. slice_cmp nat_cmp old.group g ≡ Less)
-      (united (groups_of olds) (groups_of news)) =
-      all_united (λ g. slice_cmp nat_cmp old.group g ≡ Less) (groups_of olds) (groups_of news) up_old.0
+      (in_order (groups_of olds ++ groups_of news)) =
+      either_all (λ g. slice_cmp nat_cmp old.group g ≡ Less) (groups_of olds) (groups_of news) up_old.0
       (subst (λ a. AllByRecursion (λ g. slice_cmp nat_cmp a g ≡ Less) (groups_of news)) (sym same) up_new.0) in
       let above' : AllByRecursion (λ g. slice_cmp nat_cmp new.group g ≡ Less)
-      (united (groups_of olds) (groups_of news)) =
-      subst (λ a. AllByRecursion (λ g. slice_cmp nat_cmp a g ≡ Less) (united (groups_of olds) (groups_of news)))
+      (in_order (groups_of olds ++ groups_of news)) =
+      subst (λ a. AllByRecursion (λ g. slice_cmp nat_cmp a g ≡ Less) (in_order (groups_of olds ++ groups_of news)))
       same above in
-      let behind = past_old old olds (new ∷ news) (united (groups_of olds) (groups_of news)) above
-      ∙ past_new new olds news (united (groups_of olds) (groups_of news)) above' in
+      let behind = past_old old olds (new ∷ news) (in_order (groups_of olds ++ groups_of news)) above
+      ∙ past_new new olds news (in_order (groups_of olds ++ groups_of news)) above' in
       ap (flat_map (change_at (old ∷ olds) (new ∷ news)))
-      (united_equal old.group new.group (groups_of olds) (groups_of news) equal)
+      (first_of_both old.group new.group (groups_of olds) (groups_of news) same
+      (subst (λ a. Below a (groups_of olds)) same up_old.0) up_new.0)
       ∙ (λ i. here i ++ behind i)
 
 pub change_gone : (old : GroupForm) (olds : List GroupForm) → AreAscending (groups_of (old ∷ olds))
     → change (old ∷ olds) [] ≡ about old.group (group_change old (unwanted old.group)) ++ change olds []
-unfolding change
-change_gone old olds up = ap (flat_map (change_at (old ∷ olds) [])) (united_first old.group (groups_of olds))
+unfolding change IsStrictlySortedBy
+change_gone old olds up =
+    ap (flat_map (change_at (old ∷ olds) [])) (first_of_one old.group (groups_of olds) [] up.0 tt)
     ∙ old_first old olds [] up tt
 
 pub change_came : (new : GroupForm) (news : List GroupForm) → AreAscending (groups_of (new ∷ news))
     → change [] (new ∷ news) ≡ about new.group (group_change (unwanted new.group) new) ++ change [] news
-unfolding change merged_by
-change_came new news up = new_first new [] news up tt
+unfolding change IsStrictlySortedBy
+change_came new news up =
+    ap (flat_map (change_at [] (new ∷ news))) (first_of_other new.group [] (groups_of news) tt up.0)
+    ∙ new_first new [] news up tt
 
 pub no_change : change [] [] ≡ []
-unfolding change merged_by
+unfolding change in_order
 no_change = refl

@@ -13,3 +13,4 @@ pub mod Sorted
 pub mod OneStar
 pub mod Spelled
 pub mod ReadBack
+pub mod SomeMessages

@@ -4,14 +4,13 @@ use Rattle.std.specs.List.{AllByRecursion, flat_map}
 use Rattle.pim_jp.specs.declared.entry.Entry.{Entry}
 use Rattle.pim_jp.specs.Spelling.{star_count}
 use Rattle.pim_form.specs.NormalForm.{GroupForm, same_address, groups_of}
-use Rattle.pim_form.specs.Merge.{united}
 use Rattle.pim_form.specs.Settled.{group_in}
 use Rattle.pim_change.specs.declared.unit.Kind.{Kind}
 use Rattle.pim_change.specs.declared.unit.Kind.TheVariants.{JoinRpt, PruneRpt, JoinSource, PruneSource}
-use Rattle.pim_change.specs.Change.{Telling, star_joined, star_pruned, told, lacking, star_change, sources_change, group_change, ChangeUnit, unit_of, change_at, change}
+use Rattle.pim_change.specs.Change.{Telling, star_joined, star_pruned, told, lacking, star_change, sources_change, group_change, ChangeUnit, unit_of, in_order, change_at, change}
 use Rattle.pim_change.specs.Told.{rp_entry, excepted_entries, joined_entries, pruned_entries, GroupTellings, tellings_of, set_in_front, in_front, grouped, told_set}
 use Rattle.pim_change.proofs.Addresses.{same_itself, same_is}
-use Rattle.pim_change.proofs.Sorted.{Ascend, united_sorted, one_if, count, count_append, count_flat, count_once}
+use Rattle.pim_change.proofs.Sorted.{in_order_sorted, one_if, count, count_append, count_flat, count_once}
 
 unfoldable pub is_star : Telling → Bool
 is_star (star_joined exceptions) = true
@@ -79,11 +78,12 @@ at_once old new g h = by (same_address g h) refl
         omega (arith, is, once)
     by false s = let is = of_group g h false (group_change (group_in h old) (group_in h new)) s in omega (arith, is)
 
-change_once : (old new : List GroupForm) (g : List ℕ) → Ascend (groups_of old) → Ascend (groups_of new) → count (of_star g) (change old new) ≤ 1
+change_once : (old new : List GroupForm) (g : List ℕ) → count (of_star g) (change old new) ≤ 1
 unfolding change
-change_once old new g up_old up_new =
-    let each = count_flat (of_star g) (change_at old new) (same_address g) (united (groups_of old) (groups_of new)) (λ h. at_once old new g h) in
-    let once = count_once g (united (groups_of old) (groups_of new)) (united_sorted (groups_of old) (groups_of new) up_old up_new) in
+change_once old new g =
+    let groups : List (List ℕ) = in_order (groups_of old ++ groups_of new) in
+    let each = count_flat (of_star g) (change_at old new) (same_address g) groups (λ h. at_once old new g h) in
+    let once = count_once g groups (in_order_sorted (groups_of old ++ groups_of new)) in
     omega (arith, each, once)
 
 -- ---- a run
@@ -98,9 +98,9 @@ runs_once (run ∷ runs) each = (
   runs_once runs (λ g. let both = count_append (of_star g) run (flat_map (λ r. r) runs) in let all = each g in omega (arith, both, all)),
 )
 
-pub runs_have_one_star : (old new : List GroupForm) (runs : List (List ChangeUnit)) → Ascend (groups_of old) → Ascend (groups_of new) → flat_map (λ run. run) runs ≡ change old new → AllByRecursion HasOneStar runs
-runs_have_one_star old new runs up_old up_new whole =
-    runs_once runs (λ g. let n = ap (count (of_star g)) whole in let once = change_once old new g up_old up_new in omega (arith, n, once))
+pub runs_have_one_star : (old new : List GroupForm) (runs : List (List ChangeUnit)) → flat_map (λ run. run) runs ≡ change old new → AllByRecursion HasOneStar runs
+runs_have_one_star old new runs whole =
+    runs_once runs (λ g. let n = ap (count (of_star g)) whole in let once = change_once old new g in omega (arith, n, once))
 
 -- ---- its sets
 

@@ -39,7 +39,7 @@ change_is_read reads family writing rps old new messages is normal_old normal_ne
   whole = told.packing.whole;
   read = all_read reads family writing rps old new is told.runs messages
       (subst (AllByRecursion (IsFairUnit family rps old new)) (sym told.packing.whole) (change_fair family rps old new normal_old normal_new have_old have_new))
-      (runs_have_one_star old new told.runs normal_old.ascending normal_new.ascending told.packing.whole) told.packing.cut told.told;
+      (runs_have_one_star old new told.runs told.packing.whole) told.packing.cut told.told;
 }
 
 -- ---- and they are short
@@ -64,4 +64,4 @@ pub change_is_short : CanonicalHasItsLength → ChangeMessagesAreShort
 change_is_short lengths family writing rps old new messages is normal_old normal_new have_old have_new told =
     all_short lengths family writing rps old new is told.runs messages
     (subst (AllByRecursion (IsFairUnit family rps old new)) (sym told.packing.whole) (change_fair family rps old new normal_old normal_new have_old have_new))
-    (runs_have_one_star old new told.runs normal_old.ascending normal_new.ascending told.packing.whole) told.packing.cut told.told
+    (runs_have_one_star old new told.runs told.packing.whole) told.packing.cut told.told

@@ -1,5 +1,5 @@
--- The addresses of either of two ascending lists ascend, so that each stands there once.
-use Rattle.std.proofs.Common.{◌≡◌, ℕ, ◌+◌, ◌≤◌, Bool, true, false, cond, List, [], ◌∷◌, ◌++◌, refl, sym, ap, subst, arith}
+-- Addresses in order: they ascend, so that each stands there once.
+use Rattle.std.proofs.Common.{◌≡◌, ℕ, ◌+◌, ◌≤◌, Bool, true, false, cond, ◌||◌, ◌∙◌, List, [], ◌∷◌, ◌++◌, refl, sym, ap, subst, arith}
 use Rattle.std.specs.List.{AllByRecursion, flat_map}
 use Rattle.std.specs.List.Sorted.{IsStrictlySortedBy}
 use Rattle.std.specs.declared.cmp.Ordering.{Ordering}
@@ -7,8 +7,10 @@ use Rattle.std.specs.declared.cmp.Ordering.TheVariants.{Less, Equal, Greater}
 use Rattle.std.specs.Ordering.{nat_cmp}
 use Rattle.std.specs.Cmp.Lexicographic.{slice_cmp}
 use Rattle.std.proofs.lemmas.Cmp.{nat_list_cmp_total}
-use Rattle.pim_form.specs.NormalForm.{same_address}
-use Rattle.pim_form.specs.Merge.{by_order, itself, first_of, merged_into, merged_by, united}
+use Rattle.pim_form.specs.NormalForm.{same_address, is_listed}
+use Rattle.pim_form.specs.Merge.{by_order}
+use Rattle.pim_change.specs.Change.{inserted, in_order}
+use Rattle.pim_change.specs.Laws.{AddressesAreInOrder}
 use Rattle.pim_change.proofs.Addresses.{same_is, less_apart, equal_is, greater_less}
 
 abbrev pub Below : List ℕ → List (List ℕ) → Type 0
@@ -21,54 +23,76 @@ below_through : (x y : List ℕ) (xs : List (List ℕ)) → slice_cmp nat_cmp x 
 below_through x y [] less below = tt
 below_through x y (z ∷ xs) less below = (nat_list_cmp_total.trans x y z less below.0, below_through x y xs less below.1)
 
-lower_into : (x a : List ℕ) (others : List (List ℕ) → List (List ℕ)) (other : List (List ℕ)) → slice_cmp nat_cmp x a ≡ Less → Below x other → ((rest : List (List ℕ)) → Below x rest → Below x (others rest)) → Below x (merged_into itself first_of a others other)
-unfolding merged_into
-lower_into x a others [] less below each = (less, each [] tt)
-lower_into x a others (b ∷ other) less below each =
-    elim (slice_cmp nat_cmp a b) as (λ o. Below x (by_order o (a ∷ others (b ∷ other)) (a ∷ others other) (b ∷ merged_into itself first_of a others other))) [
-      | Less ↦ (less, each (b ∷ other) below)
-      | Equal ↦ (less, each other below.1)
-      | Greater ↦ (below.0, lower_into x a others other less below.1 each)
+-- ---- addresses in order
+
+-- what holds of all addresses holds of them in order
+inserted_all : (P : List ℕ → Type 0) (x : List ℕ) (xs : List (List ℕ)) → P x → AllByRecursion P xs → AllByRecursion P (inserted x xs)
+unfolding inserted
+inserted_all P x [] own all = (own, tt)
+inserted_all P x (y ∷ ys) own all =
+    elim (slice_cmp nat_cmp x y) as (λ o. AllByRecursion P (by_order o (x ∷ y ∷ ys) (y ∷ ys) (y ∷ inserted x ys))) [
+      | Less ↦ (own, all)
+      | Equal ↦ all
+      | Greater ↦ (all.0, inserted_all P x ys own all.1)
     ]
 
-lower : (x : List ℕ) (one other : List (List ℕ)) → Below x one → Below x other → Below x (united one other)
-unfolding merged_by
-lower x [] other below above = above
-lower x (a ∷ one) other below above = lower_into x a (united one) other below.0 above (λ rest r. lower x one rest below.1 r)
+pub in_order_all : (P : List ℕ → Type 0) (xs : List (List ℕ)) → AllByRecursion P xs → AllByRecursion P (in_order xs)
+unfolding in_order
+in_order_all P [] all = tt
+in_order_all P (x ∷ xs) all = inserted_all P x (in_order xs) all.0 (in_order_all P xs all.1)
 
-sorted_into : (a : List ℕ) (one other : List (List ℕ)) → Below a one → ((rest : List (List ℕ)) → Ascend rest → Ascend (united one rest)) → Ascend other → Ascend (merged_into itself first_of a (united one) other)
-unfolding merged_into IsStrictlySortedBy
-sorted_into a one [] below each sorted = (lower a one [] below tt, each [] tt)
-sorted_into a one (b ∷ other) below each sorted = by (slice_cmp nat_cmp a b) refl (sorted_into a one other below each sorted.1)
+pub all_both : (P : List ℕ → Type 0) (one other : List (List ℕ)) → AllByRecursion P one → AllByRecursion P other → AllByRecursion P (one ++ other)
+all_both P [] other all others = others
+all_both P (x ∷ one) other all others = (all.0, all_both P one other all.1 others)
+
+-- and so for the addresses of two lists
+pub either_all : (P : List ℕ → Type 0) (one other : List (List ℕ)) → AllByRecursion P one → AllByRecursion P other → AllByRecursion P (in_order (one ++ other))
+either_all P one other all others = in_order_all P (one ++ other) (all_both P one other all others)
+
+inserted_sorted : (x : List ℕ) (xs : List (List ℕ)) → Ascend xs → Ascend (inserted x xs)
+unfolding inserted IsStrictlySortedBy
+inserted_sorted x [] sorted = (tt, tt)
+inserted_sorted x (y ∷ ys) sorted = by (slice_cmp nat_cmp x y) refl (inserted_sorted x ys sorted.1)
   where
-    by : (o : Ordering) → slice_cmp nat_cmp a b ≡ o → Ascend (merged_into itself first_of a (united one) other)
-        → Ascend (by_order o (a ∷ united one (b ∷ other)) (a ∷ united one other) (b ∷ merged_into itself first_of a (united one) other))
-    by Less o rest = (lower a one (b ∷ other) below (o, below_through a b other o sorted.0), each (b ∷ other) sorted)
-    by Equal o rest = (lower a one other below (subst (λ (x : List ℕ). Below x other) (sym (equal_is a b o)) sorted.0), each other sorted.1)
-    by Greater o rest =
-        let less = greater_less a b o in
-        (lower_into b a (united one) other less sorted.0 (λ tail r. lower b one tail (below_through b a one less below) r), rest)
+    by : (o : Ordering) → slice_cmp nat_cmp x y ≡ o → Ascend (inserted x ys) → Ascend (by_order o (x ∷ y ∷ ys) (y ∷ ys) (y ∷ inserted x ys))
+    by Less o further = ((o, below_through x y ys o sorted.0), sorted)
+    by Equal o further = sorted
+    by Greater o further = (inserted_all (λ z. slice_cmp nat_cmp y z ≡ Less) x ys (greater_less x y o) sorted.0, further)
 
-pub united_sorted : (one other : List (List ℕ)) → Ascend one → Ascend other → Ascend (united one other)
-unfolding merged_by IsStrictlySortedBy
-united_sorted [] other sorted others = others
-united_sorted (a ∷ one) other sorted others = sorted_into a one other sorted.0 (λ rest r. united_sorted one rest sorted.1 r) others
+pub in_order_sorted : (xs : List (List ℕ)) → Ascend (in_order xs)
+unfolding in_order IsStrictlySortedBy
+in_order_sorted [] = tt
+in_order_sorted (x ∷ xs) = inserted_sorted x (in_order xs) (in_order_sorted xs)
 
--- what holds of either holds of both
-all_into : (P : List ℕ → Type 0) (a : List ℕ) (others : List (List ℕ) → List (List ℕ)) (other : List (List ℕ)) → P a → AllByRecursion P other → ((rest : List (List ℕ)) → AllByRecursion P rest → AllByRecursion P (others rest)) → AllByRecursion P (merged_into itself first_of a others other)
-unfolding merged_into
-all_into P a others [] own all each = (own, each [] tt)
-all_into P a others (b ∷ other) own all each =
-    elim (slice_cmp nat_cmp a b) as (λ o. AllByRecursion P (by_order o (a ∷ others (b ∷ other)) (a ∷ others other) (b ∷ merged_into itself first_of a others other))) [
-      | Less ↦ (own, each (b ∷ other) all)
-      | Equal ↦ (own, each other all.1)
-      | Greater ↦ (all.0, all_into P a others other own all.1 each)
-    ]
+or_twice : (p q : Bool) → (p || q) ≡ (p || (p || q))
+or_twice true q = refl
+or_twice false q = refl
 
-pub united_all : (P : List ℕ → Type 0) (one other : List (List ℕ)) → AllByRecursion P one → AllByRecursion P other → AllByRecursion P (united one other)
-unfolding merged_by
-united_all P [] other all others = others
-united_all P (a ∷ one) other all others = all_into P a (united one) other all.0 others (λ rest r. united_all P one rest all.1 r)
+or_turned : (p q r : Bool) → (q || (p || r)) ≡ (p || (q || r))
+or_turned true true r = refl
+or_turned true false r = refl
+or_turned false q r = refl
+
+inserted_listed : (a x : List ℕ) (xs : List (List ℕ)) → is_listed a (inserted x xs) ≡ (same_address a x || is_listed a xs)
+unfolding inserted
+inserted_listed a x [] = refl
+inserted_listed a x (y ∷ ys) = by (slice_cmp nat_cmp x y) refl (inserted_listed a x ys)
+  where
+    by : (o : Ordering) → slice_cmp nat_cmp x y ≡ o → is_listed a (inserted x ys) ≡ (same_address a x || is_listed a ys)
+        → is_listed a (by_order o (x ∷ y ∷ ys) (y ∷ ys) (y ∷ inserted x ys)) ≡ (same_address a x || (same_address a y || is_listed a ys))
+    by Less o further = refl
+    by Equal o further =
+        or_twice (same_address a y) (is_listed a ys)
+        ∙ ap (λ (z : List ℕ). same_address a z || (same_address a y || is_listed a ys)) (sym (equal_is x y o))
+    by Greater o further = ap (λ b. same_address a y || b) further ∙ or_turned (same_address a x) (same_address a y) (is_listed a ys)
+
+in_order_listed : (a : List ℕ) (xs : List (List ℕ)) → is_listed a (in_order xs) ≡ is_listed a xs
+unfolding in_order
+in_order_listed a [] = refl
+in_order_listed a (x ∷ xs) = inserted_listed a x (in_order xs) ∙ ap (λ b. same_address a x || b) (in_order_listed a xs)
+
+pub addresses_in_order : AddressesAreInOrder
+addresses_in_order xs = (in_order_sorted xs, λ a. in_order_listed a xs)
 
 -- ---- counts
 

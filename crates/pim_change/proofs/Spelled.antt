@@ -11,15 +11,14 @@ use Rattle.pim_jp.specs.Spelling.{same_source}
 use Rattle.pim_jp.specs.Canonical.{IsMessageEntry, IsMessageSet, IsMessage}
 use Rattle.pim_form.specs.NormalForm.{GroupForm, same_address, is_listed, AreExceptions, IsNormalGroup, IsNormal, groups_of}
 use Rattle.pim_form.specs.Rows.{exceptions_of}
-use Rattle.pim_form.specs.Merge.{united}
 use Rattle.pim_form.specs.Messages.{Rps, Writing, IsWriting, IsRp, IsRpOf, HaveRps}
 use Rattle.pim_form.specs.Packing.{fits}
 use Rattle.pim_form.specs.Settled.{group_in}
 use Rattle.pim_change.specs.declared.unit.Kind.TheVariants.{JoinRpt, PruneRpt, JoinSource, PruneSource}
-use Rattle.pim_change.specs.Change.{Telling, star_joined, star_pruned, told, lacking, star_change, sources_change, group_change, ChangeUnit, unit_of, change_at, change}
+use Rattle.pim_change.specs.Change.{Telling, star_joined, star_pruned, told, lacking, star_change, sources_change, group_change, ChangeUnit, unit_of, in_order, change_at, change}
 use Rattle.pim_change.specs.Told.{weights, rp_entry, excepted_entries, joined_entries, pruned_entries, GroupTellings, set_in_front, in_front, grouped, told_set, told_message, IsShort}
 use Rattle.pim_change.proofs.Addresses.{same_itself, same_is}
-use Rattle.pim_change.proofs.Sorted.{united_all}
+use Rattle.pim_change.proofs.Sorted.{either_all}
 use Rattle.pim_change.proofs.OneStar.{HasOneStar, HasFewStars, one_star_a_set}
 use Rattle.pim_change.proofs.RunSizes.{sets_short, few_sets}
 
@@ -148,9 +147,9 @@ module _ (family : AddressFamily) (rps : Rps) where
     pub change_fair : IsNormal family old → IsNormal family new → HaveRps family rps old → HaveRps family rps new → AllByRecursion IsFairUnit (change old new)
     unfolding change
     change_fair normal_old normal_new have_old have_new =
-        all_flat IsFairUnit (IsGroupAddress family) (change_at old new) (united (groups_of old) (groups_of new))
+        all_flat IsFairUnit (IsGroupAddress family) (change_at old new) (in_order (groups_of old ++ groups_of new))
         (λ group is. at_fair group is (group_fine group old normal_old.groups have_old) (group_fine group new normal_new.groups have_new))
-        (united_all (IsGroupAddress family) (groups_of old) (groups_of new) (groups_fine old normal_old.groups) (groups_fine new normal_new.groups))
+        (either_all (IsGroupAddress family) (groups_of old) (groups_of new) (groups_fine old normal_old.groups) (groups_fine new normal_new.groups))
 
     -- ---- the sets of a run
 

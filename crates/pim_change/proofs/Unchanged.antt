@@ -2,10 +2,9 @@
 use Rattle.std.proofs.Common.{◌≡◌, ℕ, Bool, true, false, ◌||◌, List, [], ◌∷◌, ◌++◌, Option, None, Some, map, refl, ap}
 use Rattle.std.specs.List.{AllByRecursion, flat_map}
 use Rattle.pim_form.specs.NormalForm.{GroupForm, same_address, is_listed, groups_of}
-use Rattle.pim_form.specs.Merge.{united}
 use Rattle.pim_form.specs.Settled.{group_in}
 use Rattle.pim_change.specs.declared.unit.Kind.TheVariants.{JoinRpt, PruneRpt, JoinSource, PruneSource}
-use Rattle.pim_change.specs.Change.{told, ChangeUnit, about, lacking, star_change, group_change, change_at, change}
+use Rattle.pim_change.specs.Change.{told, ChangeUnit, about, lacking, star_change, group_change, in_order, change_at, change}
 use Rattle.pim_change.proofs.Addresses.{same_itself}
 
 none_of : (xs ys : List (List ℕ)) → AllByRecursion (λ x. is_listed x ys ≡ true) xs → lacking xs ys ≡ []
@@ -45,4 +44,4 @@ no_units f none (g ∷ groups) = λ i. none g i ++ no_units f none groups i
 pub unchanged : (form : List GroupForm) → change form form ≡ []
 unfolding change
 unchanged form = no_units (change_at form form) (λ g. ap (about g) (same_group (group_in g form)))
-    (united (groups_of form) (groups_of form))
+    (in_order (groups_of form ++ groups_of form))

@@ -2,8 +2,10 @@
 -- that is wanted (RFC 7761, 4.5.4, 4.5.5 and 4.5.7).
 use Rattle.std.specs.Prelude.{ℕ, not, List, [], ◌∷◌, ◌++◌, Option, None, Some, map}
 use Rattle.std.specs.List.{filter, flat_map}
+use Rattle.std.specs.Ordering.{nat_cmp}
+use Rattle.std.specs.Cmp.Lexicographic.{slice_cmp}
 use Rattle.pim_form.specs.NormalForm.{GroupForm, is_listed, groups_of}
-use Rattle.pim_form.specs.Merge.{united}
+use Rattle.pim_form.specs.Merge.{by_order}
 use Rattle.pim_form.specs.Settled.{group_in}
 use Rattle.pim_change.specs.declared.unit.Kind.{Kind}
 use Rattle.pim_change.specs.declared.unit.Kind.TheVariants.{JoinRpt, PruneRpt, JoinSource, PruneSource}
@@ -38,6 +40,22 @@ sources_change old new = map (told JoinSource) (lacking new old) ++ map (told Pr
 abbrev pub group_change : GroupForm → GroupForm → List Telling
 group_change old new = star_change old.star new.star ++ sources_change old.sources new.sources
 
+-- ---- addresses in order
+
+-- Inserts an address into an ascending list at its place, unless it is there already.
+unfoldable pub inserted : List ℕ → List (List ℕ) → List (List ℕ)
+inserted address [] = address ∷ []
+inserted address (first ∷ others) =
+    by_order (slice_cmp nat_cmp address first)
+    (address ∷ first ∷ others)
+    (first ∷ others)
+    (first ∷ inserted address others)
+
+-- These addresses in ascending order, each once: each is inserted at its place.
+unfoldable pub in_order : List (List ℕ) → List (List ℕ)
+in_order [] = []
+in_order (address ∷ others) = inserted address (in_order others)
+
 -- ---- the change between two forms
 
 -- One unit of a change: a group and what a message says of it.
@@ -57,6 +75,7 @@ about group tellings = map (unit_of group) tellings
 abbrev pub change_at : List GroupForm → List GroupForm → List ℕ → List ChangeUnit
 change_at old new group = about group (group_change (group_in group old) (group_in group new))
 
--- The change between two forms: the units of each group of either form, in order of groups.
+-- The change between two forms: the units of each group of either form, in ascending order of
+-- groups.
 unfoldable pub change : List GroupForm → List GroupForm → List ChangeUnit
-change old new = flat_map (change_at old new) (united (groups_of old) (groups_of new))
+change old new = flat_map (change_at old new) (in_order (groups_of old ++ groups_of new))

@@ -1,11 +1,12 @@
 -- The statements of the laws in `src/laws.rt`.
-use Rattle.std.specs.Prelude.{◌≡◌, ◌≤◌, ℕ, List, [], ◌∷◌, length}
+use Rattle.std.specs.Prelude.{◌≡◌, ◌↔◌, ◌≤◌, ℕ, List, [], ◌∷◌, None, length}
 use Rattle.std.specs.List.{AllByRecursion, flat_map}
 use Rattle.pim_addr.specs.declared.family.AddressFamily.{AddressFamily}
 use Rattle.pim_form.specs.Laws.{IsReadAs}
 use Rattle.pim_form.specs.Messages.{Rps, Writing, IsWriting, HaveRps}
-use Rattle.pim_form.specs.NormalForm.{GroupForm, IsNormal}
-use Rattle.pim_change.specs.Change.{ChangeUnit, change}
+use Rattle.pim_form.specs.NormalForm.{GroupForm, IsNormal, AreAscending, is_listed}
+use Rattle.pim_change.specs.Change.{ChangeUnit, in_order, change}
+use Rattle.pim_change.specs.TooBig.{too_big}
 use Rattle.pim_change.specs.Told.{told_message, TellChange}
 
 -- The change from a form to itself has no units.
@@ -43,3 +44,14 @@ ChangeMessagesAreShort = (family : AddressFamily) (writing : Writing) (rps : Rps
     IsNormal family old → IsNormal family new → HaveRps family rps old → HaveRps family rps new →
     TellChange family writing rps old new messages →
     AllByRecursion (λ (message : List ℕ). length message ≤ writing.budget) messages
+
+-- Addresses in order are strictly ascending, and they are the addresses of the list.
+abbrev pub AddressesAreInOrder : Type 0
+AddressesAreInOrder = (addresses : List (List ℕ)) → AreAscending (in_order addresses)
+    × ((address : List ℕ) → is_listed address (in_order addresses) ≡ is_listed address addresses)
+
+-- The change between two forms has messages by a writer exactly if it isn't too big.
+abbrev pub ChangeHasMessagesUnlessTooBig : Type 0
+ChangeHasMessagesUnlessTooBig = (family : AddressFamily) (writing : Writing) (rps : Rps) (old new : List GroupForm) →
+    IsWriting family writing → ((messages : List (List ℕ)) × TellChange family writing rps old new messages)
+    ↔ (too_big family writing.budget (change old new) ≡ None)

@@ -1,6 +1,7 @@
 //! Laws of the definitions. Nothing in this module is to be called.
 
 ghost use Rattle.pim_change.specs.Laws.{EqualFormsChangeNothing, ChangeIsRead, ChangeMessagesAreShort};
+ghost use Rattle.pim_change.specs.Laws.{AddressesAreInOrder, ChangeHasMessagesUnlessTooBig};
 
 /// The change from a form to itself has no units.
 pub fn equal_forms_change_nothing()
@@ -21,4 +22,18 @@ pub fn change_messages_are_short()
     ensures { ChangeMessagesAreShort }
 {
     pim_jp::canonical_has_its_length();
+}
+
+/// Addresses in order are strictly ascending, and they are the addresses of the list.
+pub fn addresses_are_in_order()
+    ensures { AddressesAreInOrder }
+{}
+
+/// The change between two forms has messages by a writer exactly if no new star of it is too big
+/// for one message of that writer.
+pub fn change_has_messages_unless_too_big()
+    ensures { ChangeHasMessagesUnlessTooBig }
+{
+    pim_frame::some_message_is_sealed();
+    pim_form::units_pack_if_each_fits();
 }

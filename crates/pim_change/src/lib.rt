@@ -14,8 +14,9 @@
 //! writer's upstream neighbour. Otherwise a star may have no RP, and its message lacks the (*,G)
 //! entry.
 //!
-//! By the laws, equal forms have no change. The messages between normal forms whose stars have RPs
-//! are read without a fault, and are within the budget.
+//! By the laws, equal forms have no change, and a change has messages exactly if it is not too big.
+//! The messages between normal forms whose stars have RPs are read without a fault, and are within
+//! the budget.
 #![tactic(auto)]
 
 mod changes;
@@ -30,6 +31,9 @@ mod unit;
 
 pub use changes::changed;
 pub use fitting::too_big;
-pub use laws::{change_is_read, change_messages_are_short, equal_forms_change_nothing};
+pub use laws::{
+    addresses_are_in_order, change_has_messages_unless_too_big, change_is_read,
+    change_messages_are_short, equal_forms_change_nothing,
+};
 pub use packing::triggered;
 pub use unit::{Kind, Telling, Unit};

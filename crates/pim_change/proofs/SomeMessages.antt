@@ -1,0 +1,134 @@
+-- A change has messages exactly if it isn't too big.
+use Rattle.std.proofs.Common.{◌≡◌, ◌∙◌, ℕ, ◌≤◌, true, false, cond, List, [], ◌∷◌, ◌++◌, None, Some, map, nat_le, refl, sym, ap, subst, arith}
+use Rattle.std.proofs.lemmas.Bool.{le-leb, and_from}
+use Rattle.std.specs.List.{AllByRecursion, flat_map}
+use Rattle.pim_addr.specs.declared.family.AddressFamily.{AddressFamily}
+use Rattle.pim_addr.specs.declared.family.AddressFamily.TheVariants.{Ipv4, Ipv6}
+use Rattle.pim_frame.specs.Frame.{all_routers}
+use Rattle.pim_frame.specs.Seal.{SomeMessageIsSealed}
+use Rattle.pim_frame.specs.declared.frame.MessageType.TheVariants.{JoinPrune}
+use Rattle.pim_jp.specs.Canonical.{canonical}
+use Rattle.pim_form.specs.Laws.{UnitsPackIfEachFits}
+use Rattle.pim_form.specs.Messages.{Rps, Writing, IsWriting}
+use Rattle.pim_form.specs.Packing.{fits, most_groups, AreRuns}
+use Rattle.pim_form.specs.Units.{WantUnit, source_unit, run_entries, groups_behind, run_groups, run_size}
+use Rattle.pim_change.specs.Change.{Telling, star_joined, star_pruned, told, ChangeUnit, change}
+use Rattle.pim_change.specs.Laws.{ChangeHasMessagesUnlessTooBig}
+use Rattle.pim_change.specs.TooBig.{telling_fits, too_big}
+use Rattle.pim_change.specs.Told.{weight_of, weight, weights, told_message, TellRuns, TellUnits}
+
+-- ---- units that fit alone
+
+module _ (family : AddressFamily) (budget : ℕ) (least : 70 ≤ budget) where
+  abbrev Alone : WantUnit → Type 0
+  Alone this = fits family budget (this ∷ []) ≡ true
+
+  source_alone : (group source : List ℕ) → Alone (source_unit group source)
+  unfolding run_entries groups_behind
+  source_alone group source =
+      and_from (nat_le (run_size family (source_unit group source ∷ [])) budget) (nat_le (run_groups (source_unit group source ∷ [])) most_groups)
+      (le-leb (run_size family (source_unit group source ∷ [])) budget (within family))
+      (le-leb (run_groups (source_unit group source ∷ [])) most_groups (omega arith))
+    where
+      within : (of : AddressFamily) → run_size of (source_unit group source ∷ []) ≤ budget
+      within Ipv4 = omega (arith, least)
+      within Ipv6 = omega (arith, least)
+
+  unit_alone : (group : List ℕ) (telling : Telling) → telling_fits family budget group telling ≡ true → Alone (weight_of group telling)
+  unit_alone group (star_joined exceptions) fit = fit
+  unit_alone group star_pruned fit = source_alone group []
+  unit_alone group (told kind source) fit = source_alone group source
+
+  unit_fits : (group : List ℕ) (telling : Telling) → Alone (weight_of group telling) → telling_fits family budget group telling ≡ true
+  unit_fits group (star_joined exceptions) alone = alone
+  unit_fits group star_pruned alone = refl
+  unit_fits group (told kind source) alone = refl
+
+  units_alone : (units : List ChangeUnit) → too_big family budget units ≡ None → AllByRecursion Alone (weights units)
+  unfolding too_big
+  units_alone [] none = tt
+  units_alone (this ∷ units) none =
+      elim (telling_fits family budget this.group this.telling) as
+      (λ b. telling_fits family budget this.group this.telling ≡ b → cond b (too_big family budget units) (Some this.group) ≡ None → AllByRecursion Alone (weights (this ∷ units))) [
+        | true ↦ λ fit none'. (unit_alone this.group this.telling fit, units_alone units none')
+        | false ↦ λ full none'. absurd cc
+      ] refl none
+
+  none_too_big : (units : List ChangeUnit) → AllByRecursion Alone (weights units) → too_big family budget units ≡ None
+  unfolding too_big
+  none_too_big [] all = refl
+  none_too_big (this ∷ units) all =
+      ap (λ b. cond b (too_big family budget units) (Some this.group)) (unit_fits this.group this.telling all.0) ∙ none_too_big units all.1
+
+-- ---- units in the runs of their weights
+
+record InTwo {A B : Type 0} (f : A → B) (xs : List A) (run left : List B) : Type 0 where
+  front : List A
+  behind : List A
+  whole : front ++ behind ≡ xs
+  is_run : map f front ≡ run
+  is_left : map f behind ≡ left
+
+in_two : {A B : Type 0} (f : A → B) (xs : List A) (run left : List B) → run ++ left ≡ map f xs → InTwo f xs run left
+in_two f xs [] left h = record { front = []; behind = xs; whole = refl; is_run = refl; is_left = sym h }
+in_two f [] (u ∷ run) left h = absurd cc
+in_two f (x ∷ xs) (u ∷ run) left h =
+    let head : f x ≡ u = cc in
+    let tail : run ++ left ≡ map f xs = cc in
+    let c = in_two f xs run left tail in
+    record { front = x ∷ c.front; behind = c.behind; whole = λ i. x ∷ c.whole i; is_run = λ i. head i ∷ c.is_run i; is_left = c.is_left }
+
+record InRuns {A B : Type 0} (f : A → B) (xs : List A) (runs : List (List B)) : Type 0 where
+  parts : List (List A)
+  whole : flat_map (λ part. part) parts ≡ xs
+  are : map (map f) parts ≡ runs
+
+in_runs : {A B : Type 0} (f : A → B) (runs : List (List B)) (xs : List A) → flat_map (λ run. run) runs ≡ map f xs → InRuns f xs runs
+in_runs f [] [] h = record { parts = []; whole = refl; are = refl }
+in_runs f [] (x ∷ xs) h = absurd cc
+in_runs f (run ∷ runs) xs h =
+    let c = in_two f xs run (flat_map (λ r. r) runs) h in
+    let others = in_runs f runs c.behind (sym c.is_left) in
+    record {
+      parts = c.front ∷ others.parts;
+      whole = (λ i. c.front ++ others.whole i) ∙ c.whole;
+      are = λ i. c.is_run i ∷ others.are i;
+    }
+
+joined_weights : (runs : List (List ChangeUnit)) → flat_map (λ run. run) (map weights runs) ≡ weights (flat_map (λ run. run) runs)
+joined_weights [] = refl
+joined_weights (run ∷ runs) = (λ i. weights run ++ joined_weights runs i) ∙ weights_append run (flat_map (λ r. r) runs)
+  where
+    weights_append : (xs ys : List ChangeUnit) → weights xs ++ weights ys ≡ weights (xs ++ ys)
+    weights_append [] ys = refl
+    weights_append (x ∷ xs) ys = ap (λ (us : List WantUnit). weight x ∷ us) (weights_append xs ys)
+
+-- ---- messages
+
+module _ (seal : SomeMessageIsSealed) (packs : UnitsPackIfEachFits) (family : AddressFamily) (writing : Writing) (rps : Rps) where
+  some_told : (runs : List (List ChangeUnit)) → (messages : List (List ℕ)) × TellRuns family writing rps runs messages
+  some_told [] = ([], tt)
+  some_told (run ∷ runs) =
+      let message = seal family writing.own (all_routers family) JoinPrune (canonical family (told_message writing rps run)) in
+      let others = some_told runs in
+      (message.0 ∷ others.0, (message.1, others.1))
+
+  some_messages : (units : List ChangeUnit) → IsWriting family writing → too_big family writing.budget units ≡ None
+      → (messages : List (List ℕ)) × TellUnits family writing rps units messages
+  some_messages units is none =
+      let packing = (packs family writing.budget (weights units)).1 (units_alone family writing.budget is.least units none) in
+      let runs = in_runs weight packing.0 units packing.1.whole in
+      let messages = some_told runs.parts in
+      (messages.0, record { runs = runs.parts; packing = record { whole = runs.whole; cut = subst (AreRuns family writing.budget) (sym runs.are) packing.1.cut }; told = messages.1 })
+
+  told_fit : (units : List ChangeUnit) → IsWriting family writing → (messages : List (List ℕ)) × TellUnits family writing rps units messages
+      → too_big family writing.budget units ≡ None
+  told_fit units is telling =
+      let tells = telling.1 in
+      none_too_big family writing.budget is.least units
+      ((packs family writing.budget (weights units)).0
+      (map weights tells.runs, record { whole = joined_weights tells.runs ∙ ap weights tells.packing.whole; cut = tells.packing.cut }))
+
+pub messages_unless_too_big : SomeMessageIsSealed → UnitsPackIfEachFits → ChangeHasMessagesUnlessTooBig
+messages_unless_too_big seal packs family writing rps old new is =
+    (told_fit seal packs family writing rps (change old new) is, some_messages seal packs family writing rps (change old new) is)
