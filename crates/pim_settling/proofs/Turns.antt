@@ -8,18 +8,18 @@ use Rattle.pim_down.specs.declared.key.Key.{Key}
 use Rattle.pim_down.specs.declared.machine.State.{State}
 use Rattle.pim_down.specs.declared.machine.State.TheVariants.{PrunePending, Prune}
 use Rattle.pim_down.specs.declared.machine.Machine.{Machine}
+use Rattle.pim_down.specs.declared.machine.Pending.{Pending}
 use Rattle.pim_down.specs.declared.machine.Record.{Record}
 use Rattle.pim_down.specs.declared.step.Step.{Step}
 use Rattle.pim_down.specs.declared.step.Step.TheVariants.{Echo, Reached}
 use Rattle.pim_down.specs.Key.{same_key}
 use Rattle.pim_down.specs.Records.{IsAscending, machine_at}
 use Rattle.pim_down.specs.Tables.{machine_in}
-use Rattle.pim_down.specs.Time.{Downstream, rests, moves, Runs, expiry_after, machine_after, expiry_due, pending_due, et_due, ppt_due, on_ppt, after_ppt, echo_of, first_due, with_first, fire_et, fire_ppt, fired, tick, with_records, told, turn_by, turn, run_on, run_within}
+use Rattle.pim_down.specs.Time.{Downstream, rests, moves, Runs, expiry_after, pending_after, machine_after, expiry_due, pending_due, et_due, ppt_due, on_ppt, after_ppt, echo_of, first_due, with_first, fire_et, fire_ppt, fired, tick, with_records, told, turn_by, turn, run_on, run_within}
 use Rattle.pim_down.specs.Laws.{KeysAreToldApart}
-use Rattle.pim_fresh.specs.Deliveries.{IsShorter}
 use Rattle.pim_fresh.specs.Expected.{asked_state}
 use Rattle.pim_settling.specs.Course.{Course, absent, stays, waits, IsHeld, IsPending, IsOn, IsPast}
-use Rattle.pim_settling.specs.Hearing.{Arrives, NoneExpires}
+use Rattle.pim_settling.specs.Hearing.{Arrives, IsPrunedBy, NotEnded, NoneEnds}
 use Rattle.pim_settling.proofs.Fires.{Records, ticked_order, ticked_at, first_held, none_due, replaced_order, replaced_own, replaced_other}
 
 -- ---- one machine
@@ -94,18 +94,48 @@ past_is_on what now (waits until) held (inl waiting) = inl (omega (arith, waitin
 
 -- ---- expiry timers
 
-shorter_ticks : (now moment : ℕ) (expires_in : Option ℕ) → now < moment → IsShorter (moment - now) expires_in → IsShorter (moment - (now + 1)) (expiry_after 1 expires_in)
-shorter_ticks now moment None less is = tt
-shorter_ticks now moment (Some left) less is = omega (arith, less, is)
+pruned_ticks : (left : ℕ) (what : What (List ℕ)) (pending : Option Pending) → IsPrunedBy left what pending → IsPrunedBy (left - 1) what (pending_after 1 pending)
+pruned_ticks left what None is = is
+pruned_ticks left Star (Some timer) is = omega (arith, is)
+pruned_ticks left (Source source) (Some timer) is = omega (arith, is)
+pruned_ticks left (Rpt source) (Some timer) is = omega (arith, is)
 
-not_over : (passed : ℕ) (expires_in : Option ℕ) → IsShorter passed expires_in → expiry_due expires_in ≡ false
-not_over passed None is = refl
-not_over passed (Some left) is = grind (arith, nat_tests)
+unended_ticks : (now moment : ℕ) (what : What (List ℕ)) (expires_in : Option ℕ) (pending : Option Pending) → now < moment → NotEnded (moment - now) what expires_in pending
+    → NotEnded (moment - (now + 1)) what (expiry_after 1 expires_in) (pending_after 1 pending)
+unended_ticks now moment what None pending less is = tt
+unended_ticks now moment what (Some left) pending less (inl more) = inl (omega (arith, less, more))
+unended_ticks now moment what (Some left) pending less (inr pruned) = inr (pruned_ticks left what pending pruned)
 
-same_expiry : (what : What (List ℕ)) (held machine : Machine) → on_ppt what held ≡ Some machine → machine.expires_in ≡ held.expires_in
-same_expiry Star held machine e = absurd cc
-same_expiry (Source source) held machine e = absurd cc
-same_expiry (Rpt source) held machine e = cc
+-- a prune-pending timer that isn't due leads nowhere yet
+not_pruned : (what : What (List ℕ)) (pending : Option Pending) → pending_due pending ≡ false → IsPrunedBy 0 what pending → ⊥
+not_pruned what None quiet is = is
+not_pruned Star (Some timer) quiet is = let left = running timer.ends_in quiet in omega (arith, left, is)
+not_pruned (Source source) (Some timer) quiet is = let left = running timer.ends_in quiet in omega (arith, left, is)
+not_pruned (Rpt source) (Some timer) quiet is = let left = running timer.ends_in quiet in omega (arith, left, is)
+
+not_over : (passed : ℕ) (what : What (List ℕ)) (expires_in : Option ℕ) (pending : Option Pending) → pending_due pending ≡ false → NotEnded passed what expires_in pending → expiry_due expires_in ≡ true → ⊥
+not_over passed what None pending quiet is due = false≢true due
+not_over passed what (Some left) pending quiet (inl more) due = let none : left ≡ 0 = eqb-true left 0 due in omega (arith, more, none)
+not_over passed what (Some left) pending quiet (inr pruned) due =
+    let none : left ≡ 0 = eqb-true left 0 due in
+    not_pruned what pending quiet (subst (λ (n : ℕ). IsPrunedBy n what pending) none pruned)
+
+-- where its prune-pending timer leads, the expiry timer is the same
+led_unended : (passed : ℕ) (what : What (List ℕ)) (expires_in : Option ℕ) (pending : Option Pending) (source : List ℕ) → what ≡ Rpt source → NotEnded passed what expires_in pending → NotEnded passed what expires_in None
+led_unended passed what None pending source is_rpt is = tt
+led_unended passed what (Some left) pending source is_rpt (inl more) = inl more
+led_unended passed what (Some left) pending source is_rpt (inr pruned) = absurd (by pending (subst (λ w. IsPrunedBy left w pending) is_rpt pruned))
+  where
+    by : (pending : Option Pending) → IsPrunedBy left (Rpt source) pending → ⊥
+    by None is = is
+    by (Some timer) is = is
+
+led_to : (passed : ℕ) (what : What (List ℕ)) (held machine : Machine) → on_ppt what held ≡ Some machine → NotEnded passed what held.expires_in held.pending → NotEnded passed what machine.expires_in machine.pending
+led_to passed Star held machine e is = absurd cc
+led_to passed (Source source) held machine e is = absurd cc
+led_to passed (Rpt source) held machine e is =
+    let same : record { state = Prune; expires_in = held.expires_in; pending = None } ≡ machine = cc in
+    subst (λ (m : Machine). NotEnded passed (Rpt source) m.expires_in m.pending) same (led_unended passed (Rpt source) held.expires_in held.pending source refl is)
 
 -- ---- a run
 
@@ -114,7 +144,7 @@ module _ (keys : KeysAreToldApart) (courses : Key (List ℕ) → Course) (moment
   pub record IsKept (state : Downstream) : Type 0 where
     pub ascending : IsAscending state.records
     pub machines : (key : Key (List ℕ)) → IsOn key.what state.moment (courses key) (machine_at key state.records)
-    pub lasts : NoneExpires moment state
+    pub lasts : NoneEnds moment state
     pub early : state.moment ≤ moment
 
   abbrev led_on : Record (List ℕ) → Option Machine
@@ -146,10 +176,12 @@ module _ (keys : KeysAreToldApart) (courses : Key (List ℕ) → Course) (moment
       machine_by key false s =
           subst (λ (m : Option Machine). IsOn key.what state.moment (courses key) m) (sym (replaced_other keys ppt_due led_on state.records held key e s)) (kept.machines key)
 
-      lasts_by : (key : Key (List ℕ)) (machine : Machine) (b : Bool) → same_key key held.key ≡ b → machine_at key after ≡ Some machine → IsShorter (moment - state.moment) machine.expires_in
+      lasts_by : (key : Key (List ℕ)) (machine : Machine) (b : Bool) → same_key key held.key ≡ b → machine_at key after ≡ Some machine → NotEnded (moment - state.moment) key.what machine.expires_in machine.pending
       lasts_by key machine true s m =
-          let there : led_on held ≡ Some machine = sym own ∙ ap (λ k. machine_at k after) (sym ((keys key held.key).1.0 s)) ∙ m in
-          subst (IsShorter (moment - state.moment)) (sym (same_expiry held.key.what held.machine machine there)) (kept.lasts held.key held.machine first.0)
+          let same : key ≡ held.key = (keys key held.key).1.0 s in
+          let there : led_on held ≡ Some machine = sym own ∙ ap (λ k. machine_at k after) (sym same) ∙ m in
+          subst (λ (k : Key (List ℕ)). NotEnded (moment - state.moment) k.what machine.expires_in machine.pending) (sym same)
+          (led_to (moment - state.moment) held.key.what held.machine machine there (kept.lasts held.key held.machine first.0))
       lasts_by key machine false s m = kept.lasts key machine (sym (replaced_other keys ppt_due led_on state.records held key e s) ∙ m)
 
   quiet_at : (records : Records) → first_due ppt_due records ≡ None → (key : Key (List ℕ)) → IsQuiet (machine_at key records)
@@ -165,17 +197,19 @@ module _ (keys : KeysAreToldApart) (courses : Key (List ℕ) → Course) (moment
     early = omega (arith, less);
   }
     where
-      lasts_by : (key : Key (List ℕ)) (machine : Machine) (o : Option Machine) → machine_at key state.records ≡ o → option_map (machine_after 1) o ≡ Some machine → IsShorter (moment - (state.moment + 1)) machine.expires_in
+      lasts_by : (key : Key (List ℕ)) (machine : Machine) (o : Option Machine) → machine_at key state.records ≡ o → option_map (machine_after 1) o ≡ Some machine
+          → NotEnded (moment - (state.moment + 1)) key.what machine.expires_in machine.pending
       lasts_by key machine None s m = absurd cc
       lasts_by key machine (Some old) s m =
-          let expires : expiry_after 1 old.expires_in ≡ machine.expires_in = cc in
-          subst (IsShorter (moment - (state.moment + 1))) expires (shorter_ticks state.moment moment old.expires_in less (kept.lasts key old s))
+          let same : machine_after 1 old ≡ machine = cc in
+          subst (λ (m : Machine). NotEnded (moment - (state.moment + 1)) key.what m.expires_in m.pending) same
+          (unended_ticks state.moment moment key.what old.expires_in old.pending less (kept.lasts key old s))
 
   -- no expiry timer is due
-  none_over : (state : Downstream) (held : Record (List ℕ)) → IsKept state → first_due et_due state.records ≡ Some held → ⊥
-  none_over state held kept e =
+  none_over : (state : Downstream) (held : Record (List ℕ)) → IsKept state → first_due ppt_due state.records ≡ None → first_due et_due state.records ≡ Some held → ⊥
+  none_over state held kept none e =
       let first = first_held keys et_due state.records held kept.ascending e in
-      false≢true (sym (not_over (moment - state.moment) held.machine.expires_in (kept.lasts held.key held.machine first.0)) ∙ first.1)
+      not_over (moment - state.moment) held.key.what held.machine.expires_in held.machine.pending (quiet_at state.records none held.key held.machine first.0) (kept.lasts held.key held.machine first.0) first.1
 
   -- where it reaches the moment, no timer is due
   pub record IsEnd (answer : Step (List ℕ)) (after : Downstream) : Type 0 where
@@ -201,7 +235,7 @@ module _ (keys : KeysAreToldApart) (courses : Key (List ℕ) → Course) (moment
     passes_ends none false l r = rests_ends none (ltb-false state.moment moment l) r
 
     et_ends : first_due ppt_due state.records ≡ None → (o : Option (Record (List ℕ))) → first_due et_due state.records ≡ o → run_on (turn_by moment state (fire_et state.records o)) state (run_within turns moment) ≡ Some (answer, after) → IsEnd answer after
-    et_ends none (Some held) e r = absurd (none_over state held kept e)
+    et_ends none (Some held) e r = absurd (none_over state held kept none e)
     et_ends none None e r = passes_ends none (ltb state.moment moment) refl r
 
     ppt_ends : (o : Option (Record (List ℕ))) → first_due ppt_due state.records ≡ o → run_on (turn_by moment state (fire_ppt state.records o)) state (run_within turns moment) ≡ Some (answer, after) → IsEnd answer after

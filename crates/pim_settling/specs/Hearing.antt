@@ -1,6 +1,9 @@
 -- What a port hears, and the machines that are left, through the echoes (PruneEcho) on the way.
-use Rattle.std.specs.Prelude.{◌≡◌, ℕ, ◌+◌, ◌-◌, ◌≤◌, List, [], ◌∷◌, Some}
+use Rattle.std.specs.Prelude.{◌≡◌, ◌⊎◌, ℕ, ◌+◌, ◌-◌, ◌≤◌, ◌<◌, List, [], ◌∷◌, Option, None, Some}
+use Rattle.pim_down.specs.declared.key.What.{What}
+use Rattle.pim_down.specs.declared.key.What.TheVariants.{Star, Source, Rpt}
 use Rattle.pim_down.specs.declared.key.Key.{Key}
+use Rattle.pim_down.specs.declared.machine.Pending.{Pending}
 use Rattle.pim_down.specs.declared.machine.Machine.{Machine}
 use Rattle.pim_down.specs.declared.step.Step.{Step}
 use Rattle.pim_down.specs.declared.step.Step.TheVariants.{Reached}
@@ -17,16 +20,35 @@ Arrives [] moment state after = Runs moment state Reached after
 Arrives (echo ∷ echoes) moment state after =
     (middle : Downstream) × Runs moment state echo middle × Arrives echoes moment middle after
 
--- No Expiry Timer ends by this moment.
+-- Each Expiry Timer that runs has more left than there is until this moment.
 abbrev pub NoneExpires : ℕ → Downstream → Type 0
 NoneExpires moment state = (key : Key (List ℕ)) (machine : Machine) → machine_at key state.records ≡ Some machine →
     IsShorter (moment - state.moment) machine.expires_in
+
+-- A Prune-Pending Timer leads the machine to NoInfo within this time: that of (*,G) or (S,G), in
+-- Figure 2 and Figure 3 of RFC 7761.
+abbrev pub IsPrunedBy : ℕ → What (List ℕ) → Option Pending → Type 0
+IsPrunedBy time what None = ⊥
+IsPrunedBy time Star (Some timer) = timer.ends_in ≤ time
+IsPrunedBy time (Source source) (Some timer) = timer.ends_in ≤ time
+IsPrunedBy time (Rpt source) (Some timer) = ⊥
+
+-- In this time without a message the Expiry Timer doesn't end: it has more left, or its machine is
+-- in NoInfo before it would end.
+abbrev pub NotEnded : ℕ → What (List ℕ) → Option ℕ → Option Pending → Type 0
+NotEnded passed what None pending = Unit {0}
+NotEnded passed what (Some left) pending = (passed < left) ⊎ IsPrunedBy left what pending
+
+-- Without a message no Expiry Timer ends by this moment.
+abbrev pub NoneEnds : ℕ → Downstream → Type 0
+NoneEnds moment state = (key : Key (List ℕ)) (machine : Machine) → machine_at key state.records ≡ Some machine →
+    NotEnded (moment - state.moment) key.what machine.expires_in machine.pending
 
 -- From these machines the port runs to the moment, which isn't earlier, through all echoes, and no
 -- Expiry Timer ends.
 pub record Passes (moment : ℕ) (state after : Downstream) : Type 0 where
   pub later : state.moment ≤ moment
-  pub lasts : NoneExpires moment state
+  pub lasts : NoneEnds moment state
   pub echoes : List (Step (List ℕ))
   pub arrives : Arrives echoes moment state after
 
