@@ -1,5 +1,5 @@
 -- Records whose expiry timers don't end by a moment: time and timers leave them so.
-use Rattle.std.proofs.Common.{◌≡◌, ℕ, zero, suc, ◌+◌, ◌-◌, ◌≤◌, ◌<◌, Bool, true, false, cond, if◌then◌else◌, nat_lt, List, [], ◌∷◌, ◌++◌, map, Option, None, Some, refl, sym, ap, subst, ◌∙◌, arith}
+use Rattle.std.proofs.Common.{◌≡◌, ℕ, zero, suc, ◌+◌, ◌-◌, ◌≤◌, ◌<◌, Bool, true, false, cond, if◌then◌else◌, nat_lt, List, [], ◌∷◌, ◌++◌, map, Option, None, Some, inl, refl, sym, ap, subst, ◌∙◌, arith}
 use Rattle.std.specs.List.{AllByRecursion}
 use Rattle.std.specs.Ordering.{is_eq}
 use Rattle.std.proofs.lemmas.Bool.{ltb-true}
@@ -7,6 +7,7 @@ use Rattle.pim_down.specs.declared.key.What.{What}
 use Rattle.pim_down.specs.declared.key.What.TheVariants.{Star, Source, Rpt}
 use Rattle.pim_down.specs.declared.key.Key.{Key}
 use Rattle.pim_down.specs.declared.machine.Machine.{Machine}
+use Rattle.pim_down.specs.declared.machine.Pending.{Pending}
 use Rattle.pim_down.specs.declared.machine.Record.{Record}
 use Rattle.pim_down.specs.declared.step.Step.{Step}
 use Rattle.pim_down.specs.declared.step.Step.TheVariants.{Echo, Reached}
@@ -15,7 +16,7 @@ use Rattle.pim_down.specs.Laws.{KeysAreToldApart}
 use Rattle.pim_down.specs.Records.{IsBelow, IsAscending, machine_at, recorded}
 use Rattle.pim_down.specs.Time.{Downstream, expiry_after, record_after, tick, et_due, ppt_due, after_et, after_ppt, on_ppt, first_due, with_first, fire_et, fire_ppt, fired, moves, rests, turn_by, turn, run_on, run_within, Runs, with_records}
 use Rattle.pim_fresh.specs.Deliveries.{IsShorter}
-use Rattle.pim_settling.specs.Hearing.{NoneExpires}
+use Rattle.pim_settling.specs.Hearing.{NoneExpires, NotEnded, NoneEnds}
 
 abbrev pub Records : Type 0
 Records = List (Record (List ℕ))
@@ -172,3 +173,10 @@ shorter_by passed (Some ends) p less q = omega (arith, p, q)
 
 pub expires_later : (last sooner : ℕ) (state : Downstream) → sooner ≤ last → NoneExpires last state → NoneExpires sooner state
 expires_later last sooner state early none key machine e = shorter_by (last - state.moment) machine.expires_in (none key machine e) (sooner - state.moment) (omega (arith, early))
+
+unended : (passed : ℕ) (what : What (List ℕ)) (expires_in : Option ℕ) (pending : Option Pending) → IsShorter passed expires_in → NotEnded passed what expires_in pending
+unended passed what None pending p = tt
+unended passed what (Some left) pending p = inl p
+
+pub none_ends : (moment : ℕ) (state : Downstream) → NoneExpires moment state → NoneEnds moment state
+none_ends moment state none key machine e = unended (moment - state.moment) key.what machine.expires_in machine.pending (none key machine e)

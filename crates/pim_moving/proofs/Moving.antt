@@ -1,21 +1,18 @@
 -- A router that is settled at a form, and is given the packets of a change.
-use Rattle.std.proofs.Common.{◌≡◌, ◌∙◌, ℕ, ◌-◌, ◌≤◌, ◌<◌, max, Bool, true, false, ◌&&◌, nat_lt, List, [], ◌∷◌, length, None, Some, refl, sym, ap, subst, arith}
+use Rattle.std.proofs.Common.{◌≡◌, ◌∙◌, ℕ, ◌-◌, ◌≤◌, ◌<◌, max, true, false, nat_lt, List, [], ◌∷◌, length, None, Some, refl, sym, ap, subst, arith}
 use Rattle.std.proofs.lemmas.Bool.{ltb-true, ltb-false}
 use Rattle.pim_addr.specs.declared.family.AddressFamily.{AddressFamily}
 use Rattle.pim_addr.specs.Routes.{RouteTable}
 use Rattle.pim_down.specs.declared.event.Timing.{Timing}
 use Rattle.pim_down.specs.declared.step.Step.{Step}
 use Rattle.pim_down.specs.declared.step.Step.TheVariants.{Reached}
-use Rattle.pim_down.specs.Hearing.{events_of, start_of}
+use Rattle.pim_down.specs.Hearing.{start_of}
 use Rattle.pim_down.specs.Known.{known_in}
 use Rattle.pim_down.specs.Records.{IsAscending}
 use Rattle.pim_down.specs.Time.{Downstream}
 use Rattle.pim_down.specs.Laws.{KeysAreToldApart, HearingActsAtEachKey, HearingKeepsTheOrder, RunKeepsItsBounds, RunKeepsTheOrder}
 use Rattle.pim_form.specs.Messages.{Writing, IsWriting, Rps}
-use Rattle.pim_form.specs.NormalForm.{GroupForm, IsFormOf, form_wants}
-use Rattle.pim_form.specs.Toward.{via_in, upstream_of, is_neighbour}
-use Rattle.pim_form.specs.TowardLaws.{asked_of}
-use Rattle.pim_form.specs.Wants.{wants}
+use Rattle.pim_form.specs.TowardLaws.{TestTellsWhoIsAsked}
 use Rattle.pim_change.specs.Change.{ChangeUnit}
 use Rattle.pim_change.specs.Laws.{AreReadAsRuns, ChangeIsRead}
 use Rattle.pim_fresh.specs.Deliveries.{Delivery, IsShorter}
@@ -30,17 +27,18 @@ use Rattle.pim_router.specs.declared.verdict.Store.TheVariants.{Records as Recor
 use Rattle.pim_mirror.specs.CanonicalCourse.{AreOf, Lasts, inputs_of}
 use Rattle.pim_mirror.specs.CanonicalExchange.{exchange_in}
 use Rattle.pim_mirror.specs.CanonicalPackets.{packet_of, HearsWriter, IsHeard, needed_records}
-use Rattle.pim_mirror.specs.Laws.{AskedStarsHaveRps, ReadPacketIsHeard, RouterRunsAsItsMachines, WriterStaysHeard}
+use Rattle.pim_mirror.specs.Laws.{ReadPacketIsHeard, RouterRunsAsItsMachines, WriterStaysHeard}
 use Rattle.pim_mirror.specs.MachineRuns.{MachinesArrive}
 use Rattle.pim_mirror.specs.Mirror.{needed_by, first_needed}
-use Rattle.pim_settling.specs.Hearing.{Arrives, Passes, Hears}
+use Rattle.pim_settling.specs.Hearing.{Arrives, NoneEnds, Passes, Hears}
 use Rattle.pim_settling.specs.Laws.{ToldChangeSettles, SettledWants}
-use Rattle.pim_moving.specs.Changing.{AreBetween}
-use Rattle.pim_moving.specs.Laws.{ChangeMovesARouter}
+use Rattle.pim_moving.specs.Changing.{AreBetween, NoneEndsBehind, NoneEndsOnTheWay}
+use Rattle.pim_moving.specs.Laws.{ChangeMovesARouter, LongTimersLast}
 use Rattle.pim_moving.proofs.Hearing.{none_expires_behind}
-use Rattle.pim_moving.proofs.Lasting.{Stays, stays_by_run, stays_of, none_expires, shorter_by, expires_later}
+use Rattle.pim_moving.proofs.Lasting.{Stays, stays_by_run, stays_of, none_expires, shorter_by, expires_later, none_ends}
 use Rattle.pim_moving.proofs.Passing.{parts, no_inputs, last_run, none_in_parts, run_and_packet}
-use Rattle.pim_moving.proofs.Reading.{message_at, events_are}
+use Rattle.pim_moving.proofs.Reached.{stars_have_rps, asks_for}
+use Rattle.pim_moving.proofs.Reading.{message_at, events_are, events_same}
 
 -- the laws on which it rests
 pub record Machines : Type 0 where
@@ -60,37 +58,42 @@ unfolding MachinesArrive Arrives
 arrives [] moment state after runs = runs
 arrives (echo ∷ echoes) moment state after runs = (runs.0, runs.1, arrives echoes moment runs.0 after runs.2)
 
--- where the machines stand, and what is left of their timers
-record Standing (last moment : ℕ) (state : Downstream) : Type 0 where
+-- where the machines stand
+record Standing (ports moment : ℕ) (state : Downstream) : Type 0 where
   moment_is : state.moment ≡ moment
-  one_port : state.ports ≡ 1
+  ports_are : state.ports ≡ ports
   up : IsAscending state.records
-  timers : Stays last state
 
-module _ (laws : Machines) (last moment : ℕ) (early : moment ≤ last) where
-  stands_then : (echoes : List (Step (List ℕ))) (state after : Downstream) → state.moment ≤ moment → state.ports ≡ 1 → IsAscending state.records → Stays last state → MachinesArrive echoes moment state after → Standing last moment after
+module _ (laws : Machines) (ports moment : ℕ) where
+  stands_then : (echoes : List (Step (List ℕ))) (state after : Downstream) → state.moment ≤ moment → state.ports ≡ ports → IsAscending state.records → MachinesArrive echoes moment state after → Standing ports moment after
   unfolding MachinesArrive
-  stands_then [] state after before one up timers runs =
+  stands_then [] state after before same up runs =
       let bounds = laws.bounds moment state after Reached runs in
       record {
         moment_is = bounds.4 refl ∙ is_later state.moment before;
-        one_port = bounds.0 ∙ one;
+        ports_are = bounds.0 ∙ same;
         up = laws.runs_order moment state after Reached up runs;
-        timers = stays_by_run moment last early state after Reached timers runs;
       }
     where
       is_later : (now : ℕ) → now ≤ moment → max now moment ≡ moment
       is_later now e = omega (arith, e)
-  stands_then (echo ∷ echoes) state after before one up timers runs =
+  stands_then (echo ∷ echoes) state after before same up runs =
       let bounds = laws.bounds moment state runs.0 echo runs.1 in
-      stands_then echoes runs.0 after (omega (arith, before, bounds.3)) (bounds.0 ∙ one) (laws.runs_order moment state runs.0 echo up runs.1) (stays_by_run moment last early state runs.0 echo timers runs.1) runs.2
+      stands_then echoes runs.0 after (omega (arith, before, bounds.3)) (bounds.0 ∙ same) (laws.runs_order moment state runs.0 echo up runs.1) runs.2
+
+-- through all echoes no expiry timer ends by a later moment
+stays_through : (moment last : ℕ) → moment ≤ last → (echoes : List (Step (List ℕ))) (state after : Downstream) → Stays last state → MachinesArrive echoes moment state after → Stays last after
+unfolding MachinesArrive
+stays_through moment last early [] state after timers runs = stays_by_run moment last early state after Reached timers runs
+stays_through moment last early (echo ∷ echoes) state after timers runs =
+    stays_through moment last early echoes runs.0 after (stays_by_run moment last early state runs.0 echo timers runs.1) runs.2
 
 -- ---- the course
 
-module _ (laws : Machines) (family : AddressFamily) (writing : Writing) (timing : Timing) (messages : List (List ℕ)) (runs : List (List ChangeUnit)) (last : ℕ) (start : RouterState)
-    (is_writing : IsWriting family writing) (read : AreReadAsRuns family writing (known_in family start.routes) runs messages) where
+module _ (laws : Machines) (family : AddressFamily) (table : RouteTable) (writing : Writing) (timing : Timing) (messages : List (List ℕ)) (runs : List (List ChangeUnit)) (last : ℕ) (start : RouterState)
+    (is_writing : IsWriting family writing) (same : (group : List ℕ) → known_in family start.routes group ≡ known_in family table group) (read : AreReadAsRuns family writing (known_in family table) runs messages) where
   abbrev rps : Rps
-  rps = known_in family start.routes
+  rps = known_in family table
 
   abbrev exchange : Exchange
   exchange = exchange_in family rps writing 0 timing messages
@@ -100,13 +103,15 @@ module _ (laws : Machines) (family : AddressFamily) (writing : Writing) (timing 
     neighbours : Lasts last state
     hears : HearsWriter writing 0 timing state
     routes : state.routes ≡ start.routes
-    machines : Standing last moment state.machines
+    machines : Standing start.machines.ports moment state.machines
 
-  begins : Lasts last start → HearsWriter writing 0 timing start → Standing last start.machines.moment start.machines → At start.machines.moment start
-  begins neighbours hears machines = record { neighbours = neighbours; hears = hears; routes = refl; machines = machines }
+  begins : Lasts last start → HearsWriter writing 0 timing start → IsAscending start.machines.records → At start.machines.moment start
+  begins neighbours hears up = record { neighbours = neighbours; hears = hears; routes = refl; machines = record { moment_is = refl; ports_are = refl; up = up } }
 
   record Onward (moment : ℕ) (state after : RouterState) : Type 0 where
-    passes : Passes moment state.machines after.machines
+    later : state.machines.moment ≤ moment
+    echoes : List (Step (List ℕ))
+    way : MachinesArrive echoes moment state.machines after.machines
     there : At moment after
 
   onward : (from moment : ℕ) (said : List Telling) (state after : RouterState) → from ≤ moment → moment ≤ last → At from state → Reaches moment said state after → Onward moment state after
@@ -115,27 +120,35 @@ module _ (laws : Machines) (family : AddressFamily) (writing : Writing) (timing 
       let before : state.machines.moment ≤ moment = omega (arith, later, at.machines.moment_is) in
       let still = laws.stays writing 0 timing moment last said state after early at.neighbours at.hears reaches in
       record {
-        passes = record {
-          later = before;
-          lasts = expires_later last moment state.machines early (none_expires last state.machines at.machines.timers);
-          echoes = run.echoes;
-          arrives = arrives run.echoes moment state.machines after.machines run.arrives;
-        };
+        later = before;
+        echoes = run.echoes;
+        way = run.arrives;
         there = record {
           neighbours = still.0;
           hears = still.1;
           routes = run.routes ∙ at.routes;
-          machines = stands_then laws last moment early run.echoes state.machines after.machines before at.machines.one_port at.machines.up at.machines.timers run.arrives;
+          machines = stands_then laws start.machines.ports moment run.echoes state.machines after.machines before at.machines.ports_are at.machines.up run.arrives;
         };
       }
 
+  passes : (moment : ℕ) (state after : RouterState) → NoneEnds moment state.machines → Onward moment state after → Passes moment state.machines after.machines
+  passes moment state after none on = record {
+    later = on.later;
+    lasts = none;
+    echoes = on.echoes;
+    arrives = arrives on.echoes moment state.machines after.machines on.way;
+  }
+
   -- ---- a packet
 
+  rps_same : (routes : RouteTable) → routes ≡ start.routes → (group : List ℕ) → rps group ≡ known_in family routes group
+  rps_same routes e group = sym (ap (λ (t : RouteTable). known_in family t group) e ∙ same group)
+
   heard : (i : ℕ) (state : RouterState) → i < length messages → HearsWriter writing 0 timing state → state.routes ≡ start.routes → IsHeard family exchange i (packet_of family writing 0 messages i) state
-  heard i state within hears same =
+  heard i state within hears e =
       let this = message_at family writing rps messages runs i read within in
       laws.heard family writing exchange i _ this.said state is_writing this.read this.upstream this.holdtime
-      (subst (λ (table : RouteTable). exchange.messages i ≡ events_of (known_in family table) this.said) (sym same) this.events) hears
+      (this.events ∙ events_same rps (known_in family state.routes) (rps_same state.routes e) this.said) hears
 
   not_full : (count : ℕ) (state : RouterState) (end : Verdict × RouterState) → end ≡ (Full (RecordsAreMany count), state) → needed_by end.0 ≡ None → ⊥
   not_full count state end e none =
@@ -143,114 +156,171 @@ module _ (laws : Machines) (family : AddressFamily) (writing : Writing) (timing 
       let crossed : Some count ≡ None = sym some ∙ none in
       cc
 
-  applied : (i : ℕ) (state : RouterState) → IsHeard family exchange i (packet_of family writing 0 messages i) state → needed_by (received family (packet_of family writing 0 messages i) state).0 ≡ None
-      → (received family (packet_of family writing 0 messages i) state).1 ≡ with_machines state (after_message exchange i state.machines)
-  applied i state is none =
-      elim (nat_lt state.machines.limit count) as (λ b. nat_lt state.machines.limit count ≡ b → end.1 ≡ with_machines state (after_message exchange i state.machines)) [
-        | true ↦ λ e. absurd (not_full count state end (is.full (ltb-true state.machines.limit count e)) none)
-        | false ↦ λ e. ap (λ (p : Verdict × RouterState). p.1) (is.applied (ltb-false state.machines.limit count e))
-      ] refl
-    where
-      count : ℕ
-      count = needed_records exchange i state
+  -- the state after the packet, by whether there is room
+  module _ (i : ℕ) (state : RouterState) (is : IsHeard family exchange i (packet_of family writing 0 messages i) state) where
+    abbrev count : ℕ
+    count = needed_records exchange i state
 
-      end : Verdict × RouterState
-      end = received family (packet_of family writing 0 messages i) state
+    abbrev end : Verdict × RouterState
+    end = received family (packet_of family writing 0 messages i) state
+
+    applied : needed_by end.0 ≡ None → end.1 ≡ with_machines state (after_message exchange i state.machines)
+    applied none =
+        elim (nat_lt state.machines.limit count) as (λ b. nat_lt state.machines.limit count ≡ b → end.1 ≡ with_machines state (after_message exchange i state.machines)) [
+          | true ↦ λ e. absurd (not_full count state end (is.full (ltb-true state.machines.limit count e)) none)
+          | false ↦ λ e. ap (λ (p : Verdict × RouterState). p.1) (is.applied (ltb-false state.machines.limit count e))
+        ] refl
+
+    -- what holds of the state before and after its message holds after the packet
+    either : (P : RouterState → Type 0) → P state → P (with_machines state (after_message exchange i state.machines)) → P end.1
+    either P here behind =
+        elim (nat_lt state.machines.limit count) as (λ b. nat_lt state.machines.limit count ≡ b → P end.1) [
+          | true ↦ λ e. subst P (sym (ap (λ (p : Verdict × RouterState). p.1) (is.full (ltb-true state.machines.limit count e)))) here
+          | false ↦ λ e. subst P (sym (ap (λ (p : Verdict × RouterState). p.1) (is.applied (ltb-false state.machines.limit count e)))) behind
+        ] refl
+
+  behind_packet : (i moment : ℕ) (state : RouterState) → At moment state → At moment (with_machines state (after_message exchange i state.machines))
+  behind_packet i moment state at = record {
+    neighbours = record { by_then = at.neighbours.by_then; now = at.neighbours.now; left = at.neighbours.left };
+    hears = record { own = at.hears.own; known = at.hears.known; timing_is = at.hears.timing_is };
+    routes = at.routes;
+    machines = record {
+      moment_is = at.machines.moment_is;
+      ports_are = at.machines.ports_are;
+      up = laws.hears_order 0 (starts exchange) (exchange.messages i) state.machines.records at.machines.up;
+    };
+  }
+
+  -- ---- all deliveries
+
+  since_start : (from : ℕ) (deliveries : List Delivery) (to : ℕ) → AreBetween from deliveries to → from ≤ to
+  unfolding AreBetween
+  since_start from [] to between = between
+  since_start from (delivery ∷ earlier) to between = omega (arith, between.0, since_start from earlier delivery.moment between.1)
+
+  record Behind (deliveries : List Delivery) (moment : ℕ) (after : RouterState) : Type 0 where
+    all : Hears exchange start.machines deliveries moment after.machines
+    there : At moment after
+
+  walk : (deliveries : List Delivery) (moment : ℕ) (told said : List Telling) (between after : RouterState) → At start.machines.moment start → AreOf (length messages) deliveries
+      → AreBetween start.machines.moment deliveries moment → NoneEndsOnTheWay family writing messages start deliveries moment → moment ≤ last → first_needed told ≡ None
+      → IsCourse family (inputs_of family writing 0 messages deliveries) told start between → Reaches moment said between after → Behind deliveries moment after
+  unfolding Hears inputs_of AreBetween NoneEndsOnTheWay
+  walk [] moment told said between after at of since ending early none course reaches =
+      let still = no_inputs family told start between course in
+      let from_start : Reaches moment said start after = subst (λ (state : RouterState). Reaches moment said state after) still reaches in
+      let lasting : NoneEnds moment start.machines = subst (λ (state : RouterState). NoneEnds moment state.machines) still (ending told between course) in
+      let on = onward start.machines.moment moment said start after since early at from_start in
+      record { all = passes moment start after lasting on; there = on.there }
+  walk (delivery ∷ earlier) moment told said between after at of since ending early none course reaches =
+      let two = parts family (inputs_of family writing 0 messages earlier) (runs_to delivery.moment ∷ takes (packet_of family writing 0 messages delivery.message) ∷ []) told start between course in
+      let rooms = none_in_parts told two.told two.said two.joined none in
+      let step = run_and_packet family writing messages delivery two.said two.between between two.second in
+      let early_here : delivery.moment ≤ last = omega (arith, early, since.0) in
+      let before = walk earlier delivery.moment two.told step.told two.between step.before at of.1 since.1 ending.1 early_here rooms.0 two.first step.reaches in
+      let packet = heard delivery.message step.before of.0 before.there.hears before.there.routes in
+      let behind : between ≡ with_machines step.before (after_message exchange delivery.message step.before.machines) = step.taken ∙ applied delivery.message step.before packet (step.room rooms.1) in
+      let lasting : NoneEnds moment (after_message exchange delivery.message step.before.machines) = subst (λ (state : RouterState). NoneEnds moment state.machines) behind (ending.0 told between course) in
+      let here = behind_packet delivery.message delivery.moment step.before before.there in
+      let on = onward delivery.moment moment said (with_machines step.before (after_message exchange delivery.message step.before.machines)) after since.0 early here
+      (subst (λ (state : RouterState). Reaches moment said state after) behind reaches) in
+      record {
+        all = record {
+          before = step.before.machines;
+          was = before.all;
+          passes = passes moment (with_machines step.before (after_message exchange delivery.message step.before.machines)) after lasting on;
+        };
+        there = on.there;
+      }
+
+  -- ---- timers that are long enough
 
   module _ (started : IsShorter (last - start.machines.moment) (start_of writing.holdtime timing).expires_in) where
-    behind_packet : (i moment : ℕ) (state : RouterState) → start.machines.moment ≤ moment → moment ≤ last → At moment state → At moment (with_machines state (after_message exchange i state.machines))
-    behind_packet i moment state since early at =
+    stays_behind : (i moment : ℕ) (state : RouterState) → start.machines.moment ≤ moment → At moment state → Stays last state.machines → Stays last (after_message exchange i state.machines)
+    stays_behind i moment state since at timers =
         let left = shorter_by (last - start.machines.moment) (start_of writing.holdtime timing).expires_in started (last - state.machines.moment) (omega (arith, since, at.machines.moment_is)) in
-        let up = laws.hears_order 0 (starts exchange) (exchange.messages i) state.machines.records at.machines.up in
-        record {
-          neighbours = record { by_then = at.neighbours.by_then; now = at.neighbours.now; left = at.neighbours.left };
-          hears = record { own = at.hears.own; known = at.hears.known; timing_is = at.hears.timing_is };
-          routes = at.routes;
-          machines = record {
-            moment_is = at.machines.moment_is;
-            one_port = at.machines.one_port;
-            up = up;
-            timers = stays_of laws.keys last (after_message exchange i state.machines) at.machines.timers.by_then up
-                (none_expires_behind laws.acts exchange i last state.machines at.machines.up left (none_expires last state.machines at.machines.timers));
-          };
-        }
+        stays_of laws.keys last (after_message exchange i state.machines) timers.by_then (laws.hears_order 0 (starts exchange) (exchange.messages i) state.machines.records at.machines.up)
+        (none_expires_behind laws.acts exchange i last state.machines at.machines.up left (none_expires last state.machines timers))
 
-    -- ---- all deliveries
+    newest : List Delivery → ℕ
+    newest [] = start.machines.moment
+    newest (delivery ∷ earlier) = delivery.moment
 
-    since_start : (from : ℕ) (deliveries : List Delivery) (to : ℕ) → AreBetween from deliveries to → from ≤ to
-    unfolding AreBetween
-    since_start from [] to between = between
-    since_start from (delivery ∷ earlier) to between = omega (arith, between.0, since_start from earlier delivery.moment between.1)
+    newest_by : (deliveries : List Delivery) (to : ℕ) → AreBetween start.machines.moment deliveries to → newest deliveries ≤ to
+    unfolding AreBetween newest
+    newest_by [] to between = between
+    newest_by (delivery ∷ earlier) to between = between.0
 
-    record Behind (deliveries : List Delivery) (moment : ℕ) (after : RouterState) : Type 0 where
-      all : Hears exchange start.machines deliveries moment after.machines
-      there : At moment after
+    record Lasting (moment : ℕ) (state : RouterState) : Type 0 where
+      there : At moment state
+      timers : Stays last state.machines
 
-    walk : (deliveries : List Delivery) (moment : ℕ) (told said : List Telling) (between after : RouterState) → At start.machines.moment start → AreOf (length messages) deliveries
-        → AreBetween start.machines.moment deliveries moment → moment ≤ last → first_needed told ≡ None → IsCourse family (inputs_of family writing 0 messages deliveries) told start between → Reaches moment said between after
-        → Behind deliveries moment after
-    unfolding Hears inputs_of AreBetween
-    walk [] moment told said between after at of since early none course reaches =
-        let from_start : Reaches moment said start after = subst (λ (state : RouterState). Reaches moment said state after) (no_inputs family told start between course) reaches in
-        let on = onward start.machines.moment moment said start after since early at from_start in
-        record { all = on.passes; there = on.there }
-    walk (delivery ∷ earlier) moment told said between after at of since early none course reaches =
-        let two = parts family (inputs_of family writing 0 messages earlier) (runs_to delivery.moment ∷ takes (packet_of family writing 0 messages delivery.message) ∷ []) told start between course in
-        let rooms = none_in_parts told two.told two.said two.joined none in
-        let step = run_and_packet family writing messages delivery two.said two.between between rooms.1 two.second in
+    outlasts : (deliveries : List Delivery) (to : ℕ) (told : List Telling) (state : RouterState) → At start.machines.moment start → Stays last start.machines → AreOf (length messages) deliveries
+        → AreBetween start.machines.moment deliveries to → to ≤ last → IsCourse family (inputs_of family writing 0 messages deliveries) told start state → Lasting (newest deliveries) state
+    unfolding inputs_of AreBetween newest
+    outlasts [] to told state at timers of since early course =
+        let still = no_inputs family told start state course in
+        subst (Lasting start.machines.moment) (sym still) (record { there = at; timers = timers })
+    outlasts (delivery ∷ earlier) to told state at timers of since early course =
+        let two = parts family (inputs_of family writing 0 messages earlier) (runs_to delivery.moment ∷ takes (packet_of family writing 0 messages delivery.message) ∷ []) told start state course in
+        let step = run_and_packet family writing messages delivery two.said two.between state two.second in
         let early_here : delivery.moment ≤ last = omega (arith, early, since.0) in
-        let before = walk earlier delivery.moment two.told step.told two.between step.before at of.1 since.1 early_here rooms.0 two.first step.reaches in
-        let packet = heard delivery.message step.before of.0 before.there.hears before.there.routes in
-        let behind : between ≡ with_machines step.before (after_message exchange delivery.message step.before.machines) = step.taken ∙ applied delivery.message step.before packet step.room in
-        let here = behind_packet delivery.message delivery.moment step.before (since_start start.machines.moment earlier delivery.moment since.1) early_here before.there in
-        let on = onward delivery.moment moment said (with_machines step.before (after_message exchange delivery.message step.before.machines)) after since.0 early here
-        (subst (λ (state : RouterState). Reaches moment said state after) behind reaches) in
-        record { all = record { before = step.before.machines; was = before.all; passes = on.passes }; there = on.there }
+        let before = outlasts earlier delivery.moment two.told two.between at timers of.1 since.1 early_here two.first in
+        let on = onward (newest earlier) delivery.moment step.told two.between step.before (newest_by earlier delivery.moment since.1) early_here before.there step.reaches in
+        let stays = stays_through delivery.moment last early_here on.echoes two.between.machines step.before.machines before.timers on.way in
+        let packet = heard delivery.message step.before of.0 on.there.hears on.there.routes in
+        let here : Lasting delivery.moment step.before = record { there = on.there; timers = stays } in
+        let behind : Lasting delivery.moment (with_machines step.before (after_message exchange delivery.message step.before.machines)) = record {
+          there = behind_packet delivery.message delivery.moment step.before on.there;
+          timers = stays_behind delivery.message delivery.moment step.before (since_start start.machines.moment earlier delivery.moment since.1) on.there stays;
+        } in
+        subst (Lasting delivery.moment) (sym step.taken) (either delivery.message step.before packet (Lasting delivery.moment) here behind)
 
--- ---- what it asks for
+    ends_none : (deliveries : List Delivery) (to : ℕ) → At start.machines.moment start → Stays last start.machines → AreOf (length messages) deliveries → AreBetween start.machines.moment deliveries to → to ≤ last
+        → NoneEndsBehind family writing messages start deliveries to
+    ends_none deliveries to at timers of since early told state course =
+        let behind = outlasts deliveries to told state at timers of since early course in
+        none_ends to state.machines (expires_later last to state.machines early (none_expires last state.machines behind.timers))
 
--- what is wanted of a form that is asked of the neighbour is asked of it
-toward_too : (wanted meant asked neighbour : Bool) → wanted ≡ meant → (asked && neighbour) ≡ meant → (wanted && neighbour) ≡ meant
-toward_too true true true true e f = refl
-toward_too true true true false e f = f
-toward_too true true false neighbour e f = absurd cc
-toward_too true false asked neighbour e f = absurd cc
-toward_too false true asked neighbour e f = absurd cc
-toward_too false false asked neighbour e f = refl
+    all_last : (deliveries : List Delivery) (to : ℕ) → At start.machines.moment start → Stays last start.machines → AreOf (length messages) deliveries → AreBetween start.machines.moment deliveries to → to ≤ last
+        → NoneEndsOnTheWay family writing messages start deliveries to
+    unfolding AreBetween NoneEndsOnTheWay
+    all_last [] to at timers of since early = ends_none [] to at timers of since early
+    all_last (delivery ∷ earlier) to at timers of since early =
+        (ends_none (delivery ∷ earlier) to at timers of since early, all_last earlier delivery.moment at timers of.1 since.1 (omega (arith, early, since.0)))
 
-asks_for : (family : AddressFamily) (table : RouteTable) (neighbour : List ℕ) (is after : Downstream) (form : List GroupForm) → IsFormOf family (asked_of family table neighbour is) form → IsFormOf family (wants after) form
-    → IsFormOf family (asked_of family table neighbour after) form
-asks_for family table neighbour is after form of wanted = record {
-  normal = of.normal;
-  wants = λ source group tree valid of_group.
-      toward_too (wants after source group tree) (form_wants form source group tree) (wants is source group tree) (is_neighbour neighbour (upstream_of (known_in family table) (via_in family table) source group tree))
-      (wanted.wants source group tree valid of_group) (of.wants source group tree valid of_group);
-}
+-- ---- both laws
 
-pub moves : Machines → AskedStarsHaveRps → ChangeIsRead → ToldChangeSettles → SettledWants → ChangeMovesARouter
-moves laws stars reads settles wanted family writing timing was is old new messages deliveries moment start after table is_writing of_old of_new told stands lasts given =
-    let rps = known_in family start.routes in
-    let have_old = stars family start.routes writing.upstream was old table of_old in
-    let have_new = stars family start.routes writing.upstream is new table of_new in
+pub long_timers : Machines → ChangeIsRead → LongTimersLast
+long_timers laws reads family table writing timing old new messages deliveries moment start is_table is_writing of_old of_new told sound knows of since lasts started =
+    let rps = known_in family table in
+    let have_old = stars_have_rps family table writing.upstream is_table old of_old.toward in
+    let have_new = stars_have_rps family table writing.upstream is_table new of_new.toward in
     let read = reads family writing rps old new messages is_writing of_old.normal of_new.normal have_old have_new told in
-    let now : start.machines.moment ≤ moment = lasts.neighbours.by_then in
-    let here : Standing moment start.machines.moment start.machines = record {
-      moment_is = refl;
-      one_port = stands.one_port;
-      up = stands.sound.ascending;
-      timers = stays_of laws.keys moment start.machines now stands.sound.ascending lasts.machines;
-    } in
+    let now : start.machines.moment ≤ moment = knows.neighbours.by_then in
+    let at_start = begins laws family table writing timing messages read.runs moment start is_writing knows.same_rps read.read knows.neighbours knows.hears sound.ascending in
+    all_last laws family table writing timing messages read.runs moment start is_writing knows.same_rps read.read started deliveries moment at_start
+    (stays_of laws.keys moment start.machines now sound.ascending lasts) of since (omega arith)
+
+pub moves : Machines → TestTellsWhoIsAsked → ChangeIsRead → ToldChangeSettles → SettledWants → ChangeMovesARouter
+moves laws tests reads settles wanted family table writing timing old new messages deliveries moment start after is_table is_writing of_old of_new told stands knows given =
+    let rps = known_in family table in
+    let have_old = stars_have_rps family table writing.upstream is_table old of_old.toward in
+    let have_new = stars_have_rps family table writing.upstream is_table new of_new.toward in
+    let read = reads family writing rps old new messages is_writing of_old.normal of_new.normal have_old have_new told in
     let two = parts family (inputs_of family writing 0 messages deliveries) (runs_to moment ∷ []) given.told start after given.course in
     let rooms = none_in_parts given.told two.told two.said two.joined given.room in
     let end = last_run family moment two.said two.between after two.second in
-    let at_start = begins laws family writing timing messages read.runs moment start is_writing read.read lasts.neighbours lasts.hears here in
-    let behind = walk laws family writing timing messages read.runs moment start is_writing read.read lasts.started deliveries moment two.told end.said two.between after at_start given.of_these given.between (omega arith) rooms.0 two.first end.reaches in
+    let at_start = begins laws family table writing timing messages read.runs moment start is_writing knows.same_rps read.read knows.neighbours knows.hears stands.sound.ascending in
+    let behind = walk laws family table writing timing messages read.runs moment start is_writing knows.same_rps read.read deliveries moment two.told end.said two.between after at_start given.of_these given.between given.timers (omega arith) rooms.0 two.first end.reaches in
     let exchange = exchange_in family rps writing 0 timing messages in
     let settled = settles family writing rps old new messages exchange start.machines after.machines deliveries moment is_writing of_old.normal of_new.normal have_old have_new told
     (events_are family writing rps messages) given.each_came stands.sound stands.settled behind.all given.final in
+    let wants_it = wanted family new after.machines of_new.normal (behind.there.machines.ports_are ∙ stands.one_port) settled.1 in
     record {
       moment_is = settled.0;
       settled = settled.1;
+      wanted = wants_it;
       routes = behind.there.routes;
-      asks = asks_for family start.routes writing.upstream is after.machines new of_new (wanted family new after.machines of_new.normal behind.there.machines.one_port settled.1);
+      asks = asks_for family table writing.upstream tests after.machines new of_new wants_it;
     }

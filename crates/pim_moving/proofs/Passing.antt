@@ -69,26 +69,27 @@ needed_both (this ∷ told) said = ap (or_later (needed_of this)) (needed_both t
 pub none_in_parts : (whole told said : List Telling) → whole ≡ told ++ said → first_needed whole ≡ None → (first_needed told ≡ None) × (first_needed said ≡ None)
 none_in_parts whole told said joined none = neither (first_needed told) (first_needed said) (sym (needed_both told said) ∙ (ap first_needed (sym joined) ∙ none))
 
--- ---- a run to a moment, and a packet behind it, for which there was room
+-- ---- a run to a moment, and a packet behind it
 
-pub record RunAndPacket (family : AddressFamily) (writing : Writing) (messages : List (List ℕ)) (delivery : Delivery) (start after : RouterState) : Type 0 where
+pub record RunAndPacket (family : AddressFamily) (writing : Writing) (messages : List (List ℕ)) (delivery : Delivery) (whole : List Telling) (start after : RouterState) : Type 0 where
   pub before : RouterState
   pub told : List Telling
   pub reaches : Reaches delivery.moment told start before
   pub taken : after ≡ (received family (packet_of family writing 0 messages delivery.message) before).1
-  pub room : needed_by (received family (packet_of family writing 0 messages delivery.message) before).0 ≡ None
+  pub room : first_needed whole ≡ None → needed_by (received family (packet_of family writing 0 messages delivery.message) before).0 ≡ None
 
-pub run_and_packet : (family : AddressFamily) (writing : Writing) (messages : List (List ℕ)) (delivery : Delivery) (told : List Telling) (start after : RouterState) → first_needed told ≡ None
-    → IsCourse family (runs_to delivery.moment ∷ takes (packet_of family writing 0 messages delivery.message) ∷ []) told start after → RunAndPacket family writing messages delivery start after
+pub run_and_packet : (family : AddressFamily) (writing : Writing) (messages : List (List ℕ)) (delivery : Delivery) (whole : List Telling) (start after : RouterState)
+    → IsCourse family (runs_to delivery.moment ∷ takes (packet_of family writing 0 messages delivery.message) ∷ []) whole start after → RunAndPacket family writing messages delivery whole start after
 unfolding IsCourse first_needed
-run_and_packet family writing messages delivery told start after none course =
+run_and_packet family writing messages delivery whole start after course =
     let packet = course.goes_on in
-    let behind = none_in_parts told course.before course.behind course.joined none in
-    let here = none_in_parts course.behind packet.before packet.behind packet.joined behind.1 in
     record {
       before = course.between;
       told = course.before;
       reaches = course.begins;
       taken = packet.goes_on.1 ∙ packet.begins.1;
-      room = (neither (needed_by (received family (packet_of family writing 0 messages delivery.message) course.between).0) None (subst (λ (said : List Telling). first_needed said ≡ None) packet.begins.0 here.0)).0;
+      room = λ none.
+          let behind = none_in_parts whole course.before course.behind course.joined none in
+          let here = none_in_parts course.behind packet.before packet.behind packet.joined behind.1 in
+          (neither (needed_by (received family (packet_of family writing 0 messages delivery.message) course.between).0) None (subst (λ (said : List Telling). first_needed said ≡ None) packet.begins.0 here.0)).0;
     }

@@ -1,8 +1,12 @@
 -- What is read of the messages of a change.
-use Rattle.std.proofs.Common.{◌≡◌, ◌∙◌, ℕ, zero, suc, ◌<◌, List, [], ◌∷◌, map, get_or, length, refl, ap, arith}
+use Rattle.std.proofs.Common.{◌≡◌, ◌∙◌, ℕ, zero, suc, ◌<◌, Bool, true, false, ◌&&◌, not, if◌then◌else◌, List, [], ◌∷◌, ◌++◌, map, get_or, length, Option, refl, ap, arith}
+use Rattle.std.specs.List.{flat_map}
 use Rattle.pim_addr.specs.declared.family.AddressFamily.{AddressFamily}
-use Rattle.pim_jp.specs.Message.{Message, message_of}
-use Rattle.pim_down.specs.Hearing.{events_of}
+use Rattle.pim_jp.specs.declared.entry.Entry.{Entry}
+use Rattle.pim_jp.specs.declared.entry.Entry.TheVariants as entry
+use Rattle.pim_jp.specs.Message.{GroupSet, Message, message_of}
+use Rattle.pim_down.specs.declared.key.What.TheVariants.{Star}
+use Rattle.pim_down.specs.Hearing.{event, is_known, entry_events, list_events, set_events, events_of}
 use Rattle.pim_form.specs.Laws.{IsReadAs}
 use Rattle.pim_form.specs.Messages.{Writing, Rps}
 use Rattle.pim_change.specs.Change.{ChangeUnit}
@@ -42,3 +46,25 @@ module _ (family : AddressFamily) (writing : Writing) (rps : Rps) where
   unfolding AreEventsOf
   events_are [] = λ number. refl
   events_are (bytes ∷ messages) = (λ said is. ap (events_of rps) (read_message family writing.own bytes said is), events_are messages)
+
+-- ---- the same events by the same RPs
+
+flat_same : {A B : Type 0} (f g : A → List B) (items : List A) → ((item : A) → f item ≡ g item) → flat_map f items ≡ flat_map g items
+flat_same f g [] same = refl
+flat_same f g (item ∷ items) same = ap (λ l. l ++ flat_map f items) (same item) ∙ ap (λ l. g item ++ l) (flat_same f g items same)
+
+module _ (known other : List ℕ → Option (List ℕ)) (same : (group : List ℕ) → known group ≡ other group) where
+  entry_same : (joins : Bool) (group : List ℕ) (this : Entry (List ℕ)) → entry_events known joins group this ≡ entry_events other joins group this
+  entry_same joins group (entry.Star rp) = ap (λ rps. if joins && not (is_known rps rp) then [] else event joins group Star) (same group)
+  entry_same joins group (entry.Source source) = refl
+  entry_same joins group (entry.Rpt source) = refl
+
+  list_same : (joins : Bool) (group : List ℕ) (entries : List (Entry (List ℕ))) → list_events known joins group entries ≡ list_events other joins group entries
+  list_same joins group entries = flat_same (entry_events known joins group) (entry_events other joins group) entries (entry_same joins group)
+
+  set_same : (set : GroupSet) → set_events known set ≡ set_events other set
+  set_same set =
+      ap (λ l. l ++ list_events known false set.group set.pruned) (list_same true set.group set.joined) ∙ ap (λ l. list_events other true set.group set.joined ++ l) (list_same false set.group set.pruned)
+
+  pub events_same : (said : Message) → events_of known said ≡ events_of other said
+  events_same said = flat_same (set_events known) (set_events other) said.sets set_same

@@ -1,17 +1,20 @@
 //! The laws of this crate. Nothing in this module is to be called.
 
-ghost use Rattle.pim_moving.specs.Laws.{ChangeFits, ChangeMovesARouter, MirrorIsSettled};
+ghost use Rattle.pim_moving.specs.Laws.{ChangeFits, ChangeMovesARouter, LongTimersLast, MirrorIsSettled};
 
-/// A router of one port is settled at the form that was last asked of it, and knows the writer. It
-/// is given the packets of the change to another form, in any order, each at least once and nothing
-/// else. Then it is given a moment from the final one of these deliveries on. If it has room, and
-/// no neighbour's time and no Expiry Timer ends, it is then settled at the other form. It asks the
-/// writer's upstream neighbour for exactly that form under its table.
+/// A router of one port is settled at one form. It knows the writer, whose upstream neighbour it
+/// is, and has the same RPs. By the writer's route table both forms are toward this neighbour. The
+/// router is given the packets of the change to the other form, in any order, each at least once
+/// and nothing else. Then it is given a moment from the final one of these deliveries on.
+///
+/// If it has room, and no neighbour's time and no Expiry Timer ends, it is then settled at the
+/// other form. It wants exactly what that form means, all of which the writer's table leads to the
+/// writer's upstream neighbour.
 pub fn change_moves_a_router()
     ensures { ChangeMovesARouter }
 {
     pim_down::keys_are_told_apart();
-    pim_mirror::asked_stars_have_rps();
+    pim_form::test_tells_who_is_asked();
     pim_mirror::read_packet_is_heard();
     pim_mirror::router_runs_as_its_machines();
     pim_mirror::writer_stays_heard();
@@ -22,6 +25,23 @@ pub fn change_moves_a_router()
     pim_change::change_is_read();
     pim_settling::told_change_settles();
     pim_settling::settled_wants();
+}
+
+/// While a router hears the messages of a change, none of its Expiry Timers ends if each has more
+/// left than there is until the last moment. This is so of those that run at the start and of those
+/// that a message starts.
+pub fn long_timers_last()
+    ensures { LongTimersLast }
+{
+    pim_down::keys_are_told_apart();
+    pim_mirror::read_packet_is_heard();
+    pim_mirror::router_runs_as_its_machines();
+    pim_mirror::writer_stays_heard();
+    pim_down::hearing_acts_at_each_key();
+    pim_down::hearing_keeps_the_order();
+    pim_down::run_keeps_its_bounds();
+    pim_down::run_keeps_the_order();
+    pim_change::change_is_read();
 }
 
 /// A mirror is settled, from its final moment on, at the form of the messages that it heard. None

@@ -13,4 +13,4 @@ returns c =
       runs = c.router_runs_as_its_machines.ensures;
       stays = c.writer_stays_heard.ensures;
     } in
-    moves laws c.asked_stars_have_rps.ensures c.change_is_read.ensures c.told_change_settles.ensures c.settled_wants.ensures
+    moves laws c.test_tells_who_is_asked.ensures c.change_is_read.ensures c.told_change_settles.ensures c.settled_wants.ensures
