@@ -1,16 +1,19 @@
 -- The fresh router that heard canonical messages, and hears then those of a change.
-use Rattle.std.proofs.Common.{◌≡◌, ◌≤◌, ◌<◌, ◌^◌, ◌+◌, ◌-◌, ℕ, zero, suc, List, [], ◌∷◌, ◌++◌, length, None, Result, Ok, Err, inr, refl, sym, ap, subst, ◌∙◌, arith, append_assoc, append-nil}
+use Rattle.std.proofs.Common.{◌≡◌, ◌≤◌, ◌<◌, ◌^◌, ◌+◌, ◌-◌, ℕ, zero, suc, Bool, true, false, ◌&&◌, List, [], ◌∷◌, ◌++◌, length, None, Result, Ok, Err, inr, refl, sym, ap, subst, ◌∙◌, arith, append_assoc, append-nil}
 use Rattle.std.specs.List.{AllByRecursion, flat_map}
+use Rattle.std.proofs.lemmas.Bool.{false≢true}
 use Rattle.pim_addr.specs.declared.family.AddressFamily.{AddressFamily}
 use Rattle.pim_addr.specs.Routes.{RouteTable, IsRouteTable}
 use Rattle.pim_change.specs.Laws.{ChangeMessagesAreShort}
-use Rattle.pim_change.specs.Told.{TellChange}
 use Rattle.pim_down.specs.Known.{known_in}
 use Rattle.pim_down.specs.Sound.{IsSound}
+use Rattle.pim_down.specs.Time.{Downstream}
 use Rattle.pim_form.specs.Messages.{Writing, IsWriting, AreCanonical}
-use Rattle.pim_form.specs.NormalForm.{IsFormOf}
+use Rattle.pim_form.specs.NormalForm.{GroupForm, IsFormOf}
 use Rattle.pim_form.specs.Settled.{IsSettledAt}
-use Rattle.pim_form.specs.TowardLaws.{asked_of, SameMessagesSameAsked}
+use Rattle.pim_form.specs.Toward.{via_in, upstream_of, is_neighbour}
+use Rattle.pim_form.specs.TowardLaws.{asked_of, SameMessagesSameAsked, TestTellsWhoIsAsked}
+use Rattle.pim_form.specs.Wants.{wants}
 use Rattle.pim_fresh.specs.Deliveries.{Delivery, IsShorter, AreAlive}
 use Rattle.pim_mirror.specs.CanonicalCourse.{AreOf, inputs_of}
 use Rattle.pim_mirror.specs.Config.{Fresh, newest_first, end_of}
@@ -21,8 +24,8 @@ use Rattle.pim_mirror.specs.Laws.{AskedStarsHaveRps}
 use Rattle.pim_mirror.specs.Mirror.{Passes, delivery_inputs}
 use Rattle.pim_mirror.specs.declared.mirroring.MirrorFault.{MirrorFault}
 use Rattle.pim_mirror.specs.declared.mirroring.MirrorFault.TheVariants as fault
-use Rattle.pim_moving.specs.Changing.{AreBetween, StandsAt, LastsUntil, IsGiven, HasMoved}
-use Rattle.pim_moving.specs.Laws.{ChangeMovesARouter, MirrorIsSettled}
+use Rattle.pim_moving.specs.Changing.{AreBetween, IsFormToward, StandsAt, KnowsUntil, NoneEndsOnTheWay, IsGiven, HasMoved}
+use Rattle.pim_moving.specs.Laws.{ChangeMovesARouter, LongTimersLast, MirrorIsSettled}
 use Rattle.pim_router.specs.Canonical.{IsAskedBy, IsTooBig}
 use Rattle.pim_router.specs.Course.{Input, runs_to, IsCourse}
 use Rattle.pim_router.specs.Laws.{EveryListHasACourse}
@@ -85,9 +88,35 @@ pub from_own : (family : AddressFamily) (messages : List (List ℕ)) (sender own
     → Passes family (change_inputs family messages sender moment) router result after → Passes family (change_inputs family messages own moment) router result after
 from_own family messages sender own moment router after result same passes = subst (λ s. Passes family (change_inputs family messages s moment) router result after) same passes
 
+-- ---- what is asked of a neighbour
+
+second_true : (a b : Bool) → (a && b) ≡ true → b ≡ true
+second_true true b e = e
+second_true false b e = absurd (false≢true e)
+
+-- its form is toward this neighbour
+asked_is_toward : TestTellsWhoIsAsked → (family : AddressFamily) (table : RouteTable) (neighbour : List ℕ) (state : Downstream) (form : List GroupForm) → IsFormOf family (asked_of family table neighbour state) form
+    → IsFormToward family table neighbour form
+asked_is_toward tests family table neighbour state form is =
+    let rps = known_in family table in
+    let via = via_in family table in
+    record {
+      normal = is.normal;
+      toward = (tests family rps via neighbour form is.normal).1 (λ source group tree valid of_group meant.
+          second_true (wants state source group tree) (is_neighbour neighbour (upstream_of rps via source group tree)) (is.wants source group tree valid of_group ∙ meant));
+    }
+
 -- ---- the mirror, and what is told then
 
-module _ (moves : ChangeMovesARouter) (mirrors : MirrorIsSettled) (same : SameMessagesSameAsked) (family : AddressFamily) (table : RouteTable) (writing : Writing) (limit : ℕ) (before change wanted : List (List ℕ))
+-- the laws on which it rests
+pub record Laws : Type 0 where
+  pub moves : ChangeMovesARouter
+  pub long : LongTimersLast
+  pub mirrors : MirrorIsSettled
+  pub same : SameMessagesSameAsked
+  pub tests : TestTellsWhoIsAsked
+
+module _ (laws : Laws) (family : AddressFamily) (table : RouteTable) (writing : Writing) (limit : ℕ) (before change wanted : List (List ℕ))
     (sound : IsRouteTable family table) (is_writing : IsWriting family writing) (told : AreTold family table writing before change wanted) (router : RouterState)
     (tells : TellsOfForm family table writing told.was.asked.form before (fresh_of table writing limit before) (Ok router)) where
   abbrev its : Fresh
@@ -115,51 +144,60 @@ module _ (moves : ChangeMovesARouter) (mirrors : MirrorIsSettled) (same : SameMe
   all_alive = subst (λ (deliveries : List Delivery). AreAlive (expiry_of writing.holdtime) last deliveries) (sym (newest_of family table writing limit before)) (alive (expiry_of writing.holdtime) last (length before) no_expiry)
 
   settled : IsSettledAt 0 told.was.asked.form router.machines.records × NoneExpires last router.machines
-  settled = mirrors family table writing told.was.asked.form before its (end_of its) last [] router told.was.asked.is.normal (omega arith) later all_alive tells.answers.at_first
+  settled = laws.mirrors family table writing told.was.asked.form before its (end_of its) last [] router told.was.asked.is.normal (omega arith) later all_alive tells.answers.at_first
 
   module _ (machines : IsSound family router.machines) where
     stands : StandsAt family told.was.asked.form router
     stands = record { one_port = one_port; sound = machines; settled = settled.0 }
 
-    lasts_until : LastsUntil writing (timing_of its) last router
-    lasts_until =
-        let knows = tells.answers.knows last later tt in
-        record {
-          hears = knows.hears;
-          neighbours = knows.lasts;
-          machines = settled.1;
-          started = shorter last (expiry_of writing.holdtime) no_expiry (last - router.machines.moment) (omega arith);
-        }
-
     routes : router.routes ≡ table
     routes = tells.answers.at_first.routes
 
+    knows_until : KnowsUntil family table writing (timing_of its) last router
+    knows_until =
+        let knows = tells.answers.knows last later tt in
+        record { hears = knows.hears; same_rps = λ group. ap (λ (t : RouteTable). known_in family t group) routes; neighbours = knows.lasts }
+
+    toward_was : IsFormToward family table writing.upstream told.was.asked.form
+    toward_was = asked_is_toward laws.tests family table writing.upstream told.was.state told.was.asked.form told.was.asked.is
+
+    toward_is : IsFormToward family table writing.upstream told.is.asked.form
+    toward_is = asked_is_toward laws.tests family table writing.upstream told.is.state told.is.asked.form told.is.asked.is
+
+    abbrev deliveries : List Delivery
+    deliveries = newest_at router.machines.moment (length change)
+
+    of_these : AreOf (length change) deliveries
+    of_these = all_of router.machines.moment (length change) (length change) (omega arith)
+
+    between : AreBetween router.machines.moment deliveries last
+    between = all_between router.machines.moment last (length change) (omega arith)
+
+    timers : NoneEndsOnTheWay family writing change router deliveries last
+    timers =
+        laws.long family table writing (timing_of its) told.was.asked.form told.is.asked.form change deliveries last router sound is_writing toward_was toward_is told.told machines knows_until of_these between settled.1
+        (shorter last (expiry_of writing.holdtime) no_expiry (last - router.machines.moment) (omega arith))
+
     -- the change came
     module _ (after : RouterState) (passes : Passes family (change_inputs family change writing.own router.machines.moment) router (Ok tt) after) where
-      given : IsGiven family writing (timing_of its) change (newest_at router.machines.moment (length change)) last router after
+      given : IsGiven family writing (timing_of its) change deliveries last router after
       given = record {
-        of_these = all_of router.machines.moment (length change) (length change) (omega arith);
+        of_these = of_these;
         each_came = λ number within. came router.machines.moment number (length change) within;
-        between = all_between router.machines.moment last (length change) (omega arith);
+        between = between;
         final = ends_by 3000 router.machines.moment (length change);
         told = passes.told;
-        course = subst (λ (end : RouterState). IsCourse family (inputs_of family writing 0 change (newest_at router.machines.moment (length change)) ++ runs_to last ∷ []) passes.told router end) (sym passes.passed.1)
+        course = subst (λ (end : RouterState). IsCourse family (inputs_of family writing 0 change deliveries ++ runs_to last ∷ []) passes.told router end) (sym passes.passed.1)
             (subst (λ (inputs : List Input). IsCourse family (inputs ++ runs_to last ∷ []) passes.told router passes.after) (inputs_are family writing change router.machines.moment (length change)) passes.course);
         room = passes.passed.0;
+        timers = timers;
       }
 
-      moved : HasMoved family writing told.is.asked.form last router after
-      moved =
-          let back = sym routes in
-          moves family writing (timing_of its) told.was.state told.is.state told.was.asked.form told.is.asked.form change (newest_at router.machines.moment (length change)) last router after
-          (subst (λ (t : RouteTable). IsRouteTable family t) back sound) is_writing
-          (subst (λ (t : RouteTable). IsFormOf family (asked_of family t writing.upstream told.was.state) told.was.asked.form) back told.was.asked.is)
-          (subst (λ (t : RouteTable). IsFormOf family (asked_of family t writing.upstream told.is.state) told.is.asked.form) back told.is.asked.is)
-          (subst (λ (t : RouteTable). TellChange family writing (known_in family t) told.was.asked.form told.is.asked.form change) back told.told)
-          stands lasts_until given
+      moved : HasMoved family table writing told.is.asked.form last router after
+      moved = laws.moves family table writing (timing_of its) told.was.asked.form told.is.asked.form change deliveries last router after sound is_writing toward_was toward_is told.told stands knows_until given
 
       asks : IsFormOf family (asked_of family table writing.upstream after.machines) told.is.asked.form
-      asks = subst (λ (t : RouteTable). IsFormOf family (asked_of family t writing.upstream after.machines) told.is.asked.form) routes moved.asks
+      asks = moved.asks
 
       routes_then : after.routes ≡ table
       routes_then = moved.routes ∙ routes
@@ -173,7 +211,7 @@ module _ (moves : ChangeMovesARouter) (mirrors : MirrorIsSettled) (same : SameMe
 
       same_then : (others : List (List ℕ)) → IsAskedBy family writing after others → others ≡ wanted
       same_then others asked =
-          (same family table writing after.machines told.is.state asked.form told.is.asked.form others wanted sound is_writing
+          (laws.same family table writing after.machines told.is.state asked.form told.is.asked.form others wanted sound is_writing
           (subst (λ (t : RouteTable). IsFormOf family (asked_of family t writing.upstream after.machines) asked.form) routes_then asked.is) told.is.asked.is
           (subst (λ (t : RouteTable). AreCanonical family writing (known_in family t) asked.form others) routes_then asked.told) told.is.asked.told).1
           (λ source group tree valid of_group. asks.wants source group tree valid of_group ∙ sym (told.is.asked.is.wants source group tree valid of_group))

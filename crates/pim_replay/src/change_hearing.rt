@@ -8,9 +8,9 @@ ghost use Rattle.pim_replay.specs.ChangeHearing.{change_inputs, AreTold, MovedAg
 use crate::fresh_hearing::{ask_again, each_at, mirror_once, only_port};
 use pim_addr::{Family, Routes};
 use pim_change::change_messages_are_short;
-use pim_form::{Messages, Writer, same_messages_same_asked};
+use pim_form::{Messages, Writer, same_messages_same_asked, test_tells_who_is_asked};
 use pim_mirror::{FreshConfig, MirrorFault, asked_stars_have_rps, hear_deliveries};
-use pim_moving::{change_moves_a_router, mirror_is_settled};
+use pim_moving::{change_moves_a_router, long_timers_last, mirror_is_settled};
 use pim_router::{Router, every_list_has_a_course};
 use std::alloc::Global;
 
@@ -67,8 +67,10 @@ pub(crate) fn move_again<F: Family>(
     asked_stars_have_rps();
     change_messages_are_short();
     change_moves_a_router();
+    long_timers_last();
     mirror_is_settled();
     same_messages_same_asked();
+    test_tells_who_is_asked();
     routes.is_sound();
     by.is_writing();
     let Ok(deliveries) = each_at(alloc, before.count(), 0) else {
