@@ -17,13 +17,12 @@ use Rattle.pim_down.specs.Hearing.{Event, is_known, event, list_events, key_of}
 use Rattle.pim_down.specs.Laws.{KeysAreToldApart}
 use Rattle.pim_form.specs.Messages.{Rps}
 use Rattle.pim_form.specs.NormalForm.{GroupForm, same_address, is_listed, groups_of}
-use Rattle.pim_form.specs.Merge.{by_order, merged_into, merged_by, united}
-use Rattle.pim_form.specs.Merge as merge
+use Rattle.pim_form.specs.Merge.{by_order}
 use Rattle.pim_form.specs.Settled.{group_in, unwanted}
 use Rattle.pim_fresh.specs.Exchange.{is_named}
 use Rattle.pim_change.specs.declared.unit.Kind.{Kind}
 use Rattle.pim_change.specs.declared.unit.Kind.TheVariants.{JoinRpt, PruneRpt, JoinSource, PruneSource}
-use Rattle.pim_change.specs.Change.{Telling, star_joined, star_pruned, told, lacking, star_change, sources_change, group_change, ChangeUnit, unit_of, change_at, change}
+use Rattle.pim_change.specs.Change.{Telling, star_joined, star_pruned, told, lacking, star_change, sources_change, group_change, ChangeUnit, unit_of, inserted, in_order, change_at, change}
 use Rattle.pim_change.specs.Told.{rp_entry, GroupTellings, set_in_front, in_front, grouped}
 use Rattle.pim_settling.specs.Runs.{run_events, run_at, KnowRps}
 use Rattle.pim_settling.specs.Telling.{told_if, rpt_told, told_of}
@@ -103,63 +102,39 @@ module _ (group : List ℕ) where
   abbrev Listed : List (List ℕ) → Type 0
   Listed groups = is_listed group groups ≡ true
 
-  merged_left : (a : List ℕ) (others : List (List ℕ) → List (List ℕ)) (other : List (List ℕ)) → same_address group a ≡ true → Listed (merged_into merge.itself merge.first_of a others other)
-  unfolding merged_into
-  merged_left a others [] s = or_left (same_address group a) (is_listed group (others [])) s
-  merged_left a others (b ∷ other) s =
-      elim (slice_cmp nat_cmp a b) as (λ o. Listed (by_order o (a ∷ others (b ∷ other)) (a ∷ others other) (b ∷ merged_into merge.itself merge.first_of a others other))) [
-        | Less ↦ or_left (same_address group a) (is_listed group (others (b ∷ other))) s
-        | Equal ↦ or_left (same_address group a) (is_listed group (others other)) s
-        | Greater ↦ or_second (same_address group b) (is_listed group (merged_into merge.itself merge.first_of a others other)) (merged_left a others other s)
+  inserted_own : (x : List ℕ) (xs : List (List ℕ)) → same_address group x ≡ true → Listed (inserted x xs)
+  unfolding inserted
+  inserted_own x [] s = or_left (same_address group x) false s
+  inserted_own x (y ∷ ys) s = by (slice_cmp nat_cmp x y) refl (inserted_own x ys s)
+    where
+      by : (o : Ordering) → slice_cmp nat_cmp x y ≡ o → Listed (inserted x ys) → Listed (by_order o (x ∷ y ∷ ys) (y ∷ ys) (y ∷ inserted x ys))
+      by Less o further = or_left (same_address group x) (is_listed group (y ∷ ys)) s
+      by Equal o further = or_left (same_address group y) (is_listed group ys) (subst (λ (z : List ℕ). same_address group z ≡ true) (equal_is x y o) s)
+      by Greater o further = or_second (same_address group y) (is_listed group (inserted x ys)) further
+
+  inserted_others : (x : List ℕ) (xs : List (List ℕ)) → Listed xs → Listed (inserted x xs)
+  unfolding inserted
+  inserted_others x [] l = absurd (false≢true l)
+  inserted_others x (y ∷ ys) l =
+      elim (slice_cmp nat_cmp x y) as (λ o. Listed (by_order o (x ∷ y ∷ ys) (y ∷ ys) (y ∷ inserted x ys))) [
+        | Less ↦ or_second (same_address group x) (is_listed group (y ∷ ys)) l
+        | Equal ↦ l
+        | Greater ↦ elim (same_address group y) as (λ b. (b || is_listed group ys) ≡ true → (b || is_listed group (inserted x ys)) ≡ true) [
+          | true ↦ λ m. refl
+          | false ↦ λ m. inserted_others x ys m
+        ] l
       ]
 
-  merged_behind : (a : List ℕ) (others : List (List ℕ) → List (List ℕ)) (other : List (List ℕ)) → ((rest : List (List ℕ)) → Listed (others rest)) → Listed (merged_into merge.itself merge.first_of a others other)
-  unfolding merged_into
-  merged_behind a others [] each = or_second (same_address group a) (is_listed group (others [])) (each [])
-  merged_behind a others (b ∷ other) each =
-      elim (slice_cmp nat_cmp a b) as (λ o. Listed (by_order o (a ∷ others (b ∷ other)) (a ∷ others other) (b ∷ merged_into merge.itself merge.first_of a others other))) [
-        | Less ↦ or_second (same_address group a) (is_listed group (others (b ∷ other))) (each (b ∷ other))
-        | Equal ↦ or_second (same_address group a) (is_listed group (others other)) (each other)
-        | Greater ↦ or_second (same_address group b) (is_listed group (merged_into merge.itself merge.first_of a others other)) (merged_behind a others other each)
-      ]
-
-  in_left : (one other : List (List ℕ)) → Listed one → Listed (united one other)
-  unfolding merged_by
-  in_left [] other l = absurd (false≢true l)
-  in_left (a ∷ one) other l =
-      elim (same_address group a) as (λ b. same_address group a ≡ b → (b || is_listed group one) ≡ true → Listed (merged_into merge.itself merge.first_of a (united one) other)) [
-        | true ↦ λ s m. merged_left a (united one) other s
-        | false ↦ λ s m. merged_behind a (united one) other (λ rest. in_left one rest m)
+  in_order_listed : (xs : List (List ℕ)) → Listed xs → Listed (in_order xs)
+  unfolding in_order
+  in_order_listed [] l = l
+  in_order_listed (x ∷ xs) l =
+      elim (same_address group x) as (λ b. same_address group x ≡ b → (b || is_listed group xs) ≡ true → Listed (inserted x (in_order xs))) [
+        | true ↦ λ s m. inserted_own x (in_order xs) s
+        | false ↦ λ s m. inserted_others x (in_order xs) (in_order_listed xs m)
       ] refl l
 
-  merged_right : (a : List ℕ) (others : List (List ℕ) → List (List ℕ)) (other : List (List ℕ)) → ((rest : List (List ℕ)) → Listed rest → Listed (others rest)) → Listed other → Listed (merged_into merge.itself merge.first_of a others other)
-  unfolding merged_into
-  merged_right a others [] each l = absurd (false≢true l)
-  merged_right a others (b ∷ other) each l = by (slice_cmp nat_cmp a b) refl (λ m. merged_right a others other each m)
-    where
-      equal : slice_cmp nat_cmp a b ≡ Equal → (t : Bool) → same_address group b ≡ t → (t || is_listed group other) ≡ true → Listed (a ∷ others other)
-      equal o true s m =
-          let same : a ≡ b = equal_is a b o in
-          or_left (same_address group a) (is_listed group (others other)) (ap (same_address group) same ∙ s)
-      equal o false s m = or_second (same_address group a) (is_listed group (others other)) (each other m)
-
-      greater : (t : Bool) → same_address group b ≡ t → (t || is_listed group other) ≡ true → (Listed other → Listed (merged_into merge.itself merge.first_of a others other))
-          → Listed (b ∷ merged_into merge.itself merge.first_of a others other)
-      greater true s m more = or_left (same_address group b) (is_listed group (merged_into merge.itself merge.first_of a others other)) s
-      greater false s m more = or_second (same_address group b) (is_listed group (merged_into merge.itself merge.first_of a others other)) (more m)
-
-      by : (o : Ordering) → slice_cmp nat_cmp a b ≡ o → (Listed other → Listed (merged_into merge.itself merge.first_of a others other))
-          → Listed (by_order o (a ∷ others (b ∷ other)) (a ∷ others other) (b ∷ merged_into merge.itself merge.first_of a others other))
-      by Less o more = or_second (same_address group a) (is_listed group (others (b ∷ other))) (each (b ∷ other) l)
-      by Equal o more = equal o (same_address group b) refl l
-      by Greater o more = greater (same_address group b) refl l more
-
-  in_right : (one other : List (List ℕ)) → Listed other → Listed (united one other)
-  unfolding merged_by
-  in_right [] other l = l
-  in_right (a ∷ one) other l = merged_right a (united one) other (λ rest m. in_right one rest m) l
-
-  either_listed : (old new : List GroupForm) (what : What (List ℕ)) (joins : Bool) → told_here old new group what ≡ Some joins → Listed (united (groups_of old) (groups_of new))
+  either_listed : (old new : List GroupForm) (what : What (List ℕ)) (joins : Bool) → told_here old new group what ≡ Some joins → Listed (in_order (groups_of old ++ groups_of new))
   either_listed old new what joins t = by (is_listed group (groups_of old)) (is_listed group (groups_of new)) refl refl
     where
       nothing : (what : What (List ℕ)) → told_of (unwanted group) (unwanted group) what ≡ None
@@ -167,9 +142,9 @@ module _ (group : List ℕ) where
       nothing (Source source) = refl
       nothing (Rpt source) = refl
 
-      by : (a b : Bool) → is_listed group (groups_of old) ≡ a → is_listed group (groups_of new) ≡ b → Listed (united (groups_of old) (groups_of new))
-      by true b e f = in_left (groups_of old) (groups_of new) e
-      by false true e f = in_right (groups_of old) (groups_of new) f
+      by : (a b : Bool) → is_listed group (groups_of old) ≡ a → is_listed group (groups_of new) ≡ b → Listed (in_order (groups_of old ++ groups_of new))
+      by true b e f = in_order_listed (groups_of old ++ groups_of new) (any_left (same_address group) (groups_of old) (groups_of new) e)
+      by false true e f = in_order_listed (groups_of old ++ groups_of new) (any_right (same_address group) (groups_of old) (groups_of new) f)
       by false false e f =
           let none : told_here old new group what ≡ None = ap (λ o. told_of o (group_in group new) what) (unlisted group old e) ∙ ap (λ n. told_of (unwanted group) n what) (unlisted group new f) ∙ nothing what in
           let crossed : Some joins ≡ None = sym t ∙ none in
@@ -285,7 +260,7 @@ module _ (keys : KeysAreToldApart) (rps : Rps) (old new : List GroupForm) (port 
   change_names : (what : What (List ℕ)) (joins : Bool) → told_here old new group what ≡ Some joins → list_any (names_unit (key_for what)) (change old new) ≡ true
   unfolding change
   change_names what joins t =
-      any_flat (names_unit (key_for what)) (change_at old new) (same_address group) (united (groups_of old) (groups_of new))
+      any_flat (names_unit (key_for what)) (change_at old new) (same_address group) (in_order (groups_of old ++ groups_of new))
       (λ g s.
       subst (λ (h : List ℕ). list_any (names_unit (key_for what)) (change_at old new h) ≡ true) (same_text group g (sym s))
       (any_map (names_unit (key_for what)) (unit_of group) (group_change (group_in group old) (group_in group new)) (group_named what joins t)))

@@ -7,10 +7,9 @@ use Rattle.std.specs.Cmp.{nat_eq_equiv}
 use Rattle.pim_down.specs.declared.key.What.{What}
 use Rattle.pim_down.specs.declared.key.What.TheVariants.{Star, Source, Rpt}
 use Rattle.pim_form.specs.NormalForm.{GroupForm, same_address, is_listed, groups_of}
-use Rattle.pim_form.specs.Merge.{united}
 use Rattle.pim_form.specs.Settled.{group_in}
 use Rattle.pim_change.specs.declared.unit.Kind.TheVariants.{JoinRpt, PruneRpt, JoinSource, PruneSource}
-use Rattle.pim_change.specs.Change.{Telling, star_joined, star_pruned, told, lacking, star_change, sources_change, group_change, ChangeUnit, unit_of, change_at, change}
+use Rattle.pim_change.specs.Change.{Telling, star_joined, star_pruned, told, lacking, star_change, sources_change, group_change, ChangeUnit, unit_of, in_order, change_at, change}
 use Rattle.pim_settling.specs.Runs.{run_at}
 use Rattle.pim_settling.specs.Telling.{told_if, rpt_told, told_of}
 
@@ -105,7 +104,7 @@ module _ (old new : List GroupForm) where
 
   change_says : AllByRecursion UnitSays (change old new)
   unfolding change
-  change_says = all_flat UnitSays (change_at old new) (united (groups_of old) (groups_of new)) group_says
+  change_says = all_flat UnitSays (change_at old new) (in_order (groups_of old ++ groups_of new)) group_says
 
   run_says : (number : ℕ) (runs : List (List ChangeUnit)) → AllByRecursion UnitSays (flat_map (λ run. run) runs) → AllByRecursion UnitSays (run_at number runs)
   unfolding run_at
