@@ -18,6 +18,7 @@ pub mod StaysHeard
 pub mod Inserted
 pub mod HelloPackets
 pub mod FirstHellos
+pub mod SomeHellos
 pub mod CourseSteps
 pub mod AsksAgain
 pub mod Listed
@@ -36,3 +37,4 @@ pub mod FormHeld
 pub mod Headlines
 pub mod Standing
 pub mod ShortMessages
+pub mod SomeMessages

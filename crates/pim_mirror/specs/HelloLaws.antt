@@ -1,7 +1,9 @@
 -- The statements of the laws in `src/hello_laws.rt`.
-use Rattle.std.specs.Prelude.{List, map, ℕ}
+use Rattle.std.specs.Prelude.{◌↔◌, List, map, ℕ}
+use Rattle.std.specs.List.{AllByRecursion}
 use Rattle.pim_addr.specs.declared.family.AddressFamily.{AddressFamily}
 use Rattle.pim_addr.specs.Routes.{RouteTable}
+use Rattle.pim_hello.specs.Spelling.{ParametersFit}
 use Rattle.pim_form.specs.Messages.{Writing, IsWriting}
 use Rattle.pim_router.specs.Course.{takes, Telling, IsCourse}
 use Rattle.pim_router.specs.Packets.{Packet}
@@ -24,3 +26,9 @@ HellosAreHeard = (family : AddressFamily) (messages : List (List ℕ)) (writing 
     Fits messages writing table fresh → AreHellosFrom family (neighbours fresh) hellos →
     IsCourse family (map (λ packet. takes packet) hellos) told (new_router (setup_of fresh)) after →
     HasMet writing fresh after
+
+-- Neighbours have Hellos exactly if the numbers of each fit into the bits of their options.
+abbrev pub NeighboursHaveHellos : Type 0
+NeighboursHaveHellos = (family : AddressFamily) (neighbours : List Neighbour) →
+    ((packets : List Packet) × AreHellosOf family neighbours packets)
+    ↔ AllByRecursion (λ (neighbour : Neighbour). ParametersFit neighbour.hello) neighbours

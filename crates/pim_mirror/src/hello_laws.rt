@@ -1,6 +1,6 @@
 //! Laws of the Hellos of a fresh router's neighbours. These functions do nothing.
 
-ghost use Rattle.pim_mirror.specs.HelloLaws.{WrittenHellosAreRead, HellosAreHeard};
+ghost use Rattle.pim_mirror.specs.HelloLaws.{WrittenHellosAreRead, HellosAreHeard, NeighboursHaveHellos};
 
 /// Hellos that are written canonically and sealed for ALL-PIM-ROUTERS are opened and read without a
 /// fault, as their senders' parameters (RFC 7761, 4.9 and 4.9.2).
@@ -18,3 +18,11 @@ pub fn written_hellos_are_read()
 pub fn hellos_are_heard()
     ensures { HellosAreHeard }
 {}
+
+/// Neighbours have Hellos, written canonically and sealed for ALL-PIM-ROUTERS, exactly if the
+/// numbers of each fit into the bits of their options (RFC 7761, 4.9.2).
+pub fn neighbours_have_hellos()
+    ensures { NeighboursHaveHellos }
+{
+    pim_frame::some_message_is_sealed();
+}

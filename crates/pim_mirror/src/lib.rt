@@ -37,12 +37,12 @@ pub use headline_laws::{
     fresh_router_tells_no_echo, headline, mirror_answers_for_the_form, normalising_twice_is_once,
     room_is_for_the_units,
 };
-pub use hello_laws::{hellos_are_heard, written_hellos_are_read};
+pub use hello_laws::{hellos_are_heard, neighbours_have_hellos, written_hellos_are_read};
 pub use laws::{
     asked_stars_have_rps, canonical_messages_tell_form, canonical_messages_tell_parts,
     canonical_packet_is_heard, course_hears_all, delivery_is_taken, heard_messages_are_asked_again,
     messages_are_read, part_asks, parts_tell_units_once, read_packet_is_heard, router_asks_again,
     router_leaves_its_port, router_runs_as_its_machines, writer_stays_heard,
 };
-pub use mirror_laws::canonical_messages_are_short;
+pub use mirror_laws::{canonical_messages_are_short, state_has_messages_unless_too_big};
 pub use mirroring::{MirrorFault, are_short, hear_deliveries, mirror};

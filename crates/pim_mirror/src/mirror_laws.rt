@@ -1,6 +1,6 @@
-//! A law of the messages that `mirror` reads. This function does nothing.
+//! Laws of the messages that `mirror` reads. These functions do nothing.
 
-ghost use Rattle.pim_mirror.specs.MirrorLaws.{CanonicalMessagesAreShort};
+ghost use Rattle.pim_mirror.specs.MirrorLaws.{CanonicalMessagesAreShort, StateHasMessagesUnlessTooBig};
 
 use crate::laws::canonical_messages_tell_parts;
 
@@ -11,4 +11,14 @@ pub fn canonical_messages_are_short()
 {
     pim_form::size_is_length();
     canonical_messages_tell_parts();
+}
+
+/// A sound state has canonical messages exactly if the normal form of what it asks of the writer's
+/// upstream neighbour has no star that is too big for one message.
+pub fn state_has_messages_unless_too_big()
+    ensures { StateHasMessagesUnlessTooBig }
+{
+    pim_form::form_of_what_is_asked();
+    pim_form::one_normal_form();
+    pim_form::messages_are_there_unless_too_big();
 }

@@ -1,0 +1,40 @@
+-- Neighbours whose numbers are in their ranges have Hellos.
+use Rattle.std.proofs.Common.{ℕ, List, [], ◌∷◌, refl}
+use Rattle.std.specs.List.{AllByRecursion}
+use Rattle.pim_addr.specs.declared.family.AddressFamily.{AddressFamily}
+use Rattle.pim_frame.specs.Frame.{all_routers}
+use Rattle.pim_frame.specs.Seal.{SomeMessageIsSealed}
+use Rattle.pim_frame.specs.declared.frame.MessageType.TheVariants.{Hello}
+use Rattle.pim_hello.specs.Spelling.{spelling_of, ParametersFit}
+use Rattle.pim_router.specs.Packets.{Packet}
+use Rattle.pim_mirror.specs.Config.{Neighbour}
+use Rattle.pim_mirror.specs.Mirror.{IsHelloOf, AreHellosOf}
+use Rattle.pim_mirror.specs.HelloLaws.{NeighboursHaveHellos}
+
+abbrev InRange : Neighbour → Type 0
+InRange neighbour = ParametersFit neighbour.hello
+
+module _ (seal : SomeMessageIsSealed) (family : AddressFamily) where
+  some_hello : (neighbour : Neighbour) → InRange neighbour → (packet : Packet) × IsHelloOf family neighbour packet
+  some_hello neighbour fit =
+      let message = seal family neighbour.address (all_routers family) Hello (spelling_of family (record { parameters = neighbour.hello; addresses = [] })) in (
+        record { port = 0; source = neighbour.address; destination = all_routers family; bytes = message.0 },
+        record { port = refl; source = refl; destination = refl; fit = fit; sealed = message.1 },
+      )
+
+  some_hellos : (neighbours : List Neighbour) → AllByRecursion InRange neighbours → (packets : List Packet) × AreHellosOf family neighbours packets
+  unfolding AreHellosOf
+  some_hellos [] all = ([], tt)
+  some_hellos (neighbour ∷ neighbours) all =
+      let first = some_hello neighbour all.0 in
+      let others = some_hellos neighbours all.1 in
+      (first.0 ∷ others.0, (first.1, others.1))
+
+in_range : (family : AddressFamily) (neighbours : List Neighbour) (packets : List Packet) → AreHellosOf family neighbours packets → AllByRecursion InRange neighbours
+unfolding AreHellosOf
+in_range family [] packets are = tt
+in_range family (neighbour ∷ neighbours) [] are = absurd are
+in_range family (neighbour ∷ neighbours) (packet ∷ packets) are = (are.0.fit, in_range family neighbours packets are.1)
+
+pub neighbours_have_hellos : SomeMessageIsSealed → NeighboursHaveHellos
+neighbours_have_hellos seal family neighbours = (λ hellos. in_range family neighbours hellos.0 hellos.1, some_hellos seal family neighbours)
