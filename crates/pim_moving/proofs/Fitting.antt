@@ -4,12 +4,11 @@ use Rattle.std.specs.List.{flat_map}
 use Rattle.std.specs.Cmp.Lexicographic.{same_text}
 use Rattle.pim_addr.specs.declared.family.AddressFamily.{AddressFamily}
 use Rattle.pim_form.specs.NormalForm.{GroupForm, same_address, groups_of}
-use Rattle.pim_form.specs.Merge.{united}
 use Rattle.pim_form.specs.Settled.{group_in}
 use Rattle.pim_form.specs.TooBig.{star_fits, too_big}
 use Rattle.pim_change.specs.declared.unit.Kind.{Kind}
 use Rattle.pim_change.specs.declared.unit.Kind.TheVariants.{JoinRpt, PruneRpt, JoinSource, PruneSource}
-use Rattle.pim_change.specs.Change.{Telling, told, ChangeUnit, about, lacking, star_change, sources_change, change_at, change}
+use Rattle.pim_change.specs.Change.{Telling, told, ChangeUnit, about, lacking, star_change, sources_change, in_order, change_at, change}
 use Rattle.pim_change.specs.TooBig as changed
 use Rattle.pim_moving.specs.Laws.{ChangeFits}
 
@@ -90,4 +89,4 @@ module _ (family : AddressFamily) (budget : ℕ) where
 
 pub fits_too : ChangeFits
 unfolding change AllFit
-fits_too family budget old new fitting = all_fit family budget old new fitting (united (groups_of old) (groups_of new))
+fits_too family budget old new fitting = all_fit family budget old new fitting (in_order (groups_of old ++ groups_of new))
