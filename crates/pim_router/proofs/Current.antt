@@ -1,17 +1,18 @@
 -- Neighbours whose time isn't over.
-use Rattle.std.proofs.Common.{◌≡◌, ◌≢◌, ◌∙◌, ◌<◌, ◌-◌, ◌+◌, ◌*◌, ◌==◌, ℕ, zero, suc, Bool, true, false, not, List, [], ◌∷◌, length, map, filter, get_or, set, Option, Some, None, refl, ap, arith, nat_eq, if◌then◌else◌}
+use Rattle.std.proofs.Common.{◌≡◌, ◌≢◌, ◌∙◌, ◌<◌, ◌≤◌, ◌-◌, ◌+◌, ◌*◌, ◌==◌, ℕ, zero, suc, Bool, true, false, not, List, [], ◌∷◌, length, map, filter, get_or, set, Option, Some, None, refl, ap, arith, nat_eq, if◌then◌else◌}
 use Rattle.std.specs.List.{AllByRecursion}
 use Rattle.std.specs.Option.{option_eq}
 use Rattle.std.specs.Ordering.{nat_cmp, match_ordering}
 use Rattle.std.proofs.lemmas.Bool.{eqb-false, ne_eqb}
-use Rattle.std.proofs.lemmas.List.{set-get_or}
+use Rattle.std.proofs.lemmas.List.{set-get_or, length-map}
 use Rattle.std.specs.declared.cmp.Ordering.{Ordering}
 use Rattle.std.specs.declared.cmp.Ordering.TheVariants.{Less, Equal, Greater}
 use Rattle.std.specs.Cmp.Lexicographic.{slice_cmp}
 use Rattle.std.specs.BTreeMap.{insert_entry}
 use Rattle.std.specs.Map.{remove_entry}
 use Rattle.pim_hello.specs.Hello.{Parameters}
-use Rattle.pim_hello.specs.Neighbours.{Neighbour, Table, is_over, without_ended, passed_to, waited, heard_from, lifetime, says_goodbye, is_address}
+use Rattle.pim_hello.specs.Laws.{expired_at}
+use Rattle.pim_hello.specs.Neighbours.{Neighbour, Table, no_neighbours, is_over, without_ended, passed_to, waited, heard_from, lifetime, says_goodbye, is_address}
 use Rattle.pim_router.specs.Sound.{HasTime, IsCurrent}
 
 -- ---- lists
@@ -116,3 +117,34 @@ hello_keeps said sender table moment current = record {
   moment_now = current.moment_now;
   none_ended = hello_step (says_goodbye said) said refl sender table current.none_ended;
 }
+
+-- ---- how many there are
+
+filter_shorter : (es : List (List ℕ × Neighbour)) → length (filter (λ (entry : List ℕ × Neighbour). not (is_over entry.1.left)) es) ≤ length es
+filter_shorter [] = omega arith
+filter_shorter (e ∷ es) = by (not (is_over e.1.left)) (filter_shorter es)
+  where
+    by : (b : Bool) → length (filter (λ (entry : List ℕ × Neighbour). not (is_over entry.1.left)) es) ≤ length es
+        → length (if b then e ∷ filter (λ (entry : List ℕ × Neighbour). not (is_over entry.1.left)) es else filter (λ (entry : List ℕ × Neighbour). not (is_over entry.1.left)) es) ≤ suc (length es)
+    by true less = omega (arith, less)
+    by false less = omega (arith, less)
+
+expired_fewer : (moment : ℕ) (table : Table) → length table.entries ≤ 1024 → length (expired_at moment table).entries ≤ 1024
+expired_fewer moment table few =
+    let passed : ℕ = moment - table.moment in
+    let all = length-map {B = List ℕ × Neighbour} table.entries (λ (entry : List ℕ × Neighbour). (entry.0, waited passed entry.1)) in
+    let less = filter_shorter (map (λ (entry : List ℕ × Neighbour). (entry.0, waited passed entry.1)) table.entries) in
+    omega (arith, few, all, less)
+
+-- Time leaves no port more neighbours.
+pub few_later : (moment : ℕ) (tables : List Table) → AllByRecursion (λ (table : Table). length table.entries ≤ 1024) tables
+    → AllByRecursion (λ (table : Table). length table.entries ≤ 1024) (map (expired_at moment) tables)
+few_later moment [] all = tt
+few_later moment (table ∷ tables) all = (expired_fewer moment table all.0, few_later moment tables all.1)
+
+-- A port that isn't there has no neighbours.
+pub few_at : (tables : List Table) (port : ℕ) → AllByRecursion (λ (table : Table). length table.entries ≤ 1024) tables
+    → length (get_or tables port no_neighbours).entries ≤ 1024
+few_at [] port all = omega arith
+few_at (table ∷ tables) zero all = all.0
+few_at (table ∷ tables) (suc port) all = few_at tables port all.1

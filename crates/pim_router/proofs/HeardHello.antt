@@ -1,5 +1,5 @@
 -- A Hello that a port hears.
-use Rattle.std.proofs.Common.{◌≡◌, ◌∙◌, ◌<◌, ◌↔◌, ℕ, Bool, true, false, not, List, length, get_or, set, Result, Ok, Err, refl, sym, ap, subst, IsTrue, IsOk, OnErr}
+use Rattle.std.proofs.Common.{◌≡◌, ◌∙◌, ◌<◌, ◌≤◌, ◌↔◌, ℕ, Bool, true, false, not, List, length, get_or, set, Result, Ok, Err, refl, sym, ap, subst, IsTrue, IsOk, OnErr}
 use Rattle.std.proofs.lemmas.Bool.{false≢true}
 use Rattle.std.proofs.lemmas.List.{set-get_or, get_or_read, length-set}
 use Rattle.std.specs.declared.alloc.AllocError.{AllocError}
@@ -102,13 +102,14 @@ module _ (state : RouterState) (port : ℕ) (sender : List ℕ) (said : Paramete
     pub hello_wants : Wants (neighbours_on port state) (hello_verdict result)
     hello_wants = subst (λ t. Wants t (hello_verdict result)) there (wants_on_row now row result after hears)
 
-    pub stays_router : IsRouter (with_tables state (set state.tables port after))
-    stays_router = record {
+    pub stays_router : length after.entries ≤ 1024 → IsRouter (with_tables state (set state.tables port after))
+    stays_router few = record {
       ports = sound.ports;
       tables = length-set state.tables port after ∙ sound.tables;
       delays = sound.delays;
       current = all_set (IsCurrent state.machines.moment) state.tables port after sound.current
           (still_current now state.machines.moment row passed row_current result after hears);
+      few = all_set (λ (table : Table). length table.entries ≤ 1024) state.tables port after sound.few few;
       refresh = sound.refresh;
     }
 

@@ -50,6 +50,10 @@ all_current : (count : ℕ) → AllByRecursion (IsCurrent 0) (replicate count no
 all_current zero = tt
 all_current (suc count) = (record { moment_now = refl; none_ended = tt }, all_current count)
 
+all_few : (count : ℕ) → AllByRecursion (λ (table : Table). length table.entries ≤ 1024) (replicate count no_neighbours)
+all_few zero = tt
+all_few (suc count) = (omega arith, all_few count)
+
 module _ (family : AddressFamily) (setup : Setup) (ok : judged (config_faults family setup) (tt {0}) ≡ Ok (tt {0})) where
   none : config_faults family setup ≡ []
   none = no_fault (config_faults family setup) ok
@@ -77,6 +81,7 @@ module _ (family : AddressFamily) (setup : Setup) (ok : judged (config_faults fa
     tables = length-replicate (length setup.ports) no_neighbours;
     delays = delays;
     current = all_current (length setup.ports);
+    few = all_few (length setup.ports);
     refresh = omega arith;
   }
 

@@ -16,6 +16,7 @@ use Rattle.pim_router.specs.Seen.{port_seen, router_seen, step_seen}
 use Rattle.pim_router.specs.Sound.{IsCurrent, IsRouter}
 use Rattle.pim_router.specs.State.{RouterState, with_refresh}
 use Rattle.pim_router.specs.Time.{Runs}
+use Rattle.pim_router.proofs.Current.{few_later}
 use Rattle.pim_router.proofs.Passing.{router, current_at_start, current_later, told_echo, told_refresh, told_reached}
 
 module _ (twice : ExpiringTwiceIsExpiringOnce) {A : Type 0} (bytes_of : A → List ℕ) (ports : List (PortConfig A)) (routes : RouteTable) (machines : Downstream) (tables : List Table) (next : ℕ)
@@ -80,6 +81,7 @@ module _ (twice : ExpiringTwiceIsExpiringOnce) {A : Type 0} (bytes_of : A → Li
       tables = ap length is_left ∙ length-map tables (expired_at after.moment) ∙ sound.1.tables ∙ sym count;
       delays = sound.1.delays;
       current = subst (AllByRecursion (IsCurrent after.moment)) (sym is_left) (current_later machines.moment after.moment on tables sound.1.current);
+      few = subst (AllByRecursion (λ (table : Table). length table.entries ≤ 1024)) (sym is_left) (few_later after.moment tables sound.1.few);
       refresh = soon;
     },
   )

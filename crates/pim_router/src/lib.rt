@@ -13,7 +13,8 @@
 //! `run_to` lets time pass up to a moment of at most 10^15 ms and stops at each PruneEcho and each
 //! refresh. `run_past_refreshes` stops at a PruneEcho alone and counts the refreshes. Neither takes
 //! memory. Packets and time leave the ports, the route table and the limit of records unchanged.
-//! Between calls no neighbour's time is over.
+//! Between calls no neighbour's time is over, and each port is within its limits: 1,024 neighbours,
+//! and the limit of records (`ports_keep_their_limits`).
 //!
 //! `canonical` returns the messages that ask an upstream neighbour for what the ports want of it.
 //! `triggered` returns those of the change from the form that was last announced to it.

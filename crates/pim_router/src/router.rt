@@ -7,7 +7,7 @@
 //! In one millisecond neighbours go first, then timers fire, then the refresh comes: a refresh
 //! doesn't ask for a star whose time ends with it.
 
-ghost use Rattle.std.specs.Prelude.{◌≡◌, ◌≢◌, ◌<◌, ◌≤◌, ◌+◌, ◌*◌, ◌^◌, length, replicate, map, max};
+ghost use Rattle.std.specs.Prelude.{◌≡◌, ◌≢◌, ◌<◌, ◌≤◌, ◌+◌, ◌*◌, ◌^◌, ℕ, length, replicate, map, max};
 ghost use Rattle.std.specs.Prelude.{IfOk, OnErr, IsTrue, not, nat_lt};
 ghost use Rattle.pim_hello.specs.Laws.{expired_at};
 ghost use Rattle.pim_frame.specs.Frame.{content, hello, join_prune};
@@ -22,6 +22,7 @@ ghost use Rattle.pim_router.specs.Time.{Runs, turns_left};
 ghost use Rattle.pim_router.specs.Refreshes.{RunsPast, told_behind, first_untold};
 ghost use Rattle.pim_router.specs.declared.step.Step.TheVariants.{Reached};
 ghost use Rattle.pim_down.specs.declared.step.Step.TheVariants as fires;
+ghost use Rattle.pim_down.specs.Records.{count_on};
 ghost use Rattle.pim_down.specs.Seen.{step_seen as fires_seen};
 ghost use Rattle.pim_router.specs.Told.{hello_verdict, message_verdict};
 ghost use Rattle.pim_router.specs.Sound.{IsRouter};
@@ -170,6 +171,18 @@ impl<'a, F: Family> Router<'a, F> {
         let _moment = self.next_refresh;
     }
 
+    /// A law: each port has at most 1,024 neighbours and at most as many records as the limit,
+    /// which is at most 100,000. It does nothing.
+    pub fn ports_keep_their_limits(&self)
+        ensures neighbours { (port : ℕ) → length (table_at port self.now).entries ≤ 1024 }
+        ensures records { (port : ℕ) →
+            count_on port self.now.machines.records ≤ self.now.machines.limit }
+        ensures limit { self.now.machines.limit ≤ 100000 }
+    {
+        self.is_router();
+        self.ports().is_sound();
+    }
+
     /// The present moment, in milliseconds.
     pub fn now(&self) -> u64
         ensures { result ≡ self.now.machines.moment }
@@ -292,7 +305,9 @@ impl<'a, F: Family> Router<'a, F> {
     {
         self.machines.is_sound();
         let now = self.machines.now();
-        let heard = self.neighbours[port].hear(src, hello, now);
+        let table = &mut self.neighbours[port];
+        let heard = table.hear(src, hello, now);
+        table.is_sound();
         hello_verdict(heard)
     }
 

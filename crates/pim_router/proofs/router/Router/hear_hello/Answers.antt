@@ -15,7 +15,7 @@ invariant_of-self g c =
     let here : c.args.port < length seen.ports = subst (λ (s : RouterState). c.args.port < length s.ports) (sym c.self.view_is) c.requires in
     let within : c.args.port < length seen.tables = omega (arith, here, sound.ports, sound.tables) in (
       c.self.invariant.0,
-      stays_router seen c.args.port (g.F.Family.bytes_of c.args.src) said sound c.index_mut.result.now within c.index_mut.ensures.value c.now-now.result c.now-now.ensures c.hear-heard.result c.hear-heard.new.self c.hear-heard.ensures,
+      stays_router seen c.args.port (g.F.Family.bytes_of c.args.src) said sound c.index_mut-table.result.now within c.index_mut-table.ensures.value c.now-now.result c.now-now.ensures c.hear-heard.result c.hear-heard.new.self c.hear-heard.ensures c.is_sound-2.ensures.limit,
     )
 
 pub returns-clause-told : goal.returns-clause-told
@@ -26,7 +26,7 @@ returns-clause-told g c =
     let here : c.args.port < length seen.ports = subst (λ (s : RouterState). c.args.port < length s.ports) (sym c.self.view_is) c.requires in
     let within : c.args.port < length seen.tables = omega (arith, here, sound.ports, sound.tables) in
     hello_told seen c.args.port (g.F.Family.bytes_of c.args.src) said c.args.self.now c.self.view_is c.hello_verdict.result c.hear-heard.result c.hello_verdict.ensures _
-    (hello_ends seen c.args.port (g.F.Family.bytes_of c.args.src) said sound c.index_mut.result.now within c.index_mut.ensures.value c.now-now.result c.now-now.ensures c.hear-heard.result c.hear-heard.new.self c.hear-heard.ensures)
+    (hello_ends seen c.args.port (g.F.Family.bytes_of c.args.src) said sound c.index_mut-table.result.now within c.index_mut-table.ensures.value c.now-now.result c.now-now.ensures c.hear-heard.result c.hear-heard.new.self c.hear-heard.ensures)
 
 pub returns-clause-memory : goal.returns-clause-memory
 returns-clause-memory g c =
@@ -36,4 +36,4 @@ returns-clause-memory g c =
     let here : c.args.port < length seen.ports = subst (λ (s : RouterState). c.args.port < length s.ports) (sym c.self.view_is) c.requires in
     let within : c.args.port < length seen.tables = omega (arith, here, sound.ports, sound.tables) in
     hello_wants_told seen c.args.port (g.F.Family.bytes_of c.args.src) said c.args.self.now c.self.view_is c.hello_verdict.result c.hear-heard.result c.hello_verdict.ensures
-    (hello_wants seen c.args.port (g.F.Family.bytes_of c.args.src) said sound c.index_mut.result.now within c.index_mut.ensures.value c.now-now.result c.now-now.ensures c.hear-heard.result c.hear-heard.new.self c.hear-heard.ensures)
+    (hello_wants seen c.args.port (g.F.Family.bytes_of c.args.src) said sound c.index_mut-table.result.now within c.index_mut-table.ensures.value c.now-now.result c.now-now.ensures c.hear-heard.result c.hear-heard.new.self c.hear-heard.ensures)
