@@ -157,6 +157,7 @@ headline same_asked once mirror family table writing sound is_writing = record {
       let mirrored = mirror family table writing state messages fresh router later moment sound is_writing asked hears window at in
       record {
         traffic = λ source group tree valid is_group. asked.is.wants source group tree valid is_group ∙ sym (mirrored.asks.is_form.wants source group tree valid is_group);
+        no_more = λ source group tree valid is_group. asked.is.wants source group tree valid is_group ∙ sym (mirrored.asks.wanted source group tree);
         bytes = record { form = asked.form; is = mirrored.asks.is_form; told = asked.told };
         no_others = λ others of_later. mirrored.asks.same_messages of_later.form others of_later.is of_later.told;
       };

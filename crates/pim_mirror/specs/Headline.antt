@@ -16,6 +16,7 @@ use Rattle.pim_down.specs.Time.{Downstream, expiry_after}
 use Rattle.pim_form.specs.NormalForm.{GroupForm, Demand, Agree, IsFormOf, form_wants}
 use Rattle.pim_form.specs.Messages.{Writing, IsWriting, AreCanonical}
 use Rattle.pim_form.specs.TowardLaws.{asked_of}
+use Rattle.pim_form.specs.Wants.{wants}
 use Rattle.pim_fresh.specs.Deliveries.{Delivery, AreAlive, last_of}
 use Rattle.pim_fresh.specs.Exchange.{Exchange, is_named}
 use Rattle.pim_fresh.specs.Expected.{asked_state, units_of}
@@ -50,6 +51,12 @@ pub record AreMessagesOf (family : AddressFamily) (table : RouteTable) (writing 
 abbrev pub WantTheSameTraffic : AddressFamily → RouteTable → Writing → Downstream → Downstream → Type 0
 WantTheSameTraffic family table writing one other =
     Agree family (asked_of family table writing.upstream one) (asked_of family table writing.upstream other)
+
+-- All that the other state wants, wherever the route table leads it, is what this state asks of the
+-- writer's upstream neighbour: for every valid source, every group and both trees (RFC 7761, 4.1).
+abbrev pub WantsWhatIsAsked : AddressFamily → RouteTable → Writing → Downstream → Downstream → Type 0
+WantsWhatIsAsked family table writing state other =
+    Agree family (asked_of family table writing.upstream state) (wants other)
 
 -- ---- a fresh router that hears messages alone
 
@@ -260,11 +267,12 @@ MirrorAnswersForTheForm = (family : AddressFamily) (table : RouteTable) (writing
 
 -- ---- the headline
 
--- A state wants the same traffic as another one, whose canonical messages these are. They are its
--- canonical messages too, and it has no others.
+-- A state wants the same traffic as another one, whose canonical messages these are, and no traffic
+-- beside it. They are its canonical messages too, and it has no others.
 pub record WantsAndWritesTheSame (family : AddressFamily) (table : RouteTable) (writing : Writing) (state : Downstream)
     (messages : List (List ℕ)) (other : Downstream) : Type 0 where
   pub traffic : WantTheSameTraffic family table writing state other
+  pub no_more : WantsWhatIsAsked family table writing state other
   pub bytes : AreMessagesOf family table writing other messages
   pub no_others : (others : List (List ℕ)) → AreMessagesOf family table writing other others → others ≡ messages
 
@@ -280,8 +288,8 @@ pub record IsHeadline (family : AddressFamily) (table : RouteTable) (writing : W
   pub twice_is_once : (demand : Demand) (once twice : List GroupForm) →
       IsFormOf family demand once → IsFormOf family (form_wants once) twice → twice ≡ once
   -- A fresh router hears these messages alone, in any order and however often. From the end of its
-  -- prune-pending times until the first expiry it would ask its own address for exactly the traffic
-  -- that the state asks of it, by the same bytes.
+  -- prune-pending times until the first expiry it wants exactly the traffic that the state asks of
+  -- it, and would ask its own address for that by the same bytes.
   pub fresh_router_does_the_same : (state : Downstream) (messages : List (List ℕ)) (fresh : Fresh)
       (router later : RouterState) (moment : ℕ) → AreMessagesOf family table writing state messages →
       HearsAlone family table writing messages fresh router → IsInWindow writing fresh moment →

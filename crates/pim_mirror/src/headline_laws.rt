@@ -1,10 +1,11 @@
 //! The headline, and the laws of its fresh router. These functions do nothing.
 //!
 //! The headline is a law over the definitions, since its first part is of two states; `mirror` has
-//! its last part as a clause. It says nothing of states without canonical messages, of traffic
-//! without a route, or of refused memory. Room is the premise that no message is `Full` on the
-//! course, and `room_is_for_the_units` says when that is so. The other neighbours need to stay only
-//! until the final moment, since the router hears nothing after it that depends on their delays.
+//! its last part as clauses. It says nothing of states without canonical messages, of what a state
+//! wants without a route, or of refused memory. Room is the premise that no message is `Full` on
+//! the course, and `room_is_for_the_units` says when that is so. The other neighbours need to stay
+//! only until the final moment, since the router hears nothing after it that depends on their
+//! delays.
 
 ghost use Rattle.pim_mirror.specs.Headline.{NormalisingTwiceIsOnce, FreshRouterMirrors, FreshRouterTellsNoEcho};
 ghost use Rattle.pim_mirror.specs.Headline.{RoomIsForTheUnits, FreshRouterIsThere, FreshRouterKnowsTheWriter};
@@ -131,8 +132,8 @@ pub fn mirror_answers_for_the_form()
 /// Normalizing twice is once.
 ///
 /// A fresh router hears these messages alone, in any order and however often. From the end of its
-/// prune-pending times until the first expiry it would ask its own address for exactly the traffic
-/// that the state asks of it, by the same bytes.
+/// prune-pending times until the first expiry it wants exactly the traffic that the state asks of
+/// it, and would ask its own address for that by the same bytes.
 pub fn headline()
     ensures { Headline }
 {
