@@ -27,6 +27,7 @@ pub mod Intervals
 pub mod Finals
 pub mod Conditions
 pub mod Ways
+pub mod Refused
 pub mod Hellos
 pub mod Heard
 pub mod Begun

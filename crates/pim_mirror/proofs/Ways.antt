@@ -198,6 +198,11 @@ module _ (goes_on : CourseGoesOn) (every : EveryListHasACourse) (family : Addres
         passed = stopped a.told rest.told a.after rest.after now told a.passed;
       }
 
+-- of a refusal this says nothing of the state
+pub refused_anywhere : (family : AddressFamily) (inputs : List Input) (old now end : RouterState) (told : MirrorFault) → Passes family inputs old (Err told) now → Passes family inputs old (Err told) end
+refused_anywhere family inputs old now end (fault.Full needed) a = record { told = a.told; after = a.after; course = a.course; passed = a.passed }
+refused_anywhere family inputs old now end fault.Memory a = record { told = a.told; after = a.after; course = a.course; passed = tt }
+
 -- ---- a run and a packet
 
 pub reached_passes : (family : AddressFamily) (moment : ℕ) (old now : RouterState) → HasReached moment old now →

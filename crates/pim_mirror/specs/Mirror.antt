@@ -10,7 +10,7 @@ use Rattle.pim_hello.specs.Spelling.{spelling_of, ParametersFit}
 use Rattle.pim_down.specs.declared.step.Step.{Step}
 use Rattle.pim_down.specs.declared.step.Step.TheVariants.{Reached}
 use Rattle.pim_router.specs.Course.{Input, runs_to, takes, Telling, verdict, Reaches, IsCourse}
-use Rattle.pim_router.specs.Packets.{Packet}
+use Rattle.pim_router.specs.Packets.{Packet, causes, received}
 use Rattle.pim_router.specs.State.{RouterState, new_router}
 use Rattle.pim_router.specs.declared.verdict.Verdict.{Verdict}
 use Rattle.pim_router.specs.declared.verdict.Verdict.TheVariants.{Full}
@@ -41,15 +41,19 @@ AreHellosOf family (neighbour ∷ neighbours) [] = ⊥
 AreHellosOf family (neighbour ∷ neighbours) (packet ∷ packets) =
     IsHelloOf family neighbour packet × AreHellosOf family neighbours packets
 
--- The inputs of a delivery: its moment, and then the packet of its message, from the sender to
--- ALL-PIM-ROUTERS.
-abbrev pub delivery_inputs : AddressFamily → List (List ℕ) → List ℕ → Delivery → List Input
-delivery_inputs family messages sender delivery = runs_to delivery.moment ∷ takes (record {
+-- The packet of a delivery: its message, from the sender to ALL-PIM-ROUTERS on the only port.
+abbrev pub delivery_packet : AddressFamily → List (List ℕ) → List ℕ → Delivery → Packet
+delivery_packet family messages sender delivery = record {
   port = 0;
   source = sender;
   destination = all_routers family;
   bytes = slice_index_or messages delivery.message [];
-}) ∷ []
+}
+
+-- The inputs of a delivery: its moment, and then its packet.
+abbrev pub delivery_inputs : AddressFamily → List (List ℕ) → List ℕ → Delivery → List Input
+delivery_inputs family messages sender delivery =
+    runs_to delivery.moment ∷ takes (delivery_packet family messages sender delivery) ∷ []
 
 -- All inputs of a fresh router: the Hellos, the deliveries, and the final moment.
 abbrev pub inputs_of : AddressFamily → List (List ℕ) → Fresh → List Packet → List Input
@@ -101,7 +105,7 @@ Mirrors family messages fresh (Err (fault.Full needed)) =
     (after : RouterState) × GoesThrough family messages fresh (Some needed) after
 Mirrors family messages fresh (Err fault.Memory) = Unit {0}
 
--- ---- the results of private functions
+-- ---- the deliveries that a router hears
 
 -- The result over inputs of a course: Ok leaves the state after them, and each message had room.
 -- `Full` gives what the first message without room needed, and says nothing of the state.
@@ -117,6 +121,27 @@ pub record Passes (family : AddressFamily) (inputs : List Input) (old : RouterSt
   pub after : RouterState
   pub course : IsCourse family inputs told old after
   pub passed : IsPassed told after now result
+
+-- The router in this state refuses the packet: it is `Full` with this number of records, or memory
+-- is refused for it and no cause refuses it.
+abbrev pub IsRefused : AddressFamily → Packet → RouterState → MirrorFault → Type 0
+IsRefused family packet state (fault.Full needed) = (received family packet state).0 ≡ Full (Records needed)
+IsRefused family packet state fault.Memory = causes family packet state ≡ []
+
+-- The router refuses one of these deliveries. It is as after the deliveries before that one, each of
+-- which had room, at the moment of the refused one. The refused packet and those behind it change
+-- nothing.
+pub record StopsAt (family : AddressFamily) (messages : List (List ℕ)) (sender : List ℕ) (deliveries : List Delivery)
+    (old : RouterState) (why : MirrorFault) (now : RouterState) : Type 0 where
+  pub earlier : List Delivery
+  pub refused : Delivery
+  pub later : List Delivery
+  pub split : deliveries ≡ earlier ++ refused ∷ later
+  pub before : Passes family (flat_map (delivery_inputs family messages sender) earlier ++ runs_to refused.moment ∷ [])
+      old (Ok tt) now
+  pub refuses : IsRefused family (delivery_packet family messages sender refused) now why
+
+-- ---- the results of private functions
 
 -- The router receives the Hello of a neighbour.
 pub record PassesHello (family : AddressFamily) (neighbour : Neighbour) (old now : RouterState) : Type 0 where

@@ -1,7 +1,7 @@
 //! The course of a fresh router over one sender's messages.
 
 ghost use Rattle.std.specs.Prelude.{◌≡◌, ◌<◌, ◌≤◌, ◌^◌, ◌↔◌, IsTrue, nat_lt, [], ◌∷◌, ◌++◌, length, map};
-ghost use Rattle.std.specs.Prelude.{slice_index_or};
+ghost use Rattle.std.specs.Prelude.{slice_index_or, OnErr, IfErr};
 ghost use Rattle.std.specs.List.{AllByRecursion, flat_map};
 ghost use Rattle.pim_frame.specs.Frame.{all_routers};
 ghost use Rattle.pim_down.specs.Time.{Downstream};
@@ -9,7 +9,8 @@ ghost use Rattle.pim_router.specs.Course.{runs_to, takes};
 ghost use Rattle.pim_mirror.specs.Config.{fresh_seen, delivery_seen};
 ghost use Rattle.pim_mirror.specs.Fits.{Fits};
 ghost use Rattle.pim_mirror.specs.Headline.{AreMessagesOf, TellsOfForm};
-ghost use Rattle.pim_mirror.specs.Mirror.{Mirrors, Passes, delivery_inputs, HasReached};
+ghost use Rattle.pim_mirror.specs.Mirror.{Mirrors, Passes, delivery_inputs, HasReached, StopsAt};
+ghost use Rattle.pim_mirror.specs.Mirror.{delivery_packet, IsRefused};
 ghost use Rattle.pim_mirror.specs.Mirror.{needed_by, outcome_of, is_reached};
 ghost use Rattle.pim_mirror.specs.Tests.{AreEarly};
 
@@ -83,6 +84,13 @@ fn take<F: Family>(
       destination = all_routers F.family;
       bytes = bytes.now;
     }) ∷ []) router.old result router.new }
+    ensures unchanged { OnErr result (router.new ≡ router.old) }
+    ensures refused { IfErr result (IsRefused F.family (record {
+      port = 0;
+      source = F.bytes_of source;
+      destination = all_routers F.family;
+      bytes = bytes.now;
+    }) router.old) }
 {
     passed(router.take_packet(0, source, all_routers::<F>(), bytes))
 }
@@ -157,6 +165,10 @@ fn hear_one<F: Family>(
     ensures ports { router.new.ports ≡ router.old.ports }
     ensures passes { Passes F.family (delivery_inputs F.family messages.now (F.bytes_of sender)
         (delivery_seen delivery)) router.old result router.new }
+    ensures reaches { OnErr result (HasReached delivery.moment router.old router.new) }
+    ensures refused { IfErr result (IsRefused F.family
+        (delivery_packet F.family messages.now (F.bytes_of sender) (delivery_seen delivery))
+        router.new) }
 {
     every_list_has_a_course();
     course_goes_on();
@@ -177,6 +189,8 @@ fn hear<F: Family>(
     ensures ports { router.new.ports ≡ router.old.ports }
     ensures passes { Passes F.family (flat_map (delivery_inputs F.family messages.now (F.bytes_of sender))
         (map delivery_seen deliveries.now)) router.old result router.new }
+    ensures stops { IfErr result (λ why. StopsAt F.family messages.now (F.bytes_of sender)
+        (map delivery_seen deliveries.now) router.old why router.new) }
 {
     every_list_has_a_course();
     course_goes_on();
@@ -194,8 +208,8 @@ fn hear<F: Family>(
 ///
 /// # Errors
 /// `Full` with the number of records that the first message without room needed. `Memory` where
-/// memory was refused. After an error the clauses say nothing of the router but that its ports
-/// stay.
+/// memory was refused for a message that nothing else refuses. After an error the router is as
+/// before the refused message: it has heard the deliveries before that one, and is at its moment.
 pub fn hear_deliveries<F: Family>(
     router: &mut Router<'_, F>,
     messages: &Messages,
@@ -210,10 +224,15 @@ pub fn hear_deliveries<F: Family>(
     ensures ports { router.new.ports ≡ router.old.ports }
     ensures passes { Passes F.family (flat_map (delivery_inputs F.family messages.now (F.bytes_of sender))
         (map delivery_seen deliveries.now) ++ runs_to moment ∷ []) router.old result router.new }
+    ensures stops { IfErr result (λ why. StopsAt F.family messages.now (F.bytes_of sender)
+        (map delivery_seen deliveries.now) router.old why router.new) }
 {
     every_list_has_a_course();
     course_goes_on();
-    hear(router, messages, sender, deliveries)?;
+    match hear(router, messages, sender, deliveries) {
+        Ok(()) => {}
+        Err(fault) => return Err(fault),
+    }
     reach(router, moment);
     Ok(())
 }

@@ -5,6 +5,7 @@ use Rattle.pim_mirror.specs.Config.{delivery_seen}
 use Rattle.pim_mirror.specs.declared.config.Delivery as code
 use Rattle.pim_mirror.specs.Mirror.{Passes, delivery_inputs}
 use Rattle.pim_mirror.proofs.Heard.{early_at, left_is, none_left, more_heard, stopped_there}
+use Rattle.pim_mirror.proofs.Refused.{stops_here, stops_behind}
 use Rattle.pim_mirror.proofs.Ways.{nothing_passes}
 use Rattle.pim_mirror.proofs.mirroring.hear.Goals as goal
 
@@ -21,6 +22,16 @@ returns-in_err-hear_one-clause-passes g c =
     (g.F.Family.bytes_of c.args.sender) (drop i deliveries) (drop (i + 1) deliveries) (slice_index_or deliveries i _) c.loop-delivery.router c.hear_one.new.router c.in_err-hear_one.field-0.0
     (left_is deliveries i _ c.loop-delivery-test.true) c.in_err-hear_one.ensures.passes))
 
+pub returns-in_err-hear_one-clause-stops : goal.returns-in_err-hear_one-clause-stops
+returns-in_err-hear_one-clause-stops g c =
+    let deliveries = c.args.deliveries.now in
+    let i = c.loop-delivery.delivery-index in
+    let told = err_from_is_err_and c.from_residual.result c.from_residual.ensures.1 in
+    rw (told.1, told.2) (c.loop-delivery.invariant.2 c.in_err-hear_one.field-0.0 c.hear_one.new.router
+    (stops_here c.course_goes_on.ensures c.every_list_has_a_course.ensures g.F.Family.family c.args.messages.now
+    (g.F.Family.bytes_of c.args.sender) (drop i deliveries) (drop (i + 1) deliveries) (slice_index_or deliveries i _) c.loop-delivery.router c.hear_one.new.router c.in_err-hear_one.field-0.0
+    (left_is deliveries i _ c.loop-delivery-test.true) c.in_err-hear_one.ensures.reaches c.in_err-hear_one.ensures.refused))
+
 pub loop-delivery-preserved : goal.loop-delivery-preserved
 loop-delivery-preserved g c =
     let deliveries = c.args.deliveries.now in
@@ -30,6 +41,10 @@ loop-delivery-preserved g c =
           (g.F.Family.bytes_of c.args.sender) (drop i deliveries) (drop (i + 1) deliveries) (slice_index_or deliveries i _) c.loop-delivery.router c.hear_one.new.router after result
           (left_is deliveries i _ c.loop-delivery-test.true) c.in_ok-hear_one.ensures.passes more),
       c.hear_one.ensures.ports ∙ c.loop-delivery.invariant.1,
+      λ why after stops. c.loop-delivery.invariant.2 why after
+          (stops_behind c.course_goes_on.ensures c.every_list_has_a_course.ensures g.F.Family.family c.args.messages.now
+          (g.F.Family.bytes_of c.args.sender) (drop i deliveries) (drop (i + 1) deliveries) (slice_index_or deliveries i _) c.loop-delivery.router c.hear_one.new.router after why
+          (left_is deliveries i _ c.loop-delivery-test.true) c.in_ok-hear_one.ensures.passes stops),
     )
 
 pub returns-clause-passes : goal.returns-clause-passes

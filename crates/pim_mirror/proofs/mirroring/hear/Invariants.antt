@@ -2,11 +2,12 @@ use Rattle.std.proofs.Common.{◌≡◌, map, drop, Result}
 use Rattle.std.specs.List.{flat_map}
 use Rattle.pim_router.specs.State.{RouterState}
 use Rattle.pim_mirror.specs.Config.{delivery_seen}
-use Rattle.pim_mirror.specs.Mirror.{Passes, delivery_inputs}
+use Rattle.pim_mirror.specs.Mirror.{Passes, StopsAt, delivery_inputs}
 use Rattle.pim_mirror.specs.declared.mirroring.MirrorFault.{MirrorFault}
 use Rattle.pim_mirror.proofs.mirroring.hear.Given as goal
 
--- what those that are left pass from here, all pass from the start
+-- what those that are left pass from here, all pass from the start; a refusal among those that are left is one among
+-- all
 abbrev pub invariant-loop-delivery : goal.invariant-loop-delivery
 invariant-loop-delivery g l =
     ((result : Result (Unit {0}) MirrorFault) (after : RouterState) →
@@ -15,3 +16,6 @@ invariant-loop-delivery g l =
     Passes g.F.Family.family (flat_map (delivery_inputs g.F.Family.family l.messages (g.F.Family.bytes_of l.sender))
     (map delivery_seen l.deliveries)) l.fn.router result after)
     × (l.router.ports ≡ l.fn.router.ports)
+    × ((why : MirrorFault) (after : RouterState) →
+    StopsAt g.F.Family.family l.messages (g.F.Family.bytes_of l.sender) (map delivery_seen (drop l.delivery-index l.deliveries)) l.router why after →
+    StopsAt g.F.Family.family l.messages (g.F.Family.bytes_of l.sender) (map delivery_seen l.deliveries) l.fn.router why after)

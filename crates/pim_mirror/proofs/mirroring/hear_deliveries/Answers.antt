@@ -1,22 +1,21 @@
-use Rattle.std.proofs.Common.{map, ◌∷◌, [], Ok}
+use Rattle.std.proofs.Common.{map, ◌∷◌, ◌++◌, [], Ok}
 use Rattle.std.specs.List.{flat_map}
-use Rattle.std.proofs.lemmas.Result.{err_from_is_err_and}
 use Rattle.pim_router.specs.Course.{runs_to}
 use Rattle.pim_mirror.specs.Config.{delivery_seen}
 use Rattle.pim_mirror.specs.Mirror.{delivery_inputs}
-use Rattle.pim_mirror.proofs.Ways.{reached_passes, then_passes, then_stops}
+use Rattle.pim_mirror.proofs.Ways.{reached_passes, then_passes, then_stops, refused_anywhere}
 use Rattle.pim_mirror.proofs.mirroring.hear_deliveries.Goals as goal
 
-pub returns-in_err-hear-clause-passes : goal.returns-in_err-hear-clause-passes
-returns-in_err-hear-clause-passes g c =
-    let told = err_from_is_err_and c.from_residual.result c.from_residual.ensures.1 in
-    rw (told.1, told.2) (then_stops c.course_goes_on.ensures c.every_list_has_a_course.ensures g.F.Family.family
-    (flat_map (delivery_inputs g.F.Family.family c.args.messages.now (g.F.Family.bytes_of c.args.sender)) (map delivery_seen c.args.deliveries.now)) (runs_to c.args.moment ∷ [])
-    c.args.router.now c.hear.new.router c.in_err-hear.field-0.0 c.in_err-hear.ensures.passes)
+pub returns-in-Err-clause-passes : goal.returns-in-Err-clause-passes
+returns-in-Err-clause-passes g c =
+    let inputs = flat_map (delivery_inputs g.F.Family.family c.args.messages.now (g.F.Family.bytes_of c.args.sender)) (map delivery_seen c.args.deliveries.now) in
+    refused_anywhere g.F.Family.family (inputs ++ runs_to c.args.moment ∷ []) c.args.router.now c.hear.new.router _ c.in-Err.fault
+    (then_stops c.course_goes_on.ensures c.every_list_has_a_course.ensures g.F.Family.family inputs (runs_to c.args.moment ∷ [])
+    c.args.router.now c.hear.new.router c.in-Err.fault c.in-Err.ensures.passes)
 
 pub returns-clause-passes : goal.returns-clause-passes
 returns-clause-passes g c =
     then_passes c.course_goes_on.ensures c.every_list_has_a_course.ensures g.F.Family.family
     (flat_map (delivery_inputs g.F.Family.family c.args.messages.now (g.F.Family.bytes_of c.args.sender)) (map delivery_seen c.args.deliveries.now)) (runs_to c.args.moment ∷ [])
-    c.args.router.now c.hear.new.router c.reach.new.router (Ok tt) c.in_ok-hear.ensures.passes
+    c.args.router.now c.hear.new.router c.reach.new.router (Ok tt) c.in-Ok.ensures.passes
     (reached_passes g.F.Family.family c.args.moment c.hear.new.router c.reach.new.router c.reach.ensures.reaches)
