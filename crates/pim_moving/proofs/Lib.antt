@@ -1,6 +1,7 @@
 pub mod Lasting
 pub mod Hearing
 pub mod Passing
+pub mod Groups
 pub mod Reading
 pub mod Reached
 pub mod Moving

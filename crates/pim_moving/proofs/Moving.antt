@@ -1,7 +1,9 @@
 -- A router that is settled at a form, and is given the packets of a change.
 use Rattle.std.proofs.Common.{◌≡◌, ◌∙◌, ℕ, ◌-◌, ◌≤◌, ◌<◌, max, true, false, nat_lt, List, [], ◌∷◌, length, None, Some, refl, sym, ap, subst, arith}
+use Rattle.std.specs.List.{AllByRecursion}
 use Rattle.std.proofs.lemmas.Bool.{ltb-true, ltb-false}
 use Rattle.pim_addr.specs.declared.family.AddressFamily.{AddressFamily}
+use Rattle.pim_addr.specs.Address.{IsGroupAddress}
 use Rattle.pim_addr.specs.Routes.{RouteTable}
 use Rattle.pim_down.specs.declared.event.Timing.{Timing}
 use Rattle.pim_down.specs.declared.step.Step.{Step}
@@ -34,6 +36,7 @@ use Rattle.pim_settling.specs.Hearing.{Arrives, NoneEnds, Passes, Hears}
 use Rattle.pim_settling.specs.Laws.{ToldChangeSettles, SettledWants}
 use Rattle.pim_moving.specs.Changing.{AreBetween, NoneEndsBehind, NoneEndsOnTheWay}
 use Rattle.pim_moving.specs.Laws.{ChangeMovesARouter, LongTimersLast}
+use Rattle.pim_moving.proofs.Groups.{OfGroup, runs_are}
 use Rattle.pim_moving.proofs.Hearing.{none_expires_behind}
 use Rattle.pim_moving.proofs.Lasting.{Stays, stays_by_run, stays_of, none_expires, shorter_by, expires_later, none_ends}
 use Rattle.pim_moving.proofs.Passing.{parts, no_inputs, last_run, none_in_parts, run_and_packet}
@@ -90,8 +93,14 @@ stays_through moment last early (echo ∷ echoes) state after timers runs =
 
 -- ---- the course
 
+since_start : (from : ℕ) (deliveries : List Delivery) (to : ℕ) → AreBetween from deliveries to → from ≤ to
+unfolding AreBetween
+since_start from [] to between = between
+since_start from (delivery ∷ earlier) to between = omega (arith, between.0, since_start from earlier delivery.moment between.1)
+
 module _ (laws : Machines) (family : AddressFamily) (table : RouteTable) (writing : Writing) (timing : Timing) (messages : List (List ℕ)) (runs : List (List ChangeUnit)) (last : ℕ) (start : RouterState)
-    (is_writing : IsWriting family writing) (same : (group : List ℕ) → known_in family start.routes group ≡ known_in family table group) (read : AreReadAsRuns family writing (known_in family table) runs messages) where
+    (is_writing : IsWriting family writing) (same : (group : List ℕ) → IsGroupAddress family group → known_in family start.routes group ≡ known_in family table group) (read : AreReadAsRuns family writing (known_in family table) runs messages)
+    (of_groups : AllByRecursion (AllByRecursion (OfGroup family)) runs) where
   abbrev rps : Rps
   rps = known_in family table
 
@@ -141,14 +150,14 @@ module _ (laws : Machines) (family : AddressFamily) (table : RouteTable) (writin
 
   -- ---- a packet
 
-  rps_same : (routes : RouteTable) → routes ≡ start.routes → (group : List ℕ) → rps group ≡ known_in family routes group
-  rps_same routes e group = sym (ap (λ (t : RouteTable). known_in family t group) e ∙ same group)
+  rps_same : (routes : RouteTable) → routes ≡ start.routes → (group : List ℕ) → IsGroupAddress family group → rps group ≡ known_in family routes group
+  rps_same routes e group is = sym (ap (λ (t : RouteTable). known_in family t group) e ∙ same group is)
 
   heard : (i : ℕ) (state : RouterState) → i < length messages → HearsWriter writing 0 timing state → state.routes ≡ start.routes → IsHeard family exchange i (packet_of family writing 0 messages i) state
   heard i state within hears e =
-      let this = message_at family writing rps messages runs i read within in
+      let this = message_at family writing rps messages runs i read of_groups within in
       laws.heard family writing exchange i _ this.said state is_writing this.read this.upstream this.holdtime
-      (this.events ∙ events_same rps (known_in family state.routes) (rps_same state.routes e) this.said) hears
+      (this.events ∙ events_same family rps (known_in family state.routes) (rps_same state.routes e) this.said this.groups) hears
 
   not_full : (count : ℕ) (state : RouterState) (end : Verdict × RouterState) → end ≡ (Full (RecordsAreMany count), state) → needed_by end.0 ≡ None → ⊥
   not_full count state end e none =
@@ -192,11 +201,6 @@ module _ (laws : Machines) (family : AddressFamily) (table : RouteTable) (writin
   }
 
   -- ---- all deliveries
-
-  since_start : (from : ℕ) (deliveries : List Delivery) (to : ℕ) → AreBetween from deliveries to → from ≤ to
-  unfolding AreBetween
-  since_start from [] to between = between
-  since_start from (delivery ∷ earlier) to between = omega (arith, between.0, since_start from earlier delivery.moment between.1)
 
   record Behind (deliveries : List Delivery) (moment : ℕ) (after : RouterState) : Type 0 where
     all : Hears exchange start.machines deliveries moment after.machines
@@ -297,9 +301,10 @@ long_timers laws reads family table writing timing old new messages deliveries m
     let have_old = stars_have_rps family table writing.upstream is_table old of_old.toward in
     let have_new = stars_have_rps family table writing.upstream is_table new of_new.toward in
     let read = reads family writing rps old new messages is_writing of_old.normal of_new.normal have_old have_new told in
-    let now : start.machines.moment ≤ moment = knows.neighbours.by_then in
-    let at_start = begins laws family table writing timing messages read.runs moment start is_writing knows.same_rps read.read knows.neighbours knows.hears sound.ascending in
-    all_last laws family table writing timing messages read.runs moment start is_writing knows.same_rps read.read started deliveries moment at_start
+    let groups = runs_are family old new read.runs of_old.normal of_new.normal read.whole in
+    let now : start.machines.moment ≤ moment = since_start start.machines.moment deliveries moment since in
+    let at_start = begins laws family table writing timing messages read.runs moment start is_writing knows.same_rps read.read groups knows.neighbours knows.hears sound.ascending in
+    all_last laws family table writing timing messages read.runs moment start is_writing knows.same_rps read.read groups started deliveries moment at_start
     (stays_of laws.keys moment start.machines now sound.ascending lasts) of since (omega arith)
 
 pub moves : Machines → TestTellsWhoIsAsked → ChangeIsRead → ToldChangeSettles → SettledWants → ChangeMovesARouter
@@ -308,11 +313,12 @@ moves laws tests reads settles wanted family table writing timing old new messag
     let have_old = stars_have_rps family table writing.upstream is_table old of_old.toward in
     let have_new = stars_have_rps family table writing.upstream is_table new of_new.toward in
     let read = reads family writing rps old new messages is_writing of_old.normal of_new.normal have_old have_new told in
+    let groups = runs_are family old new read.runs of_old.normal of_new.normal read.whole in
     let two = parts family (inputs_of family writing 0 messages deliveries) (runs_to moment ∷ []) given.told start after given.course in
     let rooms = none_in_parts given.told two.told two.said two.joined given.room in
     let end = last_run family moment two.said two.between after two.second in
-    let at_start = begins laws family table writing timing messages read.runs moment start is_writing knows.same_rps read.read knows.neighbours knows.hears stands.sound.ascending in
-    let behind = walk laws family table writing timing messages read.runs moment start is_writing knows.same_rps read.read deliveries moment two.told end.said two.between after at_start given.of_these given.between given.timers (omega arith) rooms.0 two.first end.reaches in
+    let at_start = begins laws family table writing timing messages read.runs moment start is_writing knows.same_rps read.read groups knows.neighbours knows.hears stands.sound.ascending in
+    let behind = walk laws family table writing timing messages read.runs moment start is_writing knows.same_rps read.read groups deliveries moment two.told end.said two.between after at_start given.of_these given.between given.timers (omega arith) rooms.0 two.first end.reaches in
     let exchange = exchange_in family rps writing 0 timing messages in
     let settled = settles family writing rps old new messages exchange start.machines after.machines deliveries moment is_writing of_old.normal of_new.normal have_old have_new told
     (events_are family writing rps messages) given.each_came stands.sound stands.settled behind.all given.final in

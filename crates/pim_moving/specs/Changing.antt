@@ -2,6 +2,7 @@
 -- (RFC 7761, 4.5).
 use Rattle.std.specs.Prelude.{◌≡◌, ℕ, ◌≤◌, true, List, [], ◌∷◌, ◌++◌, length, None}
 use Rattle.pim_addr.specs.declared.family.AddressFamily.{AddressFamily}
+use Rattle.pim_addr.specs.Address.{IsGroupAddress}
 use Rattle.pim_addr.specs.Routes.{RouteTable}
 use Rattle.pim_down.specs.declared.event.Timing.{Timing}
 use Rattle.pim_down.specs.Known.{known_in}
@@ -46,7 +47,8 @@ pub record StandsAt (family : AddressFamily) (form : List GroupForm) (state : Ro
 pub record KnowsUntil (family : AddressFamily) (table : RouteTable) (writing : Writing) (timing : Timing) (moment : ℕ)
     (state : RouterState) : Type 0 where
   pub hears : HearsWriter writing 0 timing state
-  pub same_rps : (group : List ℕ) → known_in family state.routes group ≡ known_in family table group
+  pub same_rps : (group : List ℕ) → IsGroupAddress family group →
+      known_in family state.routes group ≡ known_in family table group
   pub neighbours : Lasts moment state
 
 -- ---- its Expiry Timers

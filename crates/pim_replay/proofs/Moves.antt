@@ -156,7 +156,7 @@ module _ (laws : Laws) (family : AddressFamily) (table : RouteTable) (writing : 
     knows_until : KnowsUntil family table writing (timing_of its) last router
     knows_until =
         let knows = tells.answers.knows last later tt in
-        record { hears = knows.hears; same_rps = λ group. ap (λ (t : RouteTable). known_in family t group) routes; neighbours = knows.lasts }
+        record { hears = knows.hears; same_rps = λ group is. ap (λ (t : RouteTable). known_in family t group) routes; neighbours = knows.lasts }
 
     toward_was : IsFormToward family table writing.upstream told.was.asked.form
     toward_was = asked_is_toward laws.tests family table writing.upstream told.was.state told.was.asked.form told.was.asked.is
