@@ -1,6 +1,7 @@
 //! Laws of the Hellos of a fresh router's neighbours. These functions do nothing.
 
-ghost use Rattle.pim_mirror.specs.HelloLaws.{WrittenHellosAreRead, HellosAreHeard, NeighboursHaveHellos};
+ghost use Rattle.pim_mirror.specs.HelloLaws.{WrittenHellosAreRead, HellosAreHeard};
+ghost use Rattle.pim_mirror.specs.HelloLaws.{NeighboursHaveHellos};
 
 /// Hellos that are written canonically and sealed for ALL-PIM-ROUTERS are opened and read without a
 /// fault, as their senders' parameters (RFC 7761, 4.9 and 4.9.2).

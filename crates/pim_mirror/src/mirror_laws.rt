@@ -1,6 +1,7 @@
 //! Laws of the messages that `mirror` reads. These functions do nothing.
 
-ghost use Rattle.pim_mirror.specs.MirrorLaws.{CanonicalMessagesAreShort, StateHasMessagesUnlessTooBig};
+ghost use Rattle.pim_mirror.specs.MirrorLaws.{CanonicalMessagesAreShort};
+ghost use Rattle.pim_mirror.specs.MirrorLaws.{StateHasMessagesUnlessTooBig};
 
 use crate::laws::canonical_messages_tell_parts;
 
