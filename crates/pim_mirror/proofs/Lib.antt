@@ -37,5 +37,6 @@ pub mod Rooms
 pub mod FormHeld
 pub mod Headlines
 pub mod Standing
+pub mod Answered
 pub mod ShortMessages
 pub mod SomeMessages

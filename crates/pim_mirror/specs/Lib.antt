@@ -14,3 +14,4 @@ pub mod Laws
 pub mod Hellos
 pub mod HelloLaws
 pub mod Headline
+pub mod MirrorResult

@@ -6,13 +6,16 @@
 //!
 //! `mirror` returns the router at its final moment, or `Full`, or `Memory`. The caller has tested
 //! `fits`, and each message has fewer than 2^32 bytes; `are_short` tests this, and canonical
-//! messages are within their budget. Where the messages are a state's canonical ones, an Ok router
-//! mirrors their form from then until the first expiry. `Full` then says that the entries of all
-//! messages together pass the limit of records.
+//! messages are within their budget. Where the messages are a state's canonical ones, each clause
+//! says one thing of an Ok router, from then until the first expiry. It holds exactly the machines
+//! of their form. All that it wants is what the state asks of it. It asks for that by the same
+//! messages, and reports no PruneEcho. `Full` then says that the entries of all messages together
+//! pass the limit of records.
 //!
 //! `hear_deliveries` lets a router of one port hear deliveries of such messages and go on to a last
 //! moment. Deliveries come by 10^14 ms, the last moment by 10^15 ms. Ok leaves the state after that
-//! course, on which each message had room. The router's ports stay in any case.
+//! course, on which each message had room. `Full` and `Memory` leave the router as before the
+//! refused message, at the moment of its delivery. The router's ports stay in any case.
 //!
 //! Laws: the canonical messages of a normal form are read as parts of it and name each of its
 //! machines once. A router that knows the writer applies their packets where there is room. The law

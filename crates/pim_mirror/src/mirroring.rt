@@ -4,14 +4,15 @@ ghost use Rattle.std.specs.Prelude.{◌≡◌, ◌<◌, ◌≤◌, ◌^◌, ◌�
 ghost use Rattle.std.specs.Prelude.{slice_index_or, OnErr, IfErr};
 ghost use Rattle.std.specs.List.{AllByRecursion, flat_map};
 ghost use Rattle.pim_frame.specs.Frame.{all_routers};
-ghost use Rattle.pim_down.specs.Time.{Downstream};
 ghost use Rattle.pim_router.specs.Course.{runs_to, takes};
 ghost use Rattle.pim_mirror.specs.Config.{fresh_seen, delivery_seen};
 ghost use Rattle.pim_mirror.specs.Fits.{Fits};
-ghost use Rattle.pim_mirror.specs.Headline.{AreMessagesOf, TellsOfForm};
 ghost use Rattle.pim_mirror.specs.Mirror.{Mirrors, Passes, delivery_inputs, HasReached, StopsAt};
 ghost use Rattle.pim_mirror.specs.Mirror.{delivery_packet, IsRefused};
 ghost use Rattle.pim_mirror.specs.Mirror.{needed_by, outcome_of, is_reached};
+ghost use Rattle.pim_mirror.specs.MirrorResult.{StandsInTheWindow, HoldsTheRecords, WantsTheDemand};
+ghost use Rattle.pim_mirror.specs.MirrorResult.{WritesTheMessages, TellsNoEcho, KnowsTheWriter};
+ghost use Rattle.pim_mirror.specs.MirrorResult.{HadRoom, HadNoRoom};
 ghost use Rattle.pim_mirror.specs.Tests.{AreEarly};
 
 use crate::config::{Delivery, FreshConfig};
@@ -271,8 +272,10 @@ fn go_through<'a, F: Family>(
 /// last delivery where that is later.
 ///
 /// Let the messages be the canonical ones of a state, by this writer under this table. Then an Ok
-/// router wants exactly what the state asks of it, holds no other machines, and writes the same
-/// messages. This lasts from its final moment until the first of them isn't heard for its holdtime.
+/// router holds exactly the machines of the form of what the state asks of it. It wants exactly
+/// that, and writes the same messages for it. This lasts from its final moment until the first of
+/// them isn't heard for its holdtime. Up to then it reports no PruneEcho.
+///
 /// Unless memory is refused, `Full` comes exactly where their entries together pass the limit. Its
 /// number is that of the units of the different messages up to the first delivery at which they do.
 ///
@@ -288,9 +291,21 @@ pub fn mirror<'a, F: Family>(
     requires fits { Fits messages.now writer.now fresh.now.routes.now (fresh_seen F.bytes_of fresh.now) }
     requires short { AllByRecursion (λ message. length message < 2 ^ 32) messages.now }
     ensures course { Mirrors F.family messages.now (fresh_seen F.bytes_of fresh.now) result }
-    ensures answers { (state : Downstream) →
-        (asked : AreMessagesOf F.family fresh.now.routes.now writer.now state messages.now) →
-        TellsOfForm F.family fresh.now.routes.now writer.now asked.form messages.now
+    ensures stands { StandsInTheWindow F.family writer.now messages.now
+        (fresh_seen F.bytes_of fresh.now) result }
+    ensures records { HoldsTheRecords F.family writer.now messages.now
+        (fresh_seen F.bytes_of fresh.now) result }
+    ensures demand { WantsTheDemand F.family writer.now messages.now
+        (fresh_seen F.bytes_of fresh.now) result }
+    ensures messages { WritesTheMessages F.family writer.now messages.now
+        (fresh_seen F.bytes_of fresh.now) result }
+    ensures no_echo { TellsNoEcho F.family writer.now messages.now
+        (fresh_seen F.bytes_of fresh.now) result }
+    ensures writer { KnowsTheWriter F.family writer.now messages.now
+        (fresh_seen F.bytes_of fresh.now) result }
+    ensures room { HadRoom F.family writer.now messages.now
+        (fresh_seen F.bytes_of fresh.now) result }
+    ensures full { HadNoRoom F.family writer.now messages.now
         (fresh_seen F.bytes_of fresh.now) result }
 {
     fresh.routes.is_sound();

@@ -4,10 +4,10 @@ use Rattle.std.specs.List.{AllByRecursion, IsDistinct}
 use Rattle.std.proofs.lemmas.Bool.{eqb-false}
 use Rattle.std.proofs.lemmas.List.{reverse-append, map-append}
 use Rattle.pim_addr.specs.declared.family.AddressFamily.{AddressFamily}
-use Rattle.pim_addr.specs.Routes.{RouteTable}
+use Rattle.pim_addr.specs.Routes.{RouteTable, IsRouteTable}
 use Rattle.pim_down.specs.Known.{known_in}
 use Rattle.pim_form.specs.Laws.{OneNormalForm}
-use Rattle.pim_form.specs.Messages.{Writing, AreCanonical}
+use Rattle.pim_form.specs.Messages.{Writing, IsWriting, AreCanonical}
 use Rattle.pim_form.specs.NormalForm.{GroupForm, Demand, IsFormOf}
 use Rattle.pim_form.specs.TooBig.{too_big}
 use Rattle.pim_form.specs.TowardLaws.{asked_of}
@@ -15,7 +15,8 @@ use Rattle.pim_fresh.specs.Deliveries.{Delivery, IsShorter, IsTimely, AreAlive, 
 use Rattle.pim_mirror.specs.Config.{Fresh, delivery_seen, newest_first, end_of}
 use Rattle.pim_mirror.specs.declared.config.Delivery as code
 use Rattle.pim_mirror.specs.Fits.{Fits, expiry_of}
-use Rattle.pim_mirror.specs.Headline.{TellsOfForm}
+use Rattle.pim_mirror.specs.Headline.{TellsOfForm, MirrorAnswersForTheForm}
+use Rattle.pim_mirror.specs.Mirror.{Mirrors}
 use Rattle.pim_mirror.specs.declared.mirroring.MirrorFault.{MirrorFault}
 use Rattle.pim_mirror.specs.declared.mirroring.MirrorFault.TheVariants as fault
 use Rattle.pim_form.specs.declared.fault.FormFault.{FormFault}
@@ -168,13 +169,20 @@ module _ (family : AddressFamily) (table : RouteTable) (writing : Writing) (limi
   told_once sent (Err (fault.Full needed)) tells = record { over = tells.answers.0; first = tells.answers.1 }
   told_once sent (Err fault.Memory) tells = tt
 
-  pub tells_once : (sent : AreSent family table writing messages) (fresh : Fresh) (result : Result RouterState MirrorFault) → fresh ≡ fresh_of table writing limit messages
-      → TellsOfForm family table writing sent.asked.form messages fresh result → TellsOfForm family table writing sent.asked.form messages (fresh_of table writing limit messages) result
-  tells_once sent fresh result same tells = subst (λ f. TellsOfForm family table writing sent.asked.form messages f result) same tells
+  -- the course of the fresh router determines the meaning of the result
+  pub tells_once : MirrorAnswersForTheForm → IsRouteTable family table → IsWriting family writing → 1 ≤ limit → limit ≤ 100000 → (sent : AreSent family table writing messages) (fresh : Fresh)
+      (result : Result RouterState MirrorFault) → fresh ≡ fresh_of table writing limit messages → Mirrors family messages fresh result
+      → TellsOfForm family table writing sent.asked.form messages (fresh_of table writing limit messages) result
+  tells_once law sound is_writing least most sent fresh result same goes =
+      let course : Mirrors family messages (fresh_of table writing limit messages) result = subst (λ (f : Fresh). Mirrors family messages f result) same goes in
+      record {
+        course = course;
+        answers = law family table writing sent.state messages (fresh_of table writing limit messages) result sound is_writing sent.asked (fitting family table writing limit messages is_writing.long least most) course;
+      }
 
-  pub mirrored : (sent : AreSent family table writing messages) (fresh : Fresh) (result : Result RouterState MirrorFault) → fresh ≡ fresh_of table writing limit messages
-      → TellsOfForm family table writing sent.asked.form messages fresh result → Mirrored family table writing limit messages result
-  mirrored sent fresh result same tells = told_once sent result (tells_once sent fresh result same tells)
+  pub mirrored : MirrorAnswersForTheForm → IsRouteTable family table → IsWriting family writing → 1 ≤ limit → limit ≤ 100000 → (sent : AreSent family table writing messages) (fresh : Fresh)
+      (result : Result RouterState MirrorFault) → fresh ≡ fresh_of table writing limit messages → Mirrors family messages fresh result → Mirrored family table writing limit messages result
+  mirrored law sound is_writing least most sent fresh result same goes = told_once sent result (tells_once law sound is_writing least most sent fresh result same goes)
 
 module _ (family : AddressFamily) (table : RouteTable) (writing : Writing) (messages : List (List ℕ)) (router : RouterState) (again : IsAgain family table writing messages router) where
   pub same_again : (others : List (List ℕ)) → IsAskedBy family writing router others → others ≡ messages

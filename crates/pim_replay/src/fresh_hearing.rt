@@ -14,6 +14,7 @@ use pim_addr::{Family, Routes};
 use pim_form::{FormFault, Messages, Writer, one_normal_form};
 use pim_mirror::{
     Delivery, FreshConfig, MirrorFault, asked_stars_have_rps, canonical_messages_are_short, mirror,
+    mirror_answers_for_the_form,
 };
 use pim_router::{PortConfig, Router};
 use std::alloc::{AllocError, Global};
@@ -72,6 +73,7 @@ pub(crate) fn mirror_once<'a, F: Family>(
 {
     canonical_messages_are_short();
     asked_stars_have_rps();
+    mirror_answers_for_the_form();
     fresh.routes.is_sound();
     by.is_writing();
     mirror(alloc, messages, by, fresh)
