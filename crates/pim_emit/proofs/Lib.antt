@@ -25,5 +25,6 @@ pub mod Telling
 pub mod DraftSizes
 pub mod DraftSteps
 pub mod TooBigSteps
+pub mod NewStars
 pub mod NextMessage
 pub mod KeptMessages

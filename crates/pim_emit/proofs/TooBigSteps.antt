@@ -15,7 +15,6 @@ use Rattle.pim_emit.specs.Drafts.{body_start, message_size}
 use Rattle.pim_emit.specs.Left.{next_above, star_of, exceptions_in, groups_above}
 use Rattle.pim_emit.proofs.Above.{by_test, next_group, next_group_holds, no_next_group}
 use Rattle.pim_emit.proofs.DraftSizes.{HasRoom, fits_by, fits_not}
-use Rattle.pim_emit.proofs.Pieces.{all_groups}
 
 -- how many entries there is room for in a message with one set
 abbrev pub IsRoomAlone : AddressFamily → ℕ → ℕ → Type 0
@@ -124,5 +123,5 @@ module _ (family : AddressFamily) (budget : ℕ) (form : List GroupForm) (normal
       on None none rest = none_too_big family budget bound form normal none
       on (Some group) found rest = step bound group found ∙ rest group found
 
-  pub none_at_all : too_big family budget form ≡ None
-  none_at_all = sym (ap (too_big family budget) (all_groups form)) ∙ from (length (groups_above None form)) None (omega arith)
+  pub none_above : (bound : Option (List ℕ)) → too_big family budget (groups_above bound form) ≡ None
+  none_above bound = from (length (groups_above bound form)) bound (omega arith)

@@ -44,6 +44,10 @@ sources_in group form = (group_in group form).sources
 abbrev pub groups_above : Option (List ℕ) → List GroupForm → List GroupForm
 groups_above bound form = filter (λ this. is_above bound this.group) form
 
+-- Both forms have the same stars of the groups above a bound.
+abbrev pub HaveSameStars : Option (List ℕ) → List GroupForm → List GroupForm → Type 0
+HaveSameStars bound one other = (group : List ℕ) → is_above bound group ≡ true → star_of group one ≡ star_of group other
+
 -- What is left of a group after its star and its sources up to a bound.
 abbrev pub sources_left : GroupForm → Option (List ℕ) → GroupForm
 sources_left this bound = record { group = this.group; star = None; sources = above bound this.sources }

@@ -8,4 +8,3 @@ pub mod Left
 pub mod Sets
 pub mod Drafts
 pub mod Written
-pub mod Kept

@@ -1,7 +1,8 @@
 -- What is written of a state: its canonical Join/Prune messages, each after two bytes of its
 -- length.
 use Rattle.std.specs.Prelude.{◌≡◌, ℕ, ◌+◌, ◌≤◌, List, [], ◌++◌, Option, None, Some, Result, Ok, Err, length, take, min}
-use Rattle.std.specs.List.{flat_map}
+use Rattle.std.specs.Prelude.{not, is_some}
+use Rattle.std.specs.List.{filter, flat_map}
 use Rattle.std.specs.Io.KnownBytes.{Appends}
 use Rattle.byteorder.specs.Endian.{big_bytes}
 use Rattle.pim_addr.specs.declared.family.AddressFamily.{AddressFamily}
@@ -15,6 +16,7 @@ use Rattle.pim_form.specs.TooBig.{too_big}
 use Rattle.pim_form.specs.TowardLaws.{asked_of}
 use Rattle.pim_emit.specs.declared.fault.WriteFault.{WriteFault}
 use Rattle.pim_emit.specs.declared.fault.WriteFault.TheVariants.{TooBig, Output}
+use Rattle.pim_emit.specs.Left.{star_of}
 
 -- A message after its length as two bytes, big-endian.
 abbrev pub framed : List ℕ → List ℕ
@@ -38,6 +40,13 @@ module _ (family : AddressFamily) (writing : Writing) (table : RouteTable) (stat
     pub form : List GroupForm
     pub is : IsFormOf family (asked_of family table writing.upstream state) form
     pub least : too_big family writing.budget form ≡ group
+
+  -- The least group of that form of which the form `last` has no star, and whose star, with all its
+  -- exceptions, is too big for a message alone; `None` if there is none.
+  pub record IsNewTooBig (last : List GroupForm) (group : Option (List ℕ)) : Type 0 where
+    pub form : List GroupForm
+    pub is : IsFormOf family (asked_of family table writing.upstream state) form
+    pub least : too_big family writing.budget (filter (λ this. not (is_some (star_of this.group last))) form) ≡ group
 
   -- All canonical messages were appended, each after its length; `count` is their number.
   pub record HaveGoneOut (old new : Option (List ℕ)) (count : ℕ) : Type 0 where

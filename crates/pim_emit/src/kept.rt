@@ -2,10 +2,10 @@
 
 ghost use Rattle.std.specs.Prelude.{◌≡◌, ◌≢◌, ◌≤◌, [], None, Err, IfOk, OnOk, length, option_map};
 ghost use Rattle.pim_form.specs.Messages.{AreCanonical};
+ghost use Rattle.pim_form.specs.Refused.{told_too_big};
 ghost use Rattle.pim_form.specs.TooBig.{too_big};
 ghost use Rattle.pim_emit.specs.Asking.{rps_of};
 ghost use Rattle.pim_emit.specs.Written.{AskBy, IsTooBig};
-ghost use Rattle.pim_emit.specs.Kept.{star_too_big};
 
 use crate::asked::Asked;
 use crate::message::{next_message, too_big};
@@ -62,7 +62,7 @@ pub fn canonical_messages<F: Family>(
     routes: &Routes<F>,
 ) -> Result<Messages, FormFault<F>>
     ensures canonical { IfOk result (AskBy F.family writer.now routes.now ports.now) }
-    ensures too_big { IsTooBig F.family writer.now routes.now ports.now (option_map F.bytes_of (star_too_big result)) }
+    ensures too_big { IsTooBig F.family writer.now routes.now ports.now (option_map F.bytes_of (told_too_big result)) }
     ensures tables { result ≢ Err FormFault.Tables }
 {
     ports.is_sound();

@@ -10,7 +10,7 @@ ghost use Rattle.pim_jp.specs.Canonical.{canonical_head};
 ghost use Rattle.pim_form.specs.NormalForm.{groups_of};
 ghost use Rattle.pim_form.specs.TooBig.{too_big};
 ghost use Rattle.pim_emit.specs.Drafts.{body_start, IsNext};
-ghost use Rattle.pim_emit.specs.Left.{IsPosition, position_seen};
+ghost use Rattle.pim_emit.specs.Left.{IsPosition, groups_above, position_seen};
 
 use crate::asked::Asked;
 use crate::draft::{empty_draft, room, tell_next};
@@ -20,12 +20,17 @@ use pim_form::Writer;
 use pim_frame::{MessageType, all_routers, seal};
 use pim_jp::{head_length, put_head};
 
-/// The least group whose star, with all its exceptions, doesn't fit a message of this budget alone,
-/// if there is one. The groups are walked only if some port has enough (S,G,rpt) machines for a
-/// star that is too big.
-pub(crate) fn too_big<F: Family>(asked: &Asked<'_, F>, budget: usize) -> Option<F::Addr>
+/// The least group above the bound, or of all, whose star, with all its exceptions, doesn't fit a
+/// message of this budget alone, if there is one. The groups are walked only if some port has
+/// enough (S,G,rpt) machines for a star that is too big.
+pub(crate) fn too_big_above<F: Family>(
+    asked: &Asked<'_, F>,
+    budget: usize,
+    bound: Option<F::Addr>,
+) -> Option<F::Addr>
     requires { budget ≤ 65000 }
-    ensures { option_map F.bytes_of result ≡ too_big F.family budget asked.now.form }
+    ensures { option_map F.bytes_of result
+        ≡ too_big F.family budget (groups_above (option_map F.bytes_of bound) asked.now.form) }
 {
     asked.is_normal();
     pim_form::groups_are_counted();
@@ -33,14 +38,23 @@ pub(crate) fn too_big<F: Family>(asked: &Asked<'_, F>, budget: usize) -> Option<
     if asked.most_exceptions() < room {
         return None;
     }
-    let mut bound = None;
-    while let Some(group) = asked.next_group(bound) {
+    let mut passed = bound;
+    while let Some(group) = asked.next_group(passed) {
         if asked.has_star(group) && room <= asked.exception_count(group) {
             return Some(group);
         }
-        bound = Some(group);
+        passed = Some(group);
     }
     None
+}
+
+/// The least group of all whose star, with all its exceptions, doesn't fit a message of this budget
+/// alone, if there is one.
+pub(crate) fn too_big<F: Family>(asked: &Asked<'_, F>, budget: usize) -> Option<F::Addr>
+    requires { budget ≤ 65000 }
+    ensures { option_map F.bytes_of result ≡ too_big F.family budget asked.now.form }
+{
+    too_big_above::<F>(asked, budget, None)
 }
 
 /// Writes the fields before the sets of a message, and seals it from the writer's own address to

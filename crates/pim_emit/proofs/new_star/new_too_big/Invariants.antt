@@ -1,0 +1,18 @@
+use Rattle.std.proofs.Common.{◌≡◌, length, option_map}
+use Rattle.pim_form.specs.NormalForm.{AreAscending, groups_of}
+use Rattle.pim_form.specs.TooBig.{too_big}
+use Rattle.pim_emit.specs.Left.{HaveSameStars, groups_above}
+use Rattle.pim_emit.proofs.NewStars.{new_of}
+use Rattle.pim_emit.proofs.new_star.new_too_big.Given as goal
+
+-- no new star that was passed is too big, and only groups up to the bound were passed
+abbrev pub invariant-loop-group : goal.invariant-loop-group
+invariant-loop-group g l =
+    let bound = option_map g.F.Family.bytes_of l.bound in record {
+      least : too_big g.F.Family.family l.budget (new_of l.last (groups_above bound l.asked.form)) ≡ too_big g.F.Family.family l.budget (new_of l.last l.asked.form);
+      stars : HaveSameStars bound l.left l.last;
+      ascending : AreAscending (groups_of l.left);
+    }
+
+abbrev pub decreases-loop-group : goal.decreases-loop-group
+decreases-loop-group g l = length (groups_above (option_map g.F.Family.bytes_of l.bound) l.asked.form)
