@@ -63,16 +63,16 @@ in_first : (this : GroupForm) (form : List GroupForm) → group_in this.group (t
 unfolding group_in
 in_first this form = rw (same_itself this.group) refl
 
-in_same : (this : GroupForm) (form : List GroupForm) (group : List ℕ) → group ≡ this.group
+pub in_same : (this : GroupForm) (form : List GroupForm) (group : List ℕ) → group ≡ this.group
     → group_in group (this ∷ form) ≡ this
 in_same this form group is = subst (λ g. group_in g (this ∷ form) ≡ this) (sym is) (in_first this form)
 
-in_behind : (this : GroupForm) (form : List GroupForm) (group : List ℕ) → slice_cmp nat_cmp this.group group ≡ Less
+pub in_behind : (this : GroupForm) (form : List GroupForm) (group : List ℕ) → slice_cmp nat_cmp this.group group ≡ Less
     → group_in group (this ∷ form) ≡ group_in group form
 unfolding group_in
 in_behind this form group less = rw (less_apart_back this.group group less) refl
 
-in_none : (form : List GroupForm) (group : List ℕ)
+pub in_none : (form : List GroupForm) (group : List ℕ)
     → AllByRecursion (λ g. slice_cmp nat_cmp group g ≡ Less) (groups_of form) → group_in group form ≡ unwanted group
 unfolding group_in
 in_none [] group below = refl

@@ -3,6 +3,7 @@ pub mod Lacking
 pub mod Changing
 pub mod Units
 pub mod StarsFit
+pub mod NewStars
 pub mod Unchanged
 pub mod Grouping
 pub mod RunSizes

@@ -19,7 +19,7 @@ use Rattle.pim_change.proofs.Changing.{change_less, change_equal, change_greater
 
 module _ (family : AddressFamily) (budget : ℕ) where
   -- the first of these that doesn't fit, if there is one, else the first of those behind them
-  behind : Option (List ℕ) → Option (List ℕ) → Option (List ℕ)
+  unfoldable pub behind : Option (List ℕ) → Option (List ℕ) → Option (List ℕ)
   behind None other = other
   behind (Some group) other = Some group
 
@@ -120,7 +120,7 @@ module _ (family : AddressFamily) (budget : ℕ) where
           ∙ ap (λ t. behind t (too_big family budget (change olds' (new ∷ news')))) (gone_fits old)) ∙ opened);
     }
 
-    at_equal : slice_cmp nat_cmp old.group new.group ≡ Equal
+    pub at_equal : slice_cmp nat_cmp old.group new.group ≡ Equal
         → behind (cond (star_change_fits family budget old new) None (Some new.group))
         (too_big family budget (change olds' news')) ≡ all
     at_equal equal =
@@ -144,7 +144,7 @@ module _ (family : AddressFamily) (budget : ℕ) where
     big_equal equal big = subst (λ b. behind (cond b None (Some new.group))
         (too_big family budget (change olds' news')) ≡ all) big (at_equal equal)
 
-    at_greater : slice_cmp nat_cmp old.group new.group ≡ Greater
+    pub at_greater : slice_cmp nat_cmp old.group new.group ≡ Greater
         → behind (cond (star_fits family budget new.group new.star) None (Some new.group))
         (too_big family budget (change (old ∷ olds') news')) ≡ all
     at_greater greater =
@@ -177,7 +177,7 @@ module _ (family : AddressFamily) (budget : ℕ) where
     up_left : AreAscending (groups_of (new ∷ news'))
     up_left = subst (λ o. AreAscending (groups_of o)) is_news fitting.second
 
-    at_came : behind (cond (star_fits family budget new.group new.star) None (Some new.group))
+    pub at_came : behind (cond (star_fits family budget new.group new.star) None (Some new.group))
         (too_big family budget (change [] news')) ≡ all
     at_came =
         sym (ap (too_big family budget) (change_came new news' up_left)
@@ -211,7 +211,7 @@ module _ (family : AddressFamily) (budget : ℕ) where
       ∙ subst (λ o. too_big family budget (change [] o) ≡ all) none fitting.so_far
 
   -- where nothing that is wanted is left
-  all_gone : (olds : List GroupForm) → AreAscending (groups_of olds) → too_big family budget (change olds []) ≡ None
+  pub all_gone : (olds : List GroupForm) → AreAscending (groups_of olds) → too_big family budget (change olds []) ≡ None
   unfolding too_big IsStrictlySortedBy behind
   all_gone [] up = ap (too_big family budget) no_change
   all_gone (old ∷ olds) up =

@@ -1,17 +1,28 @@
 -- The statements of the laws in `src/laws.rt`.
-use Rattle.std.specs.Prelude.{◌≡◌, ◌↔◌, ◌≤◌, ℕ, List, [], ◌∷◌, None, length}
-use Rattle.std.specs.List.{AllByRecursion, flat_map}
+use Rattle.std.specs.Prelude.{◌≡◌, ◌↔◌, ◌≤◌, ℕ, not, List, [], ◌∷◌, None, length}
+use Rattle.std.specs.Option.{is_some}
+use Rattle.std.specs.List.{AllByRecursion, filter, flat_map}
 use Rattle.pim_addr.specs.declared.family.AddressFamily.{AddressFamily}
 use Rattle.pim_form.specs.Laws.{IsReadAs}
 use Rattle.pim_form.specs.Messages.{Rps, Writing, IsWriting, HaveRps}
 use Rattle.pim_form.specs.NormalForm.{GroupForm, IsNormal, AreAscending, is_listed}
+use Rattle.pim_form.specs.Settled.{group_in}
+use Rattle.pim_form.specs.TooBig as form
 use Rattle.pim_change.specs.Change.{ChangeUnit, in_order, change}
-use Rattle.pim_change.specs.TooBig.{too_big}
+use Rattle.pim_change.specs.TooBig as changed
 use Rattle.pim_change.specs.Told.{told_message, TellChange}
 
 -- The change from a form to itself has no units.
 abbrev pub EqualFormsChangeNothing : Type 0
 EqualFormsChangeNothing = (form : List GroupForm) → change form form ≡ []
+
+-- The first star of a change that doesn't fit a message is the first one of the new form that
+-- doesn't fit, of the groups of which the old form has no star.
+abbrev pub NewStarsAloneAreTooBig : Type 0
+NewStarsAloneAreTooBig = (family : AddressFamily) (budget : ℕ) (old new : List GroupForm) →
+    IsNormal family old → IsNormal family new →
+    changed.too_big family budget (change old new)
+    ≡ form.too_big family budget (filter (λ this. not (is_some (group_in this.group old).star)) new)
 
 -- Each byte string, sent by the writer, is read as the message of its run.
 unfoldable pub AreReadAsRuns : AddressFamily → Writing → Rps → List (List ChangeUnit) → List (List ℕ) → Type 0
@@ -54,4 +65,4 @@ AddressesAreInOrder = (addresses : List (List ℕ)) → AreAscending (in_order a
 abbrev pub ChangeHasMessagesUnlessTooBig : Type 0
 ChangeHasMessagesUnlessTooBig = (family : AddressFamily) (writing : Writing) (rps : Rps) (old new : List GroupForm) →
     IsWriting family writing → ((messages : List (List ℕ)) × TellChange family writing rps old new messages)
-    ↔ (too_big family writing.budget (change old new) ≡ None)
+    ↔ (changed.too_big family writing.budget (change old new) ≡ None)

@@ -2,10 +2,17 @@
 
 ghost use Rattle.pim_change.specs.Laws.{EqualFormsChangeNothing, ChangeIsRead, ChangeMessagesAreShort};
 ghost use Rattle.pim_change.specs.Laws.{AddressesAreInOrder, ChangeHasMessagesUnlessTooBig};
+ghost use Rattle.pim_change.specs.Laws.{NewStarsAloneAreTooBig};
 
 /// The change from a form to itself has no units.
 pub fn equal_forms_change_nothing()
     ensures { EqualFormsChangeNothing }
+{}
+
+/// A star of a change is too big for a message alone exactly if it is a star of the second form that
+/// is too big, of a group of which the first form has no star.
+pub fn new_stars_alone_are_too_big()
+    ensures { NewStarsAloneAreTooBig }
 {}
 
 /// Between two normal forms whose stars have RPs, the messages of the change open without a fault.
