@@ -1,4 +1,5 @@
 -- A fresh router that hears each message once fits its sender.
+use Rattle.std.specs.Prelude.{option_map}
 use Rattle.std.proofs.Common.{◌≡◌, ◌≤◌, ◌<◌, ◌^◌, ◌+◌, ◌-◌, ◌*◌, ◌==◌, max, ℕ, zero, suc, List, [], ◌∷◌, ◌++◌, length, map, reverse, Option, None, Some, Result, Ok, Err, Bool, true, false, if◌then◌else◌, refl, sym, ap, subst, ◌∙◌, ◌≢◌, arith, add-one}
 use Rattle.std.specs.List.{AllByRecursion, IsDistinct}
 use Rattle.std.proofs.lemmas.Bool.{eqb-false}
@@ -9,6 +10,7 @@ use Rattle.pim_down.specs.Known.{known_in}
 use Rattle.pim_form.specs.Laws.{OneNormalForm}
 use Rattle.pim_form.specs.Messages.{Writing, IsWriting, AreCanonical}
 use Rattle.pim_form.specs.NormalForm.{GroupForm, Demand, IsFormOf}
+use Rattle.pim_form.specs.Refused.{told_too_big}
 use Rattle.pim_form.specs.TooBig.{too_big}
 use Rattle.pim_form.specs.TowardLaws.{asked_of}
 use Rattle.pim_fresh.specs.Deliveries.{Delivery, IsShorter, IsTimely, AreAlive, last_of, is_delivered, final_moment}
@@ -21,7 +23,7 @@ use Rattle.pim_mirror.specs.declared.mirroring.MirrorFault.{MirrorFault}
 use Rattle.pim_mirror.specs.declared.mirroring.MirrorFault.TheVariants as fault
 use Rattle.pim_form.specs.declared.fault.FormFault.{FormFault}
 use Rattle.pim_form.specs.declared.fault.FormFault.TheVariants.{TooBig}
-use Rattle.pim_router.specs.Canonical.{IsAskedBy, IsTooBig, ToldTooBig}
+use Rattle.pim_router.specs.Canonical.{IsAskedBy, IsTooBig}
 use Rattle.pim_router.specs.State.{RouterState}
 use Rattle.pim_replay.specs.FreshHearing.{delivered_at, each_at, fresh_of, AreSent, HaveRoom, IsAgain, Mirrored, HeardAgain, Asks}
 
@@ -204,8 +206,8 @@ module _ (family : AddressFamily) (table : RouteTable) (writing : Writing) (mess
 
 -- a star that is told as too big
 pub told_big : {T F A N : Type 0} (bytes_of : A → List ℕ) (IsSo : Option (List ℕ) → Type 0) (result : Result T (FormFault F A N)) (why : FormFault F A N) (group : A) → result ≡ Err why → why ≡ TooBig group
-    → ToldTooBig bytes_of IsSo result → IsSo (Some (bytes_of group))
-told_big bytes_of IsSo result why group is big told = subst (λ r. ToldTooBig bytes_of IsSo r) (is ∙ ap (λ f. Err f) big) told
+    → IsSo (option_map bytes_of (told_too_big result)) → IsSo (Some (bytes_of group))
+told_big bytes_of IsSo result why group is big told = subst (λ r. IsSo (option_map bytes_of (told_too_big r))) (is ∙ ap (λ f. Err f) big) told
 
 -- a router has one form: its stars fit, or one doesn't
 pub fits_or_not : OneNormalForm → (family : AddressFamily) (writing : Writing) (router : RouterState) (group : List ℕ) → IsTooBig family writing router None → IsTooBig family writing router (Some group) → ⊥

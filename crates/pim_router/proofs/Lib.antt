@@ -14,3 +14,4 @@ pub mod PastRefreshes
 pub mod Courses
 pub mod Onward
 pub mod Compared
+pub mod ToTell

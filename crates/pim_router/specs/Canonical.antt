@@ -1,10 +1,8 @@
 -- The Join/Prune messages by which a router asks an upstream neighbour for the traffic that its
 -- machines want (RFC 7761, 4.1 and 4.9.5).
-use Rattle.std.specs.Prelude.{◌≡◌, ◌⊎◌, ℕ, true, List, Option, None, Some, is_some, Result, Ok, Err}
+use Rattle.std.specs.Prelude.{◌≡◌, ◌⊎◌, ℕ, true, List, Option, None, is_some}
 use Rattle.pim_addr.specs.declared.family.AddressFamily.{AddressFamily}
 use Rattle.pim_down.specs.Known.{known_in}
-use Rattle.pim_form.specs.declared.fault.FormFault.{FormFault}
-use Rattle.pim_form.specs.declared.fault.FormFault.TheVariants.{TooBig, Memory, Tables}
 use Rattle.pim_form.specs.Messages.{Writing, AreCanonical}
 use Rattle.pim_form.specs.NormalForm.{GroupForm, Demand, IsFormOf}
 use Rattle.pim_form.specs.TooBig.{too_big}
@@ -39,12 +37,3 @@ abbrev pub IsFirstTooBig : AddressFamily → Writing → RouterState → RouterS
 IsFirstTooBig family writing one other group =
     (is_some group ≡ true) × IsTooBig family writing one group
     ⊎ IsTooBig family writing one None × IsTooBig family writing other group
-
--- What the result of a call says of such a group: `Ok` says that there is none, `TooBig` names the
--- least one, any other fault says nothing.
-abbrev pub ToldTooBig : {T F A N : Type 0} → (A → List ℕ) → (Option (List ℕ) → Type 0) →
-    Result T (FormFault F A N) → Type 0
-ToldTooBig bytes_of IsSo (Ok value) = IsSo None
-ToldTooBig bytes_of IsSo (Err (TooBig group)) = IsSo (Some (bytes_of group))
-ToldTooBig bytes_of IsSo (Err Memory) = Unit {0}
-ToldTooBig bytes_of IsSo (Err Tables) = Unit {0}

@@ -1,14 +1,16 @@
 //! The messages by which a router asks an upstream neighbour, and the comparison of two routers by
 //! them. `pim_emit` writes them straight from the records, so no normal form is made. `same_wants`
-//! compares the route tables first, and stops at a fault of the first router.
+//! compares the route tables first, and then looks for a star that is too big in both routers,
+//! before it makes a message.
 
-ghost use Rattle.std.specs.Prelude.{◌≡◌, ◌≢◌, ◌↔◌, IsTrue, Err, IfOk};
+ghost use Rattle.std.specs.Prelude.{◌≡◌, ◌≢◌, ◌↔◌, IsTrue, Err, IfOk, option_map};
 ghost use Rattle.pim_form.specs.NormalForm.{Agree};
-ghost use Rattle.pim_router.specs.Canonical.{asked, IsAskedBy, IsTooBig, IsFirstTooBig, ToldTooBig};
+ghost use Rattle.pim_form.specs.Refused.{told_too_big};
+ghost use Rattle.pim_router.specs.Canonical.{asked, IsAskedBy, IsTooBig, IsFirstTooBig};
 
 use crate::router::Router;
 use pim_addr::Family;
-use pim_emit::canonical_messages;
+use pim_emit::{canonical_messages, star_too_big};
 use pim_form::{FormFault, Messages, Writer, same_messages_same_asked};
 use std::alloc::Global;
 
@@ -21,16 +23,37 @@ impl<'a, F: Family> Router<'a, F> {
     ///
     /// # Errors
     /// `TooBig` with the least group whose star, with all its exceptions, is too big for a message
-    /// of the writer's budget alone. `Memory` where memory is refused; the clauses also allow it in
-    /// place of `TooBig`.
+    /// of the writer's budget alone, exactly if there is one. Otherwise `Memory` where memory is
+    /// refused.
     pub fn canonical(&self, alloc: Global, writer: &Writer<F>) -> Result<Messages, FormFault<F>>
         ensures canonical { IfOk result (IsAskedBy F.family writer.now self.now) }
-        ensures too_big { ToldTooBig F.bytes_of (IsTooBig F.family writer.now self.now) result }
+        ensures too_big { IsTooBig F.family writer.now self.now (option_map F.bytes_of (told_too_big result)) }
         ensures tables { result ≢ Err FormFault.Tables }
     {
         let ports = self.ports();
         let routes = self.routes();
         canonical_messages::<F>(alloc, ports, writer, routes)
+    }
+
+    /// The group that `canonical` reports as too big, if it reports one. The call takes no memory.
+    fn star_too_big(&self, writer: &Writer<F>) -> Option<F::Addr>
+        ensures { IsTooBig F.family writer.now self.now (option_map F.bytes_of result) }
+    {
+        star_too_big::<F>(self.ports(), writer, self.routes())
+    }
+}
+
+/// The group of `a` that is too big, or where `a` has none, that of `b`, if there is one.
+fn first_too_big<F: Family>(
+    a: &Router<'_, F>,
+    b: &Router<'_, F>,
+    writer: &Writer<F>,
+) -> Option<F::Addr>
+    ensures { IsFirstTooBig F.family writer.now a.now b.now (option_map F.bytes_of result) }
+{
+    match a.star_too_big(writer) {
+        Some(group) => Some(group),
+        None => b.star_too_big(writer),
     }
 }
 
@@ -40,7 +63,7 @@ impl<'a, F: Family> Router<'a, F> {
 ///
 /// # Errors
 /// `Tables` exactly where the route tables differ. Else `TooBig` of `a`, or where `a` has no such
-/// group, of `b`; or `Memory`, as `canonical` returns them.
+/// group, of `b`, exactly if there is one. Else `Memory` where memory is refused.
 pub fn same_wants<F: Family>(
     alloc: Global,
     a: &Router<'_, F>,
@@ -50,10 +73,14 @@ pub fn same_wants<F: Family>(
     ensures wants { IfOk result (λ same. IsTrue same ↔
         Agree F.family (asked F.family writer.now.upstream a.now) (asked F.family writer.now.upstream b.now)) }
     ensures tables { (result ≡ Err FormFault.Tables) ↔ (a.now.routes ≢ b.now.routes) }
-    ensures too_big { ToldTooBig F.bytes_of (IsFirstTooBig F.family writer.now a.now b.now) result }
+    ensures too_big { a.now.routes ≡ b.now.routes →
+        IsFirstTooBig F.family writer.now a.now b.now (option_map F.bytes_of (told_too_big result)) }
 {
     if !a.routes().equals(b.routes()) {
         return Err(FormFault::Tables);
+    }
+    if let Some(group) = first_too_big::<F>(a, b, writer) {
+        return Err(FormFault::TooBig(group));
     }
     same_messages_same_asked();
     a.routes().is_sound();

@@ -1,12 +1,13 @@
 //! The messages by which a router announces a change of demand to an upstream neighbour.
 
-ghost use Rattle.std.specs.Prelude.{◌≢◌, Err, IfOk};
-ghost use Rattle.pim_router.specs.Canonical.{ToldTooBig};
+ghost use Rattle.std.specs.Prelude.{◌≢◌, Err, IfOk, option_map};
+ghost use Rattle.pim_form.specs.Refused.{told_too_big};
 ghost use Rattle.pim_router.specs.Change.{IsToldOf, IsTooBigToTell};
 
 use crate::router::Router;
 use pim_addr::Family;
-use pim_change::triggered;
+use pim_change::{new_stars_alone_are_too_big, triggered};
+use pim_emit::new_star_too_big;
 use pim_form::{FormFault, Messages, NormalForm, Writer};
 use std::alloc::Global;
 
@@ -18,13 +19,14 @@ impl<'a, F: Family> Router<'a, F> {
     /// `told` is the form that was last announced to it. `is_toward` tests whether such a form asks
     /// for nothing that the route table leads elsewhere.
     ///
-    /// The wanted form is made first. Beside the messages it takes memory in proportion to the
-    /// records that want something and to the change, and gives it back.
+    /// A star that is too big is looked for first, without memory. Then the wanted form is made.
+    /// Beside the messages the call takes memory in proportion to the records that want something
+    /// and to the change, and gives it back.
     ///
     /// # Errors
     /// `TooBig` with the least group whose star is announced anew and is too big for a message of
-    /// the writer's budget alone, with all its exceptions. `Memory` where memory is refused, also
-    /// in place of `TooBig`.
+    /// the writer's budget alone, with all its exceptions, exactly if there is one. Otherwise
+    /// `Memory` where memory is refused.
     pub fn triggered(
         &self,
         alloc: Global,
@@ -32,11 +34,17 @@ impl<'a, F: Family> Router<'a, F> {
         writer: &Writer<F>,
     ) -> Result<Messages, FormFault<F>>
         ensures change { IfOk result (IsToldOf F.family writer.now told.now self.now) }
-        ensures too_big { ToldTooBig F.bytes_of (IsTooBigToTell F.family writer.now told.now self.now) result }
+        ensures too_big { IsTooBigToTell F.family writer.now told.now self.now
+            (option_map F.bytes_of (told_too_big result)) }
         ensures tables { result ≢ Err FormFault.Tables }
     {
+        new_stars_alone_are_too_big();
+        told.is_normal();
         let ports = self.ports();
         let routes = self.routes();
+        if let Some(group) = new_star_too_big::<F>(ports, writer, routes, told) {
+            return Err(FormFault::TooBig(group));
+        }
         let upstream = writer.upstream();
         let Ok(wanted) = NormalForm::toward(alloc, ports, routes, upstream) else {
             return Err(FormFault::Memory);

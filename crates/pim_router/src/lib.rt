@@ -18,8 +18,8 @@
 //!
 //! `canonical` returns the messages that ask an upstream neighbour for what the ports want of it.
 //! `triggered` returns those of the change from the form that was last announced to it.
-//! `same_wants` returns whether two routers under one route table want the same of it. Each refuses
-//! a star that is too big for a message, or returns `Memory`.
+//! `same_wants` returns whether two routers under one route table want the same of it. Each returns
+//! `TooBig` exactly if a star is too big for a message, whether memory is refused or not.
 //!
 //! Laws: a run has at most one end, runs and courses can be joined, and every list of inputs has
 //! exactly one course.
