@@ -53,7 +53,8 @@ WantTheSameTraffic family table writing one other =
     Agree family (asked_of family table writing.upstream one) (asked_of family table writing.upstream other)
 
 -- All that the other state wants, wherever the route table leads it, is what this state asks of the
--- writer's upstream neighbour: for every valid source, every group and both trees (RFC 7761, 4.1).
+-- writer's upstream neighbour. This is of every valid source, every group and both trees (RFC 7761,
+-- 4.1).
 abbrev pub WantsWhatIsAsked : AddressFamily → RouteTable → Writing → Downstream → Downstream → Type 0
 WantsWhatIsAsked family table writing state other =
     Agree family (asked_of family table writing.upstream state) (wants other)
@@ -289,7 +290,7 @@ pub record IsHeadline (family : AddressFamily) (table : RouteTable) (writing : W
       IsFormOf family demand once → IsFormOf family (form_wants once) twice → twice ≡ once
   -- A fresh router hears these messages alone, in any order and however often. From the end of its
   -- prune-pending times until the first expiry it wants exactly the traffic that the state asks of
-  -- it, and would ask its own address for that by the same bytes.
+  -- it. It would ask its own address for that by the same bytes.
   pub fresh_router_does_the_same : (state : Downstream) (messages : List (List ℕ)) (fresh : Fresh)
       (router later : RouterState) (moment : ℕ) → AreMessagesOf family table writing state messages →
       HearsAlone family table writing messages fresh router → IsInWindow writing fresh moment →

@@ -122,8 +122,8 @@ pub record Passes (family : AddressFamily) (inputs : List Input) (old : RouterSt
   pub course : IsCourse family inputs told old after
   pub passed : IsPassed told after now result
 
--- The router in this state refuses the packet: it is `Full` with this number of records, or memory
--- is refused for it and no cause refuses it.
+-- The packet isn't taken in this state. It is `Full` with this number of records. Or memory is
+-- refused for it, and no cause refuses it.
 abbrev pub IsRefused : AddressFamily → Packet → RouterState → MirrorFault → Type 0
 IsRefused family packet state (fault.Full needed) = (received family packet state).0 ≡ Full (Records needed)
 IsRefused family packet state fault.Memory = causes family packet state ≡ []

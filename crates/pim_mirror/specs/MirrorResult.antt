@@ -37,8 +37,8 @@ IfFull (Err (fault.Full needed)) Is = Is needed
 IfFull (Err fault.Memory) Is = Unit {0}
 
 module _ (family : AddressFamily) (writing : Writing) (messages : List (List ℕ)) (fresh : Fresh) where
-  -- It is so of each state whose canonical messages these are, under the fresh router's table, with
-  -- the form of what that state asks of the writer's upstream neighbour.
+  -- It is so of each state whose canonical messages these are, under the fresh router's table. The
+  -- form is that of what the state asks of the writer's upstream neighbour.
   abbrev pub OfEachState : (Downstream → List GroupForm → Type 0) → Type 0
   OfEachState Is =
       (state : Downstream) → (asked : AreMessagesOf family fresh.routes writing state messages) → Is state asked.form

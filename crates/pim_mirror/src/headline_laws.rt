@@ -133,7 +133,7 @@ pub fn mirror_answers_for_the_form()
 ///
 /// A fresh router hears these messages alone, in any order and however often. From the end of its
 /// prune-pending times until the first expiry it wants exactly the traffic that the state asks of
-/// it, and would ask its own address for that by the same bytes.
+/// it. It would ask its own address for that by the same bytes.
 pub fn headline()
     ensures { Headline }
 {
