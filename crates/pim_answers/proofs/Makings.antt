@@ -1,5 +1,5 @@
 -- Messages that are made, and what is told of them.
-use Rattle.std.proofs.Common.{◌≡◌, ◌≢◌, ◌⊎◌, ℕ, Bool, true, false, List, [], ◌∷◌, ◌++◌, codes, Option, None, Some, Result, Ok, Err, IfOk, not, is_some, Bor, refl, sym, ap, subst, inl, inr}
+use Rattle.std.proofs.Common.{◌≡◌, ◌≢◌, ◌⊎◌, ℕ, Bool, true, false, List, [], ◌∷◌, ◌++◌, codes, Option, None, Some, Result, Ok, Err, IfOk, option_map, not, is_some, Bor, refl, sym, ap, subst, inl, inr}
 use Rattle.pim_device.specs.Device.{AppendsAll}
 use Rattle.pim_addr.specs.declared.family.AddressFamily.{AddressFamily}
 use Rattle.pim_addr.specs.declared.family.AddressFamily.TheVariants.{Ipv4, Ipv6}
@@ -7,12 +7,13 @@ use Rattle.pim_addr.specs.Routes.{RouteTable}
 use Rattle.pim_down.specs.Known.{known_in}
 use Rattle.pim_form.specs.Messages.{Writing as Writer}
 use Rattle.pim_form.specs.NormalForm.{GroupForm}
+use Rattle.pim_form.specs.Refused.{told_too_big}
 use Rattle.pim_form.specs.Toward.{via_in, is_toward}
 use Rattle.pim_form.specs.declared.fault.FormFault.{FormFault}
 use Rattle.pim_form.specs.declared.fault.FormFault.TheVariants.{TooBig, Memory, Tables}
 use Rattle.pim_request.specs.declared.command.Writing.{Writing}
 use Rattle.pim_request.specs.declared.command.Named.{Named}
-use Rattle.pim_router.specs.Canonical.{IsAskedBy, IsTooBig, ToldTooBig}
+use Rattle.pim_router.specs.Canonical.{IsAskedBy, IsTooBig}
 use Rattle.pim_router.specs.State.{RouterState}
 use Rattle.pim_report.specs.MessageText.{messages_text}
 use Rattle.pim_answers.specs.Answered.{Told}
@@ -32,7 +33,7 @@ use Rattle.pim_answers.specs.Lines.{ok_line, fault_line}
 
 -- messages that were made, or why they weren't
 pub made_told : {F A N : Type 0} (family : AddressFamily) (bytes_of : A → List ℕ) (AreMade : List (List ℕ) → Type 0) (IsBig : Option (List ℕ) → Type 0) (made : Result (List (List ℕ)) (FormFault F A N))
-    → IfOk made AreMade → ToldTooBig bytes_of IsBig made → (made ≡ Err Tables → ⊥) → TellsMade family AreMade IsBig (made_text family bytes_of made)
+    → IfOk made AreMade → IsBig (option_map bytes_of (told_too_big made)) → (made ≡ Err Tables → ⊥) → TellsMade family AreMade IsBig (made_text family bytes_of made)
 made_told family bytes_of AreMade IsBig (Ok messages) are big never = inl ((messages, are, refl), big)
 made_told family bytes_of AreMade IsBig (Err (TooBig group)) are big never = inr (inl (bytes_of group, big, refl))
 made_told family bytes_of AreMade IsBig (Err Memory) are big never = inr (inr refl)

@@ -1,6 +1,6 @@
-use Rattle.std.proofs.Common.{true, false, List, codes, IfOk, refl, subst}
+use Rattle.std.proofs.Common.{true, false, List, codes, IfOk, option_map, refl, subst}
 use Rattle.pim_form.specs.NormalForm.{GroupForm}
-use Rattle.pim_router.specs.Canonical.{ToldTooBig}
+use Rattle.pim_form.specs.Refused.{told_too_big}
 use Rattle.pim_router.specs.Change.{IsToldOf, IsTooBigToTell}
 use Rattle.pim_answers.specs.Asking.{TellsChange}
 use Rattle.pim_answers.specs.AskingSeen.{made_text}
@@ -28,6 +28,6 @@ returns-clause-told g c name =
     (usable_is family g.F.Family.bytes_of c.routes.result.now (g.F.Family.bytes_of c.upstream.result) name c.args.kept.now true used.0)
     (made_told family g.F.Family.bytes_of (IsToldOf family writer kept.form router) (IsTooBigToTell family writer kept.form router) c.triggered.result
     (subst (λ (form : List GroupForm). IfOk c.triggered.result (IsToldOf family writer form router)) used.1 c.triggered.ensures.change)
-    (subst (λ (form : List GroupForm). ToldTooBig g.F.Family.bytes_of (IsTooBigToTell family writer form router) c.triggered.result) used.1 c.triggered.ensures.too_big)
+    (subst (λ (form : List GroupForm). IsTooBigToTell family writer form router (option_map g.F.Family.bytes_of (told_too_big c.triggered.result))) used.1 c.triggered.ensures.too_big)
     c.triggered.ensures.tables)
     c.write_made.ensures.bytes
