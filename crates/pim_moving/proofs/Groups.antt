@@ -8,11 +8,11 @@ use Rattle.std.specs.Cmp.Lexicographic.{slice_cmp}
 use Rattle.pim_addr.specs.declared.family.AddressFamily.{AddressFamily}
 use Rattle.pim_addr.specs.Address.{IsGroupAddress}
 use Rattle.pim_jp.specs.Message.{GroupSet}
-use Rattle.pim_form.specs.Merge.{by_order, merged_into, merged_by, united, itself, first_of}
+use Rattle.pim_form.specs.Merge.{by_order}
 use Rattle.pim_form.specs.Messages.{Rps}
 use Rattle.pim_form.specs.NormalForm.{GroupForm, IsNormalGroup, IsNormal, groups_of, same_address}
 use Rattle.pim_form.specs.Settled.{group_in}
-use Rattle.pim_change.specs.Change.{Telling, ChangeUnit, about, group_change, change_at, change}
+use Rattle.pim_change.specs.Change.{Telling, ChangeUnit, about, group_change, inserted, in_order, change_at, change}
 use Rattle.pim_change.specs.Told.{GroupTellings, in_front, set_in_front, grouped, told_set, told_sets}
 
 module _ {A : Type 0} (P : A → Type 0) where
@@ -35,21 +35,20 @@ module _ {A : Type 0} (P : A → Type 0) where
 -- ---- the groups of two lists
 
 module _ (P : List ℕ → Type 0) where
-  all_into : (a : List ℕ) (others : List (List ℕ) → List (List ℕ)) → P a → ((other : List (List ℕ)) → AllByRecursion P other → AllByRecursion P (others other))
-      → (other : List (List ℕ)) → AllByRecursion P other → AllByRecursion P (merged_into itself first_of a others other)
-  unfolding merged_into
-  all_into a others p further [] q = (p, further [] tt)
-  all_into a others p further (b ∷ other) q = by (slice_cmp nat_cmp a b) (all_into a others p further other q.1)
+  all_inserted : (x : List ℕ) (xs : List (List ℕ)) → P x → AllByRecursion P xs → AllByRecursion P (inserted x xs)
+  unfolding inserted
+  all_inserted x [] p q = (p, tt)
+  all_inserted x (y ∷ ys) p q = by (slice_cmp nat_cmp x y) (all_inserted x ys p q.1)
     where
-      by : (o : Ordering) → AllByRecursion P (merged_into itself first_of a others other) → AllByRecursion P (by_order o (a ∷ others (b ∷ other)) (first_of a b ∷ others other) (b ∷ merged_into itself first_of a others other))
-      by Less behind = (p, further (b ∷ other) q)
-      by Equal behind = (p, further other q.1)
-      by Greater behind = (q.0, behind)
+      by : (o : Ordering) → AllByRecursion P (inserted x ys) → AllByRecursion P (by_order o (x ∷ y ∷ ys) (y ∷ ys) (y ∷ inserted x ys))
+      by Less further = (p, q)
+      by Equal further = q
+      by Greater further = (q.0, further)
 
-  all_united : (one other : List (List ℕ)) → AllByRecursion P one → AllByRecursion P other → AllByRecursion P (united one other)
-  unfolding merged_by
-  all_united [] other p q = q
-  all_united (a ∷ one) other p q = all_into a (merged_by itself first_of one) p.0 (λ behind r. all_united one behind p.1 r) other q
+  all_in_order : (xs : List (List ℕ)) → AllByRecursion P xs → AllByRecursion P (in_order xs)
+  unfolding in_order
+  all_in_order [] q = q
+  all_in_order (x ∷ xs) q = all_inserted x (in_order xs) q.0 (all_in_order xs q.1)
 
 -- ---- the units of a change
 
@@ -73,7 +72,8 @@ module _ (family : AddressFamily) where
   change_is : (old new : List GroupForm) → IsNormal family old → IsNormal family new → AllByRecursion OfGroup (change old new)
   unfolding change
   change_is old new of_old of_new =
-      units_are old new (united (groups_of old) (groups_of new)) (all_united (IsGroupAddress family) (groups_of old) (groups_of new) (are_groups old of_old.groups) (are_groups new of_new.groups))
+      units_are old new (in_order (groups_of old ++ groups_of new)) (all_in_order (IsGroupAddress family) (groups_of old ++ groups_of new)
+      (all_append (IsGroupAddress family) (groups_of old) (groups_of new) (are_groups old of_old.groups) (are_groups new of_new.groups)))
 
   pub runs_are : (old new : List GroupForm) (runs : List (List ChangeUnit)) → IsNormal family old → IsNormal family new → flat_map (λ run. run) runs ≡ change old new → AllByRecursion (AllByRecursion OfGroup) runs
   runs_are old new runs of_old of_new whole = each_part OfGroup runs (subst (AllByRecursion OfGroup) (sym whole) (change_is old new of_old of_new))
