@@ -9,8 +9,8 @@ pub fn equal_forms_change_nothing()
     ensures { EqualFormsChangeNothing }
 {}
 
-/// A star of a change is too big for a message alone exactly if it is a star of the second form that
-/// is too big, of a group of which the first form has no star.
+/// The first star of a change that is too big for a message alone is the first such star of the new
+/// form, of the groups of which the old form has no star.
 pub fn new_stars_alone_are_too_big()
     ensures { NewStarsAloneAreTooBig }
 {}

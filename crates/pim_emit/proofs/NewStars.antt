@@ -57,6 +57,7 @@ module _ (family : AddressFamily) (budget : ℕ) (last : List GroupForm) where
 
       abbrev those : List GroupForm
       those = groups_above (Some first) form
+
       next : IsNextGroup bound form first
       next = next_group bound form first ascending found
 

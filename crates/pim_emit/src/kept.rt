@@ -62,7 +62,8 @@ pub fn canonical_messages<F: Family>(
     routes: &Routes<F>,
 ) -> Result<Messages, FormFault<F>>
     ensures canonical { IfOk result (AskBy F.family writer.now routes.now ports.now) }
-    ensures too_big { IsTooBig F.family writer.now routes.now ports.now (option_map F.bytes_of (told_too_big result)) }
+    ensures too_big { IsTooBig F.family writer.now routes.now ports.now
+        (option_map F.bytes_of (told_too_big result)) }
     ensures tables { result ≢ Err FormFault.Tables }
 {
     ports.is_sound();

@@ -12,8 +12,8 @@
 //!
 //! Both return `TooBig` exactly if some star, with all its exceptions, is too big for a message
 //! alone, with the least group of which that is true. Then `write_canonical` wrote nothing.
-//! `star_too_big` looks for that group alone, and `new_star_too_big` for the least one whose star is
-//! announced anew. They take no memory, so a caller can look before anything grows.
+//! `star_too_big` looks for that group alone, and `new_star_too_big` for the least one whose star
+//! is announced anew. They take no memory, so a caller can look before anything grows.
 //!
 //! Contracts see what is asked as its normal form. The code looks this form up in the records: the
 //! next group, whether it has a star, its next exception, its next source. The modules that make

@@ -84,7 +84,8 @@ pub fn new_star_too_big<F: Family>(
     routes: &Routes<F>,
     last: &NormalForm<F>,
 ) -> Option<F::Addr>
-    ensures { IsNewTooBig F.family writer.now routes.now ports.now last.now (option_map F.bytes_of result) }
+    ensures { IsNewTooBig F.family writer.now routes.now ports.now last.now
+        (option_map F.bytes_of result) }
 {
     ports.is_sound();
     writer.is_writing();

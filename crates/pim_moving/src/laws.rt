@@ -1,6 +1,7 @@
 //! The laws of this crate. Nothing in this module is to be called.
 
-ghost use Rattle.pim_moving.specs.Laws.{ChangeFits, ChangeMovesARouter, LongTimersLast, MirrorIsSettled};
+ghost use Rattle.pim_moving.specs.Laws.{ChangeFits, ChangeMovesARouter, LongTimersLast};
+ghost use Rattle.pim_moving.specs.Laws.{MirrorIsSettled};
 
 /// A router of one port is settled at one form. It knows the writer, whose upstream neighbour it
 /// is, and has the same RPs. By the writer's route table both forms are toward this neighbour. The

@@ -1,14 +1,14 @@
-//! The lines of reports and answers: what became of a packet, echoes and refreshes, records, demand,
-//! messages, and the final state of a router.
+//! The lines of reports and answers: what became of a packet, echoes and refreshes, records,
+//! demand, messages, and the final state of a router.
 //!
-//! `specs/` defines each line byte by byte. At Ok the whole text was written. If the device fails, a
-//! prefix of it was, and only then does the device's count of failures rise.
+//! `specs/` defines each line byte by byte. At Ok the whole text was written. If the device fails,
+//! a prefix of it was, and only then does the device's count of failures rise.
 //! - `write_pieces` writes a text piece by piece, and `Shown` has the text of an address.
 //! - `write_packet_line` and `write_verdict_line` write the verdict on a packet, and
 //!   `write_malformed_words` the words of its fault.
 //! - `write_echo_line` and `write_refresh_line` write what a router reports when time passes.
-//! - `write_record_line`, `write_demand` and `write_messages` write a machine's record, the demand of
-//!   a normal form, and messages as hexadecimal digits.
+//! - `write_record_line`, `write_demand` and `write_messages` write a machine's record, the demand
+//!   of a normal form, and messages as hexadecimal digits.
 //! - `write_state` writes the final state of a router: its records, its demand and the counts.
 //!
 //! Lines need no memory, since they are written in pieces; `write_state` makes a normal form. The

@@ -27,7 +27,8 @@ impl<'a, F: Family> Router<'a, F> {
     /// refused.
     pub fn canonical(&self, alloc: Global, writer: &Writer<F>) -> Result<Messages, FormFault<F>>
         ensures canonical { IfOk result (IsAskedBy F.family writer.now self.now) }
-        ensures too_big { IsTooBig F.family writer.now self.now (option_map F.bytes_of (told_too_big result)) }
+        ensures too_big { IsTooBig F.family writer.now self.now
+            (option_map F.bytes_of (told_too_big result)) }
         ensures tables { result ≢ Err FormFault.Tables }
     {
         let ports = self.ports();
@@ -74,7 +75,8 @@ pub fn same_wants<F: Family>(
         Agree F.family (asked F.family writer.now.upstream a.now) (asked F.family writer.now.upstream b.now)) }
     ensures tables { (result ≡ Err FormFault.Tables) ↔ (a.now.routes ≢ b.now.routes) }
     ensures too_big { a.now.routes ≡ b.now.routes →
-        IsFirstTooBig F.family writer.now a.now b.now (option_map F.bytes_of (told_too_big result)) }
+        IsFirstTooBig F.family writer.now a.now b.now
+        (option_map F.bytes_of (told_too_big result)) }
 {
     if !a.routes().equals(b.routes()) {
         return Err(FormFault::Tables);

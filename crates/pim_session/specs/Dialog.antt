@@ -42,7 +42,7 @@ pub record Wrote (Is : List ℕ → Type 0) (HasWritten : List ℕ → Type 0) :
   pub is : Is text
   pub written : HasWritten text
 
--- What the answers to the items of an input return and write, where this is the session before them.
+-- What the answers to the items of an input return and write. `start` is the session before them.
 -- At Ok all items were answered. Where the reader failed, some first items were. Where the writer
 -- failed, a front of such answers was written.
 abbrev pub Converses : Session → List ℕ → Option (List ℕ) → Option (List ℕ) →
