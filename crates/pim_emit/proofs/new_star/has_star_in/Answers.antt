@@ -1,6 +1,5 @@
-use Rattle.std.proofs.Common.{◌≡◌, ◌∙◌, ◌∷◌, List, ℕ, refl, sym, ap, subst}
+use Rattle.std.proofs.Common.{◌∙◌, ◌∷◌, List, refl, sym, subst}
 use Rattle.std.specs.List.Sorted.{IsStrictlySortedBy}
-use Rattle.std.specs.declared.cmp.Ordering.TheVariants.{Less, Equal, Greater}
 use Rattle.pim_down.specs.Key.{address_cmp}
 use Rattle.pim_form.specs.NormalForm.{GroupForm, AreAscending, groups_of}
 use Rattle.pim_emit.proofs.NewStars.{HaveSameStarsFrom, passed, star_here, no_star, no_star_before, stars_above}

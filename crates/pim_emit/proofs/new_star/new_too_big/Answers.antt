@@ -1,4 +1,4 @@
-use Rattle.std.proofs.Common.{◌≡◌, ◌∙◌, List, None, option_map, is_some, refl, sym, ap, subst}
+use Rattle.std.proofs.Common.{◌∙◌, List, None, option_map, is_some, refl, sym, ap, subst}
 use Rattle.pim_form.specs.NormalForm.{GroupForm, AreAscending, groups_of}
 use Rattle.pim_form.specs.TooBig.{too_big}
 use Rattle.pim_emit.specs.Left.{HaveSameStars, groups_above}
