@@ -1,5 +1,5 @@
 -- Rows that are added: the first one, which fixes the family, and more.
-use Rattle.std.proofs.Common.{◌≡◌, ℕ, ◌⊎◌, Bool, true, false, List, [], ◌∷◌, ◌++◌, map, Option, None, Some, codes, Result, Ok, Err, refl, sym, ap, subst, ◌∙◌, inl, inr, unwrap_or}
+use Rattle.std.proofs.Common.{◌≡◌, ℕ, Bool, true, false, List, [], ◌∷◌, map, None, Some, Result, Ok, Err, refl, ap, subst, inl, inr}
 use Rattle.pim_addr.specs.declared.family.AddressFamily.{AddressFamily}
 use Rattle.pim_addr.specs.declared.route_fault.RouteFault.{RouteFault}
 use Rattle.pim_addr.specs.Routes.{RouteTable, no_routes, rp_faults, via_faults, with_rp, with_via}

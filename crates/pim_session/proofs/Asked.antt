@@ -1,5 +1,5 @@
 -- What an item asks for, by what is held of it.
-use Rattle.std.proofs.Common.{◌≡◌, ℕ, ◌≤◌, Bool, true, false, List, [], ◌∷◌, ◌++◌, length, codes, Option, None, Some, is_some, Result, Ok, Err, refl, sym, ap, subst, ◌∙◌, inl, inr}
+use Rattle.std.proofs.Common.{◌≡◌, ℕ, ◌≤◌, Bool, true, false, List, length, Option, None, Some, is_some, Result, Ok, Err, sym, ap, subst, ◌∙◌, inl, inr}
 use Rattle.pim_text.specs.Read.{IsRead}
 use Rattle.pim_request.specs.declared.command.Sender.{Sender}
 use Rattle.pim_request.specs.Commands.{StatesSender}

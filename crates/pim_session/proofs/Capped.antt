@@ -1,5 +1,5 @@
 -- What the route table says of a row whose length is capped at 255, above the bits of each address.
-use Rattle.std.proofs.Common.{◌≡◌, ℕ, ◌<◌, ◌≤◌, ◌⊎◌, Bool, true, false, nat_lt, min, not, ◌&&◌, List, [], ◌∷◌, ◌++◌, Option, Some, codes, Result, Ok, Err, refl, sym, ap, subst, ◌∙◌, inl, inr, arith, unwrap_or}
+use Rattle.std.proofs.Common.{◌≡◌, ℕ, ◌≤◌, ◌⊎◌, Bool, true, false, nat_lt, min, not, ◌&&◌, List, [], ◌∷◌, ◌++◌, Result, Ok, Err, refl, sym, ap, subst, ◌∙◌, inl, inr, arith}
 use Rattle.std.specs.Prelude.{OnOk, OnErr}
 use Rattle.std.proofs.lemmas.Bool.{ltb-true, ltb-false, lt-ltb}
 use Rattle.pim_addr.specs.declared.family.AddressFamily.{AddressFamily}

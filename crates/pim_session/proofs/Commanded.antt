@@ -1,16 +1,15 @@
 -- What commands do, from what their calls do.
 use Rattle.std.proofs.Common.{◌≡◌, ℕ, Bool, true, false, List, Option, None, Some, Result, Ok, Err, codes, refl, sym, subst, ap}
-use Rattle.std.specs.Io.KnownBytes.{Appends}
 use Rattle.std.specs.Result.{result_and}
 use Rattle.pim_addr.specs.declared.family.AddressFamily.{AddressFamily}
-use Rattle.pim_device.specs.Device.{AppendsFront, AppendsAll}
+use Rattle.pim_device.specs.Device.{AppendsAll}
 use Rattle.pim_request.specs.declared.command.Command.{Command as AnyCommand}
 use Rattle.pim_request.specs.declared.command.Command.TheVariants.{Port, Rp, Via, Limit, Start, Run, Packet, Now, Next, State, Wants, Neighbours, Messages, Keep, Change, Same, Reset}
 use Rattle.pim_request.specs.declared.command.Packet.{Packet as PacketOf}
 use Rattle.pim_request.specs.declared.command.Kept.{Kept as Keeping}
 use Rattle.pim_router.specs.State.{RouterState}
 use Rattle.pim_answers.specs.declared.packets.FromText.{FromText}
-use Rattle.pim_answers.specs.Answered.{Answered, Told, Whole, Part}
+use Rattle.pim_answers.specs.Answered.{Answered, Told}
 use Rattle.pim_answers.specs.Asking.{AnswersKeep}
 use Rattle.pim_answers.specs.Kept.{Kept}
 use Rattle.pim_answers.specs.Lines.{ok_line, fault_line}

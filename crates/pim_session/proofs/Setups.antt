@@ -1,22 +1,14 @@
 -- Rows that are added to what is gathered.
-use Rattle.std.proofs.Common.{◌≡◌, ℕ, ◌<◌, ◌≤◌, ◌⊎◌, Bool, true, false, nat_lt, min, List, [], ◌∷◌, ◌++◌, map, Option, Some, codes, Result, Ok, Err, refl, sym, ap, subst, ◌∙◌, inl, inr, arith, unwrap_or}
-use Rattle.std.proofs.lemmas.List.{map-append}
+use Rattle.std.proofs.Common.{◌≡◌, ℕ, true, false, List, [], ◌∷◌, codes, refl, ap, inl, inr}
 use Rattle.pim_addr.specs.declared.family.AddressFamily.{AddressFamily}
-use Rattle.pim_addr.specs.declared.family.AddressFamily.TheVariants.{Ipv4, Ipv6}
 use Rattle.pim_addr.specs.declared.route_fault.RouteFault.{RouteFault}
-use Rattle.pim_addr.specs.Address.{mask_length}
-use Rattle.pim_addr.specs.Routes.{IsRefusedBy, RouteTable}
-use Rattle.pim_text.specs.declared.line.AnyAddress.{AnyAddress}
+use Rattle.pim_addr.specs.Routes.{RouteTable}
 use Rattle.pim_text.specs.Families.{is_in}
-use Rattle.pim_text.specs.Spelled.{address_bytes}
 use Rattle.pim_request.specs.declared.command.PortRow.{PortRow}
 use Rattle.pim_request.specs.declared.command.Row.{Row}
-use Rattle.pim_router.specs.declared.config.PortConfig.{PortConfig}
-use Rattle.pim_router.specs.Seen.{port_seen}
-use Rattle.pim_answers.specs.Answered.{RefusedIf, RefusedBy, OrMemory, Done}
-use Rattle.pim_answers.specs.Families.{differ_from, family_words}
+use Rattle.pim_answers.specs.Families.{family_words}
 use Rattle.pim_answers.specs.Lines.{ok_line, fault_line}
-use Rattle.pim_session.specs.Gathering.{family_of, family_with, with_port, with_routes, route_words, AddsPort, AddsRow}
+use Rattle.pim_session.specs.Gathering.{family_with, with_port, with_routes, route_words, AddsPort, AddsRow}
 use Rattle.pim_session.specs.State.{Gathered}
 
 -- ---- ports

@@ -13,7 +13,7 @@ use Rattle.pim_answers.specs.Answered.{Refused}
 use Rattle.pim_answers.specs.Asking.{AnswersMessages, AnswersKeep, AnswersChange, AnswersSame}
 use Rattle.pim_session.specs.Gathering.{AddsPort, AddsRp, AddsVia, Starts, with_limit}
 use Rattle.pim_answers.specs.Answered.{Done}
-use Rattle.pim_answers.specs.Lines.{ok_line, fault_line}
+use Rattle.pim_answers.specs.Lines.{fault_line}
 use Rattle.pim_answers.specs.Packets.{AnswersPacket, AnswersFrom}
 use Rattle.pim_answers.specs.Running.{AnswersRun}
 use Rattle.pim_session.specs.State.{Gathered, Phase, gathering, serving, Session, nothing_gathered}

@@ -8,7 +8,7 @@ use Rattle.pim_items.specs.Items.{Item, items_of}
 use Rattle.pim_session.specs.declared.request.Request.{Request}
 use Rattle.pim_session.specs.Answers.{Answers}
 use Rattle.pim_session.specs.Request.{Asks}
-use Rattle.pim_session.specs.State.{Session, new_session}
+use Rattle.pim_session.specs.State.{Session}
 
 -- An item is answered by this text, and this is the session after it.
 pub record IsAnswer (session : Session) (item : Item) (text : List ℕ) (after : Session) : Type 0 where

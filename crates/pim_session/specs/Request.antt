@@ -1,5 +1,5 @@
 -- What an item of the input asks for, and the faults that depend on no state.
-use Rattle.std.specs.Prelude.{◌≡◌, ◌⊎◌, ℕ, ◌+◌, ◌<◌, ◌≤◌, ◌==◌, Bool, true, false, List, [], ◌∷◌}
+use Rattle.std.specs.Prelude.{◌≡◌, ◌⊎◌, ℕ, ◌+◌, ◌<◌, ◌≤◌, ◌==◌, Bool, true, false, List}
 use Rattle.std.specs.Prelude.{◌++◌, length, count_by, codes}
 use Rattle.std.specs.Prelude.{decimal, Result, Ok, Err}
 use Rattle.pim_text.specs.declared.line.Stated.{Stated}

@@ -1,4 +1,4 @@
-use Rattle.std.proofs.Common.{◌≡◌, List, ℕ, sym, subst}
+use Rattle.std.proofs.Common.{List, ℕ, subst}
 use Rattle.pim_items.specs.declared.items.Item.{Item}
 use Rattle.pim_items.specs.Reading.{IsItem}
 use Rattle.pim_answers.specs.Fault.{fault_words}

@@ -1,4 +1,4 @@
-use Rattle.std.proofs.Common.{◌≡◌, List, ℕ, false, is_some, sym, subst, ◌∙◌, rules}
+use Rattle.std.proofs.Common.{◌≡◌, List, ℕ, false, is_some, subst, ◌∙◌, rules}
 use Rattle.pim_request.specs.Commands.{StatesSender}
 use Rattle.pim_session.specs.Seen.{asked_seen}
 use Rattle.pim_session.proofs.Asked.{all_held, from_asked}

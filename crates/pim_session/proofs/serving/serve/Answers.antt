@@ -1,10 +1,10 @@
-use Rattle.std.proofs.Common.{ℕ, ◌≤◌, Bool, true, false, List, Option, Some, refl, arith, subst, ◌∙◌}
+use Rattle.std.proofs.Common.{Bool, true, false, refl, arith, subst, ◌∙◌}
 use Rattle.pim_answers.specs.Answered.{Whole}
 use Rattle.pim_answers.specs.StoreSeen.{store_seen}
 use Rattle.pim_session.specs.Answers.{Answers, session_in}
 use Rattle.pim_session.specs.RouterSeen.{family_in, state_in}
 use Rattle.pim_session.specs.Seen.{asked_seen}
-use Rattle.pim_session.specs.State.{Session, gathering, serving, nothing_gathered}
+use Rattle.pim_session.specs.State.{Session, serving}
 use Rattle.pim_session.specs.Underway.{session_after}
 use Rattle.pim_session.proofs.Served.{one_given, one_less}
 use Rattle.pim_session.proofs.Underway.{begun, answered, failed}
