@@ -10,7 +10,7 @@ use Rattle.pim_down.specs.Seen.{records_seen, shown}
 use Rattle.pim_down.specs.Running.{downstream_at}
 use Rattle.pim_down.proofs.Time.{records_more, ticks_is, fired_by}
 use Rattle.pim_down.proofs.Late.{late_first}
-use Rattle.pim_down.proofs.Firing.{weight_fired, weight_later}
+use Rattle.pim_down.proofs.FirstDue.{weight_fired, weight_later}
 
 module _ {A : Type 0} (bytes_of : A → List ℕ) where
   -- so many milliseconds later

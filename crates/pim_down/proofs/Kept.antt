@@ -1,5 +1,5 @@
 -- Time keeps the machines sound.
-use Rattle.std.proofs.Common.{◌≡◌, ℕ, zero, suc, ◌+◌, ◌≤◌, Bool, true, false, cond, List, [], ◌∷◌, ◌++◌, Option, Some, None, map, ltb, refl, sym, ap, subst, ◌∙◌, arith}
+use Rattle.std.proofs.Common.{◌≡◌, ℕ, zero, suc, ◌+◌, ◌≤◌, Bool, true, false, cond, List, [], ◌∷◌, ◌++◌, Option, Some, None, option_map, map, ltb, refl, sym, ap, subst, ◌∙◌, arith}
 use Rattle.std.proofs.lemmas.Bool.{ltb-true}
 use Rattle.std.specs.List.{AllByRecursion}
 use Rattle.pim_addr.specs.declared.family.AddressFamily.{AddressFamily}
@@ -138,7 +138,7 @@ kept_fired records after answer e = by_ppt (first_due ppt_due records) e
 
 -- ---- a run
 
-sound_kept : (family : AddressFamily) (state : Downstream) (moment : ℕ) (records : List (Record (List ℕ))) → moment ≤ 1000000000000000 → Kept state.records records → IsSound family state → IsSound family (record { ports = state.ports; limit = state.limit; moment = moment; records = records })
+pub sound_kept : (family : AddressFamily) (state : Downstream) (moment : ℕ) (records : List (Record (List ℕ))) → moment ≤ 1000000000000000 → Kept state.records records → IsSound family state → IsSound family (record { ports = state.ports; limit = state.limit; moment = moment; records = records })
 sound_kept family state moment records small kept sound = record {
   ports = sound.ports;
   limit = sound.limit;
@@ -207,6 +207,20 @@ machine_state_later k key (held ∷ records) =
 pub state_seen : (k : ℕ) (key : Key (List ℕ)) (records : List (Record (List ℕ))) (state : Downstream) (machine : Option Machine) → state.records ≡ map (record_after k) records → machine ≡ machine_at key records → state_of_machine machine ≡ state_of key state.records
 state_seen k key records state machine seen at =
     ap state_of_machine at ∙ sym (machine_state_later k key records) ∙ ap (state_of key) (sym seen)
+
+-- a machine looked up in such records, with the time that is left at this moment
+pub machine_later : (k : ℕ) (key : Key (List ℕ)) (records : List (Record (List ℕ))) → machine_at key (map (record_after k) records) ≡ option_map (machine_after k) (machine_at key records)
+unfolding machine_at
+machine_later k key [] = refl
+machine_later k key (held ∷ records) =
+    elim (same_key key held.key) as (λ b. cond b (Some (machine_after k held.machine)) (machine_at key (map (record_after k) records)) ≡ option_map (machine_after k) (cond b (Some held.machine) (machine_at key records))) [
+      | true ↦ refl
+      | false ↦ machine_later k key records
+    ]
+
+pub machine_shown : (k : ℕ) (key : Key (List ℕ)) (records : List (Record (List ℕ))) (state : Downstream) (machine : Option Machine) → state.records ≡ map (record_after k) records → machine ≡ machine_at key records → option_map (machine_after k) machine ≡ machine_at key state.records
+machine_shown k key records state machine seen at =
+    ap (option_map (machine_after k)) at ∙ sym (machine_later k key records) ∙ ap (machine_at key) (sym seen)
 
 pub sound_at_first : (family : AddressFamily) {A : Type 0} (bytes_of : A → List ℕ) (ports limit : ℕ) (records : List (Held A)) → records ≡ [] → ports ≤ 64 → limit ≤ 100000 → IsSound family (downstream_at bytes_of ports limit 0 records)
 unfolding IsAscending IsSettled count_on

@@ -18,7 +18,7 @@ pub mod Reordered
 pub mod Lists
 pub mod Places
 pub mod Halves
-pub mod Firing
+pub mod FirstDue
 pub mod FirstTimer
 pub mod Late
 pub mod Jumps
@@ -40,6 +40,7 @@ pub mod Stays
 pub mod OnPort
 pub mod Passing
 pub mod Runs
+pub mod Stops
 pub mod Silence
 pub mod Echo
 pub mod SideBySide

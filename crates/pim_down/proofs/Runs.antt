@@ -8,7 +8,7 @@ use Rattle.pim_down.specs.declared.step.Step.TheVariants.{Reached, Echo}
 use Rattle.pim_down.specs.Time.{Downstream, tick, fired, rests, moves, echoes, with_records, turn, run_within, Runs, HasRun}
 use Rattle.pim_down.specs.Ends.{weight}
 use Rattle.pim_down.proofs.Time.{Answer, run_more, run_echo, run_rest}
-use Rattle.pim_down.proofs.Firing.{weight_fired, weight_later}
+use Rattle.pim_down.proofs.FirstDue.{weight_fired, weight_later}
 
 -- ---- one turn
 

@@ -1,6 +1,7 @@
 -- Laws of the definitions: what they mean together. Each is proved, as the `ensures` of a function
 -- of `src/laws.rt`.
-use Rattle.std.specs.Prelude.{◌≡◌, ◌≢◌, ◌<◌, ◌≤◌, ◌↔◌, ℕ, ◌-◌, max, true, false, List, map, Option, Some}
+use Rattle.std.specs.Prelude.{◌≡◌, ◌≢◌, ◌<◌, ◌≤◌, ◌↔◌, ℕ, ◌-◌, max, true, false}
+use Rattle.std.specs.Prelude.{List, map, Option, Some, None, option_map}
 use Rattle.std.specs.declared.cmp.Ordering.TheVariants.{Equal}
 use Rattle.pim_addr.specs.declared.family.AddressFamily.{AddressFamily}
 use Rattle.pim_jp.specs.Message.{Message}
@@ -12,12 +13,14 @@ use Rattle.pim_down.specs.declared.machine.Record.{Record}
 use Rattle.pim_down.specs.declared.machine.Machine.{Machine}
 use Rattle.pim_down.specs.Tables.{Start}
 use Rattle.pim_down.specs.Hearing.{Event}
+use Rattle.pim_down.specs.declared.step.Firing.{Firing}
 use Rattle.pim_down.specs.declared.step.Step.{Step}
 use Rattle.pim_down.specs.declared.step.Step.TheVariants.{Echo, Reached}
 use Rattle.pim_down.specs.Key.{key_cmp, same_key}
 use Rattle.pim_down.specs.Records.{IsAscending, ChangesAtEach, machine_at, changed, each_changed}
 use Rattle.pim_down.specs.Hearing.{effect, act, at_end, heard_at, hearing}
 use Rattle.pim_down.specs.Time.{Downstream, Runs, HasRun, after_silence, IsEchoOf, fired, record_after}
+use Rattle.pim_down.specs.Firing.{firing, step_of, FiresTo}
 use Rattle.pim_down.specs.Ends.{weight}
 use Rattle.pim_down.specs.Sound.{IsSound}
 use Rattle.pim_down.specs.Heard.{heard, needed_for}
@@ -131,3 +134,30 @@ abbrev pub HearingLeavesOtherPorts : Type 0
 HearingLeavesOtherPorts =
     (port : ℕ) (start : Start) (events : List Event) (records : List (Record (List ℕ))) (key : Key (List ℕ)) →
     IsAscending records → key.port ≢ port → machine_at key (hearing port start events records) ≡ machine_at key records
+
+-- ---- runs that stop at each timer that fires
+
+-- What a run reports of a firing, and the records that it leaves.
+abbrev pub said_of : Firing (List ℕ) × List (Record (List ℕ)) → Step (List ℕ) × List (Record (List ℕ))
+said_of (told, records) = (step_of told, records)
+
+-- `fired` is the same step as `firing`, with less said of it.
+abbrev pub FiringSaysMore : Type 0
+FiringSaysMore = (records : List (Record (List ℕ))) → fired records ≡ option_map said_of (firing records)
+
+-- A run up to a moment is a chain of runs that stop at each timer that fires. It reaches the moment
+-- where none fires. It ends with the PruneEcho of a timer that triggers one, and it goes on after
+-- any other timer.
+abbrev pub RunIsAChainOfFirings : Type 0
+RunIsAChainOfFirings = (moment : ℕ) (state next : Downstream) →
+    (FiresTo moment state None next → Runs moment state Reached next)
+    × ((told : Firing (List ℕ)) → told.echo ≡ true → FiresTo moment state (Some told) next →
+    Runs moment state (step_of told) next)
+    × ((told : Firing (List ℕ)) (after : Downstream) (answer : Step (List ℕ)) → told.echo ≡ false →
+    FiresTo moment state (Some told) next → Runs moment next answer after → Runs moment state answer after)
+
+-- All runs from a state up to a moment that stop at the first timer have the same firing and the
+-- same state at their end.
+abbrev pub FiringHasOneEnd : Type 0
+FiringHasOneEnd = (moment : ℕ) (state after other : Downstream) (told said : Option (Firing (List ℕ))) →
+    FiresTo moment state told after → FiresTo moment state said other → (told ≡ said) × (after ≡ other)

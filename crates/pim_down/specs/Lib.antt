@@ -1,5 +1,5 @@
 -- The definitions that contracts of `pim_down` cite. `Key`, `Tables`, `Records`, `Hearing`,
--- `Known`, `After`, `Time`, `Heard` and `Sound` give the meaning of public calls. The other modules
+-- `Known`, `After`, `Time`, `Firing`, `Heard` and `Sound` give the meaning of public calls. The other modules
 -- serve private steps, the view of code values, and laws.
 pub mod Key
 pub mod Tables
@@ -8,6 +8,7 @@ pub mod Hearing
 pub mod Known
 pub mod After
 pub mod Time
+pub mod Firing
 pub mod Seen
 pub mod Ends
 pub mod Ordered

@@ -12,6 +12,7 @@ use Rattle.pim_down.specs.declared.held.Timed.{Timed}
 use Rattle.pim_down.specs.declared.held.Waiting.{Waiting}
 use Rattle.pim_down.specs.declared.machine.Pending.{Pending}
 use Rattle.pim_down.specs.declared.machine.Machine.{Machine}
+use Rattle.pim_down.specs.declared.step.Firing.{Firing}
 use Rattle.pim_down.specs.declared.step.Step.{Step}
 use Rattle.pim_down.specs.declared.step.Step.TheVariants.{Echo, Reached}
 use Rattle.pim_down.specs.Tables.{Start}
@@ -69,6 +70,11 @@ module _ {A : Type 0} (bytes_of : A → List ℕ) where
   abbrev pub step_seen : Step A → Step (List ℕ)
   step_seen (Echo port group what) = Echo port (bytes_of group) (what_seen what)
   step_seen Reached = Reached
+
+  -- A timer that fired, with addresses as lists of bytes.
+  abbrev pub firing_seen : Firing A → Firing (List ℕ)
+  firing_seen fired =
+      record { timer = fired.timer; before = told_seen fired.before; after = fired.after; echo = fired.echo }
 
   -- Records with their deadlines as countdowns from the moment 0.
   abbrev pub records_seen : List (Held A) → List (Record (List ℕ))

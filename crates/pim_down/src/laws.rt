@@ -6,6 +6,7 @@ ghost use Rattle.pim_down.specs.Laws.{EndActsAtEachKey, EventKeepsTheOrder, Hear
 ghost use Rattle.pim_down.specs.Laws.{HearingLeavesOtherPorts, HearingActsAtEachKey, RunGoesOn, RunHasOneEnd};
 ghost use Rattle.pim_down.specs.Laws.{RunKeepsSound, RunKeepsItsBounds, SilenceActsAtEachKey, EveryStateHasARun};
 ghost use Rattle.pim_down.specs.Laws.{EchoNamesAMachine, RunKeepsTheOrder, TimersRunOut};
+ghost use Rattle.pim_down.specs.Laws.{FiringSaysMore, RunIsAChainOfFirings, FiringHasOneEnd};
 
 /// A change of one machine leaves all others unchanged.
 pub fn change_acts_at_its_key()
@@ -102,4 +103,19 @@ pub fn run_keeps_sound()
 /// A message that is heard, and for which there is room, keeps the machines sound.
 pub fn hearing_keeps_sound()
     ensures { HearingKeepsSound }
+{}
+
+/// What a run reports of a timer that fires is what its firing says of a PruneEcho.
+pub fn firing_says_more()
+    ensures { FiringSaysMore }
+{}
+
+/// A run is a chain of runs that stop at each timer that fires, up to the first PruneEcho.
+pub fn run_is_a_chain_of_firings()
+    ensures { RunIsAChainOfFirings }
+{}
+
+/// All runs from a state up to a moment that stop at the first timer end alike.
+pub fn firing_has_one_end()
+    ensures { FiringHasOneEnd }
 {}

@@ -11,8 +11,9 @@
 //!   that makes a record. A refusal changes nothing.
 //! - `run_to` runs up to a moment or the first PruneEcho, as if it counted milliseconds. It ends
 //!   with `Reached` at the later of now and the moment. `run_counted` also returns its looks at
-//!   timers: one for each that fires, and at most one more. `next_due` returns the first moment at
-//!   which a timer fires.
+//!   timers: one for each that fires, and at most one more. `fire_to` stops at the first timer that
+//!   fires, and says which and what it did. `next_due` returns the first moment at which a timer
+//!   fires.
 //! - The other calls read. Between calls `is_sound` holds: records are real and in key order, none
 //!   is in a Tmp state, and no port exceeds the limit. The public functions of `laws` state laws.
 //!
@@ -62,13 +63,14 @@ pub use group::GroupMachines;
 pub use key::{Key, What, compare_addresses};
 pub use laws::{
     a_map_has_one_list, change_acts_at_its_key, echo_names_a_machine, end_acts_at_each_key,
-    event_acts_at_each_key, event_keeps_the_order, every_state_has_a_run, hearing_acts_at_each_key,
-    hearing_keeps_sound, hearing_keeps_the_order, hearing_leaves_other_ports, keys_are_told_apart,
-    run_goes_on, run_has_one_end, run_keeps_its_bounds, run_keeps_sound, run_keeps_the_order,
+    event_acts_at_each_key, event_keeps_the_order, every_state_has_a_run, firing_has_one_end,
+    firing_says_more, hearing_acts_at_each_key, hearing_keeps_sound, hearing_keeps_the_order,
+    hearing_leaves_other_ports, keys_are_told_apart, run_goes_on, run_has_one_end,
+    run_is_a_chain_of_firings, run_keeps_its_bounds, run_keeps_sound, run_keeps_the_order,
     silence_acts_at_each_key, timers_run_out,
 };
 pub use machine::{Machine, Pending, Record, State};
 pub use near::Near;
 pub use ports::Ports;
-pub use step::Step;
+pub use step::{Firing, Step, Timer};
 pub use walk::Records;

@@ -4,11 +4,12 @@ ghost use Rattle.std.specs.Prelude.{◌≡◌, ◌≤◌, ◌<◌, [], None, max
 ghost use Rattle.std.specs.List.{filter};
 ghost use Rattle.pim_down.specs.declared.step.Step.TheVariants.{Reached};
 ghost use Rattle.pim_down.specs.Hearing.{rpt_count_on};
-ghost use Rattle.pim_down.specs.Records.{state_of, is_on, count_on};
+ghost use Rattle.pim_down.specs.Records.{state_of, machine_at, is_on, count_on};
 ghost use Rattle.pim_down.specs.Heard.{heard, needed_for, new_for, IsWithin, MayWantMemory, OthersStay};
 ghost use Rattle.pim_down.specs.Time.{Downstream, Runs, RunsLooking, IsNextDue};
+ghost use Rattle.pim_down.specs.Firing.{FiresTo};
 ghost use Rattle.pim_down.specs.Known.{known_in};
-ghost use Rattle.pim_down.specs.Seen.{key_at, what_seen, step_seen, told_seen};
+ghost use Rattle.pim_down.specs.Seen.{key_at, what_seen, step_seen, firing_seen, told_seen};
 ghost use Rattle.pim_down.specs.After.{group_after, next_in_group};
 ghost use Rattle.pim_down.specs.Sound.{IsSound};
 
@@ -19,14 +20,14 @@ use crate::fault::HearFault;
 use crate::group::GroupMachines;
 use crate::hear::start_at;
 use crate::key::{Key, OfFamily, What};
-use crate::machine::{Record, State};
+use crate::machine::{Machine, Record, State};
 use crate::message::hear_message;
 use crate::near::Near;
-use crate::run::{Stop, run};
-use crate::step::Step;
+use crate::run::{Halt, Stop, run, run_to_firing};
+use crate::step::{Firing, Step};
 use crate::store::Store;
 use crate::timers::next_end;
-use crate::walk::{Records, count_on, on_port, record_after, rpt_count_on};
+use crate::walk::{Records, count_on, machine_after, on_port, record_after, rpt_count_on};
 use pim_addr::{Family, Routes};
 use pim_jp::JpView;
 use std::alloc::Global;
@@ -170,6 +171,26 @@ impl<F: Family> Ports<F> {
         match machine {
             None => (None, place),
             Some(machine) => (Some(machine.state), place),
+        }
+    }
+
+    /// One machine with the time left of its timers; `None` is NoInfo. The look-up begins at a hint,
+    /// and the call also returns the place of the machine's record, or where it would be. It costs
+    /// as much as `state_of_near`.
+    pub fn machine_near(
+        &self,
+        port: usize,
+        group: F::Addr,
+        what: What<F::Addr>,
+        near: Near,
+    ) -> (Option<Machine>, Near)
+        ensures machine { result.0 ≡ machine_at (key_at F.bytes_of port group what) self.now.records }
+        ensures absent { self.now.ports ≤ port → result.0 ≡ None }
+    {
+        let (found, place) = machine_near::<F>(&self.records, near, &Key { port, group, what });
+        match found {
+            None => (None, place),
+            Some(machine) => (Some(machine_after(&machine, self.moment)), place),
         }
     }
 
@@ -359,5 +380,28 @@ impl<F: Family> Ports<F> {
         let Stop { step, now, looks } = stop;
         self.moment = now;
         (step, looks)
+    }
+
+    /// Runs to this moment, in milliseconds, at most 10^15, or until one timer has fired, and
+    /// returns that firing. An earlier moment counts as now. What is still due stays due, and the
+    /// next call goes on. Prune-Pending Timers fire before Expiry Timers, each in key order.
+    ///
+    /// It takes no memory, and looks at one timer at most. After the timer it searches its record.
+    pub fn fire_to(&mut self, moment: u64) -> Option<Firing<F::Addr>>
+        requires { moment ≤ 1000000000000000 }
+        ensures fires { FiresTo moment self.old (option_map (firing_seen F.bytes_of) result) self.new }
+        ensures ports { self.new.ports ≡ self.old.ports }
+        ensures limit { self.new.limit ≡ self.old.limit }
+        ensures later { self.old.moment ≤ self.new.moment }
+        ensures moment { self.new.moment ≤ max self.old.moment moment }
+        ensures reached { result ≡ None → self.new.moment ≡ max self.old.moment moment }
+    {
+        let halt = run_to_firing::<F>(&mut self.records, self.moment, moment);
+        let Halt {
+            fired,
+            now: stopped,
+        } = halt;
+        self.moment = stopped;
+        fired
     }
 }

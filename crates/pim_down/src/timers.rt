@@ -2,23 +2,26 @@
 //! run is a call of `is_due`, which counts it.
 
 ghost use Rattle.std.specs.Prelude.{◌≡◌, ◌+◌, ◌<◌, ℕ, List, ◌++◌, take, drop, length, slice_index_or, nat_le};
-ghost use Rattle.std.specs.List.{slice_get};
+ghost use Rattle.std.specs.List.{slice_get, remove};
 ghost use Rattle.sorted_slab.specs.Listed.{at, IsItem};
 ghost use Rattle.pim_down.specs.declared.held.Held.{Held};
 ghost use Rattle.pim_down.specs.Records.{IsAscending};
-ghost use Rattle.pim_down.specs.Time.{on_ppt, after_ppt, echo_of, fired};
+ghost use Rattle.pim_down.specs.Records.{state_of_machine};
+ghost use Rattle.pim_down.specs.Time.{on_ppt, after_ppt, record_after, echoes_at, had_several, fired};
 ghost use Rattle.pim_down.specs.Ends.{first_end, AreLate};
+ghost use Rattle.pim_down.specs.Firing.{ppt_fires, et_fires, firing, step_of};
 ghost use Rattle.pim_down.specs.Schedule.{deadline_seen, timers_of, IsFirstBy, IsLookedAt};
-ghost use Rattle.pim_down.specs.Seen.{timed_seen, machine_seen, what_seen, record_seen, records_seen};
-ghost use Rattle.pim_down.specs.Seen.{step_seen, shown};
+ghost use Rattle.pim_down.specs.Seen.{timed_seen, machine_seen, waiting_seen, what_seen, record_seen, records_seen};
+ghost use Rattle.pim_down.specs.Seen.{step_seen, firing_seen, shown};
 
 use crate::deadline::{Deadline, TimerKind};
 use crate::edits::{find_place, replace_at};
 use crate::held::{Held, Timed};
 use crate::key::{Key, OfFamily, What};
 use crate::machine::State;
-use crate::step::Step;
+use crate::step::{Firing, Step, Timer};
 use crate::store::Store;
+use crate::walk::record_after;
 use pim_addr::Family;
 use sorted_blocks::Place;
 
@@ -80,30 +83,67 @@ fn on_ppt<A>(what: &What<A>, machine: &Timed) -> Option<Timed>
     }
 }
 
-/// What a run reports when the Prune-Pending Timer of this record expires: a PruneEcho, or nothing.
-fn echo_of<A: Copy>(held: &Held<A>) -> Step<A>
-    ensures { (bytes_of : A → List ℕ) → step_seen bytes_of result ≡ echo_of (record_seen bytes_of held.now) }
+/// Whether the end of this record's Prune-Pending Timer triggers a PruneEcho.
+fn echoes<A>(held: &Held<A>) -> bool
+    ensures { (bytes_of : A → List ℕ) → result
+        ≡ echoes_at (what_seen bytes_of held.now.key.what) (had_several (waiting_seen held.now.machine.pending)) }
 {
     let several = match held.machine.pending {
         Some(timer) => timer.several,
         None => false,
     };
-    let Key { port, group, what } = held.key;
-    match what {
-        What::Star | What::Source(_) if several => Step::Echo { port, group, what },
-        _ => Step::Reached,
+    match held.key.what {
+        What::Star | What::Source(_) => several,
+        What::Rpt(_) => false,
     }
 }
 
-/// Fires the Prune-Pending Timer of the record at this place. Returns what the run reports, and a
-/// place nearby.
+/// The state of a machine; `None` is NoInfo.
+fn state_of(machine: Option<Timed>) -> Option<State>
+    ensures { result ≡ state_of_machine (machine_seen machine) }
+{
+    match machine {
+        Some(machine) => Some(machine.state),
+        None => None,
+    }
+}
+
+/// What fires with the Prune-Pending Timer of this record at the moment `now`.
+fn ppt_fires<A: Copy>(held: &Held<A>, now: u64) -> Firing<A>
+    ensures { (bytes_of : A → List ℕ) → firing_seen bytes_of result
+        ≡ ppt_fires (record_after now (record_seen bytes_of held.now)) }
+{
+    Firing {
+        timer: Timer::PrunePending,
+        before: record_after(held, now),
+        after: state_of(on_ppt(&held.key.what, &held.machine)),
+        echo: echoes(held),
+    }
+}
+
+/// What fires with the Expiry Timer of this record at the moment `now`.
+fn et_fires<A: Copy>(held: &Held<A>, now: u64) -> Firing<A>
+    ensures { (bytes_of : A → List ℕ) → firing_seen bytes_of result
+        ≡ et_fires (record_after now (record_seen bytes_of held.now)) }
+{
+    Firing {
+        timer: Timer::Expiry,
+        before: record_after(held, now),
+        after: None,
+        echo: false,
+    }
+}
+
+/// Fires the Prune-Pending Timer of the record at this place, at the moment `now`. Returns what
+/// fired, and a place nearby.
 fn fire_pending<F: Family>(
     records: &mut Store<F::Addr, OfFamily<F>>,
     place: Place,
-) -> (Step<F::Addr>, Place)
+    now: u64,
+) -> (Firing<F::Addr>, Place)
     requires { IsItem records.old place }
-    ensures told { (d : Held F.Addr) → step_seen F.bytes_of result.0
-        ≡ echo_of (record_seen F.bytes_of (slice_index_or records.old.items (at records.old place) d)) }
+    ensures told { (d : Held F.Addr) → firing_seen F.bytes_of result.0 ≡ ppt_fires (record_after now
+        (record_seen F.bytes_of (slice_index_or records.old.items (at records.old place) d))) }
     ensures left { (d : Held F.Addr) → records_seen F.bytes_of records.new.items
         ≡ take (at records.old place) (records_seen F.bytes_of records.old.items)
         ++ (after_ppt (record_seen F.bytes_of (slice_index_or records.old.items (at records.old place) d))
@@ -112,11 +152,63 @@ fn fire_pending<F: Family>(
     let fired = *records.get(place);
     let machine = on_ppt(&fired.key.what, &fired.machine);
     let behind = replace_at(records, place, machine);
-    (echo_of(&fired), behind)
+    (ppt_fires(&fired, now), behind)
+}
+
+/// Fires the Expiry Timer of the record at this place, at the moment `now`. Returns what fired, and
+/// a place nearby.
+fn fire_expiry<F: Family>(
+    records: &mut Store<F::Addr, OfFamily<F>>,
+    place: Place,
+    now: u64,
+) -> (Firing<F::Addr>, Place)
+    requires { IsItem records.old place }
+    ensures told { (d : Held F.Addr) → firing_seen F.bytes_of result.0 ≡ et_fires (record_after now
+        (record_seen F.bytes_of (slice_index_or records.old.items (at records.old place) d))) }
+    ensures left { records.new.items ≡ remove records.old.items (at records.old place) }
+{
+    let fired = *records.get(place);
+    let behind = records.remove(place);
+    (et_fires(&fired, now), behind)
 }
 
 /// Fires the first of all timers, at its end. The search for its record begins near this place.
-/// Returns what the run reports, and a place nearby.
+/// Returns what fired, and a place nearby.
+pub(crate) fn fire_timer<F: Family>(
+    records: &mut Store<F::Addr, OfFamily<F>>,
+    near: Place,
+    first: Deadline<F::Addr>,
+) -> (Firing<F::Addr>, Place)
+    requires ascending { IsAscending (records_seen F.bytes_of records.old.items) }
+    requires first { slice_get (timers_of (records_seen F.bytes_of records.old.items)) 0
+        ≡ Some (deadline_seen F.bytes_of first) }
+    ensures fires { firing (shown F.bytes_of first.ends_at records.old.items)
+        ≡ Some (firing_seen F.bytes_of result.0, shown F.bytes_of first.ends_at records.new.items) }
+    ensures late { (m : ℕ) → AreLate m (records_seen F.bytes_of records.old.items) →
+        AreLate m (records_seen F.bytes_of records.new.items) }
+{
+    match find_place::<F>(records, near, &first.key) {
+        Ok(place) => match first.timer {
+            TimerKind::PendingTimer => fire_pending::<F>(records, place, first.ends_at),
+            TimerKind::ExpiryTimer => fire_expiry::<F>(records, place, first.ends_at),
+        },
+        Err(_) => unreachable!(),
+    }
+}
+
+/// What a run reports of a timer that fired: a PruneEcho, or nothing.
+fn step_of<A: Copy>(fired: Firing<A>) -> Step<A>
+    ensures { (bytes_of : A → List ℕ) → step_seen bytes_of result ≡ step_of (firing_seen bytes_of fired) }
+{
+    if !fired.echo {
+        return Step::Reached;
+    }
+    let Key { port, group, what } = fired.before.key;
+    Step::Echo { port, group, what }
+}
+
+/// Fires the first of all timers, as `fire_timer` does. Returns what the run reports, and a place
+/// nearby.
 pub(crate) fn fire_first<F: Family>(
     records: &mut Store<F::Addr, OfFamily<F>>,
     near: Place,
@@ -130,11 +222,6 @@ pub(crate) fn fire_first<F: Family>(
     ensures late { (m : ℕ) → AreLate m (records_seen F.bytes_of records.old.items) →
         AreLate m (records_seen F.bytes_of records.new.items) }
 {
-    match find_place::<F>(records, near, &first.key) {
-        Ok(place) => match first.timer {
-            TimerKind::PendingTimer => fire_pending::<F>(records, place),
-            TimerKind::ExpiryTimer => (Step::Reached, records.remove(place)),
-        },
-        Err(_) => unreachable!(),
-    }
+    let (fired, place) = fire_timer::<F>(records, near, first);
+    (step_of(fired), place)
 }

@@ -21,7 +21,7 @@ use std::fmt;
 use std::marker::{Model, PhantomData};
 
 /// The machine at this moment, with countdowns.
-fn machine_after(machine: &Timed, now: u64) -> Machine
+pub(crate) fn machine_after(machine: &Timed, now: u64) -> Machine
     ensures { result ≡ machine_after now (timed_seen machine.now) }
 {
     let expires_in = match machine.expires_at {

@@ -3,7 +3,7 @@ use Rattle.pim_down.specs.Time.{fired}
 use Rattle.pim_down.specs.Schedule.{deadline_seen}
 use Rattle.pim_down.specs.Seen.{step_seen, record_seen, records_seen, shown}
 use Rattle.std.proofs.lemmas.List.{length-map}
-use Rattle.pim_down.proofs.Firing.{weight_length}
+use Rattle.pim_down.proofs.FirstDue.{weight_length}
 use Rattle.pim_down.proofs.FirstTimer.{first_end_some}
 use Rattle.pim_down.proofs.Late.{late_first, late_not_by, late_at_end}
 use Rattle.pim_down.proofs.Moments.{still_ascending}

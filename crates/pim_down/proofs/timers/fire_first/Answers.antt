@@ -1,54 +1,13 @@
-use Rattle.std.proofs.Common.{◌≡◌, Some, subst}
-use Rattle.std.specs.List.{position}
-use Rattle.sorted_slab.specs.Listed.{at}
-use Rattle.pim_down.specs.Time.{record_after}
-use Rattle.pim_down.specs.Schedule.{deadline_seen}
-use Rattle.pim_down.specs.Seen.{record_seen, records_seen}
-use Rattle.pim_down.proofs.Sought.{element}
-use Rattle.pim_down.proofs.Firing.{fired_pending, fired_expiry}
-use Rattle.pim_down.proofs.FirstTimer.{due_of, fires_here, none_pending, never_missing}
-use Rattle.pim_down.proofs.Late.{late_fired, late_removed}
+use Rattle.std.proofs.Common.{◌≡◌, Some, sym, subst}
+use Rattle.pim_down.specs.Time.{fired}
+use Rattle.pim_down.specs.Seen.{shown, firing_seen}
+use Rattle.pim_down.proofs.FirstDue.{fired_with}
 use Rattle.pim_down.proofs.timers.fire_first.Goals as goal
 
-pub unreachable-requires : goal.unreachable-requires
-unreachable-requires g c =
-    let list = c.args.records.now in
-    never_missing (records_seen g.F.Family.bytes_of list.items) (deadline_seen g.F.Family.bytes_of c.args.first) (at list c.in-Err.field-0) c.requires.ascending c.requires.first (c.in-Err.ensures {u = tt}).1
-
-pub returns-in-PendingTimer-clause-fired : goal.returns-in-PendingTimer-clause-fired
-returns-in-PendingTimer-clause-fired g c =
+pub returns-clause-fired : goal.returns-clause-fired
+returns-clause-fired g c =
     let bytes_of = g.F.Family.bytes_of in
-    let list = c.args.records.now in
-    let first = deadline_seen bytes_of c.args.first in
-    let found = c.in-Ok.ensures {u = tt} in
-    let i = at list c.in-Ok.place in
-    let d = (element list.items i found.0.1).0 in
-    let here = fires_here bytes_of list c.requires.ascending first c.requires.first c.in-Ok.place found.0 found.1 in
-    let stands = subst (λ t. position (λ held. due_of t (record_after first.ends_at (record_seen bytes_of held))) list.items ≡ Some i) c.in-PendingTimer.is here.1 in
-    fired_pending bytes_of first.ends_at list.items c.fire_pending.new.records.items i _ d stands (c.fire_pending.ensures.told d) (c.fire_pending.ensures.left d)
-
-pub returns-in-PendingTimer-clause-late : goal.returns-in-PendingTimer-clause-late
-returns-in-PendingTimer-clause-late g c m late =
-    let list = c.args.records.now in
-    let found = c.in-Ok.ensures {u = tt} in
-    let i = at list c.in-Ok.place in
-    let d = (element list.items i found.0.1).0 in
-    late_fired g.F.Family.bytes_of m list.items c.fire_pending.new.records.items i d found.0.1 (c.fire_pending.ensures.left d) late
-
-pub returns-in-ExpiryTimer-clause-fired : goal.returns-in-ExpiryTimer-clause-fired
-returns-in-ExpiryTimer-clause-fired g c =
-    let bytes_of = g.F.Family.bytes_of in
-    let list = c.args.records.now in
-    let first = deadline_seen bytes_of c.args.first in
-    let found = c.in-Ok.ensures {u = tt} in
-    let i = at list c.in-Ok.place in
-    let d = (element list.items i found.0.1).0 in
-    let here = fires_here bytes_of list c.requires.ascending first c.requires.first c.in-Ok.place found.0 found.1 in
-    let stands = subst (λ t. position (λ held. due_of t (record_after first.ends_at (record_seen bytes_of held))) list.items ≡ Some i) c.in-ExpiryTimer.is here.1 in
-    rw c.remove.ensures.items (fired_expiry bytes_of first.ends_at list.items i d (none_pending bytes_of list c.requires.ascending first c.requires.first c.in-ExpiryTimer.is) stands)
-
-pub returns-in-ExpiryTimer-clause-late : goal.returns-in-ExpiryTimer-clause-late
-returns-in-ExpiryTimer-clause-late g c m late =
-    let list = c.args.records.now in
-    let found = c.in-Ok.ensures {u = tt} in
-    late_removed g.F.Family.bytes_of m list.items c.remove.new.self.items (at list c.in-Ok.place) found.0.1 c.remove.ensures.items late
+    let now = c.args.first.ends_at in
+    let left = shown bytes_of now c.fire_timer-fired.new.records.items in
+    let fires = fired_with (shown bytes_of now c.args.records.now.items) left (firing_seen bytes_of c.fire_timer-fired.result.0) c.fire_timer-fired.ensures.fires in
+    subst (λ s. fired (shown bytes_of now c.args.records.now.items) ≡ Some (s, left)) (sym (c.step_of.ensures bytes_of)) fires

@@ -1,7 +1,8 @@
 use Rattle.std.proofs.Common.{◌+◌, ◌++◌, take, drop, get_or, ap, ◌∙◌}
 use Rattle.sorted_slab.specs.Listed.{at}
 use Rattle.pim_down.specs.Records.{recorded}
-use Rattle.pim_down.specs.Time.{echo_of, on_ppt}
+use Rattle.pim_down.specs.Firing.{ppt_fires}
+use Rattle.pim_down.specs.Time.{on_ppt, record_after}
 use Rattle.pim_down.specs.Seen.{what_seen, key_seen, timed_seen, record_seen, records_seen}
 use Rattle.pim_down.proofs.Rpts.{same_default}
 use Rattle.pim_down.proofs.timers.fire_pending.Goals as goal
@@ -11,7 +12,7 @@ returns-clause-told g c d =
     let bytes_of = g.F.Family.bytes_of in
     let items = c.args.records.now.items in
     let i = at c.args.records.now c.args.place in
-    c.echo_of.ensures bytes_of ∙ ap (λ held. echo_of (record_seen bytes_of held)) (c.get.ensures ∙ same_default items i c.get.result.now d c.requires.1)
+    c.ppt_fires.ensures bytes_of ∙ ap (λ held. ppt_fires (record_after c.args.now (record_seen bytes_of held))) (c.get.ensures ∙ same_default items i c.get.result.now d c.requires.1)
 
 pub returns-clause-left : goal.returns-clause-left
 returns-clause-left g c d =

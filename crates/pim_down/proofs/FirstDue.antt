@@ -1,5 +1,5 @@
 -- The first timer that is due, in a list of records whose times count from the moment 0.
-use Rattle.std.proofs.Common.{◌≡◌, ℕ, zero, suc, ◌+◌, ◌*◌, ◌<◌, ◌≤◌, Bool, true, false, cond, List, [], ◌∷◌, ◌++◌, Option, Some, None, map, length, take, drop, get_or, ltb, refl, sym, ap, subst, ◌∙◌, arith}
+use Rattle.std.proofs.Common.{◌≡◌, ℕ, zero, suc, ◌+◌, ◌*◌, ◌<◌, ◌≤◌, Bool, true, false, cond, List, [], ◌∷◌, ◌++◌, Option, Some, None, option_map, map, length, take, drop, get_or, ltb, refl, sym, ap, subst, ◌∙◌, arith}
 use Rattle.std.specs.List.{position, position_or_len, remove}
 use Rattle.std.proofs.lemmas.List.{map-append, take-map, drop-map}
 use Rattle.std.proofs.lemmas.Bool.{ltb-false, false≢true}
@@ -10,11 +10,14 @@ use Rattle.pim_down.specs.declared.key.What.{What}
 use Rattle.pim_down.specs.declared.key.What.TheVariants.{Star, Source, Rpt}
 use Rattle.pim_down.specs.declared.machine.Pending.{Pending}
 use Rattle.pim_down.specs.declared.machine.Record.{Record}
+use Rattle.pim_down.specs.declared.step.Firing.{Firing}
 use Rattle.pim_down.specs.declared.step.Step.{Step}
 use Rattle.pim_down.specs.declared.step.Step.TheVariants.{Reached}
 use Rattle.pim_down.specs.Records.{recorded}
-use Rattle.pim_down.specs.Time.{machine_after, record_after, pending_after, et_due, ppt_due, pending_due, on_ppt, after_et, after_ppt, had_several, echo_of, first_due, with_first, fire_et, fire_ppt, fired}
+use Rattle.pim_down.specs.Time.{machine_after, record_after, pending_after, et_due, ppt_due, pending_due, on_ppt, after_et, after_ppt, echo_of, first_due, with_first, fire_et, fire_ppt, fired}
+use Rattle.pim_down.specs.Laws.{said_of}
 use Rattle.pim_down.specs.Ends.{weight, pending_weight}
+use Rattle.pim_down.specs.Firing.{ppt_fires, et_fires, et_firing, ppt_firing, firing, step_of}
 use Rattle.pim_down.specs.Seen.{record_seen, records_seen, shown}
 use Rattle.pim_down.proofs.Lists.{map_remove}
 
@@ -59,12 +62,22 @@ after_ppt_later k held = by held.key.what
     by (Source source) = refl
     by (Rpt source) = refl
 
-several_later : (k : ℕ) (p : Option Pending) → had_several (pending_after k p) ≡ had_several p
-several_later k None = refl
-several_later k (Some timer) = refl
+-- ---- a firing tells more than a step
 
-pub echo_later : (k : ℕ) (held : Record (List ℕ)) → echo_of (record_after k held) ≡ echo_of held
-echo_later k held = rw (several_later k held.machine.pending) refl
+told_et : (records : List (Record (List ℕ))) (o : Option (Record (List ℕ))) → fire_et records o ≡ option_map said_of (et_firing records o)
+told_et records None = refl
+told_et records (Some held) = refl
+
+told_ppt : (records : List (Record (List ℕ))) (o : Option (Record (List ℕ))) → fire_ppt records o ≡ option_map said_of (ppt_firing records o)
+told_ppt records None = told_et records (first_due et_due records)
+told_ppt records (Some held) = refl
+
+pub fired_by_firing : (records : List (Record (List ℕ))) → fired records ≡ option_map said_of (firing records)
+unfolding fired firing
+fired_by_firing records = told_ppt records (first_due ppt_due records)
+
+pub fired_with : (records after : List (Record (List ℕ))) (told : Firing (List ℕ)) → firing records ≡ Some (told, after) → fired records ≡ Some (step_of told, after)
+fired_with records after told e = fired_by_firing records ∙ ap (option_map said_of) e
 
 module _ {A : Type 0} (bytes_of : A → List ℕ) (now : ℕ) where
   later : Held A → Record (List ℕ)
@@ -81,13 +94,13 @@ module _ {A : Type 0} (bytes_of : A → List ℕ) (now : ℕ) where
       ∙ (λ k. sym (take-map (record_after now) i records) k ++ (map (record_after now) middle ++ sym (drop-map (record_after now) (i + 1) records) k))
 
   -- the first due prune-pending timer fires
-  pub fired_pending : (records new : List (Held A)) (place : ℕ) (step : Step (List ℕ)) (d : Held A) →
+  pub firing_pending : (records new : List (Held A)) (place : ℕ) (told : Firing (List ℕ)) (d : Held A) →
       position (λ (held : Held A). ppt_due (record_after now (record_seen bytes_of held))) records ≡ Some place →
-      step ≡ echo_of (record_seen bytes_of (get_or records place d)) →
+      told ≡ ppt_fires (record_after now (record_seen bytes_of (get_or records place d))) →
       records_seen bytes_of new ≡ take place (records_seen bytes_of records) ++ (after_ppt (record_seen bytes_of (get_or records place d)) ++ drop (place + 1) (records_seen bytes_of records)) →
-      fired (shown bytes_of now records) ≡ Some (step, shown bytes_of now new)
-  unfolding fired
-  fired_pending records new place step d found told left =
+      firing (shown bytes_of now records) ≡ Some (told, shown bytes_of now new)
+  unfolding firing
+  firing_pending records new place told d found is left =
       let here = position-Some (λ (held : Held A). ppt_due (record_after now (record_seen bytes_of held))) records place d found in
       let held = record_seen bytes_of (get_or records place d) in
       let same = shown_is records in
@@ -99,20 +112,21 @@ module _ {A : Type 0} (bytes_of : A → List ℕ) (now : ℕ) where
       let after : shown bytes_of now new ≡ take place (shown bytes_of now records) ++ (after_ppt (record_after now held) ++ drop (place + 1) (shown bytes_of now records)) =
       ap (map (record_after now)) left ∙ shown_parts (records_seen bytes_of records) place (after_ppt held)
       ∙ ap (λ (rs : List (Record (List ℕ))). take place (shown bytes_of now records) ++ (rs ++ drop (place + 1) (shown bytes_of now records))) (after_ppt_later now held) in
-      let answer : echo_of (record_after now held) ≡ step = echo_later now held ∙ sym told in
-      rw first (λ i. Some (answer i, (rest ∙ sym after) i))
+      rw first (λ i. Some (sym is i, (rest ∙ sym after) i))
 
   none_due : (due : Record (List ℕ) → Bool) (records : List (Held A)) → position (λ (held : Held A). due (record_after now (record_seen bytes_of held))) records ≡ None → first_due due (shown bytes_of now records) ≡ None
   none_due due records none =
       ap (first_due due) (shown_is records) ∙ first_due_none (λ (r : Held A). record_after now (record_seen bytes_of r)) due records (position_none (λ (held : Held A). due (record_after now (record_seen bytes_of held))) records none)
 
   -- no prune-pending timer is due, and the first due expiry timer fires
-  pub fired_expiry : (records : List (Held A)) (place : ℕ) (d : Held A) →
+  pub firing_expiry : (records new : List (Held A)) (place : ℕ) (told : Firing (List ℕ)) (d : Held A) →
       position (λ (held : Held A). ppt_due (record_after now (record_seen bytes_of held))) records ≡ None →
       position (λ (held : Held A). et_due (record_after now (record_seen bytes_of held))) records ≡ Some place →
-      fired (shown bytes_of now records) ≡ Some (Reached, shown bytes_of now (remove records place))
-  unfolding fired
-  fired_expiry records place d none found =
+      told ≡ et_fires (record_after now (record_seen bytes_of (get_or records place d))) →
+      new ≡ remove records place →
+      firing (shown bytes_of now records) ≡ Some (told, shown bytes_of now new)
+  unfolding firing
+  firing_expiry records new place told d none found is removed =
       let here = position-Some (λ (held : Held A). et_due (record_after now (record_seen bytes_of held))) records place d found in
       let held = record_seen bytes_of (get_or records place d) in
       let same = shown_is records in
@@ -124,7 +138,7 @@ module _ {A : Type 0} (bytes_of : A → List ℕ) (now : ℕ) where
       ∙ (λ i. take place (sym same i) ++ drop (n i) (sym same i)) in
       let after : shown bytes_of now (remove records place) ≡ take place (shown bytes_of now records) ++ drop (place + 1) (shown bytes_of now records) =
       ap (map (record_after now)) (map_remove (record_seen bytes_of) records place) ∙ shown_parts (records_seen bytes_of records) place [] in
-      rw (quiet, first) (λ i. Some (Reached, (rest ∙ sym after) i))
+      rw (quiet, first) (λ i. Some (sym is i, (rest ∙ sym after ∙ ap (shown bytes_of now) (sym removed)) i))
 
 -- ---- each timer that fires makes the records lighter
 
