@@ -9,3 +9,4 @@ pub mod OneNeighbour
 pub mod Order
 pub mod WholeTable
 pub mod Each
+pub mod NextEnd

@@ -1,11 +1,12 @@
 -- The index of the moments at which the times of neighbours end: pairs of an end and an address, in
 -- ascending order.
-use Rattle.std.specs.Prelude.{◌≡◌, ℕ, Bool, false, not, ◌&&◌, ◌||◌, ◌==◌, nat_le, List, Option, Some, None}
+use Rattle.std.specs.Prelude.{◌≡◌, ℕ, Bool, false, not, ◌&&◌, ◌||◌, ◌==◌, nat_le, List, [], ◌∷◌, Option, Some, None}
 use Rattle.std.specs.List.{list_any}
 use Rattle.std.specs.Ordering.{nat_cmp, ordering_then}
 use Rattle.std.specs.declared.cmp.Ordering.{Ordering}
 use Rattle.std.specs.BTreeMap.{is_at}
 use Rattle.std.specs.Map.{lookup}
+use Rattle.pim_hello.specs.Neighbours.{sooner}
 use Rattle.pim_hello.specs.declared.parameters.Kept.{Kept}
 
 -- The time ends at this moment.
@@ -26,6 +27,11 @@ end_kept (Some kept) = kept.end
 -- The time of a neighbour ends at this moment.
 abbrev pub kept_ends_at : ℕ → Option Kept → Bool
 kept_ends_at moment kept = ends_at moment (end_kept kept)
+
+-- The least end of these neighbours' times; `None` if all are kept forever.
+unfoldable pub least_end : {A : Type 0} → List (A × Kept) → Option ℕ
+least_end [] = None
+least_end (entry ∷ entries) = sooner entry.1.end (least_end entries)
 
 module _ {A : Type 0} (cmp : A → A → Ordering) where
   -- The order of the index: by the end, then by the address.

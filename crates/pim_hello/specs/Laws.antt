@@ -1,12 +1,13 @@
 -- The laws of `src/laws.rt`, and their words.
-use Rattle.std.specs.Prelude.{◌≡◌, ℕ, ◌-◌, max, List, ◌∷◌, Option, Some, None, option_map, if◌then◌else◌}
-use Rattle.std.specs.List.{AllByRecursion}
+use Rattle.std.specs.Prelude.{◌≡◌, ◌≤◌, ℕ, ◌-◌, max, Bool, false, nat_le, if◌then◌else◌}
+use Rattle.std.specs.Prelude.{List, ◌∷◌, Option, Some, None, option_map}
+use Rattle.std.specs.List.{AllByRecursion, list_any}
 use Rattle.pim_addr.specs.Order.{Place, IsToldBefore}
 use Rattle.pim_hello.specs.declared.fault.HelloFault.{HelloFault}
 use Rattle.pim_hello.specs.Faults.{number_of, faults}
 use Rattle.pim_hello.specs.Hello.{Parameters}
 use Rattle.pim_hello.specs.Neighbours.{Neighbour, Table, neighbour_at, waited, passed_to, is_over, without_ended}
-use Rattle.pim_hello.specs.Neighbours.{says_goodbye, lifetime, heard_from, IsAscending}
+use Rattle.pim_hello.specs.Neighbours.{says_goodbye, lifetime, heard_from, next_end, IsAscending}
 
 -- What orders faults: the offset of a fault, and the number of its kind.
 abbrev pub place : HelloFault → Place
@@ -64,3 +65,14 @@ ExpiringTwiceIsExpiringOnce = (table : Table) (first second : ℕ) → expired_a
 abbrev pub TablesThatAgreeAreOne : Type 0
 TablesThatAgreeAreOne = (one other : Table) → IsAscending one → IsAscending other → one.moment ≡ other.moment →
     ((address : List ℕ) → neighbour_at address one ≡ neighbour_at address other) → one ≡ other
+
+-- The moment comes no later than this one. `None` is never.
+abbrev pub comes_by : ℕ → Option ℕ → Bool
+comes_by moment None = false
+comes_by moment (Some end) = nat_le end moment
+
+-- By a moment, some neighbour's time is over exactly if `next_end` comes no later.
+abbrev pub TimeIsOverFromNextEnd : Type 0
+TimeIsOverFromNextEnd = (table : Table) (moment : ℕ) → table.moment ≤ moment →
+    list_any (λ (entry : List ℕ × Neighbour). is_over entry.1.left) (passed_to moment table).entries ≡
+    comes_by moment (next_end table)

@@ -2,7 +2,7 @@
 -- It has what the last accepted Hello of each said, and the time that is left.
 use Rattle.std.specs.Prelude.{◌≡◌, ◌↔◌, ℕ, ◌+◌, ◌-◌, ◌*◌, ◌^◌, ◌≤◌, Bool, false, not, ◌&&◌, ◌||◌, ◌==◌, nat_le, nat_eq}
 use Rattle.std.specs.Prelude.{List, [], length, map, filter, Option, Some, None, option_map, is_some, Result, Err, IfOk}
-use Rattle.std.specs.Prelude.{IsOk, OnOk, OnErr, IsTrue, if◌then◌else◌}
+use Rattle.std.specs.Prelude.{◌∷◌, min, IsOk, OnOk, OnErr, IsTrue, if◌then◌else◌}
 use Rattle.std.specs.Option.{option_eq}
 use Rattle.std.specs.Ordering.{nat_cmp}
 use Rattle.std.specs.Cmp.Lexicographic.{slice_cmp}
@@ -42,6 +42,10 @@ is_address address = is_at (slice_cmp nat_cmp address)
 abbrev pub neighbour_at : List ℕ → Table → Option Neighbour
 neighbour_at address table = lookup (is_address address) table.entries
 
+-- What the table has at this address, with the address.
+abbrev pub entry_at : List ℕ → Table → Option (List ℕ × Neighbour)
+entry_at address table = option_map (λ neighbour. (address, neighbour)) (neighbour_at address table)
+
 -- What the last Hello of each neighbour said.
 abbrev pub hellos_of : Table → List Parameters
 hellos_of table = map (λ entry. entry.1.parameters) table.entries
@@ -68,6 +72,22 @@ is_over (Some left) = left == 0
 abbrev pub without_ended : Table → Table
 without_ended table =
     record { moment = table.moment; entries = filter (λ entry. not (is_over entry.1.left)) table.entries }
+
+-- The lesser of two times, where `None` is never.
+abbrev pub sooner : Option ℕ → Option ℕ → Option ℕ
+sooner None b = b
+sooner (Some a) None = Some a
+sooner (Some a) (Some b) = Some (min a b)
+
+-- The least time that is left to one of these neighbours; `None` if all are kept forever.
+unfoldable pub least_left : List (List ℕ × Neighbour) → Option ℕ
+least_left [] = None
+least_left (entry ∷ entries) = sooner entry.1.left (least_left entries)
+
+-- The first moment, from the present one on, at which a neighbour's time is over; `None` if none's
+-- ever is.
+abbrev pub next_end : Table → Option ℕ
+next_end table = option_map (λ left. table.moment + left) (least_left table.entries)
 
 -- ---- a Hello
 

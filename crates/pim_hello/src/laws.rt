@@ -3,6 +3,7 @@
 
 ghost use Rattle.pim_hello.specs.Laws.{FirstFaultIsLeast, HearingChangesItsSenderAlone, TimePassesForAll};
 ghost use Rattle.pim_hello.specs.Laws.{ExactlyTheEndedGo, ExpiringTwiceIsExpiringOnce, TablesThatAgreeAreOne};
+ghost use Rattle.pim_hello.specs.Laws.{TimeIsOverFromNextEnd};
 
 use pim_addr::first_of_parts_is_least;
 
@@ -37,4 +38,9 @@ pub fn expiring_twice_is_expiring_once()
 /// Two tables of one moment, with ascending addresses, are equal if they agree at every address.
 pub fn tables_that_agree_are_one()
     ensures { TablesThatAgreeAreOne }
+{}
+
+/// By a moment, some neighbour's time is over exactly if `next_end` comes no later.
+pub fn time_is_over_from_next_end()
+    ensures { TimeIsOverFromNextEnd }
 {}

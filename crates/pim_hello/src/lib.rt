@@ -8,7 +8,8 @@
 //!   caller's condition.
 //! - `Neighbours`, one for each port, is a map from an address to its last accepted Hello, without
 //!   the Address List, and the time left. `hear` changes its sender's entry alone, and `expire`
-//!   removes exactly those whose time has ended.
+//!   removes exactly those whose time has ended. `next_end` returns the first moment at which a
+//!   neighbour's time is over.
 //! - `hear` returns `Full` exactly if the sender is new, says no goodbye, and the port has 1,024
 //!   neighbours. A goodbye needs no memory, nor does a known sender that the Hello keeps forever,
 //!   and neither is refused. A refusal changes nothing.
@@ -47,7 +48,8 @@ pub use hello::{Hello, reads_back};
 pub use interval::PortDelays;
 pub use laws::{
     exactly_the_ended_go, expiring_twice_is_expiring_once, first_fault_is_least,
-    hearing_changes_its_sender_alone, tables_that_agree_are_one, time_passes_for_all,
+    hearing_changes_its_sender_alone, tables_that_agree_are_one, time_is_over_from_next_end,
+    time_passes_for_all,
 };
 pub use neighbours::Neighbours;
 pub use parameters::Parameters;

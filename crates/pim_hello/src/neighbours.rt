@@ -1,11 +1,12 @@
 //! The neighbours of one port (RFC 7761, 4.3.1 and 4.3.2).
 
-ghost use Rattle.std.specs.Prelude.{◌≡◌, ◌≤◌, ◌^◌, length, is_some, not, ◌&&◌, nat_le};
+ghost use Rattle.std.specs.Prelude.{◌≡◌, ◌≤◌, ◌^◌, length, is_some, option_map, not, ◌&&◌, nat_le};
 ghost use Rattle.pim_hello.specs.Interval.{override_interval};
 ghost use Rattle.pim_hello.specs.Kept.{parameters_seen};
 ghost use Rattle.pim_hello.specs.Seen.{hello_seen};
 ghost use Rattle.pim_hello.specs.Neighbours.{no_neighbours, neighbour_at, passed_to, without_ended, hellos_of, Hears};
-ghost use Rattle.pim_hello.specs.Neighbours.{IsAscending, IsSound};
+ghost use Rattle.pim_hello.specs.Neighbours.{IsAscending, IsSound, entry_at, next_end};
+ghost use Rattle.pim_hello.specs.Walk.{neighbour_seen};
 
 use crate::heard::{Heard, NeighbourFault};
 use crate::hearing::{end_of_time, says_goodbye, told};
@@ -13,7 +14,7 @@ use crate::hello::Hello;
 use crate::interval::PortDelays;
 use crate::parameters::{Kept, Parameters};
 use crate::roster::Roster;
-use crate::walk::KnownNeighbours;
+use crate::walk::{KnownNeighbour, KnownNeighbours, neighbour_at};
 use pim_addr::Family;
 use std::alloc::Global;
 use std::marker::Model;
@@ -92,6 +93,27 @@ impl<F: Family> Neighbours<F> {
         ensures { result ≡ is_some (neighbour_at (F.bytes_of from) self.now) }
     {
         self.roster.get(from).is_some()
+    }
+
+    /// What the table has of this address, as `entries` gives it.
+    pub fn get(&self, from: F::Addr) -> Option<KnownNeighbour<F::Addr>>
+        ensures { option_map (neighbour_seen F.bytes_of) result ≡ entry_at (F.bytes_of from) self.now }
+    {
+        match self.roster.get(from) {
+            Some(kept) => Some(neighbour_at(from, kept, self.moment)),
+            None => None,
+        }
+    }
+
+    /// The first moment, from the present one on, at which a neighbour's time is over; `None` if
+    /// none's ever is. It looks at the neighbour whose time ends first.
+    pub fn next_end(&self) -> Option<u64>
+        ensures { result ≡ next_end self.now }
+    {
+        match self.roster.first_end() {
+            Some(end) => Some(end.max(self.moment)),
+            None => None,
+        }
     }
 
     /// Takes a Hello at the moment `now`, in milliseconds. What it says replaces what was kept of

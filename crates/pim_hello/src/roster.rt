@@ -10,6 +10,7 @@ ghost use Rattle.pim_hello.specs.Interval.{override_interval};
 ghost use Rattle.pim_hello.specs.Kept.{hello_of_kept};
 ghost use Rattle.pim_hello.specs.Told.{ComesTo, props};
 ghost use Rattle.pim_hello.specs.Index.{AddsEnd, RemovesEnd, IndexesEnds, NoneEnded, end_kept, ended_by};
+ghost use Rattle.pim_hello.specs.Index.{least_end};
 
 use crate::interval::PortDelays;
 use crate::parameters::Kept;
@@ -134,6 +135,14 @@ impl<A: Ord + Copy> Roster<A> {
         remove_end(&mut self.ends, end, address);
         let known = self.neighbours.remove(&address);
         self.told = known_without(self.told, known);
+    }
+
+    /// The moment at which the first of the neighbours' times ends; `None` if none ever ends.
+    pub(crate) fn first_end(&self) -> Option<u64>
+        ensures { result ≡ least_end self.now.neighbours.entries }
+    {
+        let (end, _address) = *self.ends.first()?;
+        Some(end)
     }
 
     /// Removes the neighbour whose time ends first, if it has ended by this moment.
