@@ -2,13 +2,15 @@
 
 use crate::key::What;
 
-/// A Join or a Prune for one machine of a group.
-#[derive(Clone, Copy)]
-pub(crate) struct Event<A> {
+/// A Join or a Prune for one machine of a group (RFC 7761, 4.5.1 to 4.5.3).
+#[derive(Clone, Copy, Debug, PartialEq, Eq)]
+pub struct Event<A> {
     /// Whether it is a Join rather than a Prune.
-    pub(crate) joins: bool,
-    pub(crate) group: A,
-    pub(crate) what: What<A>,
+    pub joins: bool,
+    /// The group.
+    pub group: A,
+    /// Which machine of the group.
+    pub what: What<A>,
 }
 
 /// What a port knows of its neighbours when a message comes.

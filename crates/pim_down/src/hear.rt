@@ -67,8 +67,8 @@ fn is_known<F: Family>(routes: &Routes<F>, group: F::Addr, rp: F::Addr) -> bool
 }
 
 /// The event of an entry of a joined or pruned list of the group. A Join(*,G) whose RP isn't RP(G)
-/// is none. The table is asked only for a Join(*,G), and a set has at most one.
-pub(crate) fn event_of<F: Family>(
+/// is none (RFC 7761, 4.5.1). The table is asked only for a Join(*,G), and a set has at most one.
+pub fn event_of<F: Family>(
     routes: &Routes<F>,
     joins: bool,
     group: F::Addr,

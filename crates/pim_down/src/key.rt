@@ -10,7 +10,7 @@ use std::cmp::Ordering;
 use std::marker::PhantomData;
 
 /// One of the machines that a port has for a group (RFC 7761, 4.5).
-#[derive(Clone, Copy, Debug, PartialEq, Eq)]
+#[derive(Clone, Copy, Debug, PartialEq, Eq, PartialOrd, Ord)]
 pub enum What<A> {
     /// (*,G).
     Star,
@@ -21,7 +21,7 @@ pub enum What<A> {
 }
 
 /// The key of one machine: its port, its group, and which machine of the group it is.
-#[derive(Clone, Copy, Debug, PartialEq, Eq)]
+#[derive(Clone, Copy, Debug, PartialEq, Eq, PartialOrd, Ord)]
 pub struct Key<A> {
     /// The port, numbered from 0.
     pub port: usize,
@@ -42,9 +42,9 @@ pub fn compare_addresses<F: Family>(a: F::Addr, b: F::Addr) -> Ordering
     F::number(a).cmp(&F::number(b))
 }
 
-/// (*,G) first, then (S,G) by source, then (S,G,rpt) by source.
+/// Compares two machines of a group: (*,G) first, then (S,G) by source, then (S,G,rpt) by source.
 #[tactic(auto, unfolding(crate::specs::Key::what_cmp))]
-pub(crate) fn compare_whats<F: Family>(a: &What<F::Addr>, b: &What<F::Addr>) -> Ordering
+pub fn compare_whats<F: Family>(a: &What<F::Addr>, b: &What<F::Addr>) -> Ordering
     ensures { result ≡ what_cmp (what_seen F.bytes_of a.now) (what_seen F.bytes_of b.now) }
 {
     match (a, b) {

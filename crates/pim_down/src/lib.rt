@@ -57,10 +57,11 @@ mod sweep;
 mod timers;
 mod walk;
 
-pub use event::Timing;
+pub use event::{Event, Timing};
 pub use fault::HearFault;
 pub use group::GroupMachines;
-pub use key::{Key, What, compare_addresses};
+pub use hear::event_of;
+pub use key::{Key, What, compare_addresses, compare_whats};
 pub use laws::{
     a_map_has_one_list, change_acts_at_its_key, echo_names_a_machine, end_acts_at_each_key,
     event_acts_at_each_key, event_keeps_the_order, every_state_has_a_run, firing_has_one_end,
