@@ -13,5 +13,8 @@ pub mod RunTo
 pub mod PastRefreshes
 pub mod Courses
 pub mod Onward
+pub mod Happenings
+pub mod ToFiring
+pub mod Timeouts
 pub mod Compared
 pub mod ToTell

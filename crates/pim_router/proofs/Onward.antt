@@ -26,7 +26,7 @@ at_most_one false = omega arith
 -- ---- one turn
 
 module _ (timers : TimersRunOut) (moment : ℕ) where
-  data Onward (state : RouterState) : Type 0 where
+  pub data Onward (state : RouterState) : Type 0 where
     resting : turn moment state ≡ rests → Onward state
     moving : (next : RouterState) → turn moment state ≡ moves next → turns_left moment next < turns_left moment state → Onward state
     echoing : (port : ℕ) (group : List ℕ) (what : What (List ℕ)) (next : RouterState) → turn moment state ≡ tells (Echo port group what) next →
@@ -80,7 +80,7 @@ module _ (timers : TimersRunOut) (moment : ℕ) where
     onward_by true some = some_go some
     onward_by false none = timers_turn none (fired state.machines.records) refl
 
-    onward : Onward state
+    pub onward : Onward state
     onward = onward_by (list_any has_ended state.tables) refl
 
   -- ---- a run

@@ -36,7 +36,7 @@ pub none_over : (es : List (List ℕ × Neighbour)) → AllByRecursion HasTime (
 none_over [] = tt
 none_over (e ∷ es) = none_over_step e es (over e) refl (none_over es)
 
-nobody : (es : List (List ℕ × Neighbour)) → AllByRecursion HasTime es → list_any over es ≡ false
+pub nobody : (es : List (List ℕ × Neighbour)) → AllByRecursion HasTime es → list_any over es ≡ false
 nobody [] all = refl
 nobody (e ∷ es) all = rw all.0 (nobody es all.1)
 
@@ -62,11 +62,11 @@ none_goes_step table tables true is more none = absurd (false≢true (sym none �
 none_goes_step table tables false is more none =
     ap (λ t. t ∷ map without_ended tables) (all_there table (all_stay table.entries is)) ∙ ap (λ ts. table ∷ ts) (more (rw is at none))
 
-none_goes : (tables : List Table) → list_any has_ended tables ≡ false → map without_ended tables ≡ tables
+pub none_goes : (tables : List Table) → list_any has_ended tables ≡ false → map without_ended tables ≡ tables
 none_goes [] none = refl
 none_goes (table ∷ tables) none = none_goes_step table tables (has_ended table) refl (none_goes tables) none
 
-goes : (moment : ℕ) (state : RouterState) → list_any has_ended state.tables ≡ true →
+pub goes : (moment : ℕ) (state : RouterState) → list_any has_ended state.tables ≡ true →
     turn moment state ≡ moves (with_tables state (map without_ended state.tables))
 unfolding turn
 goes moment state some = rw some refl
@@ -90,7 +90,7 @@ current_at_start moment (table ∷ tables) all =
     (ap without_ended (no_time_passes table moment all.0.moment_now) ∙ all_there table all.0.none_ended)
     ∙ ap (λ ts. table ∷ ts) (current_at_start moment tables all.1)
 
-now_at : (at later : ℕ) → at ≤ later → at + (later - at) ≡ later
+pub now_at : (at later : ℕ) → at ≤ later → at + (later - at) ≡ later
 now_at at later le = omega (arith, le)
 
 pub current_later : (moment later : ℕ) → moment ≤ later → (tables : List Table) → AllByRecursion (IsCurrent moment) tables →
@@ -118,7 +118,7 @@ module _ (twice : ExpiringTwiceIsExpiringOnce) (ports : List Port) (routes : Rou
     refresh = next - machines.moment;
   }
 
-  nobody_over : (ts : List Table) (at : ℕ) → list_any has_ended (map (expired_at at) ts) ≡ false
+  pub nobody_over : (ts : List Table) (at : ℕ) → list_any has_ended (map (expired_at at) ts) ≡ false
   nobody_over [] at = refl
   nobody_over (t ∷ ts) at = rw (nobody (filter stays (passed_to at t).entries) (none_over (passed_to at t).entries)) (nobody_over ts at)
 
@@ -128,7 +128,7 @@ module _ (twice : ExpiringTwiceIsExpiringOnce) (ports : List Port) (routes : Rou
 
   -- ---- a millisecond
 
-  later_tables : (at : ℕ) (ts : List Table) → map without_ended (map (passed_to (at + 1)) (map (expired_at at) ts)) ≡ map (expired_at (at + 1)) ts
+  pub later_tables : (at : ℕ) (ts : List Table) → map without_ended (map (passed_to (at + 1)) (map (expired_at at) ts)) ≡ map (expired_at (at + 1)) ts
   later_tables at [] = refl
   later_tables at (t ∷ ts) =
       let later : max at (at + 1) ≡ at + 1 = omega arith in
@@ -138,7 +138,7 @@ module _ (twice : ExpiringTwiceIsExpiringOnce) (ports : List Port) (routes : Rou
   less_one : (n at : ℕ) → n - at - 1 ≡ n - (at + 1)
   less_one n at = omega arith
 
-  ticked : (machines : Downstream) → with_tables (tick (router machines)) (map without_ended (tick (router machines)).tables) ≡ router (down.tick machines)
+  pub ticked : (machines : Downstream) → with_tables (tick (router machines)) (map without_ended (tick (router machines)).tables) ≡ router (down.tick machines)
   ticked machines =
       ap (λ ts. with_tables (tick (router machines)) ts) (later_tables machines.moment start)
       ∙ ap (λ (refresh : ℕ). record { ports = ports; routes = routes; machines = down.tick machines; tables = map (expired_at (machines.moment + 1)) start; refresh = refresh })

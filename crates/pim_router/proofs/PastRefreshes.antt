@@ -247,7 +247,7 @@ module _ (twice : ExpiringTwiceIsExpiringOnce) (ports : List Port) (routes : Rou
 -- ---- what the code keeps
 
 -- there is one such number
-one_count : (end next first other : ℕ) → end ≤ next + 60000 * first → next + 60000 * first < max end next + 60000 →
+pub one_count : (end next first other : ℕ) → end ≤ next + 60000 * first → next + 60000 * first < max end next + 60000 →
     end ≤ next + 60000 * other → next + 60000 * other < max end next + 60000 → first ≡ other
 one_count end next first other all no_more all' no_more' = omega (arith, all, no_more, all', no_more')
 

@@ -1,9 +1,16 @@
 -- The statements of the laws in `src/laws.rt`.
-use Rattle.std.specs.Prelude.{◌≡◌, ◌≢◌, ◌<◌, ◌≤◌, ℕ, List, ◌++◌}
+use Rattle.std.specs.Prelude.{◌≡◌, ◌≢◌, ◌<◌, ◌≤◌, ◌+◌, ◌-◌, ℕ, false}
+use Rattle.std.specs.Prelude.{List, [], ◌∷◌, ◌++◌, map, Some}
 use Rattle.pim_addr.specs.declared.family.AddressFamily.{AddressFamily}
 use Rattle.pim_router.specs.declared.step.Step.{Step}
 use Rattle.pim_router.specs.declared.step.Step.TheVariants.{Reached}
 use Rattle.pim_router.specs.Course.{Input, Telling, IsCourse, HasCourse}
+use Rattle.pim_down.specs.declared.step.Firing.{Firing}
+use Rattle.pim_hello.specs.Laws.{comes_by}
+use Rattle.pim_hello.specs.Neighbours.{passed_to}
+use Rattle.pim_router.specs.Happening.{Happening, timer_fired, Passes, Happens, FiresAfter, gone_between, gone_within}
+use Rattle.pim_router.specs.Happening.{at_moment, gone_from, first_timeout}
+use Rattle.pim_router.specs.Sound.{IsRouter}
 use Rattle.pim_router.specs.State.{RouterState}
 use Rattle.pim_router.specs.Time.{Runs, turns_left}
 
@@ -39,3 +46,42 @@ CourseGoesOn = (family : AddressFamily) (earlier later : List Input) (state betw
 abbrev pub EveryListHasACourse : Type 0
 EveryListHasACourse = (family : AddressFamily) (inputs : List Input) (state : RouterState) →
     HasCourse family inputs state
+
+-- ---- what happens, turn by turn
+
+-- Turns up to a moment, and then turns up to a later one, are turns up to the later one, and what
+-- happens in them follows one after the other.
+abbrev pub PassingGoesOn : Type 0
+PassingGoesOn = (earlier later : ℕ) (state between after : RouterState) (told more : List (ℕ × Happening)) →
+    earlier ≤ later → Passes earlier state told between → Passes later between more after →
+    Passes later state (told ++ more) after
+
+-- Whatever happens up to a later moment after some turns happens after what happened in these.
+abbrev pub HappeningGoesOn : Type 0
+HappeningGoesOn = (earlier later : ℕ) (state between after : RouterState) (told more : List (ℕ × Happening)) →
+    earlier ≤ later → Passes earlier state told between → Happens later between more after →
+    Happens later state (told ++ more) after
+
+-- What happens up to a moment, and the state then, are determined.
+abbrev pub HappeningHasOneEnd : Type 0
+HappeningHasOneEnd = (moment : ℕ) (state after other : RouterState) (told said : List (ℕ × Happening)) →
+    Happens moment state told after → Happens moment state said other → (told ≡ said) × (after ≡ other)
+
+-- Up to the first timer that fires, neighbours go, and then the timer fires.
+abbrev pub FiringPasses : Type 0
+FiringPasses = (moment : ℕ) (state after : RouterState) (told : Firing (List ℕ)) → FiresAfter moment state told after →
+    Passes moment state (gone_between state after ++ (after.machines.moment, timer_fired told) ∷ []) after
+
+-- No neighbour goes before `first_timeout`.
+abbrev pub NobodyGoesBeforeFirstTimeout : Type 0
+NobodyGoesBeforeFirstTimeout = (state : RouterState) (passed : ℕ) → IsRouter state →
+    comes_by (state.machines.moment + passed) (first_timeout state.tables) ≡ false →
+    gone_within passed state.machines.moment state.tables ≡ []
+
+-- `first_timeout` is later than the present moment. Until then exactly the neighbours go whose time
+-- is over at that moment.
+abbrev pub TheEndedGoAtFirstTimeout : Type 0
+TheEndedGoAtFirstTimeout = (state : RouterState) (moment : ℕ) → IsRouter state →
+    first_timeout state.tables ≡ Some moment → (state.machines.moment < moment)
+    × (gone_within (moment - state.machines.moment) state.machines.moment state.tables ≡
+    at_moment moment (gone_from 0 (map (passed_to moment) state.tables)))

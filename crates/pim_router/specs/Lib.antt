@@ -6,6 +6,7 @@ pub mod Packets
 pub mod Told
 pub mod Time
 pub mod Refreshes
+pub mod Happening
 pub mod Course
 pub mod Laws
 pub mod Canonical

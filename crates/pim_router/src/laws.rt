@@ -1,9 +1,11 @@
 //! Laws of the definitions: runs and courses. These functions do nothing.
 
 ghost use Rattle.pim_router.specs.Laws.{RunHasOneEnd, RunGoesOn, RunsComeNearer, CourseHasOneEnd, CourseGoesOn};
-ghost use Rattle.pim_router.specs.Laws.{EveryListHasACourse};
+ghost use Rattle.pim_router.specs.Laws.{EveryListHasACourse, PassingGoesOn, HappeningGoesOn, HappeningHasOneEnd};
+ghost use Rattle.pim_router.specs.Laws.{FiringPasses, NobodyGoesBeforeFirstTimeout, TheEndedGoAtFirstTimeout};
 
 use pim_down::timers_run_out;
+use pim_hello::time_is_over_from_next_end;
 
 /// A run up to a moment has at most one end.
 pub fn run_has_one_end()
@@ -38,4 +40,38 @@ pub fn every_list_has_a_course()
     ensures { EveryListHasACourse }
 {
     timers_run_out();
+}
+
+/// Turns up to a moment, and then turns up to a later one, are turns up to the later one.
+pub fn passing_goes_on()
+    ensures { PassingGoesOn }
+{}
+
+/// Whatever happens up to a later moment after some turns happens after what happened in these.
+pub fn happening_goes_on()
+    ensures { HappeningGoesOn }
+{}
+
+/// What happens up to a moment, and the state then, are determined.
+pub fn happening_has_one_end()
+    ensures { HappeningHasOneEnd }
+{}
+
+/// Up to the first timer that fires neighbours go, and then the timer fires.
+pub fn firing_passes()
+    ensures { FiringPasses }
+{}
+
+/// No neighbour goes before the first moment at which the time of one is over.
+pub fn nobody_goes_before_first_timeout()
+    ensures { NobodyGoesBeforeFirstTimeout }
+{
+    time_is_over_from_next_end();
+}
+
+/// Up to that moment exactly the neighbours go whose time is over then.
+pub fn the_ended_go_at_first_timeout()
+    ensures { TheEndedGoAtFirstTimeout }
+{
+    time_is_over_from_next_end();
 }

@@ -11,8 +11,9 @@
 //! has changed. The port exists, and the packet has fewer than 2^32 bytes.
 //!
 //! `run_to` lets time pass up to a moment of at most 10^15 ms and stops at each PruneEcho and each
-//! refresh. `run_past_refreshes` stops at a PruneEcho alone and counts the refreshes. Neither takes
-//! memory. Packets and time leave the ports, the route table and the limit of records unchanged.
+//! refresh. `run_past_refreshes` stops at a PruneEcho alone and counts the refreshes. `fire_to`
+//! passes refreshes, stops at each timer that fires, and says which; `next_timeout` returns when the
+//! next neighbour goes. None takes memory. Packets and time leave the ports, the route table and the limit of records unchanged.
 //! Between calls no neighbour's time is over, and each port is within its limits: 1,024 neighbours,
 //! and the limit of records (`ports_keep_their_limits`).
 //!
@@ -36,8 +37,9 @@ mod verdict;
 pub use canonical::same_wants;
 pub use config::{Config, ConfigFault, PortConfig};
 pub use laws::{
-    course_goes_on, course_has_one_end, every_list_has_a_course, run_goes_on, run_has_one_end,
-    runs_come_nearer,
+    course_goes_on, course_has_one_end, every_list_has_a_course, firing_passes, happening_goes_on,
+    happening_has_one_end, nobody_goes_before_first_timeout, passing_goes_on, run_goes_on,
+    run_has_one_end, runs_come_nearer, the_ended_go_at_first_timeout,
 };
 pub use router::Router;
 pub use step::Step;

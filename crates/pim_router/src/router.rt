@@ -8,11 +8,12 @@
 //! doesn't ask for a star whose time ends with it.
 
 ghost use Rattle.std.specs.Prelude.{◌≡◌, ◌≢◌, ◌<◌, ◌≤◌, ◌+◌, ◌*◌, ◌^◌, ℕ, length, replicate, map, max};
-ghost use Rattle.std.specs.Prelude.{IfOk, OnErr, IsTrue, not, nat_lt};
+ghost use Rattle.std.specs.Prelude.{IfOk, OnErr, IsTrue, not, nat_lt, None, option_map};
 ghost use Rattle.pim_hello.specs.Laws.{expired_at};
 ghost use Rattle.pim_frame.specs.Frame.{content, hello, join_prune};
-ghost use Rattle.pim_hello.specs.Neighbours.{no_neighbours, needs_no_memory};
+ghost use Rattle.pim_hello.specs.Neighbours.{no_neighbours, needs_no_memory, sooner, entry_at};
 ghost use Rattle.pim_hello.specs.Seen.{hello_seen};
+ghost use Rattle.pim_hello.specs.Walk.{neighbour_seen};
 ghost use Rattle.pim_router.specs.Config.{config_faults, IsMadeUnless};
 ghost use Rattle.pim_router.specs.Packets.{Receives, causes, received, body_causes, body_received, message_causes};
 ghost use Rattle.pim_router.specs.Packets.{hello_causes, hello_taken, new_by, may_grow};
@@ -20,10 +21,11 @@ ghost use Rattle.pim_router.specs.Packets.{message_taken, room_causes, unless, t
 ghost use Rattle.pim_router.specs.Seen.{setup_seen, port_seen, packet_seen, step_seen};
 ghost use Rattle.pim_router.specs.Time.{Runs, turns_left};
 ghost use Rattle.pim_router.specs.Refreshes.{RunsPast, told_behind, first_untold};
+ghost use Rattle.pim_router.specs.Happening.{FiresTo, first_timeout, first_unpassed};
 ghost use Rattle.pim_router.specs.declared.step.Step.TheVariants.{Reached};
 ghost use Rattle.pim_down.specs.declared.step.Step.TheVariants as fires;
 ghost use Rattle.pim_down.specs.Records.{count_on};
-ghost use Rattle.pim_down.specs.Seen.{step_seen as fires_seen};
+ghost use Rattle.pim_down.specs.Seen.{step_seen as fires_seen, firing_seen};
 ghost use Rattle.pim_router.specs.Told.{hello_verdict, message_verdict};
 ghost use Rattle.pim_router.specs.Sound.{IsRouter};
 ghost use Rattle.pim_router.specs.State.{new_router, port_at, setup_of, table_at};
@@ -33,10 +35,10 @@ use crate::laws::runs_come_nearer;
 use crate::step::Step;
 use crate::verdict::{Malformed, Store, Verdict};
 use pim_addr::{Family, Routes};
-use pim_down::{HearFault, Ports, Step as Fires, Timing};
+use pim_down::{Firing, HearFault, Ports, Step as Fires, Timing, firing_says_more, timers_run_out};
 use pim_frame::{Body, open};
 use pim_hello::{
-    Heard, Hello, KnownNeighbours, NeighbourFault, Neighbours, PortDelays,
+    Heard, Hello, KnownNeighbour, KnownNeighbours, NeighbourFault, Neighbours, PortDelays,
     expiring_twice_is_expiring_once,
 };
 use pim_jp::JpView;
@@ -128,6 +130,40 @@ fn first_untold<A: Copy>(step: Fires<A>, now: u64) -> u64
         Fires::Echo { .. } => now,
         Fires::Reached => now + 1,
     }
+}
+
+/// The first moment whose refresh hasn't passed where the machines stopped at `now`: a timer fires
+/// before the refresh of its millisecond.
+fn first_unpassed<A>(fired: &Option<Firing<A>>, now: u64) -> u64
+    requires { now ≤ 10 ^ 15 }
+    ensures { result ≡ first_unpassed fired.now now }
+{
+    match fired {
+        Some(_) => now,
+        None => now + 1,
+    }
+}
+
+/// The lesser of two times, where `None` is never.
+fn sooner(a: Option<u64>, b: Option<u64>) -> Option<u64>
+    ensures { result ≡ sooner a b }
+{
+    match (a, b) {
+        (Some(a), Some(b)) => Some(a.min(b)),
+        (Some(a), None) => Some(a),
+        (None, b) => b,
+    }
+}
+
+/// The first moment at which the time of a neighbour in one of these tables is over.
+fn first_timeout<F: Family>(tables: &[Neighbours<F>]) -> Option<u64>
+    ensures { result ≡ first_timeout tables.now }
+{
+    let mut first = None;
+    for table in tables.iter() {
+        first = sooner(first, table.next_end());
+    }
+    first
 }
 
 /// The number of refreshes before the moment `end`, where the next one comes at `next`.
@@ -229,6 +265,32 @@ impl<'a, F: Family> Router<'a, F> {
         ensures { result ≡ (table_at port self.now).entries }
     {
         self.neighbours[port].entries()
+    }
+
+    /// The number of neighbours of a port.
+    pub fn neighbour_count(&self, port: usize) -> usize
+        requires { port < length self.now.ports }
+        ensures { result ≡ length (table_at port self.now).entries }
+    {
+        self.neighbours[port].count()
+    }
+
+    /// The neighbour of a port with this address, as `neighbours` gives it; `None` if the port has
+    /// none with it.
+    pub fn neighbour(&self, port: usize, address: F::Addr) -> Option<KnownNeighbour<F::Addr>>
+        requires { port < length self.now.ports }
+        ensures { option_map (neighbour_seen F.bytes_of) result
+            ≡ entry_at (F.bytes_of address) (table_at port self.now) }
+    {
+        self.neighbours[port].get(address)
+    }
+
+    /// The first moment at which the time of a neighbour is over; `None` if none's ever is. It looks
+    /// at one neighbour of each port.
+    pub fn next_timeout(&self) -> Option<u64>
+        ensures { result ≡ first_timeout self.now.tables }
+    {
+        first_timeout::<F>(&self.neighbours)
     }
 
     /// The own delays of a port.
@@ -522,5 +584,47 @@ impl<'a, F: Family> Router<'a, F> {
         let refreshes = refreshes_before(self.next_refresh, first_untold(step, stopped));
         self.next_refresh += refreshes * REFRESH_PERIOD;
         (step, refreshes)
+    }
+
+    /// Lets time pass up to this moment, in milliseconds, at most 10^15, or until one timer of the
+    /// machines has fired, and returns that firing. It removes the neighbours whose time is over by
+    /// then, and passes the refreshes on its way. An earlier moment counts as the present one. What
+    /// is still due stays due, and the next call goes on.
+    ///
+    /// By the laws `firing_passes` and `happening_goes_on`, calls up to a moment together do what
+    /// happens up to it. A loop of calls until `None` ends, since `turns_left` falls. A call takes
+    /// no memory, and looks at one timer and at no neighbour whose time isn't over.
+    pub fn fire_to(&mut self, moment: u64) -> Option<Firing<F::Addr>>
+        requires { moment ≤ 10 ^ 15 }
+        ensures fires { FiresTo moment self.old (option_map (firing_seen F.bytes_of) result) self.new }
+        ensures later { self.old.machines.moment ≤ self.new.machines.moment }
+        ensures moment { self.new.machines.moment ≤ max self.old.machines.moment moment }
+        ensures reached { result ≡ None → self.new.machines.moment ≡ max self.old.machines.moment moment }
+        ensures nearer { result ≢ None → turns_left moment self.new < turns_left moment self.old }
+        ensures setup { setup_of self.new ≡ setup_of self.old }
+    {
+        timers_run_out();
+        self.fire_machines(moment)
+    }
+
+    /// Runs the machines to this moment or until one timer has fired, and lets time pass for the
+    /// neighbours.
+    fn fire_machines(&mut self, moment: u64) -> Option<Firing<F::Addr>>
+        requires { moment ≤ 10 ^ 15 }
+        ensures fires { FiresTo moment self.old (option_map (firing_seen F.bytes_of) result) self.new }
+        ensures later { self.old.machines.moment ≤ self.new.machines.moment }
+        ensures moment { self.new.machines.moment ≤ max self.old.machines.moment moment }
+        ensures reached { result ≡ None → self.new.machines.moment ≡ max self.old.machines.moment moment }
+        ensures setup { setup_of self.new ≡ setup_of self.old }
+    {
+        expiring_twice_is_expiring_once();
+        firing_says_more();
+        let fired = self.machines.fire_to(moment);
+        self.machines.is_sound();
+        let halted = self.machines.now();
+        expire_all(&mut self.neighbours, halted);
+        let passed = refreshes_before(self.next_refresh, first_unpassed(&fired, halted));
+        self.next_refresh += passed * REFRESH_PERIOD;
+        fired
     }
 }

@@ -1,0 +1,185 @@
+-- What happens turn by turn: turns that follow one another, and that they have one end.
+use Rattle.std.proofs.Common.{◌≡◌, ◌∙◌, ◌<◌, ◌≤◌, ℕ, zero, suc, ◌==◌, Bool, true, false, List, [], ◌++◌, Option, Some, None, nat_lt, if◌then◌else◌, refl, sym, ap, subst, arith, append_assoc}
+use Rattle.std.specs.List.{list_any}
+use Rattle.std.proofs.lemmas.Bool.{lt-ltb, ltb-true}
+use Rattle.pim_down.specs.declared.machine.Record.{Record}
+use Rattle.pim_down.specs.declared.step.Step.{Step as Fires}
+use Rattle.pim_down.specs.Laws.{TimersRunOut}
+use Rattle.pim_down.specs.Time.{fired}
+use Rattle.pim_router.specs.Happening.{Happening, happens_in, next_of, at_moment, told_then, pass_on, in_turns, Passes}
+use Rattle.pim_router.specs.Laws.{PassingGoesOn, HappeningGoesOn, HappeningHasOneEnd, FiringPasses}
+use Rattle.pim_router.specs.State.{RouterState}
+use Rattle.pim_router.specs.Time.{Outcome, rests, moves, has_ended, turn, turn_of_timers, turn_of_time, tick, turns_left}
+use Rattle.pim_router.proofs.Onward.{resting, moving, echoing, refreshing, onward}
+
+abbrev pub Told : Type 0
+Told = List (ℕ × Happening)
+
+abbrev pub End : Type 0
+End = Option (Told × RouterState)
+
+pair_of : (told said : Told) (end after : RouterState) → ◌≡◌ {A = End} (Some (told, end)) (Some (said, after)) → ◌≡◌ {A = Told × RouterState} (told, end) (said, after)
+pair_of told said end after e = cc
+
+no_end : (told : Told) (after : RouterState) → ◌≡◌ {A = End} None (Some (told, after)) → ⊥
+no_end told after e = cc
+
+none_some : (next : RouterState) → ◌≡◌ {A = Option RouterState} None (Some next) → ⊥
+none_some next e = cc
+
+same_state : (next other : RouterState) → ◌≡◌ {A = Option RouterState} (Some next) (Some other) → next ≡ other
+same_state next other e = cc
+
+-- ---- one turn first
+
+pub pass_none : (moment : ℕ) (state : RouterState) → Passes moment state [] state
+unfolding in_turns
+pass_none moment state = record { turns = 0; passed = refl }
+
+pub pass_first : (moment : ℕ) (state next after : RouterState) (told : Told) → next_of (turn moment state) ≡ Some next → Passes moment next told after →
+    Passes moment state (at_moment state.machines.moment (happens_in state) ++ told) after
+unfolding in_turns
+pass_first moment state next after told n more = record { turns = suc more.turns; passed = rw (n, more.passed) refl }
+
+-- a turn in which nothing happens
+pub pass_quietly : (moment : ℕ) (state next after : RouterState) (told : Told) → next_of (turn moment state) ≡ Some next → happens_in state ≡ [] → Passes moment next told after →
+    Passes moment state told after
+pass_quietly moment state next after told n nothing more =
+    subst (λ (h : List Happening). Passes moment state (at_moment state.machines.moment h ++ told) after) nothing (pass_first moment state next after told n more)
+
+-- ---- induction on turns
+
+joined : (first told : Told) (after : RouterState) (o : End) → told_then first o ≡ Some (told, after) → (more : Told) × (o ≡ Some (more, after)) × (first ++ more ≡ told)
+joined first told after None e = absurd (no_end told after e)
+joined first told after (Some (more, end)) e =
+    let pairs = pair_of (first ++ more) told end after e in
+    (more, ap (λ (x : Told × RouterState). Some (more, x.1)) pairs, ap (λ (x : Told × RouterState). x.0) pairs)
+
+module _ (moment : ℕ) (P : RouterState → Told → RouterState → Type 0) (none : (state : RouterState) → P state [] state)
+    (more : (state next after : RouterState) (told : Told) → next_of (turn moment state) ≡ Some next → P next told after → P state (at_moment state.machines.moment (happens_in state) ++ told) after) where
+  by_within : (turns : ℕ) (state after : RouterState) (told : Told) → in_turns turns moment state ≡ Some (told, after) → P state told after
+  unfolding in_turns
+  by_within zero state after told e = subst (λ (x : Told × RouterState). P state x.0 x.1) (pair_of [] told state after e) (none state)
+  by_within (suc turns) state after told e =
+      elim (next_of (turn moment state)) as (λ o. next_of (turn moment state) ≡ o → P state told after) [
+        | None ↦ λ n. absurd (no_end told after (rw n at e))
+        | Some next ↦ λ n.
+            let j = joined (at_moment state.machines.moment (happens_in state)) told after (in_turns turns moment next) (rw n at e) in
+            subst (λ t. P state t after) j.2 (more state next after j.0 n (by_within turns next after j.0 j.1))
+      ] refl
+
+  pub by_passes : (state after : RouterState) (told : Told) → Passes moment state told after → P state told after
+  by_passes state after told passes = by_within passes.turns state after told passes.passed
+
+-- ---- a turn up to a later moment is the same
+
+module _ (earlier later : ℕ) (le : earlier ≤ later) (state next : RouterState) where
+  later_time : (b : Bool) → nat_lt state.machines.moment earlier ≡ b →
+      next_of (if b then moves (tick state) else rests) ≡ Some next → next_of (turn_of_time later state) ≡ Some next
+  later_time true is h =
+      let less : state.machines.moment < earlier = ltb-true state.machines.moment earlier is in
+      rw (lt-ltb state.machines.moment later (omega (arith, less, le))) h
+  later_time false is h = absurd (none_some next h)
+
+  later_refresh : (b : Bool) (other : Outcome) → next_of (if b then other else turn_of_time earlier state) ≡ Some next →
+      next_of (if b then other else turn_of_time later state) ≡ Some next
+  later_refresh true other h = h
+  later_refresh false other h = later_time (nat_lt state.machines.moment earlier) refl h
+
+  later_timers : (o : Option (Fires (List ℕ) × List (Record (List ℕ)))) → next_of (turn_of_timers earlier state o) ≡ Some next →
+      next_of (turn_of_timers later state o) ≡ Some next
+  later_timers None h = later_refresh (state.refresh == 0) _ h
+  later_timers (Some fire) h = h
+
+  later_all : (b : Bool) (other : Outcome) → next_of (if b then other else turn_of_timers earlier state (fired state.machines.records)) ≡ Some next →
+      next_of (if b then other else turn_of_timers later state (fired state.machines.records)) ≡ Some next
+  later_all true other h = h
+  later_all false other h = later_timers (fired state.machines.records) h
+
+  next_later : next_of (turn earlier state) ≡ Some next → next_of (turn later state) ≡ Some next
+  unfolding turn
+  next_later h = later_all (list_any has_ended state.tables) _ h
+
+-- ---- one after the other
+
+abbrev GoesOn : ℕ → RouterState → Told → RouterState → Type 0
+GoesOn later state told between = (after : RouterState) (more : Told) → Passes later between more after → Passes later state (told ++ more) after
+
+pub passing_goes_on : PassingGoesOn
+passing_goes_on earlier later state between after told more le first second =
+    by_passes earlier (GoesOn later) (λ state after more p. p)
+    (λ state next between told n on after more p.
+    subst (λ t. Passes later state t after) (sym (append_assoc (at_moment state.machines.moment (happens_in state)) told more))
+    (pass_first later state next after (told ++ more) (next_later earlier later le state next n) (on after more p)))
+    state between told first after more second
+
+pub happening_goes_on : HappeningGoesOn
+happening_goes_on earlier later state between after told more le first second =
+    record { passes = passing_goes_on earlier later state between after told more le first second.passes; ends = second.ends }
+
+pub firing_passes : FiringPasses
+firing_passes moment state after told fires =
+    passing_goes_on moment moment state fires.before after _ _ (omega arith) fires.passes (record { turns = 1; passed = fires.fires })
+
+-- ---- one end
+
+never_next : (moment : ℕ) (state : RouterState) (first : Told) (more : RouterState → End) (told : Told) (after : RouterState) → turn moment state ≡ rests →
+    pass_on (next_of (turn moment state)) first more ≡ Some (told, after) → ⊥
+never_next moment state first more told after t e = no_end told after (rw t at e)
+
+module _ (moment : ℕ) where
+  one_within : (m n : ℕ) (state after other : RouterState) (told said : Told) → in_turns m moment state ≡ Some (told, after) → turn moment after ≡ rests →
+      in_turns n moment state ≡ Some (said, other) → turn moment other ≡ rests → ◌≡◌ {A = Told × RouterState} (told, after) (said, other)
+  unfolding in_turns
+  one_within zero zero state after other told said a s b t = sym (pair_of [] told state after a) ∙ pair_of [] said state other b
+  one_within zero (suc n) state after other told said a s b t =
+      let same : after ≡ state = ap (λ (x : Told × RouterState). x.1) (sym (pair_of [] told state after a)) in
+      absurd (never_next moment state (at_moment state.machines.moment (happens_in state)) (in_turns n moment) said other (subst (λ x. turn moment x ≡ rests) same s) b)
+  one_within (suc m) zero state after other told said a s b t =
+      let same : other ≡ state = ap (λ (x : Told × RouterState). x.1) (sym (pair_of [] said state other b)) in
+      absurd (never_next moment state (at_moment state.machines.moment (happens_in state)) (in_turns m moment) told after (subst (λ x. turn moment x ≡ rests) same t) a)
+  one_within (suc m) (suc n) state after other told said a s b t =
+      let first = at_moment state.machines.moment (happens_in state) in
+      elim (next_of (turn moment state)) as (λ o. next_of (turn moment state) ≡ o → ◌≡◌ {A = Told × RouterState} (told, after) (said, other)) [
+        | None ↦ λ e. absurd (no_end told after (rw e at a))
+        | Some next ↦ λ e.
+            let j = joined first told after (in_turns m moment next) (rw e at a) in
+            let k = joined first said other (in_turns n moment next) (rw e at b) in
+            let rest = one_within m n next after other j.0 k.0 j.1 s k.1 t in
+            (λ i. (sym j.2 i, after)) ∙ ap (λ (x : Told × RouterState). (first ++ x.0, x.1)) rest ∙ (λ i. (k.2 i, other))
+      ] refl
+
+pub happening_once : HappeningHasOneEnd
+happening_once moment state after other told said a b =
+    let same = one_within moment a.passes.turns b.passes.turns state after other told said a.passes.passed a.ends b.passes.passed b.ends in
+    (ap (λ (x : Told × RouterState). x.0) same, ap (λ (x : Told × RouterState). x.1) same)
+
+-- ---- each turn comes nearer
+
+module _ (timers : TimersRunOut) (moment : ℕ) where
+  next_nearer : (state next : RouterState) → next_of (turn moment state) ≡ Some next → turns_left moment next < turns_left moment state
+  next_nearer state next n =
+      elim (onward timers moment state) [
+        | resting t ↦ absurd (none_some next (rw t at n))
+        | moving other t nearer ↦ subst (λ s. turns_left moment s < turns_left moment state) (same_state other next (rw t at n)) nearer
+        | echoing port group what other t nearer ↦ subst (λ s. turns_left moment s < turns_left moment state) (same_state other next (rw t at n)) nearer
+        | refreshing other t nearer ↦ subst (λ s. turns_left moment s < turns_left moment state) (same_state other next (rw t at n)) nearer
+      ]
+
+  pub passes_near : (state after : RouterState) (told : Told) → Passes moment state told after → turns_left moment after ≤ turns_left moment state
+  passes_near state after told passes =
+      by_passes moment (λ state told after. turns_left moment after ≤ turns_left moment state) (λ state. omega arith)
+      (λ state next after told n more. let less = next_nearer state next n in omega (arith, less, more))
+      state after told passes
+
+  -- one turn
+  pub one_nearer : (state after : RouterState) (told : Told) → in_turns 1 moment state ≡ Some (told, after) → turns_left moment after < turns_left moment state
+  unfolding in_turns
+  one_nearer state after told e =
+      elim (next_of (turn moment state)) as (λ o. next_of (turn moment state) ≡ o → turns_left moment after < turns_left moment state) [
+        | None ↦ λ n. absurd (no_end told after (rw n at e))
+        | Some next ↦ λ n.
+            let j = joined (at_moment state.machines.moment (happens_in state)) told after (in_turns 0 moment next) (rw n at e) in
+            let same = ap (λ (x : Told × RouterState). x.1) (pair_of [] j.0 next after j.1) in
+            subst (λ s. turns_left moment s < turns_left moment state) same (next_nearer state next n)
+      ] refl
