@@ -1,15 +1,20 @@
 -- What happens turn by turn: turns that follow one another, and that they have one end.
 use Rattle.std.proofs.Common.{◌≡◌, ◌∙◌, ◌<◌, ◌≤◌, ℕ, zero, suc, ◌==◌, Bool, true, false, List, [], ◌++◌, Option, Some, None, nat_lt, if◌then◌else◌, refl, sym, ap, subst, arith, append_assoc}
 use Rattle.std.specs.List.{list_any}
-use Rattle.std.proofs.lemmas.Bool.{lt-ltb, ltb-true}
+use Rattle.std.proofs.lemmas.Bool.{false≢true, lt-ltb, ltb-true}
 use Rattle.pim_down.specs.declared.machine.Record.{Record}
 use Rattle.pim_down.specs.declared.step.Step.{Step as Fires}
 use Rattle.pim_down.specs.Laws.{TimersRunOut}
 use Rattle.pim_down.specs.Time.{fired}
-use Rattle.pim_router.specs.Happening.{Happening, happens_in, next_of, at_moment, told_then, pass_on, in_turns, Passes}
-use Rattle.pim_router.specs.Laws.{PassingGoesOn, HappeningGoesOn, HappeningHasOneEnd, FiringPasses}
+use Rattle.pim_router.specs.Happening.{Happening, happens_in, next_of, at_moment, told_then, pass_on, in_turns, Passes, HasPassed}
+use Rattle.pim_router.specs.Laws.{PassingGoesOn, HappeningGoesOn, HappeningHasOneEnd, RunsPastAreTurns, FiringPasses}
+use Rattle.pim_router.specs.Refreshes.{RunsPast}
+use Rattle.pim_router.specs.declared.step.Step.{Step}
+use Rattle.pim_router.specs.declared.step.Step.TheVariants.{Refresh, Reached}
 use Rattle.pim_router.specs.State.{RouterState}
-use Rattle.pim_router.specs.Time.{Outcome, rests, moves, has_ended, turn, turn_of_timers, turn_of_time, tick, turns_left}
+use Rattle.pim_router.specs.Time.{Outcome, rests, moves, tells, has_ended, turn, turn_of_timers, turn_of_time, tick, run_within, turns_left}
+use Rattle.pim_router.proofs.Runs.{pair_of as run_pair, no_run}
+use Rattle.pim_router.proofs.Turns.{is_reached, said}
 use Rattle.pim_router.proofs.Onward.{resting, moving, echoing, refreshing, onward}
 
 abbrev pub Told : Type 0
@@ -153,6 +158,46 @@ pub happening_once : HappeningHasOneEnd
 happening_once moment state after other told said a b =
     let same = one_within moment a.passes.turns b.passes.turns state after other told said a.passes.passed a.ends b.passes.passed b.ends in
     (ap (λ (x : Told × RouterState). x.0) same, ap (λ (x : Told × RouterState). x.1) same)
+
+-- ---- runs are turns
+
+module _ (moment : ℕ) where
+  run_turns : (turns : ℕ) (state after : RouterState) (answer : Step (List ℕ)) → run_within turns moment state ≡ Some (answer, after) → HasPassed moment state answer after
+  unfolding run_within
+  run_turns zero state after answer e = absurd (no_run answer after e)
+  run_turns (suc turns) state after answer e =
+      elim (turn moment state) as (λ o. turn moment state ≡ o → HasPassed moment state answer after) [
+        | rests ↦ λ t.
+            let same : state ≡ after = ap (λ (x : Step (List ℕ) × RouterState). x.1) (run_pair Reached answer state after (rw t at e)) in
+            record { told = []; passes = subst (λ s. Passes moment state [] s) same (pass_none moment state); ends = λ is. subst (λ s. turn moment s ≡ rests) same t }
+        | moves next ↦ λ t.
+            let more = run_turns turns next after answer (rw t at e) in
+            record {
+              told = at_moment state.machines.moment (happens_in state) ++ more.told;
+              passes = pass_first moment state next after more.told (ap next_of t) more.passes;
+              ends = more.ends;
+            }
+        | tells step end ↦ λ t.
+            let pairs = run_pair step answer end after (rw t at e) in
+            record {
+              told = at_moment state.machines.moment (happens_in state) ++ [];
+              passes = subst (λ s. Passes moment state (at_moment state.machines.moment (happens_in state) ++ []) s) (ap (λ (x : Step (List ℕ) × RouterState). x.1) pairs)
+                  (pass_first moment state end end [] (ap next_of t) (pass_none moment end));
+              ends = λ is. absurd (false≢true (sym (said moment state step end t) ∙ ap (λ (x : Step (List ℕ) × RouterState). is_reached x.0) pairs ∙ ap is_reached is));
+            }
+      ] refl
+
+pub runs_past_turns : RunsPastAreTurns
+unfolding RunsPast
+runs_past_turns zero moment state after answer runs = run_turns moment runs.turns state after answer runs.within
+runs_past_turns (suc refreshes) moment state after answer (between, runs, more) =
+    let first = run_turns moment runs.turns state between Refresh runs.within in
+    let rest = runs_past_turns refreshes moment between after answer more in
+    record {
+      told = first.told ++ rest.told;
+      passes = passing_goes_on moment moment state between after first.told rest.told (omega arith) first.passes rest.passes;
+      ends = rest.ends;
+    }
 
 -- ---- each turn comes nearer
 

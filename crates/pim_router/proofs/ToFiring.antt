@@ -1,5 +1,5 @@
--- Time that passes up to the first timer that fires: quiet milliseconds of the machines are turns of the router, in which
--- neighbours go and refreshes pass.
+-- Time that passes up to the first timer that fires: quiet milliseconds of the machines are turns
+-- of the router, in which neighbours go and refreshes pass.
 use Rattle.std.proofs.Common.{◌≡◌, ◌≢◌, ◌∙◌, ◌<◌, ◌≤◌, ℕ, zero, suc, ◌+◌, ◌-◌, ◌*◌, Bool, true, false, List, [], ◌∷◌, ◌++◌, map, filter, Option, Some, None, min, max, nat_lt, refl, sym, ap, subst, arith}
 use Rattle.std.specs.List.{list_any}
 use Rattle.std.specs.Option.{is_some, option_map}

@@ -8,6 +8,8 @@ use Rattle.pim_hello.specs.Neighbours.{Neighbour, Table, is_over, without_ended,
 use Rattle.pim_down.specs.declared.machine.Record.{Record}
 use Rattle.pim_down.specs.declared.step.Firing.{Firing}
 use Rattle.pim_down.specs.Firing.{firing}
+use Rattle.pim_router.specs.declared.step.Step.{Step}
+use Rattle.pim_router.specs.declared.step.Step.TheVariants.{Reached}
 use Rattle.pim_router.specs.State.{RouterState}
 use Rattle.pim_router.specs.Time.{Outcome, rests, moves, tells, has_ended, turn}
 
@@ -81,6 +83,13 @@ pub record Passes (moment : ℕ) (state : RouterState) (told : List (ℕ × Happ
 pub record Happens (moment : ℕ) (state : RouterState) (told : List (ℕ × Happening)) (after : RouterState) : Type 0 where
   pub passes : Passes moment state told after
   pub ends : turn moment after ≡ rests
+
+-- Some turns up to the moment lead from `state` to `after`. If they end as `Reached`, nothing is
+-- left to do there.
+pub record HasPassed (moment : ℕ) (state : RouterState) (answer : Step (List ℕ)) (after : RouterState) : Type 0 where
+  pub told : List (ℕ × Happening)
+  pub passes : Passes moment state told after
+  pub ends : answer ≡ Reached → turn moment after ≡ rests
 
 -- ---- up to the first timer that fires
 

@@ -9,7 +9,8 @@ use Rattle.pim_down.specs.declared.step.Firing.{Firing}
 use Rattle.pim_hello.specs.Laws.{comes_by}
 use Rattle.pim_hello.specs.Neighbours.{passed_to}
 use Rattle.pim_router.specs.Happening.{Happening, timer_fired, Passes, Happens, FiresAfter, gone_between, gone_within}
-use Rattle.pim_router.specs.Happening.{at_moment, gone_from, first_timeout}
+use Rattle.pim_router.specs.Happening.{HasPassed, at_moment, gone_from, first_timeout}
+use Rattle.pim_router.specs.Refreshes.{RunsPast}
 use Rattle.pim_router.specs.Sound.{IsRouter}
 use Rattle.pim_router.specs.State.{RouterState}
 use Rattle.pim_router.specs.Time.{Runs, turns_left}
@@ -66,6 +67,12 @@ HappeningGoesOn = (earlier later : ℕ) (state between after : RouterState) (tol
 abbrev pub HappeningHasOneEnd : Type 0
 HappeningHasOneEnd = (moment : ℕ) (state after other : RouterState) (told said : List (ℕ × Happening)) →
     Happens moment state told after → Happens moment state said other → (told ≡ said) × (after ≡ other)
+
+-- A run past refreshes is a number of such turns. So what happens up to a moment leads to the state
+-- to which the runs up to it lead.
+abbrev pub RunsPastAreTurns : Type 0
+RunsPastAreTurns = (refreshes moment : ℕ) (state after : RouterState) (answer : Step (List ℕ)) →
+    RunsPast refreshes moment state answer after → HasPassed moment state answer after
 
 -- Up to the first timer that fires, neighbours go, and then the timer fires.
 abbrev pub FiringPasses : Type 0

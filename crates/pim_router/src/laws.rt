@@ -3,6 +3,7 @@
 ghost use Rattle.pim_router.specs.Laws.{RunHasOneEnd, RunGoesOn, RunsComeNearer, CourseHasOneEnd, CourseGoesOn};
 ghost use Rattle.pim_router.specs.Laws.{EveryListHasACourse, PassingGoesOn, HappeningGoesOn, HappeningHasOneEnd};
 ghost use Rattle.pim_router.specs.Laws.{FiringPasses, NobodyGoesBeforeFirstTimeout, TheEndedGoAtFirstTimeout};
+ghost use Rattle.pim_router.specs.Laws.{RunsPastAreTurns};
 
 use pim_down::timers_run_out;
 use pim_hello::time_is_over_from_next_end;
@@ -55,6 +56,11 @@ pub fn happening_goes_on()
 /// What happens up to a moment, and the state then, are determined.
 pub fn happening_has_one_end()
     ensures { HappeningHasOneEnd }
+{}
+
+/// A run past refreshes is a number of turns in which things happen.
+pub fn runs_past_are_turns()
+    ensures { RunsPastAreTurns }
 {}
 
 /// Up to the first timer that fires neighbours go, and then the timer fires.

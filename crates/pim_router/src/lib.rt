@@ -12,10 +12,10 @@
 //!
 //! `run_to` lets time pass up to a moment of at most 10^15 ms and stops at each PruneEcho and each
 //! refresh. `run_past_refreshes` stops at a PruneEcho alone and counts the refreshes. `fire_to`
-//! passes refreshes, stops at each timer that fires, and says which; `next_timeout` returns when the
-//! next neighbour goes. None takes memory. Packets and time leave the ports, the route table and the limit of records unchanged.
-//! Between calls no neighbour's time is over, and each port is within its limits: 1,024 neighbours,
-//! and the limit of records (`ports_keep_their_limits`).
+//! passes refreshes, stops at each timer that fires, and says which; `next_timeout` returns when
+//! the next neighbour goes. None takes memory. Packets and time leave the ports, the route table
+//! and the limit of records unchanged. Between calls no neighbour's time is over, and each port is
+//! within its limits: 1,024 neighbours, and the limit of records (`ports_keep_their_limits`).
 //!
 //! `canonical` returns the messages that ask an upstream neighbour for what the ports want of it.
 //! `triggered` returns those of the change from the form that was last announced to it.
@@ -23,7 +23,8 @@
 //! `TooBig` exactly if a star is too big for a message, whether memory is refused or not.
 //!
 //! Laws: a run has at most one end, runs and courses can be joined, and every list of inputs has
-//! exactly one course.
+//! exactly one course. What happens up to a moment is determined, calls of `fire_to` join into it,
+//! and it leads to the state to which runs lead.
 #![tactic(auto)]
 
 mod canonical;
@@ -39,7 +40,7 @@ pub use config::{Config, ConfigFault, PortConfig};
 pub use laws::{
     course_goes_on, course_has_one_end, every_list_has_a_course, firing_passes, happening_goes_on,
     happening_has_one_end, nobody_goes_before_first_timeout, passing_goes_on, run_goes_on,
-    run_has_one_end, runs_come_nearer, the_ended_go_at_first_timeout,
+    run_has_one_end, runs_come_nearer, runs_past_are_turns, the_ended_go_at_first_timeout,
 };
 pub use router::Router;
 pub use step::Step;

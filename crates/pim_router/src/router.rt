@@ -285,8 +285,8 @@ impl<'a, F: Family> Router<'a, F> {
         self.neighbours[port].get(address)
     }
 
-    /// The first moment at which the time of a neighbour is over; `None` if none's ever is. It looks
-    /// at one neighbour of each port.
+    /// The first moment at which the time of a neighbour is over; `None` if none's ever is. It
+    /// looks at one neighbour of each port.
     pub fn next_timeout(&self) -> Option<u64>
         ensures { result ≡ first_timeout self.now.tables }
     {
