@@ -6,8 +6,8 @@ use Rattle.pim_down.specs.declared.machine.Record.{Record}
 use Rattle.pim_down.specs.declared.step.Step.{Step as Fires}
 use Rattle.pim_down.specs.Laws.{TimersRunOut}
 use Rattle.pim_down.specs.Time.{fired}
-use Rattle.pim_router.specs.Happening.{Happening, happens_in, next_of, at_moment, told_then, pass_on, in_turns, Passes, HasPassed}
-use Rattle.pim_router.specs.Laws.{PassingGoesOn, HappeningGoesOn, HappeningHasOneEnd, RunsPastAreTurns, FiringPasses}
+use Rattle.pim_router.specs.Happening.{Happening, happens_in, next_of, at_moment, told_then, pass_on, in_turns, Passes, HasHappened, HasPassed}
+use Rattle.pim_router.specs.Laws.{PassingGoesOn, HappeningGoesOn, HappeningHasOneEnd, RunsPastAreTurns, EveryStateGoesOn, FiringPasses}
 use Rattle.pim_router.specs.Refreshes.{RunsPast}
 use Rattle.pim_router.specs.declared.step.Step.{Step}
 use Rattle.pim_router.specs.declared.step.Step.TheVariants.{Refresh, Reached}
@@ -228,3 +228,26 @@ module _ (timers : TimersRunOut) (moment : ℕ) where
             let same = ap (λ (x : Told × RouterState). x.1) (pair_of [] j.0 next after j.1) in
             subst (λ s. turns_left moment s < turns_left moment state) same (next_nearer state next n)
       ] refl
+
+-- ---- to the moment
+
+module _ (timers : TimersRunOut) (moment : ℕ) where
+  one_more_turn : (state next : RouterState) → next_of (turn moment state) ≡ Some next → HasHappened moment next → HasHappened moment state
+  one_more_turn state next n more = record {
+    told = at_moment state.machines.moment (happens_in state) ++ more.told;
+    after = more.after;
+    happens = record { passes = pass_first moment state next more.after more.told n more.happens.passes; ends = more.happens.ends };
+  }
+
+  happen_within : (n : ℕ) (state : RouterState) → turns_left moment state < n → HasHappened moment state
+  happen_within zero state less = absurd (omega (arith, less))
+  happen_within (suc n) state less =
+      elim (onward timers moment state) [
+        | resting t ↦ record { told = []; after = state; happens = record { passes = pass_none moment state; ends = t } }
+        | moving next t nearer ↦ one_more_turn state next (ap next_of t) (happen_within n next (omega (arith, less, nearer)))
+        | echoing port group what next t nearer ↦ one_more_turn state next (ap next_of t) (happen_within n next (omega (arith, less, nearer)))
+        | refreshing next t nearer ↦ one_more_turn state next (ap next_of t) (happen_within n next (omega (arith, less, nearer)))
+      ]
+
+pub all_go_on : TimersRunOut → EveryStateGoesOn
+all_go_on timers moment state = happen_within timers moment (suc (turns_left moment state)) state (omega arith)

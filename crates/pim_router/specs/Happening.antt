@@ -84,6 +84,12 @@ pub record Happens (moment : ℕ) (state : RouterState) (told : List (ℕ × Hap
   pub passes : Passes moment state told after
   pub ends : turn moment after ≡ rests
 
+-- A list of all that happens from the state up to the moment, with the state then.
+pub record HasHappened (moment : ℕ) (state : RouterState) : Type 0 where
+  pub told : List (ℕ × Happening)
+  pub after : RouterState
+  pub happens : Happens moment state told after
+
 -- Some turns up to the moment lead from `state` to `after`. If they end as `Reached`, nothing is
 -- left to do there.
 pub record HasPassed (moment : ℕ) (state : RouterState) (answer : Step (List ℕ)) (after : RouterState) : Type 0 where

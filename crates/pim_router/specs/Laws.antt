@@ -9,7 +9,7 @@ use Rattle.pim_down.specs.declared.step.Firing.{Firing}
 use Rattle.pim_hello.specs.Laws.{comes_by}
 use Rattle.pim_hello.specs.Neighbours.{passed_to}
 use Rattle.pim_router.specs.Happening.{Happening, timer_fired, Passes, Happens, FiresAfter, gone_between, gone_within}
-use Rattle.pim_router.specs.Happening.{HasPassed, at_moment, gone_from, first_timeout}
+use Rattle.pim_router.specs.Happening.{HasHappened, HasPassed, at_moment, gone_from, first_timeout}
 use Rattle.pim_router.specs.Refreshes.{RunsPast}
 use Rattle.pim_router.specs.Sound.{IsRouter}
 use Rattle.pim_router.specs.State.{RouterState}
@@ -67,6 +67,10 @@ HappeningGoesOn = (earlier later : ℕ) (state between after : RouterState) (tol
 abbrev pub HappeningHasOneEnd : Type 0
 HappeningHasOneEnd = (moment : ℕ) (state after other : RouterState) (told said : List (ℕ × Happening)) →
     Happens moment state told after → Happens moment state said other → (told ≡ said) × (after ≡ other)
+
+-- From every state there is a list of what happens up to every moment.
+abbrev pub EveryStateGoesOn : Type 0
+EveryStateGoesOn = (moment : ℕ) (state : RouterState) → HasHappened moment state
 
 -- A run past refreshes is a number of such turns. So what happens up to a moment leads to the state
 -- to which the runs up to it lead.

@@ -3,7 +3,7 @@
 ghost use Rattle.pim_router.specs.Laws.{RunHasOneEnd, RunGoesOn, RunsComeNearer, CourseHasOneEnd, CourseGoesOn};
 ghost use Rattle.pim_router.specs.Laws.{EveryListHasACourse, PassingGoesOn, HappeningGoesOn, HappeningHasOneEnd};
 ghost use Rattle.pim_router.specs.Laws.{FiringPasses, NobodyGoesBeforeFirstTimeout, TheEndedGoAtFirstTimeout};
-ghost use Rattle.pim_router.specs.Laws.{RunsPastAreTurns};
+ghost use Rattle.pim_router.specs.Laws.{RunsPastAreTurns, EveryStateGoesOn};
 
 use pim_down::timers_run_out;
 use pim_hello::time_is_over_from_next_end;
@@ -57,6 +57,13 @@ pub fn happening_goes_on()
 pub fn happening_has_one_end()
     ensures { HappeningHasOneEnd }
 {}
+
+/// From every state there is a list of what happens up to every moment.
+pub fn every_state_goes_on()
+    ensures { EveryStateGoesOn }
+{
+    timers_run_out();
+}
 
 /// A run past refreshes is a number of turns in which things happen.
 pub fn runs_past_are_turns()

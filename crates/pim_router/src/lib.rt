@@ -38,9 +38,10 @@ mod verdict;
 pub use canonical::same_wants;
 pub use config::{Config, ConfigFault, PortConfig};
 pub use laws::{
-    course_goes_on, course_has_one_end, every_list_has_a_course, firing_passes, happening_goes_on,
-    happening_has_one_end, nobody_goes_before_first_timeout, passing_goes_on, run_goes_on,
-    run_has_one_end, runs_come_nearer, runs_past_are_turns, the_ended_go_at_first_timeout,
+    course_goes_on, course_has_one_end, every_list_has_a_course, every_state_goes_on,
+    firing_passes, happening_goes_on, happening_has_one_end, nobody_goes_before_first_timeout,
+    passing_goes_on, run_goes_on, run_has_one_end, runs_come_nearer, runs_past_are_turns,
+    the_ended_go_at_first_timeout,
 };
 pub use router::Router;
 pub use step::Step;
