@@ -50,7 +50,7 @@ EveryListHasACourse = (family : AddressFamily) (inputs : List Input) (state : Ro
 
 -- ---- what happens, turn by turn
 
--- Turns up to a moment, and then turns up to a later one, are turns up to the later one, and what
+-- Turns up to a moment, and then turns up to a later one, are turns up to the later one. What
 -- happens in them follows one after the other.
 abbrev pub PassingGoesOn : Type 0
 PassingGoesOn = (earlier later : ℕ) (state between after : RouterState) (told more : List (ℕ × Happening)) →
