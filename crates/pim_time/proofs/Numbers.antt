@@ -1,0 +1,15 @@
+-- Digits and the numbers that they write.
+use Rattle.std.proofs.Common.{sym, subst, ℕ, ◌^◌, ◌<◌, ◌≤◌, List, length}
+use Rattle.std.specs.Str.Parse.{AllDigits, digits_value}
+use Rattle.std.proofs.lemmas.Str.Parse.{IsNumeralModel, numerals_by_value, tells_digits, digits_value_short}
+use Rattle.pim_time.specs.Text.{IsNumber}
+
+own : IsNumeralModel (AllDigits 10) (digits_value 10)
+own = numerals_by_value (AllDigits 10) tells_digits
+
+-- Few digits write a small number.
+pub few_digits : (text : List ℕ) (k : ℕ) → AllDigits 10 text → length text ≤ k → digits_value 10 text < 10 ^ k
+few_digits text k digits short = digits_value_short own text k digits short
+
+pub small_number : (most : ℕ) (text : List ℕ) (n k : ℕ) → IsNumber most text n → length text ≤ k → n < 10 ^ k
+small_number most text n k is short = subst (λ m. m < 10 ^ k) (sym is.value) (few_digits text k is.digits.1 short)

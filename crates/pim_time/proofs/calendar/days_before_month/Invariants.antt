@@ -1,0 +1,8 @@
+use Rattle.std.proofs.Common.{◌+◌, ◌-◌, ◌*◌, ◌≡◌, ◌≤◌}
+use Rattle.pim_time.specs.Calendar.{date_of}
+use Rattle.pim_time.specs.Dates.{first_day}
+use Rattle.pim_time.proofs.calendar.days_before_month.Given as goal
+
+abbrev pub invariant-loop-passed : goal.invariant-loop-passed
+invariant-loop-passed l =
+    (date_of l.days ≡ first_day l.year l.passed) × (l.days ≤ 366 * (l.year - 1970) + 31 * (l.passed - 1))

@@ -1,0 +1,7 @@
+use Rattle.std.proofs.Common.{◌-◌, ◌*◌, ◌≡◌, ◌≤◌}
+use Rattle.pim_time.specs.Calendar.{date_of}
+use Rattle.pim_time.specs.Dates.{first_day}
+use Rattle.pim_time.proofs.calendar.days_before_year.Given as goal
+
+abbrev pub invariant-loop-passed : goal.invariant-loop-passed
+invariant-loop-passed l = (date_of l.days ≡ first_day l.passed 1) × (l.days ≤ 366 * (l.passed - 1970))

@@ -1,0 +1,6 @@
+-- The definitions of the calendar and of the texts of times.
+pub mod Calendar
+pub mod Dates
+pub mod Text
+pub mod Pieces
+pub mod Laws

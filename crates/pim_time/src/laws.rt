@@ -1,0 +1,19 @@
+//! The laws of times and their texts.
+
+ghost use Rattle.pim_time.specs.Laws.{OneTime, DateNamesItsTime, SecondsNameTheirTime};
+
+/// A law: a text names at most one time. It has no effect.
+pub fn text_names_one_time()
+    ensures { OneTime }
+{}
+
+/// A law: the date that `write_date` writes names its time. It has no effect.
+pub fn date_names_its_time()
+    ensures { DateNamesItsTime }
+{}
+
+/// A law: the seconds that `write_seconds` writes name their time, where at most 10 digits stand
+/// before the point. It has no effect.
+pub fn seconds_name_their_time()
+    ensures { SecondsNameTheirTime }
+{}

@@ -1,0 +1,22 @@
+//! Times as users write and read them.
+//!
+//! - `read_time` reads a text of one of three forms: milliseconds since the first record, seconds
+//!   since 1970, or a UTC date (RFC 3339, 5.6). It returns `None` exactly if the text has none of
+//!   these forms, and a text names at most one time.
+//! - `write_seconds` and `write_date` write milliseconds since 1970 in one spelling, which
+//!   `read_time` reads as the same time.
+//!
+//! The definition of the calendar counts day by day; the code goes by years and months. Leap
+//! seconds do not exist here, as in the stamps of captures.
+#![tactic(auto)]
+
+mod calendar;
+mod cuts;
+mod digits;
+mod laws;
+mod reading;
+mod writing;
+
+pub use laws::{date_names_its_time, seconds_name_their_time, text_names_one_time};
+pub use reading::{Time, read_time};
+pub use writing::{write_date, write_seconds};
