@@ -5,3 +5,4 @@ pub mod Sooner
 pub mod Stopped
 pub mod Taking
 pub mod Turning
+pub mod Until

@@ -2,8 +2,9 @@
 use Rattle.std.proofs.Common.{◌≡◌, ◌∙◌, ◌∷◌, [], ℕ, List, Option, None, Some, refl, sym, ap, subst}
 use Rattle.pim_capture.specs.declared.fault.CaptureFault.{CaptureFault}
 use Rattle.pim_capture.specs.Capture.{Told, Answer}
+use Rattle.pim_time.specs.declared.reading.Time.{Time}
 use Rattle.pim_merge.specs.declared.clock.Clock.{Clock}
-use Rattle.pim_merge.specs.Merge.{Taken, IsMerge, ending, fails, takes, clock_after, moment_of, time_told, after_turn}
+use Rattle.pim_merge.specs.Merge.{Taken, IsMerge, IsMergeBy, ending, fails, takes, clock_after, moment_of, time_told, after_turn}
 
 takes_capture : (c d : ℕ) (t u : Told) → takes c t ≡ takes d u → c ≡ d
 takes_capture c d t u same = cc
@@ -35,17 +36,29 @@ unfolding made
 same_taken a b capture moment told =
     ap (λ c. made c a.moment a.told) capture ∙ (ap (λ m. made b.capture m a.told) moment ∙ ap (λ t. made b.capture b.moment t) told)
 
-pub one_end : (clock : Option Clock) (captures : List (List Answer)) (taken other : List Taken) (fault told : Option (ℕ × CaptureFault))
-    → IsMerge clock captures taken fault → IsMerge clock captures other told → (taken ≡ other) × (fault ≡ told)
-unfolding IsMerge
-one_end clock captures [] [] fault told a b = (refl, same_ending fault told (sym a ∙ b))
-one_end clock captures [] (second ∷ seconds) fault told a b = absurd (ends_or_takes fault second.capture second.told (sym a ∙ b.0))
-one_end clock captures (first ∷ firsts) [] fault told a b = absurd (ends_or_takes told first.capture first.told (sym b ∙ a.0))
-one_end clock captures (first ∷ firsts) (second ∷ seconds) fault told a b =
+pub one_end_by : (last : Option Time) (clock : Option Clock) (captures : List (List Answer)) (taken other : List Taken) (fault told : Option (ℕ × CaptureFault))
+    → IsMergeBy last clock captures taken fault → IsMergeBy last clock captures other told → (taken ≡ other) × (fault ≡ told)
+unfolding IsMergeBy
+one_end_by last clock captures [] [] fault told a b = (refl, same_ending fault told (sym a ∙ b))
+one_end_by last clock captures [] (second ∷ seconds) fault told a b = absurd (ends_or_takes fault second.capture second.told (sym a ∙ b.0))
+one_end_by last clock captures (first ∷ firsts) [] fault told a b = absurd (ends_or_takes told first.capture first.told (sym b ∙ a.0))
+one_end_by last clock captures (first ∷ firsts) (second ∷ seconds) fault told a b =
     let capture = takes_capture first.capture second.capture first.told second.told (sym a.0 ∙ b.0) in
     let same = takes_told first.capture second.capture first.told second.told (sym a.0 ∙ b.0) in
     let moment = a.1 ∙ (ap (λ t. moment_of (clock_after clock (time_told t))) same ∙ sym b.1) in
-    let rest = one_end (clock_after clock (time_told second.told)) (after_turn second.capture captures) firsts seconds fault told
-    (subst (λ t. IsMerge (clock_after clock (time_told t)) (after_turn second.capture captures) firsts fault) same
-    (subst (λ c. IsMerge (clock_after clock (time_told first.told)) (after_turn c captures) firsts fault) capture a.2)) b.2 in
+    let rest = one_end_by last (clock_after clock (time_told second.told)) (after_turn second.capture captures) firsts seconds fault told
+    (subst (λ t. IsMergeBy last (clock_after clock (time_told t)) (after_turn second.capture captures) firsts fault) same
+    (subst (λ c. IsMergeBy last (clock_after clock (time_told first.told)) (after_turn c captures) firsts fault) capture a.2)) b.2 in
     (ap (λ t. t ∷ firsts) (same_taken first second capture moment same) ∙ ap (λ l. second ∷ l) rest.0, rest.1)
+
+-- a merge without such a time
+without_last : (clock : Option Clock) (captures : List (List Answer)) (taken : List Taken) (fault : Option (ℕ × CaptureFault)) → IsMerge clock captures taken fault → IsMergeBy None clock captures taken fault
+unfolding IsMerge IsMergeBy
+without_last clock captures [] fault is = is
+without_last clock captures (first ∷ others) fault (one, at, more) =
+    (one, at, without_last (clock_after clock (time_told first.told)) (after_turn first.capture captures) others fault more)
+
+pub one_end : (clock : Option Clock) (captures : List (List Answer)) (taken other : List Taken) (fault told : Option (ℕ × CaptureFault))
+    → IsMerge clock captures taken fault → IsMerge clock captures other told → (taken ≡ other) × (fault ≡ told)
+one_end clock captures taken other fault told a b =
+    one_end_by None clock captures taken other fault told (without_last clock captures taken fault a) (without_last clock captures other told b)

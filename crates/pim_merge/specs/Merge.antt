@@ -1,7 +1,9 @@
 -- How captures are merged by time. A capture is the list of the results that it has still to
 -- return, its head first: records, and after the last record its end or a fault.
-use Rattle.std.specs.Prelude.{◌≡◌, ℕ, suc, ◌-◌, max, nat_lt, if◌then◌else◌, List, [], ◌∷◌, map}
+use Rattle.std.specs.Prelude.{◌≡◌, ℕ, suc, ◌+◌, ◌-◌, max, nat_lt, if◌then◌else◌, Bool, false, List, [], ◌∷◌, map}
 use Rattle.std.specs.Prelude.{slice_set, slice_index_or, Option, None, Some, Ok, Err}
+use Rattle.pim_time.specs.declared.reading.Time.{Time}
+use Rattle.pim_time.specs.declared.reading.Time.TheVariants.{Moment, Epoch}
 use Rattle.pim_capture.specs.declared.fault.CaptureFault.{CaptureFault}
 use Rattle.pim_capture.specs.Capture.{Told, packet, skipped, ended, Answer}
 use Rattle.pim_merge.specs.declared.clock.Clock.{Clock}
@@ -112,6 +114,37 @@ abbrev pub moment_of : Option Clock → ℕ
 moment_of None = 0
 moment_of (Some clock) = clock.moment
 
+-- ---- a time at which a merge ends
+
+-- Whether the moment of the clock is later than this time, if there is one. An epoch time counts
+-- from 1970, so it is compared with the time of the first record and the moment together.
+abbrev pub is_past : Option Time → Option Clock → Bool
+is_past None clock = false
+is_past (Some last) None = false
+is_past (Some (Moment last)) (Some clock) = nat_lt last clock.moment
+is_past (Some (Epoch last)) (Some clock) = nat_lt last (clock.begin + clock.moment)
+
+-- The turn of a merge that ends at this time: a record with a later moment isn't taken, and the
+-- merge is at its end. Without a time it is the turn itself.
+abbrev pub until : Option Time → Option Clock → Outcome → Outcome
+until None clock outcome = outcome
+until (Some last) clock (takes number told) =
+    if is_past (Some last) (clock_after clock (time_told told)) then ends else takes number told
+until (Some last) clock (fails number fault) = fails number fault
+until (Some last) clock ends = ends
+
+-- The next turn of captures, if the merge ends at this time. The clock is that of the records which
+-- were taken before.
+abbrev pub turn_by : Option Time → Option Clock → List (List Answer) → Outcome
+turn_by last clock captures = until last clock (turn captures)
+
+-- The moment of this time, in milliseconds since the first record, where the clock is that of the
+-- records which were taken. It is 0 for an epoch time if none was taken.
+abbrev pub moment_at : Time → Option Clock → ℕ
+moment_at (Moment last) clock = last
+moment_at (Epoch last) None = 0
+moment_at (Epoch last) (Some clock) = last - clock.begin
+
 -- ---- the whole merge
 
 -- A record that was taken: the number of its capture, its moment in milliseconds since the first
@@ -134,3 +167,12 @@ IsMerge clock captures (first ∷ others) fault =
     (turn captures ≡ takes first.capture first.told)
     × (first.moment ≡ moment_of (clock_after clock (time_told first.told)))
     × IsMerge (clock_after clock (time_told first.told)) (after_turn first.capture captures) others fault
+
+-- The same for a merge that ends at the time `last`, if there is one.
+unfoldable pub IsMergeBy : Option Time → Option Clock → List (List Answer) → List Taken → Option (ℕ × CaptureFault) →
+    Type 0
+IsMergeBy last clock captures [] fault = turn_by last clock captures ≡ ending fault
+IsMergeBy last clock captures (first ∷ others) fault =
+    (turn_by last clock captures ≡ takes first.capture first.told)
+    × (first.moment ≡ moment_of (clock_after clock (time_told first.told)))
+    × IsMergeBy last (clock_after clock (time_told first.told)) (after_turn first.capture captures) others fault

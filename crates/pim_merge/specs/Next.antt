@@ -1,12 +1,13 @@
--- What a call of `Merge::next` returns and leaves.
+-- What a call of `Merge::next` or `Merge::next_by` returns and leaves.
 use Rattle.std.specs.Prelude.{◌≡◌, ◌≤◌, ◌⊎◌, ⊤, ℕ, List, [], ◌∷◌, length, slice_set}
 use Rattle.std.specs.Prelude.{Option, None, Some, Result, Ok, Err}
 use Rattle.pim_capture.specs.Capture.{Told, Answer, most_captured}
 use Rattle.pim_capture.specs.Next.{event_seen, PayloadLiesIn, IsRefusal, CountsReads, OnMemory}
+use Rattle.pim_time.specs.declared.reading.Time.{Time}
 use Rattle.pim_merge.specs.declared.clock.Clock.{Clock}
 use Rattle.pim_merge.specs.declared.merge.Turn.{Turn}
 use Rattle.pim_merge.specs.declared.merge.MergeFault.{MergeFault}
-use Rattle.pim_merge.specs.Merge.{turn, fails, takes, ends, after_turn, clock_after, moment_of, time_told}
+use Rattle.pim_merge.specs.Merge.{turn, turn_by, fails, takes, ends, after_turn, clock_after, moment_of, time_told}
 use Rattle.pim_merge.specs.Lane.{LaneState, IsComing, lane_at, failures_of, records_to_come}
 use Rattle.pim_merge.specs.Lane.{LacksHeadRoom}
 
@@ -35,6 +36,16 @@ TellsTurn captures (Ok None) new = (turn captures ≡ ends) × IsComing new.lane
 TellsTurn captures (Ok (Some next)) new =
     (turn captures ≡ takes next.capture (told_by new next)) × IsComing new.lanes (after_turn next.capture captures)
 TellsTurn captures (Err told) new = turn (with_fault told captures) ≡ fails told.capture told.fault
+
+-- The same for a merge that ends at this time, with this clock of the records taken before. A fault
+-- that is a head comes before the end.
+abbrev pub TellsTurnBy : Option Time → Option Clock → List (List Answer) → Result (Option Turn) MergeFault →
+    MergeState → Type 0
+TellsTurnBy last clock captures (Ok None) new = (turn_by last clock captures ≡ ends) × IsComing new.lanes captures
+TellsTurnBy last clock captures (Ok (Some next)) new =
+    (turn_by last clock captures ≡ takes next.capture (told_by new next))
+    × IsComing new.lanes (after_turn next.capture captures)
+TellsTurnBy last clock captures (Err told) new = turn (with_fault told captures) ≡ fails told.capture told.fault
 
 -- Why a fault comes: a read of its capture failed in this call, memory was refused, or the fault
 -- was all that its capture had to return. The last is said where all bytes are known.

@@ -1,7 +1,10 @@
 //! The moments of records.
 
-ghost use Rattle.std.specs.Prelude.{◌≡◌};
-ghost use Rattle.pim_merge.specs.Merge.{clock_by};
+ghost use Rattle.std.specs.Prelude.{◌≡◌, ◌≤◌, Some};
+ghost use Rattle.pim_time.specs.Text.{millis_of};
+ghost use Rattle.pim_merge.specs.Merge.{clock_by, is_past, moment_at};
+
+use pim_time::Time;
 
 /// The clock of a merge, which begins with the first record that is taken.
 #[derive(Clone, Copy, Debug, PartialEq, Eq)]
@@ -28,5 +31,31 @@ impl Clock {
                 moment: moment.max(time.saturating_sub(begin)),
             },
         }
+    }
+
+    /// Whether the moment is later than this time. Without a time it is not.
+    pub(crate) fn is_past(self, last: Option<Time>) -> bool
+        ensures { result ≡ is_past last (Some self) }
+    {
+        match last {
+            None => false,
+            Some(Time::Moment(last)) => last < self.moment,
+            Some(Time::Epoch(last)) => {
+                u128::from(last) < u128::from(self.begin) + u128::from(self.moment)
+            }
+        }
+    }
+}
+
+/// The moment of a time, in milliseconds since the first record, by the clock of the records that
+/// were taken.
+pub(crate) fn moment_at(clock: Option<Clock>, last: Time) -> u64
+    ensures moment { result ≡ moment_at last clock }
+    ensures bound { result ≤ millis_of last }
+{
+    match (last, clock) {
+        (Time::Moment(last), _) => last,
+        (Time::Epoch(_), None) => 0,
+        (Time::Epoch(last), Some(Clock { begin, .. })) => last.saturating_sub(begin),
     }
 }

@@ -1,8 +1,14 @@
 //! Laws of the definitions. Nothing in this module is to be called.
 
-ghost use Rattle.pim_merge.specs.Laws.{MergeHasOneEnd};
+ghost use Rattle.pim_merge.specs.Laws.{MergeHasOneEnd, MergeByHasOneEnd};
 
 /// The turns of a merge and its end are a function of the results of its captures.
 pub fn merge_has_one_end()
     ensures { MergeHasOneEnd }
+{}
+
+/// The turns of a merge that ends at a time, and its end, are a function of the results of its
+/// captures and of that time.
+pub fn merge_by_has_one_end()
+    ensures { MergeByHasOneEnd }
 {}

@@ -6,6 +6,9 @@
 //! all records. Where the bytes of the readers are known, the turns are a function of them
 //! (`IsMerge` in `specs/Merge.antt`, the law `merge_has_one_end`). A failed read and refused memory
 //! are turns too: they count as a fault in the place of what their capture had still to return.
+//! `Merge::next_by` does the same up to a time. Before the first turn with a later moment it
+//! returns `None` and takes nothing (`IsMergeBy`, the law `merge_by_has_one_end`).
+//! `Merge::moment_at` returns the moment of a time.
 //! `Merge::add` appends a capture, or leaves the merge unchanged where memory is refused.
 //!
 //! A head is read when the next turn is asked for, not when the one before is taken. So the bytes
@@ -24,5 +27,5 @@ mod merge;
 mod search;
 
 pub use clock::Clock;
-pub use laws::merge_has_one_end;
+pub use laws::{merge_by_has_one_end, merge_has_one_end};
 pub use merge::{Merge, MergeFault, Turn};

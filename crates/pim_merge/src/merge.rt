@@ -1,23 +1,27 @@
 //! The merge of captures.
 
 ghost use Rattle.std.specs.Prelude.{◌≡◌, ◌<◌, ◌≤◌, [], ◌∷◌, ◌++◌, List, length, map, None, Some, IfOk, IfErr, OnErr};
+ghost use Rattle.std.specs.Prelude.{false};
 ghost use Rattle.std.specs.Prelude.{slice_set};
 ghost use Rattle.std.specs.Option.{option_map, IfSome};
 ghost use Rattle.std.specs.List.{AllByRecursion};
 ghost use Rattle.pim_capture.specs.Capture.{answers, most_captured, most_records, Answer};
 ghost use Rattle.pim_capture.specs.Next.{latest_moment, event_seen, PayloadLiesIn, IsBy, named_in};
 ghost use Rattle.pim_capture.specs.declared.capture.State.TheVariants.{Unbegun};
-ghost use Rattle.pim_merge.specs.Merge.{turn, fails, earliest_from, clock_by};
+ghost use Rattle.pim_time.specs.Text.{millis_of};
+ghost use Rattle.pim_merge.specs.Merge.{turn, fails, earliest_from, clock_by, is_past, moment_at};
 ghost use Rattle.pim_merge.specs.Lane.{IsComing, IsLooked, coming_on, failures_of, records_to_come, head_time, lane_at};
 ghost use Rattle.pim_merge.specs.Lane.{without_head, rooms_of, sizes_of, KeepRooms};
 ghost use Rattle.pim_merge.specs.Next.{TellsTurn, IsCause, CountsFailures, KeepsTime, IfTaken, HoldsRecord, turns_left};
+ghost use Rattle.pim_merge.specs.Next.{TellsTurnBy};
 ghost use Rattle.pim_merge.specs.Next.{bytes_at, with_fault, LacksMemory};
 
-use crate::clock::Clock;
+use crate::clock::{Clock, moment_at};
 use crate::lane::Lane;
 use crate::search::{earliest, look_at_all};
 use pim_addr::Feed;
 use pim_capture::{CaptureFault, Event};
+use pim_time::Time;
 use std::alloc::{AllocError, Global};
 use std::marker::Model;
 use thiserror::Error;
@@ -146,6 +150,13 @@ impl<R: Feed + Drop> Merge<R> {
         self.lanes[capture].take()
     }
 
+    /// Whether the moment of a record of this time is later than `last`, if there is a last time.
+    fn is_past(&self, time: u64, last: Option<Time>) -> bool
+        ensures { result ≡ is_past last (Some (clock_by self.now.clock time)) }
+    {
+        Clock::by(self.clock, time).is_past(last)
+    }
+
     /// Moves the clock on by a record of this time, and returns its moment.
     fn tick(&mut self, time: u64) -> u64
         requires { time ≤ latest_moment }
@@ -182,10 +193,41 @@ impl<R: Feed + Drop> Merge<R> {
         ensures nearer { IfTaken result (λ _. turns_left self.new < turns_left self.old) }
         ensures left { turns_left self.new ≤ turns_left self.old }
     {
+        self.next_by(None)
+    }
+
+    /// Takes the next turn, as `next` does, unless its moment is later than `last`. Then the result
+    /// is `None`: its record isn't taken, and stays the head of its capture. So the next call
+    /// returns `None` again, and reads nothing more. With an epoch time before the first record
+    /// nothing is taken. Without a time this is `next`.
+    ///
+    /// # Errors
+    /// As in `next`. A fault that is the head of a capture comes before all records, whatever their
+    /// moments.
+    pub fn next_by(&mut self, last: Option<Time>) -> Result<Option<Turn>, MergeFault>
+        ensures turn { (captures : List (List Answer)) → IsComing self.old.lanes captures →
+            TellsTurnBy last self.old.clock captures result self.new }
+        ensures by { IfTaken result (λ next. is_past last self.new.clock ≡ false) }
+        ensures cause { IfErr result (IsCause self.old.lanes self.new.lanes) }
+        ensures reads { CountsFailures self.old.lanes result self.new.lanes }
+        // Memory is refused only if a head wasn't read and its buffer had less room than it needs.
+        ensures memory { IfErr result (LacksMemory self.old.lanes) }
+        ensures rooms { KeepRooms self.old.lanes self.new.lanes }
+        ensures clock { KeepsTime self.old.clock result self.new }
+        ensures moment { IfTaken result (λ next. next.moment ≤ latest_moment) }
+        ensures bytes { IfTaken result (HoldsRecord self.new) }
+        ensures capture { IfTaken result (λ next. next.capture < length self.new.lanes) }
+        ensures lanes { length self.new.lanes ≡ length self.old.lanes }
+        ensures nearer { IfTaken result (λ _. turns_left self.new < turns_left self.old) }
+        ensures left { turns_left self.new ≤ turns_left self.old }
+    {
         self.look()?;
         let Some((capture, time)) = self.earliest() else {
             return Ok(None);
         };
+        if self.is_past(time, last) {
+            return Ok(None);
+        }
         let Some(event) = self.take(capture) else {
             unreachable!();
         };
@@ -195,6 +237,15 @@ impl<R: Feed + Drop> Merge<R> {
             moment,
             event,
         }))
+    }
+
+    /// The moment of this time, in milliseconds since the first record that was taken. It is 0 for
+    /// an epoch time before that record, and for any if no record was taken.
+    pub fn moment_at(&self, time: Time) -> u64
+        ensures moment { result ≡ moment_at time self.now.clock }
+        ensures bound { result ≤ millis_of time }
+    {
+        moment_at(self.clock, time)
     }
 
     /// The bytes of the record of this capture that was read last: those of a turn, until the next
