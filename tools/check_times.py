@@ -6,7 +6,7 @@ crate, the longest first.
 
 The libraries of the crates below must be in crates/NAME/out/rlib, where `rt ci` and `rt lib` leave
 them. The time of the function that is checked first is mostly that of loading libraries. It depends
-on the inside of rattle-kit-13b.
+on the inside of rattle-kit-13f.
 """
 import importlib.machinery
 import importlib.util

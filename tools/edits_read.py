@@ -12,7 +12,7 @@ It starts a check of each edit, and ends it after the time in which a type error
 reported: two and a half times what one takes at first, and 3 s. That is some ten seconds for each
 edit. If the machine becomes much busier meanwhile, it may miss one. It doesn't report what can't be
 read in specs/ or proofs/. tools/edits_fit.py prints the edits whose old text is gone. It depends on
-the inside of rattle-kit-13b, as tools/over_gate.py does.
+the inside of rattle-kit-13f, as tools/over_gate.py does.
 """
 import os
 import shutil

@@ -16,7 +16,7 @@ Run it in the crate's folder, after `rt ci` has proved the crates below from the
 
 OVER_GATE_JOBS=N lets a check use N processors instead of one.
 
-Its result is no verdict; only `rt ci` gives one. It depends on the inside of rattle-kit-13b.
+Its result is no verdict; only `rt ci` gives one. It depends on the inside of rattle-kit-13f.
 """
 import importlib.machinery
 import importlib.util

@@ -11,7 +11,7 @@ It checks
 - the tests of each crate that differs from the commit BASE (HEAD unless given), and of the test crates that name it.
 
 What is wrong is printed as it is found. The last line says how it ended; the status is 0 or 1.
-It depends on the inside of rattle-kit-13b.
+It depends on the inside of rattle-kit-13f.
 """
 import concurrent.futures
 import glob
