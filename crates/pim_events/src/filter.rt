@@ -121,7 +121,8 @@ fn is_same<F: Family>(one: F::Addr, other: F::Addr) -> bool
 
 /// Whether an address is one of these.
 fn is_among<F: Family>(addresses: &[F::Addr], address: F::Addr) -> bool
-    ensures { result ≡ list_any (λ one. bytes_eq one (F.bytes_of address)) (map F.bytes_of addresses.now) }
+    ensures { result ≡ list_any (λ one. bytes_eq one (F.bytes_of address))
+        (map F.bytes_of addresses.now) }
 {
     for &one in addresses {
         if is_same::<F>(one, address) {
@@ -181,7 +182,8 @@ fn has_wanted_entry<F: Family>(sources: &[F::Addr], set: &SetView<'_, F>) -> boo
 
 /// Whether the group of a set is wanted, and some entry.
 fn is_wanted_set<F: Family>(groups: &[F::Addr], sources: &[F::Addr], set: &SetView<'_, F>) -> bool
-    ensures { result ≡ is_wanted_set (map F.bytes_of groups.now) (map F.bytes_of sources.now) set.now }
+    ensures { result ≡ is_wanted_set (map F.bytes_of groups.now)
+        (map F.bytes_of sources.now) set.now }
 {
     is_wanted::<F>(groups, set.group()) && has_wanted_entry::<F>(sources, set)
 }
@@ -192,7 +194,8 @@ fn has_wanted_set<F: Family>(
     sources: &[F::Addr],
     message: &JpView<'_, F>,
 ) -> bool
-    ensures { result ≡ list_any (is_wanted_set (map F.bytes_of groups.now) (map F.bytes_of sources.now))
+    ensures { result ≡ list_any
+        (is_wanted_set (map F.bytes_of groups.now) (map F.bytes_of sources.now))
         message.now.sets }
 {
     for set in message.sets() {
@@ -209,7 +212,8 @@ fn is_wanted_packet<F: Family>(
     sources: &[F::Addr],
     message: &Option<JpView<'_, F>>,
 ) -> bool
-    ensures { result ≡ is_wanted_packet (map F.bytes_of groups.now) (map F.bytes_of sources.now) message.now }
+    ensures { result ≡ is_wanted_packet (map F.bytes_of groups.now)
+        (map F.bytes_of sources.now) message.now }
 {
     let Some(message) = message else {
         return true;
@@ -269,7 +273,8 @@ fn is_end<F: Family>(what: &Happening<'_, F>) -> bool
 /// Whether an event is shown: the end of the run always is. Any other event is, if its moment isn't
 /// too early, `--all` is given or it is news, and its groups and sources are wanted.
 pub fn is_shown<F: Family>(filter: &Filter<'_, F::Addr>, event: &Event<'_, F>) -> bool
-    ensures { result ≡ is_shown (filter_seen F.bytes_of filter.now) (event_seen F.bytes_of event.now) }
+    ensures { result ≡ is_shown (filter_seen F.bytes_of filter.now)
+        (event_seen F.bytes_of event.now) }
 {
     let what = &event.what;
     is_end::<F>(what)

@@ -24,7 +24,8 @@ impl Model for Name {
 
     ghost view = { λ name. take name.length name.text };
 
-    ghost invariant = { λ name. (name.length ≤ 32) × (list_all is_name_byte (take name.length name.text) ≡ true) };
+    ghost invariant = { λ name. (name.length ≤ 32)
+        × (list_all is_name_byte (take name.length name.text) ≡ true) };
 }
 
 /// Whether a byte may occur in a name.

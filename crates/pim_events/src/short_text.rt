@@ -120,7 +120,8 @@ impl ShortText {
     /// Appends groups, each after a colon.
     fn push_more_groups(&mut self, groups: &[u16])
         requires { length self.old + 5 * length groups.now ≤ 39 }
-        ensures text { self.new ≡ self.old ++ flat_map (λ group. codes ":" ++ hex group) groups.now }
+        ensures text { self.new
+            ≡ self.old ++ flat_map (λ group. codes ":" ++ hex group) groups.now }
         ensures short { length self.new ≤ length self.old + 5 * length groups.now }
     {
         for group in groups {
