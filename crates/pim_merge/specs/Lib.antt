@@ -2,4 +2,5 @@ pub mod Merge
 pub mod Lane
 pub mod Looks
 pub mod Next
+pub mod Ends
 pub mod Laws
