@@ -19,6 +19,7 @@ use Rattle.pim_words.specs.declared.task.Task.{Task}
 use Rattle.pim_words.specs.declared.task.Task.TheVariants as task
 use Rattle.pim_words.specs.declared.task.Writing.{Writing}
 use Rattle.pim_words.specs.CommandLine.{pimtree}
+use Rattle.pim_words.specs.Ends.{IsEarly}
 use Rattle.pim_words.specs.Given.{IsKnown}
 use Rattle.pim_words.specs.Plan.{HasCause, IsBounded, IsLimited, IsWritable, IsInRange, IsPlanInRange, IsTaskOf, IsPlanOfTask, IsPlanOf, Plans}
 use Rattle.pim_words.specs.Reading.{IsTask, IsWriting}
@@ -76,20 +77,20 @@ task_in_range Check rows (task.Check source destination) is = tt
 task_in_range Check rows other is = absurd is
 task_in_range Build rows (task.Build source destination) is = tt
 task_in_range Build rows other is = absurd is
-task_in_range Replay rows (task.Replay captures) is = (is.1.after.most, (is.1.limit.least, is.1.limit.most))
+task_in_range Replay rows (task.Replay captures) is = ((is.1.run.after.most, is.1.run.early), (is.1.run.limit.least, is.1.run.limit.most))
 task_in_range Replay rows other is = absurd is
-task_in_range Same rows (task.Same captures writing) is = (is.0.1.after.most, (is.0.1.limit.least, is.0.1.limit.most), writable rows writing is.1)
+task_in_range Same rows (task.Same captures writing) is = ((is.0.1.run.after.most, is.0.1.run.early), (is.0.1.run.limit.least, is.0.1.run.limit.most), writable rows writing is.1)
 task_in_range Same rows other is = absurd is
-task_in_range Mirror rows (task.Mirror captures writing) is = (is.0.1.after.most, (is.0.1.limit.least, is.0.1.limit.most), writable rows writing is.1)
+task_in_range Mirror rows (task.Mirror captures writing) is = ((is.0.1.run.after.most, is.0.1.run.early), (is.0.1.run.limit.least, is.0.1.run.limit.most), writable rows writing is.1)
 task_in_range Mirror rows other is = absurd is
-task_in_range Emit rows (task.Emit captures writing) is = (is.0.1.after.most, (is.0.1.limit.least, is.0.1.limit.most), writable rows writing is.1)
+task_in_range Emit rows (task.Emit captures writing) is = ((is.0.1.run.after.most, is.0.1.run.early), (is.0.1.run.limit.least, is.0.1.run.limit.most), writable rows writing is.1)
 task_in_range Emit rows other is = absurd is
-task_in_range Change rows (task.Change captures writing) is = (is.0.1.after.most, (is.0.1.limit.least, is.0.1.limit.most), writable rows writing is.1)
+task_in_range Change rows (task.Change captures writing) is = ((is.0.1.run.after.most, is.0.1.run.early), (is.0.1.run.limit.least, is.0.1.run.limit.most), writable rows writing is.1)
 task_in_range Change rows other is = absurd is
 
 module _ {A : Type 0} (family : AddressFamily) (bytes_of : A → List ℕ) where
   same_bounded : (typed : Captures A) (asked : Captures Address) → IsBounded asked → SameCaptures family bytes_of typed asked → IsBounded typed
-  same_bounded typed asked is same = subst (λ (n : ℕ). n ≤ 1000000000) (sym same.after) is
+  same_bounded typed asked is same = (subst (λ (n : ℕ). n ≤ 1000000000) (sym same.after) is.0, subst IsEarly (sym same.at) is.1)
 
   same_limited : (typed : Captures A) (asked : Captures Address) → IsLimited asked → SameCaptures family bytes_of typed asked → IsLimited typed
   same_limited typed asked is same = (subst (λ (n : ℕ). 1 ≤ n) (sym same.limit) is.0, subst (λ (n : ℕ). n ≤ 100000) (sym same.limit) is.1)

@@ -23,11 +23,11 @@ number_option name low high = record (text_option name) { parser = Some (Unsigne
 abbrev pub words_rule : Rule
 words_rule = record (new_rule (codes "words")) { action = Some Append; value_names = 1 }
 
--- The options of a run: `[--limit N] [--after MS] WORD...`.
+-- The options of a run: `[--limit N] [--after MS] [--at TIME] WORD...`.
 abbrev pub with_run_options : App → App
 with_run_options command =
-    with_rule (with_rule (with_rule command (number_option (codes "limit") 1 100000))
-    (number_option (codes "after") 0 1000000000)) words_rule
+    with_rule (with_rule (with_rule (with_rule command (number_option (codes "limit") 1 100000))
+    (number_option (codes "after") 0 1000000000)) (text_option (codes "at"))) words_rule
 
 -- The addresses of a command that writes messages: `--rp A --upstream A --own A`.
 abbrev pub with_addresses : App → App

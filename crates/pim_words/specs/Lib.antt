@@ -2,6 +2,7 @@
 pub mod CommandLine
 pub mod Addresses
 pub mod Faults
+pub mod Ends
 pub mod Given
 pub mod Ports
 pub mod Reading

@@ -16,6 +16,7 @@ use Rattle.pim_words.specs.declared.task.Task.{Task}
 use Rattle.pim_words.specs.declared.task.Task.TheVariants.{Check, Build, Replay, Same, Mirror, Emit, Change}
 use Rattle.pim_words.specs.declared.task.Captures.{Captures}
 use Rattle.pim_words.specs.declared.task.Writing.{Writing}
+use Rattle.pim_words.specs.Ends.{IsEarly}
 use Rattle.pim_words.specs.Faults.{task_faults}
 use Rattle.pim_words.specs.Given.{kind_name, session_name}
 use Rattle.pim_words.specs.Reading.{IsTask, IsUnreadable}
@@ -87,9 +88,10 @@ HasCause app words fault = IsRefusal app words fault ⊎ HasWrong app words faul
 
 -- ---- the ranges of a plan's numbers
 
--- A router runs on for at most 10^9 milliseconds after its last record.
+-- A router runs on for at most 10^9 milliseconds after its last record, or to a time below 10^15
+-- milliseconds.
 abbrev pub IsBounded : {A : Type 0} → Captures A → Type 0
-IsBounded captures = captures.after_ms ≤ 1000000000
+IsBounded captures = (captures.after_ms ≤ 1000000000) × IsEarly captures.at
 
 -- A port holds at least one record and at most 100,000.
 abbrev pub IsLimited : {A : Type 0} → Captures A → Type 0

@@ -1,6 +1,6 @@
 -- The task that the options and words of a command give, with addresses of either family, or what
 -- can't be read.
-use Rattle.std.specs.Prelude.{◌≡◌, ◌⊎◌, ⊤, Bool, List, [], ◌∷◌, Option, Some, None, codes, option_map}
+use Rattle.std.specs.Prelude.{◌≡◌, ◌⊎◌, ⊤, Bool, true, false, List, [], ◌∷◌, Option, Some, None, codes, option_map}
 use Rattle.std.specs.Prelude.{IfSome, IsSomeAnd}
 use Rattle.std.specs.List.{AllZip}
 use Rattle.clap.specs.Words.{Row, Text, first_of}
@@ -14,6 +14,7 @@ use Rattle.pim_words.specs.declared.task.Kind.TheVariants as kind
 use Rattle.pim_words.specs.declared.task.Task.{Task}
 use Rattle.pim_words.specs.declared.task.Task.TheVariants.{Check, Build, Replay, Same, Mirror, Emit, Change}
 use Rattle.pim_words.specs.Addresses.{Names, IsRead, IsUnread}
+use Rattle.pim_words.specs.Ends.{are_both_given, has_two_ends, time_text, IsTimed, IsEarly, IsUntimed, IsTimely}
 use Rattle.pim_words.specs.Given.{IsNumber, address_texts, is_sided, option_or, required, rp_text, words_of}
 use Rattle.pim_words.specs.Given.{source_text, destination_text}
 use Rattle.pim_words.specs.Ports.{IsPort, IsFirstWrongOf}
@@ -26,11 +27,18 @@ IsNamed None None = ⊤
 IsNamed (Some text) (Some address) = Names text address
 IsNamed given read = ⊥
 
--- The options of a run other than the RP, and the ports that the words name.
-pub record AreCaptures (is_sided : Bool) (rows : List Row) (captures : Captures Address) : Type 0 where
+-- The options of a run other than the RP.
+pub record IsRun (rows : List Row) (captures : Captures Address) : Type 0 where
   pub routes : option_map (λ name. name.now) captures.routes ≡ first_of (codes "routes") rows
   pub limit : IsNumber 1 100000 (option_or (codes "100000") (codes "limit") rows) captures.limit
   pub after : IsNumber 0 1000000000 (option_or (codes "0") (codes "after") rows) captures.after_ms
+  pub at : IsTimed (time_text rows) captures.at
+  pub early : IsEarly captures.at
+  pub one_end : are_both_given rows ≡ false
+
+-- The options of a run other than the RP, and the ports that the words name.
+pub record AreCaptures (is_sided : Bool) (rows : List Row) (captures : Captures Address) : Type 0 where
+  pub run : IsRun rows captures
   pub ports : AllZip (IsPort is_sided) (words_of rows) captures.ports.items
 
 -- The options of the writer.
@@ -79,10 +87,23 @@ abbrev pub AreRead : List (Option Text) → Type 0
 AreRead [] = ⊤
 AreRead (value ∷ values) = IfSome value IsRead × AreRead values
 
--- The fault of texts that can't be read: of the first such option, otherwise of the first such
--- word. Or memory is refused.
+-- The fault of a run's words: its time can't be read, or else a word can't.
+abbrev pub IsWrongRun : Bool → List Row → Fault → Type 0
+IsWrongRun is_sided rows fault =
+    IsUntimed (time_text rows) fault
+    ⊎ (IsTimely (time_text rows) × IsFirstWrongOf is_sided (words_of rows) fault)
+
+-- The fault of texts that can't be read: of the first such address of an option, otherwise of the
+-- time, otherwise of the first such word.
+abbrev pub IsUnreadOf : Kind → List Row → Fault → Type 0
+IsUnreadOf command rows fault =
+    IsFirstUnread (address_texts command rows) fault
+    ⊎ (AreRead (address_texts command rows) × IsWrongRun (is_sided command) rows fault)
+
+-- The fault of words that don't give a task: the run has two ends, otherwise a text can't be read.
+-- Or memory is refused.
 abbrev pub IsUnreadable : Kind → List Row → Fault → Type 0
 IsUnreadable command rows cause.Memory = ⊤
 IsUnreadable command rows fault =
-    IsFirstUnread (address_texts command rows) fault
-    ⊎ (AreRead (address_texts command rows) × IsFirstWrongOf (is_sided command) (words_of rows) fault)
+    ((fault ≡ cause.TwoEnds) × (has_two_ends command rows ≡ true))
+    ⊎ ((has_two_ends command rows ≡ false) × IsUnreadOf command rows fault)

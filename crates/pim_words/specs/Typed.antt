@@ -27,12 +27,13 @@ module _ {A : Type 0} (family : AddressFamily) (bytes_of : A → List ℕ) where
   abbrev pub port_seen : Port A → Port Address
   port_seen port = record { side = port.side; address = address_seen port.address; file = port.file; word = port.word }
 
-  -- The two have the same RP, file of routes, limit, time and ports.
+  -- The two have the same RP, file of routes, limit, times and ports.
   pub record SameCaptures (typed : Captures A) (captures : Captures Address) : Type 0 where
     pub rp : option_map address_seen typed.rp ≡ captures.rp
     pub routes : typed.routes ≡ captures.routes
     pub limit : typed.limit ≡ captures.limit
     pub after : typed.after_ms ≡ captures.after_ms
+    pub at : typed.at ≡ captures.at
     pub ports : map port_seen typed.ports.items ≡ captures.ports.items
 
   -- The two have the same addresses, holdtime and budget.

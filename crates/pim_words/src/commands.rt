@@ -181,6 +181,11 @@ const LIMIT_HELP: &str = "Most records of a port, 1 to 100000{n}[default: 100000
 const AFTER_MS_HELP: &str =
     "Time to run after the last packet, in milliseconds,{n}0 to 1000000000 [default: 0]";
 
+/// The help of `--at`.
+const AT_HELP: &str =
+    "Time at which the run ends, in place of --after:{n}milliseconds since the first record,\
+{n}seconds since 1970 (1795329744.5), or a{n}UTC date (2026-11-22T06:42:24.5Z)";
+
 /// The name in help of a word of a command with one router.
 const PORT: &str = "ADDRESS@FILE";
 
@@ -364,7 +369,7 @@ fn with_command<'a>(whole: Command<'a>, command: Command<'a>) -> Result<Command<
     whole.subcommand(command)
 }
 
-/// Adds `--limit`, `--after` and the words, which each command with captures has.
+/// Adds `--limit`, `--after`, `--at` and the words, which each command with captures has.
 fn with_run_options<'a>(
     alloc: Global,
     command: Command<'a>,
@@ -382,6 +387,7 @@ fn with_run_options<'a>(
         command,
         number_option(alloc, "after", "MS", 0, 1_000_000_000, AFTER_MS_HELP),
     )?;
+    let command = with_option(command, text_option(alloc, "at", "TIME", AT_HELP))?;
     with_option(command, words(alloc, texts.word, texts.word_help))
 }
 

@@ -47,7 +47,10 @@ pub enum Fault<'a> {
     /// The value of an option isn't an address, or the address in a word can't be read. The text is
     /// the value or the whole word.
     Address(&'a str),
-    /// The word isn't `ADDRESS@FILE`, or with two routers `a=ADDRESS@FILE` or `b=ADDRESS@FILE`.
+    /// The words give both `--after` and `--at`.
+    TwoEnds,
+    /// The word isn't `ADDRESS@FILE`, or with two routers `a=ADDRESS@FILE` or `b=ADDRESS@FILE`. Or it
+    /// is the value of `--at` and names no time.
     Word(&'a str),
     /// The addresses of the command aren't all of one family.
     Family,

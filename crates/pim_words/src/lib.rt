@@ -3,8 +3,8 @@
 //! `plan` reads the words of `check`, `replay`, `same`, `mirror`, `emit` and `change`, and opens
 //! nothing. At Ok it returns the task that the words ask for.
 //! - All addresses are of one family, and options that are missing have their defaults.
-//! - A router runs on for at most 10^9 ms after the last record, and a port holds 1 to 100,000
-//!   records.
+//! - A router runs on for at most 10^9 ms after the last record, or to a time below 10^15 ms, and a
+//!   port holds 1 to 100,000 records.
 //! - The holdtime is at least 99 s, and the budget is 70 to 65,000 bytes.
 //!
 //! Otherwise it returns a fault whose cause exists, the first in the order that `plan` lists, or
@@ -12,7 +12,8 @@
 //! and the words and file names of a plan, borrow from the command line.
 //!
 //! `clap` finds the options and checks the ranges of numbers, so its faults come first. This crate
-//! sets the defaults itself, since `clap` promises defaults for its top command only.
+//! sets the defaults itself, since `clap` promises defaults for its top command only. It refuses
+//! `--after` beside `--at` itself, since `clap`'s definition covers no options in conflict.
 //!
 //! `given_table` makes the route table of an RP and an upstream neighbour. Both must be valid
 //! sources, as those of a plan are.

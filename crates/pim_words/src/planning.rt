@@ -154,7 +154,9 @@ fn plan_by<'a, S: AsStr>(
 /// # Errors
 /// `Memory`, or the first of these causes that the words have:
 /// - `Clap`: `clap` refuses the words, or they ask for help or the version.
+/// - `TwoEnds`: both `--after` and `--at` are given.
 /// - `Address` of an option, in the order of the options in help.
+/// - `Word` of the value of `--at`.
 /// - `Word` and `Address` of the words, in their order.
 /// - `Family`.
 /// - `NoPort` of router a, then of b, in a command with two routers.

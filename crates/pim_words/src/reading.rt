@@ -7,10 +7,12 @@ ghost use Rattle.std.specs.Prelude.{◌≡◌, MatchResult, IfOk, IfErr, true, f
 ghost use Rattle.std.specs.List.{AllZip};
 ghost use Rattle.clap.specs.Words.{rows_of, found_of};
 ghost use Rattle.pim_words.specs.Addresses.{Names};
+ghost use Rattle.pim_words.specs.Ends.{are_both_given, time_text, IsTimed, IsEarly, IsUntimed};
+ghost use Rattle.pim_words.specs.declared.fault.Fault.TheVariants.{TwoEnds};
 ghost use Rattle.pim_words.specs.Given.{words_of, required, address_texts, is_sided};
 ghost use Rattle.pim_words.specs.Ports.{IsPort, IsFirstWrongOf};
-ghost use Rattle.pim_words.specs.Reading.{IsNamed, IsUnreadText, IsUnreadValue, IsFirstUnread, AreCaptures, IsWriting};
-ghost use Rattle.pim_words.specs.Reading.{IsTask, IsUnreadable};
+ghost use Rattle.pim_words.specs.Reading.{IsNamed, IsUnreadText, IsUnreadValue, IsFirstUnread, IsRun, AreCaptures};
+ghost use Rattle.pim_words.specs.Reading.{IsWriting, IsTask, IsUnreadable, IsWrongRun};
 ghost use Rattle.pim_words.specs.Seen.{OrMemory, AreEnds, AreWritten, HasNumbers};
 
 use crate::addresses::{Address, read_address};
@@ -19,6 +21,7 @@ use crate::given::{number_of, option_of, option_or};
 use crate::port::read_ports;
 use crate::task::{Captures, Kind, Port, Task, Writing};
 use clap::ArgMatches;
+use pim_time::{Time, read_time};
 use std::alloc::Global;
 
 /// The address that is the value of an option.
@@ -45,6 +48,39 @@ fn read_given<'a>(text: Option<&'a str>) -> Result<Option<Address>, Fault<'a>>
     }
 }
 
+/// The time that is the value of an option, if it is given.
+fn read_at<'a>(text: Option<&'a str>) -> Result<Option<Time>, Fault<'a>>
+    ensures read { MatchResult result (IsTimed (option_map (λ s. s.now) text.entry))
+        (IsUntimed (option_map (λ s. s.now) text.entry)) }
+    ensures early { IfOk result IsEarly }
+{
+    let Some(text) = text else {
+        return Ok(None);
+    };
+    match read_time(text) {
+        Some(time) => Ok(Some(time)),
+        None => Err(Fault::Word(text)),
+    }
+}
+
+/// Whether `--after` and `--at` are both given.
+fn are_both_given(options: &ArgMatches<'_>) -> bool
+    ensures { result ≡ are_both_given (rows_of (found_of options.now)) }
+{
+    option_of(options, "after").is_some() && option_of(options, "at").is_some()
+}
+
+/// Checks that the run of a command has one end.
+fn judge_end(options: &ArgMatches<'_>) -> Result<(), Fault<'static>>
+    ensures { MatchResult result (λ done. are_both_given (rows_of (found_of options.now)) ≡ false)
+        (λ fault. (fault ≡ TwoEnds) × (are_both_given (rows_of (found_of options.now)) ≡ true)) }
+{
+    if are_both_given(options) {
+        return Err(Fault::TwoEnds);
+    }
+    Ok(())
+}
+
 /// The ports that the words of a command name.
 fn read_words<'a>(
     alloc: Global,
@@ -61,6 +97,33 @@ fn read_words<'a>(
     }
 }
 
+/// The captures of these ports with this RP and this time, and the other options of their run.
+fn captures_of<'a>(
+    rp: Option<Address>,
+    at: Option<Time>,
+    ports: Vec<Port<'a, Address>>,
+    options: &ArgMatches<'a>,
+) -> Captures<'a, Address>
+    requires numbers { HasNumbers (rows_of (found_of options.now)) }
+    requires one_end { are_both_given (rows_of (found_of options.now)) ≡ false }
+    requires timed { IsTimed (time_text (rows_of (found_of options.now))) at }
+    requires early { IsEarly at }
+    ensures rp { result.rp ≡ rp }
+    ensures ports { result.ports ≡ ports.entry }
+    ensures run { IsRun (rows_of (found_of options.now)) result }
+{
+    let limit = number_of(options, "limit", "100000", 1, 100_000);
+    let after_ms = number_of(options, "after", "0", 0, 1_000_000_000);
+    Captures {
+        rp,
+        routes: option_of(options, "routes"),
+        limit: limit as usize,
+        after_ms,
+        at,
+        ports,
+    }
+}
+
 /// The ports and the options of the run of a command with this RP.
 fn read_captures<'a>(
     alloc: Global,
@@ -68,21 +131,15 @@ fn read_captures<'a>(
     rp: Option<Address>,
     options: &ArgMatches<'a>,
 ) -> Result<Captures<'a, Address>, Fault<'a>>
-    requires { HasNumbers (rows_of (found_of options.now)) }
+    requires numbers { HasNumbers (rows_of (found_of options.now)) }
+    requires one_end { are_both_given (rows_of (found_of options.now)) ≡ false }
     ensures rp { IfOk result (λ captures. captures.rp ≡ rp) }
     ensures captures { IfOk result (AreCaptures is_sided (rows_of (found_of options.now))) }
-    ensures told { IfErr result (OrMemory (IsFirstWrongOf is_sided (words_of (rows_of (found_of options.now))))) }
+    ensures told { IfErr result (OrMemory (IsWrongRun is_sided (rows_of (found_of options.now)))) }
 {
+    let at = read_at(option_of(options, "at"))?;
     let ports = read_words(alloc, is_sided, options)?;
-    let limit = number_of(options, "limit", "100000", 1, 100_000);
-    let after_ms = number_of(options, "after", "0", 0, 1_000_000_000);
-    Ok(Captures {
-        rp,
-        routes: option_of(options, "routes"),
-        limit: limit as usize,
-        after_ms,
-        ports,
-    })
+    Ok(captures_of(rp, at, ports, options))
 }
 
 /// The addresses of a command on one message.
@@ -134,6 +191,7 @@ fn read_replay<'a>(alloc: Global, options: &ArgMatches<'a>) -> Result<Task<'a, A
     ensures { MatchResult result (IsTask Kind.Replay (rows_of (found_of options.now)))
         (IsUnreadable Kind.Replay (rows_of (found_of options.now))) }
 {
+    judge_end(options)?;
     let rp = read_given(option_of(options, "rp"))?;
     let captures = read_captures(alloc, false, rp, options)?;
     Ok(Task::Replay(captures))
@@ -183,6 +241,7 @@ fn read_same<'a>(alloc: Global, options: &ArgMatches<'a>) -> Result<Task<'a, Add
     ensures { MatchResult result (IsTask Kind.Same (rows_of (found_of options.now)))
         (IsUnreadable Kind.Same (rows_of (found_of options.now))) }
 {
+    judge_end(options)?;
     let addresses = read_addresses(options)?;
     let captures = read_captures(alloc, true, Some(addresses.rp), options)?;
     let writing = read_writing(addresses, options);
@@ -195,6 +254,7 @@ fn read_mirror<'a>(alloc: Global, options: &ArgMatches<'a>) -> Result<Task<'a, A
     ensures { MatchResult result (IsTask Kind.Mirror (rows_of (found_of options.now)))
         (IsUnreadable Kind.Mirror (rows_of (found_of options.now))) }
 {
+    judge_end(options)?;
     let addresses = read_addresses(options)?;
     let captures = read_captures(alloc, false, Some(addresses.rp), options)?;
     let writing = read_writing(addresses, options);
@@ -207,6 +267,7 @@ fn read_emit<'a>(alloc: Global, options: &ArgMatches<'a>) -> Result<Task<'a, Add
     ensures { MatchResult result (IsTask Kind.Emit (rows_of (found_of options.now)))
         (IsUnreadable Kind.Emit (rows_of (found_of options.now))) }
 {
+    judge_end(options)?;
     let addresses = read_addresses(options)?;
     let captures = read_captures(alloc, false, Some(addresses.rp), options)?;
     let writing = read_writing(addresses, options);
@@ -219,6 +280,7 @@ fn read_change<'a>(alloc: Global, options: &ArgMatches<'a>) -> Result<Task<'a, A
     ensures { MatchResult result (IsTask Kind.Change (rows_of (found_of options.now)))
         (IsUnreadable Kind.Change (rows_of (found_of options.now))) }
 {
+    judge_end(options)?;
     let addresses = read_addresses(options)?;
     let captures = read_captures(alloc, true, Some(addresses.rp), options)?;
     let writing = read_writing(addresses, options);

@@ -4,6 +4,7 @@
 //! below are those of a plan.
 
 use crate::fault::Side;
+use pim_time::Time;
 
 /// A port of a router, which a word of the command line names.
 #[derive(Clone, Copy, Debug, PartialEq, Eq)]
@@ -29,6 +30,9 @@ pub struct Captures<'a, A> {
     pub limit: usize,
     /// The time to run after the last record, in milliseconds: 0 to 1,000,000,000.
     pub after_ms: u64,
+    /// The time at which the run ends, if one is given: below 10^15 milliseconds. It counts in
+    /// place of `after_ms`.
+    pub at: Option<Time>,
     /// The ports of one or both routers, in the order of the words.
     pub ports: Vec<Port<'a, A>>,
 }

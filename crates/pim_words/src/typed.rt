@@ -99,6 +99,7 @@ fn captures_in_family<'a, F: Family>(
         routes: captures.routes,
         limit: captures.limit,
         after_ms: captures.after_ms,
+        at: captures.at,
         ports,
     })
 }
