@@ -12,6 +12,7 @@ use Rattle.pim_form.specs.Laws.{OneNormalForm}
 use Rattle.pim_form.specs.Messages.{Writing}
 use Rattle.pim_form.specs.NormalForm.{GroupForm}
 use Rattle.pim_form.specs.TooBig.{too_big}
+use Rattle.pim_merge.specs.declared.end.End.{End}
 use Rattle.pim_merge.specs.Next.{MergeState}
 use Rattle.pim_device.specs.Device.{AppendsFront}
 use Rattle.pim_mirror.specs.declared.mirroring.MirrorFault.{MirrorFault}
@@ -45,10 +46,10 @@ never_too_big one fitting family writing last other group fits big = none (sym a
     none e = cc
 
 -- replays leave both routers' table
-pub same_tables : (family : AddressFamily) (after_ms : ℕ) (merge other : MergeState) (state after state_of after_of : RouterState) → RunsAll family after_ms merge state after → RunsAll family after_ms other state_of after_of
+pub same_tables : (family : AddressFamily) (end : End) (merge other : MergeState) (state after state_of after_of : RouterState) → RunsAll family end merge state after → RunsAll family end other state_of after_of
     → state.routes ≡ state_of.routes → after.routes ≡ after_of.routes
-same_tables family after_ms merge other state after state_of after_of one two same =
-    all_keep_table family after_ms merge one.account state after one.tells ∙ (same ∙ sym (all_keep_table family after_ms other two.account state_of after_of two.tells))
+same_tables family end merge other state after state_of after_of one two same =
+    all_keep_table family end merge one.account state after one.tells ∙ (same ∙ sym (all_keep_table family end other two.account state_of after_of two.tells))
 
 -- what is told of two routers that have one table
 pub told_between : OneNormalForm → (family : AddressFamily) (table : RouteTable) (writing : Writing) (one other : RouterState) (before changes wanted : List (List ℕ)) → table ≡ one.routes → table ≡ other.routes

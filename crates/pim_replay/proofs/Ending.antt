@@ -1,10 +1,12 @@
 -- The end of a replay: the time behind the last turn, and the state's text.
-use Rattle.std.proofs.Common.{◌≡◌, ◌+◌, ℕ, Bool, List, ◌++◌, [], Option, None, Ok, Err, refl, sym, ap, subst, arith, append-nil, inl, inr}
+use Rattle.std.proofs.Common.{◌≡◌, ◌∙◌, ℕ, Bool, List, ◌++◌, [], Option, None, Ok, Err, refl, sym, ap, subst, arith, append-nil, inl, inr}
 use Rattle.std.specs.Io.KnownBytes.{Appends}
 use Rattle.std.proofs.KnownBytes.{Appends-trans}
 use Rattle.pim_addr.specs.declared.family.AddressFamily.{AddressFamily}
 use Rattle.pim_device.specs.Device.{AppendsFront}
+use Rattle.pim_merge.specs.declared.end.End.{End}
 use Rattle.pim_merge.specs.Next.{MergeState}
+use Rattle.pim_merge.specs.Ends.{end_moment, clock_of}
 use Rattle.pim_router.specs.State.{RouterState}
 use Rattle.pim_replay.specs.declared.replay.ReplayFault.{ReplayFault}
 use Rattle.pim_replay.specs.declared.replay.ReplayFault.TheVariants.{Capture, Output, Memory}
@@ -19,21 +21,25 @@ use Rattle.pim_replay.specs.Underway.{of_text, HasAll, Steps, RunsTurns}
 use Rattle.pim_replay.proofs.Taken.{made_counts, same_counts, none_is_front}
 use Rattle.pim_replay.proofs.Written.{front-more}
 
-module _ (family : AddressFamily) (start : MergeState) (state : RouterState) (old : Option (List ℕ)) where
-  pub no_more : (counts : Counts) (merge : MergeState) (now : RouterState) (new : Option (List ℕ)) (next : Option Counts) → next ≡ None → Steps family start state old counts merge now new (Ok next)
-      → HasAll family start state old now new counts
-  no_more counts merge now new next none steps = subst (λ (n : Option Counts). Steps family start state old counts merge now new (Ok n)) none steps
+module _ (family : AddressFamily) (end : End) (start : MergeState) (state : RouterState) (old : Option (List ℕ)) where
+  pub no_more : (counts : Counts) (merge : MergeState) (now : RouterState) (new : Option (List ℕ)) (next : Option Counts) → next ≡ None → Steps family end start state old counts merge now new (Ok next)
+      → HasAll family end start state old merge now new counts
+  no_more counts merge now new next none steps = subst (λ (n : Option Counts). Steps family end start state old counts merge now new (Ok n)) none steps
 
-  pub ends_so : (counts : Counts) (merge : MergeState) (now : RouterState) (new : Option (List ℕ)) (fault : ReplayFault) → Steps family start state old counts merge now new (Err fault)
-      → RunsTurns family start state old merge now new (Err fault)
+  pub ends_so : (counts : Counts) (merge : MergeState) (now : RouterState) (new : Option (List ℕ)) (fault : ReplayFault) → Steps family end start state old counts merge now new (Err fault)
+      → RunsTurns family end start state old merge now new (Err fault)
   ends_so counts merge now new (Capture told) p = p
   ends_so counts merge now new Output p = p
   ends_so counts merge now new Memory p = p
 
   -- ---- the time behind the last turn
 
-  module _ (now : RouterState) (new newer : Option (List ℕ)) (counts : Counts) (h : HasAll family start state old now new counts) (after_ms moment : ℕ) (is_now : moment ≡ now.machines.moment) where
-    pub all_stopped : HasStopped family (moment + after_ms) now new newer → HasBegun (λ account after. TellsAll family after_ms start account state after) old newer
+  module _ (merge : MergeState) (now : RouterState) (new newer : Option (List ℕ)) (counts : Counts) (h : HasAll family end start state old merge now new counts) (moment : ℕ)
+      (is_end : moment ≡ end_moment end merge.clock now.machines.moment) where
+    at_end : moment ≡ end_moment end (clock_of start.clock h.taken) now.machines.moment
+    at_end = is_end ∙ ap (λ c. end_moment end c now.machines.moment) h.clock
+
+    pub all_stopped : HasStopped family moment now new newer → HasBegun (λ account after. TellsAll family end start account state after) old newer
     all_stopped way = record {
       account = joined h.account (on_the_way way.lines way.refreshes);
       after = way.after;
@@ -45,14 +51,14 @@ module _ (family : AddressFamily) (start : MergeState) (state : RouterState) (ol
         tells = h.tells;
         way = way.lines;
         refreshes = way.refreshes;
-        passes = subst (λ (m : ℕ). PassesTime family (m + after_ms) way.lines way.refreshes now way.after) is_now way.passes;
+        passes = subst (λ (m : ℕ). PassesTime family m way.lines way.refreshes now way.after) at_end way.passes;
         account_is = refl;
       };
       written = front-more old new newer h.account.lines way.lines h.written way.written;
     }
 
-    pub all_passed : (after : RouterState) (refreshes : ℕ) → HasPassed family (moment + after_ms) now after new newer counts.refreshes refreshes
-        → HasTold (λ account. TellsAll family after_ms start account state after) old newer none_yet (made_counts counts.skipped refreshes)
+    pub all_passed : (after : RouterState) (refreshes : ℕ) → HasPassed family moment now after new newer counts.refreshes refreshes
+        → HasTold (λ account. TellsAll family end start account state after) old newer none_yet (made_counts counts.skipped refreshes)
     all_passed after refreshes way =
         let skipped = ap (λ (c : Counts). c.skipped) h.is_counted in
         let before = ap (λ (c : Counts). c.refreshes) h.is_counted in
@@ -66,7 +72,7 @@ module _ (family : AddressFamily) (start : MergeState) (state : RouterState) (ol
             tells = h.tells;
             way = way.lines;
             refreshes = way.refreshes;
-            passes = subst (λ (m : ℕ). PassesTime family (m + after_ms) way.lines way.refreshes now after) is_now way.passes;
+            passes = subst (λ (m : ℕ). PassesTime family m way.lines way.refreshes now after) at_end way.passes;
             account_is = refl;
           };
           written = Appends-trans old new newer h.account.lines way.lines h.written way.written;
@@ -75,21 +81,21 @@ module _ (family : AddressFamily) (start : MergeState) (state : RouterState) (ol
 
   -- ---- the state
 
-  module _ (after_ms : ℕ) (tells_via : Bool) (after : RouterState) (new newer : Option (List ℕ)) (counts : Counts)
-      (h : HasTold (λ account. TellsAll family after_ms start account state after) old new none_yet counts) where
+  module _ (tells_via : Bool) (after : RouterState) (new newer : Option (List ℕ)) (counts : Counts)
+      (h : HasTold (λ account. TellsAll family end start account state after) old new none_yet counts) where
     ends_with : (IsSo : List ℕ → Type 0) (IsAll : List ℕ → Type 0) → ((text : List ℕ) → IsSo text → IsAll (h.account.lines ++ text)) → IsTold family tells_via after counts IsSo
-        → Reports family tells_via after_ms start state after IsAll
+        → Reports family tells_via end start state after IsAll
     ends_with IsSo IsAll both told = record {
       text = h.account.lines ++ text_with family tells_via after told.form (counted none_yet h.account);
       is_report = record { account = h.account; tells = h.tells; form = told.form; demand = told.demand; text_is = refl };
       written = subst (λ (c : Counts). IsAll (h.account.lines ++ text_with family tells_via after told.form c)) h.is_counted (both (text_with family tells_via after told.form counts) told.written);
     }
 
-    pub reported : WritesState family tells_via after counts new newer (Ok tt) → Reports family tells_via after_ms start state after (Appends old newer)
+    pub reported : WritesState family tells_via after counts new newer (Ok tt) → Reports family tells_via end start state after (Appends old newer)
     reported told = ends_with (Appends new newer) (Appends old newer) (λ text p. Appends-trans old new newer h.account.lines text h.written p) told
 
     by_text : (merge : MergeState) (fault : TextFault) → WritesState family tells_via after counts new newer (Err fault)
-        → Replays family tells_via after_ms start merge state after old newer (Err (of_text fault))
+        → Replays family tells_via end start merge state after old newer (Err (of_text fault))
     by_text merge text.Output told =
         inr (inr (after, ends_with (AppendsFront new newer) (AppendsFront old newer) (λ text p. front-more old new newer h.account.lines text h.written p) told))
     by_text merge text.Memory keeps =
@@ -101,5 +107,5 @@ module _ (family : AddressFamily) (start : MergeState) (state : RouterState) (ol
         }))
 
     pub not_told : (merge : MergeState) (fault : TextFault) (answer : ReplayFault) → answer ≡ of_text fault → WritesState family tells_via after counts new newer (Err fault)
-        → Replays family tells_via after_ms start merge state after old newer (Err answer)
-    not_told merge fault answer is told = subst (λ a. Replays family tells_via after_ms start merge state after old newer (Err a)) (sym is) (by_text merge fault told)
+        → Replays family tells_via end start merge state after old newer (Err answer)
+    not_told merge fault answer is told = subst (λ a. Replays family tells_via end start merge state after old newer (Err a)) (sym is) (by_text merge fault told)

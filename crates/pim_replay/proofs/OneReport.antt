@@ -6,13 +6,16 @@ use Rattle.pim_down.specs.declared.key.What.{What}
 use Rattle.pim_form.specs.Laws.{OneNormalForm}
 use Rattle.pim_form.specs.NormalForm.{GroupForm, IsFormOf}
 use Rattle.pim_form.specs.Wants.{wants}
-use Rattle.pim_merge.specs.Laws.{MergeHasOneEnd}
+use Rattle.pim_merge.specs.Laws.{MergeByHasOneEnd}
 use Rattle.pim_merge.specs.Lane.{IsComing}
 use Rattle.pim_capture.specs.declared.fault.CaptureFault.{CaptureFault}
 use Rattle.pim_capture.specs.Capture.{Told}
+use Rattle.pim_time.specs.declared.reading.Time.{Time}
 use Rattle.pim_merge.specs.declared.clock.Clock.{Clock}
-use Rattle.pim_merge.specs.Merge.{Taken, IsMerge, ending, takes, clock_after, moment_of, time_told, after_turn}
+use Rattle.pim_merge.specs.declared.end.End.{End}
+use Rattle.pim_merge.specs.Merge.{Taken, IsMergeBy, ending, takes, clock_after, moment_of, time_told, after_turn}
 use Rattle.pim_merge.specs.Next.{MergeState}
+use Rattle.pim_merge.specs.Ends.{last_of, end_moment, clock_of, Takes}
 use Rattle.pim_router.specs.declared.step.Step.TheVariants.{Echo, Refresh, Reached}
 use Rattle.pim_router.specs.Course.{Telling, echo, refresh, verdict}
 use Rattle.pim_router.specs.Laws.{RunHasOneEnd}
@@ -22,7 +25,7 @@ use Rattle.pim_replay.specs.Laws.{BeginsWith, BeginsWithItsLines}
 use Rattle.pim_replay.specs.Passing.{Passes, PassesTime}
 use Rattle.pim_report.specs.StateText.{text_with}
 use Rattle.pim_replay.specs.Turn.{Account, nothing, joined, on_the_way, counted, taking, TellsTurn}
-use Rattle.pim_replay.specs.Report.{TellsTurns, Takes, TellsFirst, TellsAll, IsReport, none_yet}
+use Rattle.pim_replay.specs.Report.{TellsTurns, TellsFirst, TellsAll, IsReport, none_yet}
 
 echo_port : (p q : ℕ) (g h : List ℕ) (w v : What (List ℕ)) → Echo p g w ≡ Echo q h v → p ≡ q
 echo_port p q g h w v same = cc
@@ -56,18 +59,18 @@ record Front (taken all : List Taken) : Type 0 where
   more : List Taken
   is : all ≡ taken ++ more
 
-front_of_all : (clock : Option Clock) (captures : List (List Answer)) (taken : List Taken) (clock' : Option Clock) (rest : List (List Answer)) (all : List Taken) (fault : Option (ℕ × CaptureFault))
-    → Takes clock captures taken clock' rest → IsMerge clock captures all fault → Front taken all
-unfolding Takes IsMerge
-front_of_all clock captures [] clock' rest all fault takes_them merge = record { more = all; is = refl }
-front_of_all clock captures (first ∷ others) clock' rest [] fault (one, at, goes_on) merge = absurd (ends_or_takes fault first.capture first.told (sym merge ∙ one))
-front_of_all clock captures (first ∷ others) clock' rest (second ∷ seconds) fault (one, at, goes_on) (two, at', merge) =
+front_of_all : (last : Option Time) (clock : Option Clock) (captures : List (List Answer)) (taken : List Taken) (clock' : Option Clock) (rest : List (List Answer)) (all : List Taken) (fault : Option (ℕ × CaptureFault))
+    → Takes last clock captures taken clock' rest → IsMergeBy last clock captures all fault → Front taken all
+unfolding Takes IsMergeBy
+front_of_all last clock captures [] clock' rest all fault takes_them merge = record { more = all; is = refl }
+front_of_all last clock captures (first ∷ others) clock' rest [] fault (one, at, goes_on) merge = absurd (ends_or_takes fault first.capture first.told (sym merge ∙ one))
+front_of_all last clock captures (first ∷ others) clock' rest (second ∷ seconds) fault (one, at, goes_on) (two, at', merge) =
     let capture = takes_capture second.capture first.capture second.told first.told (sym two ∙ one) in
     let same = takes_told second.capture first.capture second.told first.told (sym two ∙ one) in
     let moment = at' ∙ (ap (λ t. moment_of (clock_after clock (time_told t))) same ∙ sym at) in
-    let rest_of = front_of_all (clock_after clock (time_told first.told)) (after_turn first.capture captures) others clock' rest seconds fault goes_on
-    (subst (λ t. IsMerge (clock_after clock (time_told t)) (after_turn first.capture captures) seconds fault) same
-    (subst (λ c. IsMerge (clock_after clock (time_told second.told)) (after_turn c captures) seconds fault) capture merge)) in
+    let rest_of = front_of_all last (clock_after clock (time_told first.told)) (after_turn first.capture captures) others clock' rest seconds fault goes_on
+    (subst (λ t. IsMergeBy last (clock_after clock (time_told t)) (after_turn first.capture captures) seconds fault) same
+    (subst (λ c. IsMergeBy last (clock_after clock (time_told second.told)) (after_turn c captures) seconds fault) capture merge)) in
     record { more = rest_of.more; is = ap (λ t. t ∷ seconds) (same_taken second first capture moment same) ∙ ap (λ l. first ∷ l) rest_of.is }
 
 record Alike (lines more : List ℕ) (refreshes again : ℕ) (after other : RouterState) : Type 0 where
@@ -75,7 +78,7 @@ record Alike (lines more : List ℕ) (refreshes again : ℕ) (after other : Rout
   refreshes_are : refreshes ≡ again
   after_is : after ≡ other
 
-module _ (merges : MergeHasOneEnd) (runs : RunHasOneEnd) (forms : OneNormalForm) (family : AddressFamily) where
+module _ (merges : MergeByHasOneEnd) (runs : RunHasOneEnd) (forms : OneNormalForm) (family : AddressFamily) where
   passes_alike : (moment : ℕ) (told said : List Telling) (lines more : List ℕ) (refreshes again : ℕ) (state after other : RouterState) → Passes family moment told lines refreshes state after
       → Passes family moment said more again state other → Alike lines more refreshes again after other
   unfolding Passes
@@ -169,22 +172,23 @@ module _ (merges : MergeHasOneEnd) (runs : RunHasOneEnd) (forms : OneNormalForm)
       let q' = subst (λ s. IsFormOf family (wants s.machines) two) (sym same) q in
       forms family one two p.normal q'.normal (λ source group tree s g. sym (p.wants source group tree s g) ∙ q'.wants source group tree s g)
 
-  module _ (tells_via : Bool) (after_ms : ℕ) (merge : MergeState) (captures : List (List Answer)) (state : RouterState) (coming : IsComing merge.lanes captures) where
-    all_alike : (account again : Account) (after other : RouterState) → TellsAll family after_ms merge account state after → TellsAll family after_ms merge again state other
+  module _ (tells_via : Bool) (end : End) (merge : MergeState) (captures : List (List Answer)) (state : RouterState) (coming : IsComing merge.lanes captures) where
+    all_alike : (account again : Account) (after other : RouterState) → TellsAll family end merge account state after → TellsAll family end merge again state other
         → (account ≡ again) × (after ≡ other)
     all_alike account again after other one two =
-        let same = (merges merge.clock captures one.taken two.taken None None (one.are captures coming) (two.are captures coming)).0 in
+        let same = (merges (last_of end) merge.clock captures one.taken two.taken None None (one.are captures coming) (two.are captures coming)).0 in
         let turns = turns_alike one.taken one.turns two.turns state state one.between two.between refl one.tells
         (subst (λ t. TellsTurns family t two.turns state two.between) (sym same) two.tells) in
-        let way = time_alike (one.between.machines.moment + after_ms) one.way two.way one.refreshes two.refreshes one.between two.between after other turns.1 one.passes
-        (subst (λ s. PassesTime family (s.machines.moment + after_ms) two.way two.refreshes two.between other) (sym turns.1) two.passes) in (
+        let way = time_alike (end_moment end (clock_of merge.clock one.taken) one.between.machines.moment) one.way two.way one.refreshes two.refreshes one.between two.between after other turns.1 one.passes
+        (subst (λ t. PassesTime family (end_moment end (clock_of merge.clock t) one.between.machines.moment) two.way two.refreshes two.between other) (sym same)
+        (subst (λ s. PassesTime family (end_moment end (clock_of merge.clock two.taken) s.machines.moment) two.way two.refreshes two.between other) (sym turns.1) two.passes)) in (
           one.account_is
               ∙ (ap (λ x. joined x (on_the_way one.way one.refreshes)) turns.0
               ∙ (ap (joined two.turns) (way_is one.way two.way one.refreshes two.refreshes way.lines_are way.refreshes_are) ∙ sym two.account_is)),
           way.after_is,
         )
 
-    pub one_report : (one other : RouterState) (text more : List ℕ) → IsReport family tells_via after_ms merge state one text → IsReport family tells_via after_ms merge state other more
+    pub one_report : (one other : RouterState) (text more : List ℕ) → IsReport family tells_via end merge state one text → IsReport family tells_via end merge state other more
         → (text ≡ more) × (one ≡ other)
     one_report one other text more this that =
         let all = all_alike this.account that.account one other this.tells that.tells in
@@ -196,12 +200,12 @@ module _ (merges : MergeHasOneEnd) (runs : RunHasOneEnd) (forms : OneNormalForm)
           all.1,
         )
 
-    first_begin : (after : RouterState) (text : List ℕ) → IsReport family tells_via after_ms merge state after text → (account : Account) (between : RouterState)
-        → TellsFirst family merge account state between → BeginsWith text account.lines
+    first_begin : (after : RouterState) (text : List ℕ) → IsReport family tells_via end merge state after text → (account : Account) (between : RouterState)
+        → TellsFirst family end merge account state between → BeginsWith text account.lines
     first_begin after text this account between first =
         let all = this.tells in
         let g = first.are captures coming in
-        let front = front_of_all merge.clock captures first.taken g.clock_then g.rest all.taken None g.takes_them (all.are captures coming) in
+        let front = front_of_all (last_of end) merge.clock captures first.taken g.clock_then g.rest all.taken None g.takes_them (all.are captures coming) in
         let s = split first.taken front.more all.turns state all.between (subst (λ t. TellsTurns family t all.turns state all.between) front.is all.tells) in
         let same = (turns_alike first.taken s.one account state state s.mid between refl s.tells_one first.tells).0 in
         let state_text = text_with family tells_via after this.form (counted none_yet this.account) in
@@ -213,12 +217,12 @@ module _ (merges : MergeHasOneEnd) (runs : RunHasOneEnd) (forms : OneNormalForm)
               ∙ (ap (λ l. l ++ state_text) (append_assoc account.lines s.rest all.way) ∙ append_assoc account.lines (s.rest ++ all.way) state_text)));
         }
 
-    all_begin : (after : RouterState) (text : List ℕ) → IsReport family tells_via after_ms merge state after text → (account : Account) (between : RouterState)
-        → TellsAll family after_ms merge account state between → BeginsWith text account.lines
+    all_begin : (after : RouterState) (text : List ℕ) → IsReport family tells_via end merge state after text → (account : Account) (between : RouterState)
+        → TellsAll family end merge account state between → BeginsWith text account.lines
     all_begin after text this account between told = record {
       rest = text_with family tells_via after this.form (counted none_yet this.account);
       is = this.text_is ∙ ap (λ (a : Account). a.lines ++ text_with family tells_via after this.form (counted none_yet this.account)) (all_alike this.account account after between this.tells told).0;
     }
 
-    pub begins_so : (after : RouterState) (text : List ℕ) → IsReport family tells_via after_ms merge state after text → BeginsWithItsLines family after_ms merge state text
+    pub begins_so : (after : RouterState) (text : List ℕ) → IsReport family tells_via end merge state after text → BeginsWithItsLines family end merge state text
     begins_so after text this = record { first = first_begin after text this; all = all_begin after text this }

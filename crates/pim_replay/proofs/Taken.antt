@@ -15,8 +15,10 @@ use Rattle.pim_down.specs.Time.{fired}
 use Rattle.pim_capture.specs.Frame.{Datagram}
 use Rattle.pim_capture.specs.Capture.{Told, packet, skipped, ended}
 use Rattle.pim_addr.specs.Routes.{RouteTable}
+use Rattle.pim_merge.specs.declared.end.End.{End}
 use Rattle.pim_merge.specs.Merge.{Taken}
 use Rattle.pim_merge.specs.Next.{MergeState}
+use Rattle.pim_merge.specs.Ends.{end_moment, clock_of}
 use Rattle.pim_router.specs.declared.verdict.Verdict.{Verdict}
 use Rattle.pim_router.specs.declared.step.Step.{Step}
 use Rattle.pim_router.specs.declared.step.Step.TheVariants.{Reached}
@@ -242,10 +244,10 @@ turns_keep_table family [] account state after (none, same) = ap (λ (s : Router
 turns_keep_table family (first ∷ others) account state after (one, more, between, begins, goes_on, is) =
     turns_keep_table family others more between after goes_on ∙ turn_keeps_table family first one state between begins
 
-pub all_keep_table : (family : AddressFamily) (after_ms : ℕ) (merge : MergeState) (account : Account) (state after : RouterState) → TellsAll family after_ms merge account state after
+pub all_keep_table : (family : AddressFamily) (end : End) (merge : MergeState) (account : Account) (state after : RouterState) → TellsAll family end merge account state after
     → after.routes ≡ state.routes
-all_keep_table family after_ms merge account state after all =
-    time_keeps_table family (all.between.machines.moment + after_ms) all.way all.refreshes all.between after all.passes
+all_keep_table family end merge account state after all =
+    time_keeps_table family (end_moment end (clock_of merge.clock all.taken) all.between.machines.moment) all.way all.refreshes all.between after all.passes
     ∙ turns_keep_table family all.taken all.turns state all.between all.tells
 
 -- no Refresh is told of a record

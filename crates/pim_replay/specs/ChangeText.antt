@@ -8,6 +8,7 @@ use Rattle.pim_addr.specs.Routes.{RouteTable}
 use Rattle.pim_device.specs.Device.{AppendsFront}
 use Rattle.pim_form.specs.Messages.{Writing}
 use Rattle.pim_form.specs.NormalForm.{GroupForm, IsFormOf}
+use Rattle.pim_merge.specs.declared.end.End.{End}
 use Rattle.pim_merge.specs.Next.{MergeState}
 use Rattle.pim_router.specs.Canonical.{asked, IsAskedBy, IsFirstTooBig}
 use Rattle.pim_router.specs.Change.{IsToldOf}
@@ -29,11 +30,11 @@ pub record IsChangeBetween (family : AddressFamily) (writing : Writing) (one oth
   pub was : IsFormOf family (asked family writing.upstream one) form
   pub told : IsToldOf family writing form other messages
 
-module _ (family : AddressFamily) (after_ms : ℕ) (writing : Writing) (limit : ℕ) (merge merge' : MergeState)
+module _ (family : AddressFamily) (end : End) (writing : Writing) (limit : ℕ) (merge merge' : MergeState)
     (state after : RouterState) (other other' : MergeState) (state_of after_of : RouterState) where
   -- Both replays ended without a fault, and this fact holds.
   abbrev pub Both : Type 0 → Type 0
-  Both fact = RunsAll family after_ms merge state after × RunsAll family after_ms other state_of after_of × fact
+  Both fact = RunsAll family end merge state after × RunsAll family end other state_of after_of × fact
 
   -- The canonical messages of the first router, and the messages of the change to the second one.
   -- `IsWritten` holds for the two lists.
@@ -60,8 +61,8 @@ module _ (family : AddressFamily) (after_ms : ℕ) (writing : Writing) (limit : 
       Both (Changes (λ before change. HasNoRoom family after.routes writing limit before change needed
       × Appends old new (messages_text change)))
   TellsChange bytes_of old new (Err (Replay (Capture told))) =
-      (StopsAt family merge merge' told state None None
-      ⊎ RunsAll family after_ms merge state after × StopsAt family other other' told state_of None None)
+      (StopsAt family end merge merge' told state None None
+      ⊎ RunsAll family end merge state after × StopsAt family end other other' told state_of None None)
       × Keeps old new
   TellsChange bytes_of old new (Err (Replay Output)) =
       Both (Changes (λ before change. AppendsFront old new (agreed_text change)))

@@ -6,6 +6,7 @@ use Rattle.pim_addr.specs.declared.family.AddressFamily.{AddressFamily}
 use Rattle.pim_device.specs.Device.{top_count}
 use Rattle.pim_emit.specs.Written.{HaveGoneOut, HasGoneOut, IsTooBig}
 use Rattle.pim_form.specs.Messages.{Writing}
+use Rattle.pim_merge.specs.declared.end.End.{End}
 use Rattle.pim_merge.specs.Next.{MergeState}
 use Rattle.pim_router.specs.State.{RouterState}
 use Rattle.pim_replay.specs.declared.emit.EmitFault.{EmitFault}
@@ -34,7 +35,7 @@ module _ (family : AddressFamily) (writing : Writing) (router : RouterState) whe
 
 -- ---- the result
 
-module _ (family : AddressFamily) (after_ms : ℕ) (writing : Writing) (merge merge' : MergeState)
+module _ (family : AddressFamily) (end : End) (writing : Writing) (merge merge' : MergeState)
     (state after : RouterState) where
   -- What `emit_into` returns and writes. Nothing is written if a capture has a fault, a star is too
   -- big or memory is refused. Otherwise the messages are written, or a prefix of them if the device
@@ -42,13 +43,13 @@ module _ (family : AddressFamily) (after_ms : ℕ) (writing : Writing) (merge me
   abbrev pub Emits : {F A N : Type 0} → (A → List ℕ) → Option (List ℕ) → Option (List ℕ) →
       Result ℕ (EmitFault F A N) → Type 0
   Emits bytes_of old new (Ok status) =
-      (status ≡ 0) × RunsAll family after_ms merge state after × AllWentOut family writing after old new
-  Emits bytes_of old new (Err (TooBig group)) = RunsAll family after_ms merge state after
+      (status ≡ 0) × RunsAll family end merge state after × AllWentOut family writing after old new
+  Emits bytes_of old new (Err (TooBig group)) = RunsAll family end merge state after
       × IsTooBigThen family writing after (Some (bytes_of group)) × Keeps old new
   Emits bytes_of old new (Err (Replay (Capture told))) =
-      StopsAt family merge merge' told state None None × Keeps old new
+      StopsAt family end merge merge' told state None None × Keeps old new
   Emits bytes_of old new (Err (Replay Output)) =
-      RunsAll family after_ms merge state after × FrontWentOut family writing after old new
+      RunsAll family end merge state after × FrontWentOut family writing after old new
   Emits bytes_of old new (Err (Replay Memory)) = Keeps old new
 
 -- How often the device has failed after the call: once more if the result is `Output`, otherwise as

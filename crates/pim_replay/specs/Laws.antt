@@ -2,6 +2,7 @@
 use Rattle.std.specs.Prelude.{◌≡◌, ℕ, Bool, List, ◌++◌}
 use Rattle.pim_addr.specs.declared.family.AddressFamily.{AddressFamily}
 use Rattle.pim_capture.specs.Capture.{Answer}
+use Rattle.pim_merge.specs.declared.end.End.{End}
 use Rattle.pim_merge.specs.Lane.{IsComing}
 use Rattle.pim_merge.specs.Next.{MergeState}
 use Rattle.pim_router.specs.State.{RouterState}
@@ -10,10 +11,10 @@ use Rattle.pim_replay.specs.Report.{TellsFirst, TellsAll, IsReport}
 
 -- The report, and the router after the replay, are a function of the answers of the captures.
 abbrev pub ReportHasOneText : Type 0
-ReportHasOneText = (family : AddressFamily) (tells_via : Bool) (after_ms : ℕ) (merge : MergeState)
+ReportHasOneText = (family : AddressFamily) (tells_via : Bool) (end : End) (merge : MergeState)
     (captures : List (List Answer)) (state one other : RouterState) (text more : List ℕ) →
-    IsComing merge.lanes captures → IsReport family tells_via after_ms merge state one text →
-    IsReport family tells_via after_ms merge state other more → (text ≡ more) × (one ≡ other)
+    IsComing merge.lanes captures → IsReport family tells_via end merge state one text →
+    IsReport family tells_via end merge state other more → (text ≡ more) × (one ≡ other)
 
 -- The text begins with these lines.
 pub record BeginsWith (text lines : List ℕ) : Type 0 where
@@ -22,16 +23,16 @@ pub record BeginsWith (text lines : List ℕ) : Type 0 where
 
 -- The text begins with the lines of any first turns of the merge. It also begins with the lines of
 -- all turns and the time after them.
-pub record BeginsWithItsLines (family : AddressFamily) (after_ms : ℕ) (merge : MergeState) (state : RouterState)
+pub record BeginsWithItsLines (family : AddressFamily) (end : End) (merge : MergeState) (state : RouterState)
     (text : List ℕ) : Type 0 where
-  pub first : (account : Account) (after : RouterState) → TellsFirst family merge account state after →
+  pub first : (account : Account) (after : RouterState) → TellsFirst family end merge account state after →
       BeginsWith text account.lines
-  pub all : (account : Account) (after : RouterState) → TellsAll family after_ms merge account state after →
+  pub all : (account : Account) (after : RouterState) → TellsAll family end merge account state after →
       BeginsWith text account.lines
 
 -- Each report begins with the lines of its replay in this sense.
 abbrev pub ReportBeginsWithItsLines : Type 0
-ReportBeginsWithItsLines = (family : AddressFamily) (tells_via : Bool) (after_ms : ℕ) (merge : MergeState)
+ReportBeginsWithItsLines = (family : AddressFamily) (tells_via : Bool) (end : End) (merge : MergeState)
     (captures : List (List Answer)) (state after : RouterState) (text : List ℕ) → IsComing merge.lanes captures →
-    IsReport family tells_via after_ms merge state after text →
-    BeginsWithItsLines family after_ms merge state text
+    IsReport family tells_via end merge state after text →
+    BeginsWithItsLines family end merge state text

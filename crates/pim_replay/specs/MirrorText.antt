@@ -6,6 +6,7 @@ use Rattle.pim_addr.specs.declared.family.AddressFamily.{AddressFamily}
 use Rattle.pim_addr.specs.Routes.{RouteTable}
 use Rattle.pim_device.specs.Device.{AppendsFront, top_count}
 use Rattle.pim_form.specs.Messages.{Writing}
+use Rattle.pim_merge.specs.declared.end.End.{End}
 use Rattle.pim_merge.specs.Next.{MergeState}
 use Rattle.pim_mirror.specs.declared.mirroring.MirrorFault.{MirrorFault}
 use Rattle.pim_mirror.specs.declared.mirroring.MirrorFault.TheVariants as mirror
@@ -37,12 +38,12 @@ agreed_text messages = messages_text messages ++ agrees_line
 
 -- ---- the result
 
-module _ (family : AddressFamily) (after_ms : ℕ) (writing : Writing) (limit : ℕ) (merge merge' : MergeState)
+module _ (family : AddressFamily) (end : End) (writing : Writing) (limit : ℕ) (merge merge' : MergeState)
     (state after : RouterState) where
   -- The replay ended without a fault. These are the canonical messages of its router's demand
   -- toward the writer's upstream neighbour, and `IsWritten` holds for them.
   pub record Asks (IsWritten : List (List ℕ) → Type 0) : Type 0 where
-    pub runs : RunsAll family after_ms merge state after
+    pub runs : RunsAll family end merge state after
     pub messages : List (List ℕ)
     pub asked : IsAskedBy family writing after messages
     pub written : IsWritten messages
@@ -54,13 +55,13 @@ module _ (family : AddressFamily) (after_ms : ℕ) (writing : Writing) (limit : 
       Result ℕ (MirrorTextFault F A N) → Type 0
   TellsMirror bytes_of old new (Ok status) = (status ≡ 0)
       × Asks (λ messages. HaveRoom family after.routes writing limit messages × Appends old new (agreed_text messages))
-  TellsMirror bytes_of old new (Err (TooBig group)) = RunsAll family after_ms merge state after
+  TellsMirror bytes_of old new (Err (TooBig group)) = RunsAll family end merge state after
       × IsTooBig family writing after (Some (bytes_of group)) × Keeps old new
   TellsMirror bytes_of old new (Err (Full needed)) =
       Asks (λ messages. IsFull family after.routes writing limit messages needed
       × Appends old new (messages_text messages))
   TellsMirror bytes_of old new (Err (Replay (Capture told))) =
-      StopsAt family merge merge' told state None None × Keeps old new
+      StopsAt family end merge merge' told state None None × Keeps old new
   TellsMirror bytes_of old new (Err (Replay Output)) = Asks (λ messages. AppendsFront old new (agreed_text messages))
   TellsMirror bytes_of old new (Err (Replay Memory)) =
       Keeps old new ⊎ Asks (λ messages. Appends old new (messages_text messages))

@@ -4,15 +4,14 @@ use Rattle.std.specs.Prelude.{◌≡◌, ◌≢◌, ◌⊎◌, ⊤, ℕ, ◌+◌
 use Rattle.std.specs.Io.KnownBytes.{Appends}
 use Rattle.pim_addr.specs.declared.family.AddressFamily.{AddressFamily}
 use Rattle.pim_device.specs.Device.{AppendsFront, top_count}
-use Rattle.pim_capture.specs.declared.fault.CaptureFault.{CaptureFault}
 use Rattle.pim_capture.specs.declared.fault.CaptureFault.TheVariants as fault
-use Rattle.pim_capture.specs.Capture.{Answer}
 use Rattle.pim_capture.specs.Next.{IsRefusal}
-use Rattle.pim_merge.specs.declared.clock.Clock.{Clock}
+use Rattle.pim_merge.specs.declared.end.End.{End}
 use Rattle.pim_merge.specs.declared.merge.MergeFault.{MergeFault}
-use Rattle.pim_merge.specs.Merge.{Taken, IsMerge, turn, takes, fails, after_turn, clock_after, moment_of, time_told}
-use Rattle.pim_merge.specs.Lane.{IsComing, lane_at}
-use Rattle.pim_merge.specs.Next.{MergeState, with_fault}
+use Rattle.pim_merge.specs.Merge.{Taken}
+use Rattle.pim_merge.specs.Lane.{lane_at}
+use Rattle.pim_merge.specs.Next.{MergeState}
+use Rattle.pim_merge.specs.Ends.{AreAll, AreFirst, AreBefore, end_moment, clock_of}
 use Rattle.pim_form.specs.NormalForm.{GroupForm, IsFormOf}
 use Rattle.pim_form.specs.Wants.{wants}
 use Rattle.pim_router.specs.State.{RouterState}
@@ -23,7 +22,7 @@ use Rattle.pim_replay.specs.Passing.{PassesTime}
 use Rattle.pim_report.specs.StateText.{text_with}
 use Rattle.pim_replay.specs.Turn.{Account, nothing, joined, on_the_way, counted, TellsTurn, HasBegun}
 
--- ---- the turns of a merge
+-- ---- what turns of a merge report
 
 -- The turns follow one another and lead the router from `state` to `after`. `account` is what they
 -- report together.
@@ -33,63 +32,28 @@ TellsTurns family (first ∷ others) account state after =
     (one : Account) × (more : Account) × (between : RouterState) × TellsTurn family first one state between
     × TellsTurns family others more between after × (account ≡ joined one more)
 
--- The merge takes exactly these records first, in this order. Its clock is then `clock'`, and
--- `rest` is what the captures still have to give.
-unfoldable pub Takes : Option Clock → List (List Answer) → List Taken → Option Clock → List (List Answer) → Type 0
-Takes clock captures [] clock' rest = (clock' ≡ clock) × (rest ≡ captures)
-Takes clock captures (first ∷ others) clock' rest =
-    (turn captures ≡ takes first.capture first.told)
-    × (first.moment ≡ moment_of (clock_after clock (time_told first.told)))
-    × Takes (clock_after clock (time_told first.told)) (after_turn first.capture captures) others clock' rest
-
--- ---- the turns, for all answers that the captures can still give
-
--- These are all turns of the merge. It ends with this fault of this capture, or without a fault if
--- there is none.
-abbrev pub AreAll : MergeState → Option (ℕ × CaptureFault) → List Taken → Type 0
-AreAll merge fault taken =
-    (captures : List (List Answer)) → IsComing merge.lanes captures → IsMerge merge.clock captures taken fault
-
--- The merge takes these records first, and `IsRest` holds for what the captures then have left.
-pub record GoesOn (clock : Option Clock) (captures : List (List Answer)) (taken : List Taken)
-    (IsRest : List (List Answer) → Type 0) : Type 0 where
-  pub clock_then : Option Clock
-  pub rest : List (List Answer)
-  pub takes_them : Takes clock captures taken clock_then rest
-  pub is_rest : IsRest rest
-
--- These are some first turns of the merge.
-abbrev pub AreFirst : MergeState → List Taken → Type 0
-AreFirst merge taken = (captures : List (List Answer)) → IsComing merge.lanes captures →
-    GoesOn merge.clock captures taken (λ rest. ⊤)
-
--- These are the turns of the merge before a fault. The bytes of a capture don't say when its reader
--- fails. So the fault takes the place of everything that its capture has left.
-abbrev pub AreBefore : MergeState → MergeFault → List Taken → Type 0
-AreBefore merge told taken = (captures : List (List Answer)) → IsComing merge.lanes captures →
-    GoesOn merge.clock captures taken (λ rest. turn (with_fault told rest) ≡ fails told.capture told.fault)
-
 -- ---- the lines of these turns, and of the time after the last one
 
 -- Some first turns of the merge report this account and lead the router from `state` to `after`.
-pub record TellsFirst (family : AddressFamily) (merge : MergeState) (account : Account) (state after : RouterState)
-    : Type 0 where
-  pub taken : List Taken
-  pub are : AreFirst merge taken
-  pub tells : TellsTurns family taken account state after
-
--- All turns of the merge, and `after_ms` milliseconds after the last one, report this account. The
--- merge ends without a fault, and `after` is the router at the end.
-pub record TellsAll (family : AddressFamily) (after_ms : ℕ) (merge : MergeState) (account : Account)
+pub record TellsFirst (family : AddressFamily) (end : End) (merge : MergeState) (account : Account)
     (state after : RouterState) : Type 0 where
   pub taken : List Taken
-  pub are : AreAll merge None taken
+  pub are : AreFirst end merge taken
+  pub tells : TellsTurns family taken account state after
+
+-- All turns of the merge up to the end of the run, and the time from the last one to that end,
+-- report this account. The merge ends without a fault, and `after` is the router at the end.
+pub record TellsAll (family : AddressFamily) (end : End) (merge : MergeState) (account : Account)
+    (state after : RouterState) : Type 0 where
+  pub taken : List Taken
+  pub are : AreAll end merge None taken
   pub turns : Account
   pub between : RouterState
   pub tells : TellsTurns family taken turns state between
   pub way : List ℕ
   pub refreshes : ℕ
-  pub passes : PassesTime family (between.machines.moment + after_ms) way refreshes between after
+  pub passes : PassesTime family (end_moment end (clock_of merge.clock taken) between.machines.moment) way refreshes
+      between after
   pub account_is : account ≡ joined turns (on_the_way way refreshes)
 
 -- ---- the report
@@ -100,10 +64,10 @@ none_yet = record { skipped = 0; refreshes = 0 }
 
 -- The report: the lines of the whole replay, then the router's final state with its demand and the
 -- counts. If `tells_via` is set, each line of the demand has its upstream neighbour.
-pub record IsReport (family : AddressFamily) (tells_via : Bool) (after_ms : ℕ) (merge : MergeState)
+pub record IsReport (family : AddressFamily) (tells_via : Bool) (end : End) (merge : MergeState)
     (state after : RouterState) (text : List ℕ) : Type 0 where
   pub account : Account
-  pub tells : TellsAll family after_ms merge account state after
+  pub tells : TellsAll family end merge account state after
   pub form : List GroupForm
   pub demand : IsFormOf family (wants after.machines) form
   pub text_is : text ≡ account.lines ++ text_with family tells_via after form (counted none_yet account)
@@ -111,49 +75,49 @@ pub record IsReport (family : AddressFamily) (tells_via : Bool) (after_ms : ℕ)
 -- ---- what a replay returns and writes
 
 -- This text is the report, and `IsWritten` holds for it.
-pub record Reports (family : AddressFamily) (tells_via : Bool) (after_ms : ℕ) (merge : MergeState)
+pub record Reports (family : AddressFamily) (tells_via : Bool) (end : End) (merge : MergeState)
     (state after : RouterState) (IsWritten : List ℕ → Type 0) : Type 0 where
   pub text : List ℕ
-  pub is_report : IsReport family tells_via after_ms merge state after text
+  pub is_report : IsReport family tells_via end merge state after text
   pub written : IsWritten text
 
 -- A fault of a capture ended the replay, and exactly the lines of the turns before it were written.
 -- The fault is the next answer of its capture, or a read of that capture failed in the call. It is
 -- never a lack of memory.
-pub record StopsAt (family : AddressFamily) (merge merge' : MergeState) (told : MergeFault) (state : RouterState)
-    (old new : Option (List ℕ)) : Type 0 where
+pub record StopsAt (family : AddressFamily) (end : End) (merge merge' : MergeState) (told : MergeFault)
+    (state : RouterState) (old new : Option (List ℕ)) : Type 0 where
   pub taken : List Taken
   pub account : Account
   pub after : RouterState
-  pub are : AreBefore merge told taken
+  pub are : AreBefore end merge told taken
   pub tells : TellsTurns family taken account state after
   pub written : Appends old new account.lines
   pub no_memory : told.fault ≢ fault.Memory
   pub cause : IsRefusal {A = ⊤} (lane_at told.capture merge.lanes).failures (lane_at told.capture merge'.lanes).failures
-      (Err told.fault) ⊎ AreAll merge (Some (told.capture, told.fault)) taken
+      (Err told.fault) ⊎ AreAll end merge (Some (told.capture, told.fault)) taken
 
 -- A prefix of the report was written. That is, of the lines of some first turns, of all turns and
 -- the time after them, or of the whole text.
-abbrev pub BeginsReport : AddressFamily → Bool → ℕ → MergeState → RouterState → Option (List ℕ) → Option (List ℕ) →
+abbrev pub BeginsReport : AddressFamily → Bool → End → MergeState → RouterState → Option (List ℕ) → Option (List ℕ) →
     Type 0
-BeginsReport family tells_via after_ms merge state old new =
-    HasBegun (λ account after. TellsFirst family merge account state after) old new
-    ⊎ HasBegun (λ account after. TellsAll family after_ms merge account state after) old new
-    ⊎ (after : RouterState) × Reports family tells_via after_ms merge state after (AppendsFront old new)
+BeginsReport family tells_via end merge state old new =
+    HasBegun (λ account after. TellsFirst family end merge account state after) old new
+    ⊎ HasBegun (λ account after. TellsAll family end merge account state after) old new
+    ⊎ (after : RouterState) × Reports family tells_via end merge state after (AppendsFront old new)
 
 -- What `replay_into` returns and writes. At Ok the status is 0 and the whole report was written.
 -- After a fault of a capture, the lines of the turns before it were. After any other fault, a
 -- prefix of the report was.
-abbrev pub Replays : AddressFamily → Bool → ℕ → MergeState → MergeState → RouterState → RouterState →
+abbrev pub Replays : AddressFamily → Bool → End → MergeState → MergeState → RouterState → RouterState →
     Option (List ℕ) → Option (List ℕ) → Result ℕ ReplayFault → Type 0
-Replays family tells_via after_ms merge merge' state after old new (Ok status) =
-    (status ≡ 0) × Reports family tells_via after_ms merge state after (Appends old new)
-Replays family tells_via after_ms merge merge' state after old new (Err (Capture told)) =
-    StopsAt family merge merge' told state old new
-Replays family tells_via after_ms merge merge' state after old new (Err Output) =
-    BeginsReport family tells_via after_ms merge state old new
-Replays family tells_via after_ms merge merge' state after old new (Err Memory) =
-    BeginsReport family tells_via after_ms merge state old new
+Replays family tells_via end merge merge' state after old new (Ok status) =
+    (status ≡ 0) × Reports family tells_via end merge state after (Appends old new)
+Replays family tells_via end merge merge' state after old new (Err (Capture told)) =
+    StopsAt family end merge merge' told state old new
+Replays family tells_via end merge merge' state after old new (Err Output) =
+    BeginsReport family tells_via end merge state old new
+Replays family tells_via end merge merge' state after old new (Err Memory) =
+    BeginsReport family tells_via end merge state old new
 
 -- How often the device has failed after the call: once more if the result is `Output`, otherwise as
 -- often as before it. The count stops at 2^64 - 1.

@@ -8,6 +8,7 @@ use Rattle.pim_form.specs.Messages.{Writing}
 use Rattle.pim_form.specs.NormalForm.{Agree}
 use Rattle.pim_form.specs.declared.fault.FormFault.{FormFault}
 use Rattle.pim_form.specs.declared.fault.FormFault.TheVariants as form
+use Rattle.pim_merge.specs.declared.end.End.{End}
 use Rattle.pim_merge.specs.Next.{MergeState}
 use Rattle.pim_router.specs.Canonical.{asked, IsFirstTooBig}
 use Rattle.pim_router.specs.State.{RouterState}
@@ -41,11 +42,11 @@ pub record Answers (family : AddressFamily) (writing : Writing) (one other : Rou
   pub is_so : IsTrue same ↔ WantTheSame family writing one other
   pub written : IsWritten same
 
-module _ (family : AddressFamily) (after_ms : ℕ) (writing : Writing) (merge merge' : MergeState)
+module _ (family : AddressFamily) (end : End) (writing : Writing) (merge merge' : MergeState)
     (state after : RouterState) (other other' : MergeState) (state_of after_of : RouterState) where
   -- Both replays ended without a fault, and this fact holds.
   abbrev pub Both : Type 0 → Type 0
-  Both fact = RunsAll family after_ms merge state after × RunsAll family after_ms other state_of after_of × fact
+  Both fact = RunsAll family end merge state after × RunsAll family end other state_of after_of × fact
 
   -- What `same_into` returns and writes. A fault of a capture is one of the first router, or of the
   -- second if the first replay ended without a fault. A star that is too big is one of the first
@@ -58,8 +59,8 @@ module _ (family : AddressFamily) (after_ms : ℕ) (writing : Writing) (merge me
   Compares bytes_of old new (Err (TooBig group)) =
       Both (IsFirstTooBig family writing after after_of (Some (bytes_of group))) × Keeps old new
   Compares bytes_of old new (Err (Replay (Capture told))) =
-      (StopsAt family merge merge' told state None None
-      ⊎ RunsAll family after_ms merge state after × StopsAt family other other' told state_of None None)
+      (StopsAt family end merge merge' told state None None
+      ⊎ RunsAll family end merge state after × StopsAt family end other other' told state_of None None)
       × Keeps old new
   Compares bytes_of old new (Err (Replay Output)) =
       Both (Answers family writing after after_of (λ same. AppendsFront old new (answer_line same)))

@@ -5,11 +5,14 @@ use Rattle.pim_addr.specs.declared.family.AddressFamily.{AddressFamily}
 use Rattle.pim_capture.specs.declared.fault.CaptureFault.{CaptureFault}
 use Rattle.pim_capture.specs.declared.fault.CaptureFault.TheVariants as fault
 use Rattle.pim_capture.specs.Capture.{Answer}
+use Rattle.pim_time.specs.declared.reading.Time.{Time}
 use Rattle.pim_merge.specs.declared.clock.Clock.{Clock}
+use Rattle.pim_merge.specs.declared.end.End.{End}
 use Rattle.pim_merge.specs.declared.merge.MergeFault.{MergeFault}
 use Rattle.pim_merge.specs.Merge.{Taken}
 use Rattle.pim_merge.specs.Lane.{IsComing, failures_of}
 use Rattle.pim_merge.specs.Next.{MergeState}
+use Rattle.pim_merge.specs.Ends.{last_of, clock_of, Takes, AreAll}
 use Rattle.pim_router.specs.State.{RouterState}
 use Rattle.pim_replay.specs.declared.replay.ReplayFault.{ReplayFault}
 use Rattle.pim_replay.specs.declared.replay.ReplayFault.TheVariants.{Capture, Output, Memory}
@@ -17,7 +20,7 @@ use Rattle.pim_report.specs.declared.state_text.Counts.{Counts}
 use Rattle.pim_report.specs.declared.state_text.TextFault.{TextFault}
 use Rattle.pim_report.specs.declared.state_text.TextFault.TheVariants as text
 use Rattle.pim_replay.specs.Turn.{Account, HasTold, HasBegun, counted}
-use Rattle.pim_replay.specs.Report.{TellsTurns, Takes, AreAll, TellsFirst, TellsAll, StopsAt, none_yet}
+use Rattle.pim_replay.specs.Report.{TellsTurns, TellsFirst, TellsAll, StopsAt, none_yet}
 
 -- Why a replay ends at this fault of its merge: `Memory` if memory was refused, otherwise
 -- `Capture`.
@@ -36,13 +39,13 @@ of_text text.Memory = Memory
 
 -- These turns were taken. `merge` is the merge after them, and `rest` is what the captures still
 -- have to give.
-pub record IsBehind (clock : Option Clock) (captures : List (List Answer)) (taken : List Taken) (merge : MergeState)
-    : Type 0 where
+pub record IsBehind (last : Option Time) (clock : Option Clock) (captures : List (List Answer)) (taken : List Taken)
+    (merge : MergeState) : Type 0 where
   pub rest : List (List Answer)
-  pub takes_them : Takes clock captures taken merge.clock rest
+  pub takes_them : Takes last clock captures taken merge.clock rest
   pub coming : IsComing merge.lanes rest
 
-module _ (family : AddressFamily) (merge : MergeState) (state : RouterState) (old : Option (List ℕ)) where
+module _ (family : AddressFamily) (end : End) (merge : MergeState) (state : RouterState) (old : Option (List ℕ)) where
   -- Some first turns of the merge were taken. Their lines were written, their counts were added,
   -- and no read has failed.
   pub record IsUnderway (merge' : MergeState) (now : RouterState) (new : Option (List ℕ)) (counts : Counts)
@@ -50,49 +53,53 @@ module _ (family : AddressFamily) (merge : MergeState) (state : RouterState) (ol
     pub taken : List Taken
     pub account : Account
     pub turns : (captures : List (List Answer)) → IsComing merge.lanes captures →
-        IsBehind merge.clock captures taken merge'
+        IsBehind (last_of end) merge.clock captures taken merge'
+    pub clock : merge'.clock ≡ clock_of merge.clock taken
     pub tells : TellsTurns family taken account state now
     pub written : Appends old new account.lines
     pub is_counted : counts ≡ counted none_yet account
     pub reads : failures_of merge'.lanes ≡ failures_of merge.lanes
 
-  -- All turns of the merge were taken, their lines were written and their counts were added.
-  pub record HasAll (now : RouterState) (new : Option (List ℕ)) (counts : Counts) : Type 0 where
+  -- All turns of the merge up to the end of the run were taken, their lines were written and their
+  -- counts were added.
+  pub record HasAll (merge' : MergeState) (now : RouterState) (new : Option (List ℕ)) (counts : Counts)
+      : Type 0 where
     pub taken : List Taken
     pub account : Account
-    pub are : AreAll merge None taken
+    pub are : AreAll end merge None taken
+    pub clock : merge'.clock ≡ clock_of merge.clock taken
     pub tells : TellsTurns family taken account state now
     pub written : Appends old new account.lines
     pub is_counted : counts ≡ counted none_yet account
 
   -- A prefix of the lines of some first turns was written.
   abbrev pub HasSome : Option (List ℕ) → Type 0
-  HasSome new = HasBegun (λ account after. TellsFirst family merge account state after) old new
+  HasSome new = HasBegun (λ account after. TellsFirst family end merge account state after) old new
 
   -- What one more turn returns and leaves, where `counts` were counted before it. It returns `None`
   -- if there is no further turn.
   abbrev pub Steps : Counts → MergeState → RouterState → Option (List ℕ) → Result (Option Counts) ReplayFault → Type 0
-  Steps counts merge' now new (Ok None) = HasAll now new counts
+  Steps counts merge' now new (Ok None) = HasAll merge' now new counts
   Steps counts merge' now new (Ok (Some more)) = IsUnderway merge' now new more
-  Steps counts merge' now new (Err (Capture told)) = StopsAt family merge merge' told state old new
+  Steps counts merge' now new (Err (Capture told)) = StopsAt family end merge merge' told state old new
   Steps counts merge' now new (Err Output) = HasSome new
   Steps counts merge' now new (Err Memory) = HasSome new
 
   -- What the run over all turns returns and leaves.
   abbrev pub RunsTurns : MergeState → RouterState → Option (List ℕ) → Result Counts ReplayFault → Type 0
-  RunsTurns merge' now new (Ok counts) = HasAll now new counts
-  RunsTurns merge' now new (Err (Capture told)) = StopsAt family merge merge' told state old new
+  RunsTurns merge' now new (Ok counts) = HasAll merge' now new counts
+  RunsTurns merge' now new (Err (Capture told)) = StopsAt family end merge merge' told state old new
   RunsTurns merge' now new (Err Output) = HasSome new
   RunsTurns merge' now new (Err Memory) = HasSome new
 
   -- What the run over all turns and the time after them returns and leaves.
-  abbrev pub RunsOn : ℕ → MergeState → RouterState → Option (List ℕ) → Result Counts ReplayFault → Type 0
-  RunsOn after_ms merge' now new (Ok counts) =
-      HasTold (λ account. TellsAll family after_ms merge account state now) old new none_yet counts
-  RunsOn after_ms merge' now new (Err (Capture told)) = StopsAt family merge merge' told state old new
-  RunsOn after_ms merge' now new (Err Output) =
-      HasSome new ⊎ HasBegun (λ account after. TellsAll family after_ms merge account state after) old new
-  RunsOn after_ms merge' now new (Err Memory) = HasSome new
+  abbrev pub RunsOn : MergeState → RouterState → Option (List ℕ) → Result Counts ReplayFault → Type 0
+  RunsOn merge' now new (Ok counts) =
+      HasTold (λ account. TellsAll family end merge account state now) old new none_yet counts
+  RunsOn merge' now new (Err (Capture told)) = StopsAt family end merge merge' told state old new
+  RunsOn merge' now new (Err Output) =
+      HasSome new ⊎ HasBegun (λ account after. TellsAll family end merge account state after) old new
+  RunsOn merge' now new (Err Memory) = HasSome new
 
 -- This fact holds if there was one more turn.
 abbrev pub IfMore : {A : Type 0} → Result (Option A) ReplayFault → Type 0 → Type 0

@@ -8,6 +8,7 @@
 
 ghost use Rattle.std.specs.Prelude.{◌≡◌, ◌≤◌, length, None};
 ghost use Rattle.pim_capture.specs.Next.{latest_moment};
+ghost use Rattle.pim_merge.specs.Ends.{IsBoundedEnd};
 ghost use Rattle.pim_router.specs.Canonical.{IsTooBig};
 ghost use Rattle.pim_replay.specs.ChangeHearing.{AreTold};
 ghost use Rattle.pim_replay.specs.ChangeText.{TellsBetween, TellsChange, TellsMove};
@@ -19,7 +20,7 @@ use crate::quiet::replay_quietly;
 use crate::replay::ReplayFault;
 use pim_addr::{Drain, Family, Feed, Routes, write_all};
 use pim_form::{FormFault, Messages, NormalForm, Writer, one_normal_form};
-use pim_merge::Merge;
+use pim_merge::{End, Merge};
 use pim_moving::change_fits;
 use pim_report::write_messages;
 use pim_router::Router;
@@ -83,11 +84,10 @@ fn move_on<F: Family, W: Drain>(
     Ok(0)
 }
 
-/// Replays the captures of two routers, one for each port, each until `after_ms` milliseconds after
-/// the last record of its captures. It writes the messages that report the change of demand, from
-/// that of router `a` to that of `b`. They go to the upstream neighbour of `by` (RFC 7761, 4.5).
-/// Each is a line `message LENGTH HEX`, with the length in bytes; a line with their number follows.
-/// Both routers must have one table.
+/// Replays the captures of two routers, one for each port, each up to the end of its run. It writes
+/// the messages that report the change of demand, from that of router `a` to that of `b`. They go
+/// to the upstream neighbour of `by` (RFC 7761, 4.5). Each is a line `message LENGTH HEX`, with the
+/// length in bytes; a line with their number follows. Both routers must have one table.
 ///
 /// Then a fresh router of one port hears the canonical messages of `a`, each once, at moment 0 and
 /// in order. It may hold `limit` records and knows no neighbour but the sender. At its final moment
@@ -113,7 +113,7 @@ pub fn change_into<F: Family, R: Feed + Drop, W: Drain>(
     router_a: &mut Router<'_, F>,
     merge_b: &mut Merge<R>,
     router_b: &mut Router<'_, F>,
-    after_ms: u64,
+    end: End,
     by: &Writer<F>,
     limit: usize,
     writer: &mut W,
@@ -122,20 +122,20 @@ pub fn change_into<F: Family, R: Feed + Drop, W: Drain>(
     requires ports_b { length merge_b.old.lanes ≡ length router_b.old.ports }
     requires moment_a { router_a.old.machines.moment ≤ latest_moment }
     requires moment_b { router_b.old.machines.moment ≤ latest_moment }
-    requires after { after_ms ≤ 1000000000 }
+    requires end { IsBoundedEnd end }
     requires least { 1 ≤ limit }
     requires most { limit ≤ 100000 }
     requires routes { router_a.old.routes ≡ router_b.old.routes }
-    ensures text { TellsChange F.family after_ms by.now limit merge_a.old merge_a.new router_a.old router_a.new
+    ensures text { TellsChange F.family end by.now limit merge_a.old merge_a.new router_a.old router_a.new
         merge_b.old merge_b.new router_b.old router_b.new
         F.bytes_of (W.contents writer.old) (W.contents writer.new) result }
     ensures count { W.failures writer.new ≡ failures_of_mirror (W.failures writer.old) result }
 {
-    match replay_quietly::<F, R>(merge_a, router_a, after_ms) {
+    match replay_quietly::<F, R>(merge_a, router_a, end) {
         Ok(()) => {}
         Err(fault) => return Err(MirrorTextFault::Replay(fault)),
     }
-    match replay_quietly::<F, R>(merge_b, router_b, after_ms) {
+    match replay_quietly::<F, R>(merge_b, router_b, end) {
         Ok(()) => {}
         Err(fault) => return Err(MirrorTextFault::Replay(fault)),
     }

@@ -2,6 +2,7 @@
 
 ghost use Rattle.std.specs.Prelude.{◌≡◌, ◌≤◌, IfOk, length};
 ghost use Rattle.pim_capture.specs.Next.{latest_moment};
+ghost use Rattle.pim_merge.specs.Ends.{IsBoundedEnd};
 ghost use Rattle.pim_replay.specs.Emit.{Emits, SendsAsked, failures_of_emission};
 
 use crate::quiet::replay_quietly;
@@ -9,7 +10,7 @@ use crate::replay::ReplayFault;
 use pim_addr::{Drain, Family, Feed};
 use pim_emit::{WriteFault, write_canonical};
 use pim_form::Writer;
-use pim_merge::Merge;
+use pim_merge::{End, Merge};
 use pim_router::Router;
 use std::alloc::{AllocError, Global};
 
@@ -52,10 +53,10 @@ fn send_asked<F: Family, W: Drain>(
     }
 }
 
-/// Replays the captures of a router's ports, one for each port and in their order, until `after_ms`
-/// milliseconds after the last record. It writes the canonical messages of the router's demand
-/// toward the upstream neighbour of `by`, as bytes. Two bytes with the length, big-endian, precede
-/// each message; nothing else is written. Returns the status, 0.
+/// Replays the captures of a router's ports, one for each port and in their order, up to the end of
+/// the run. It writes the canonical messages of the router's demand toward the upstream neighbour of
+/// `by`, as bytes. Two bytes with the length, big-endian, precede each message; nothing else is
+/// written. Returns the status, 0.
 ///
 /// Besides the router, it needs memory for one buffer for each capture, and at the end for one
 /// message.
@@ -67,18 +68,18 @@ pub fn emit_into<F: Family, R: Feed + Drop, W: Drain>(
     alloc: Global,
     merge: &mut Merge<R>,
     router: &mut Router<'_, F>,
-    after_ms: u64,
+    end: End,
     by: &Writer<F>,
     writer: &mut W,
 ) -> Result<u8, EmitFault<F>>
     requires ports { length merge.old.lanes ≡ length router.old.ports }
     requires moment { router.old.machines.moment ≤ latest_moment }
-    requires after { after_ms ≤ 1000000000 }
-    ensures emits { Emits F.family after_ms by.now merge.old merge.new router.old router.new
+    requires end { IsBoundedEnd end }
+    ensures emits { Emits F.family end by.now merge.old merge.new router.old router.new
         F.bytes_of (W.contents writer.old) (W.contents writer.new) result }
     ensures count { W.failures writer.new ≡ failures_of_emission (W.failures writer.old) result }
 {
-    match replay_quietly::<F, R>(merge, router, after_ms) {
+    match replay_quietly::<F, R>(merge, router, end) {
         Ok(()) => {}
         Err(fault) => return Err(EmitFault::Replay(fault)),
     }

@@ -6,7 +6,7 @@ ghost use Rattle.pim_replay.specs.Laws.{ReportHasOneText, ReportBeginsWithItsLin
 pub fn report_has_one_text()
     ensures { ReportHasOneText }
 {
-    pim_merge::merge_has_one_end();
+    pim_merge::merge_by_has_one_end();
     pim_router::run_has_one_end();
     pim_form::one_normal_form();
 }
@@ -16,7 +16,7 @@ pub fn report_has_one_text()
 pub fn report_begins_with_its_lines()
     ensures { ReportBeginsWithItsLines }
 {
-    pim_merge::merge_has_one_end();
+    pim_merge::merge_by_has_one_end();
     pim_router::run_has_one_end();
     pim_form::one_normal_form();
 }

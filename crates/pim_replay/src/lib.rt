@@ -20,8 +20,8 @@
 //! comes only if that router has room; otherwise the result is `Full`, after the messages.
 //!
 //! The caller gives a merge with one capture for each port, and a router not later than
-//! `latest_moment`. The router runs on for at most 10^9 ms after the last record. Two routers have
-//! one table. A fresh router may hold 1 to 100,000 records.
+//! `latest_moment`. Its run ends so long after the last record, for at most 10^9 ms, or at a time
+//! (`End`). Two routers have one table. A fresh router may hold 1 to 100,000 records.
 //!
 //! A replay needs one buffer for each capture. Writing a final state or messages needs more.
 #![tactic(auto)]

@@ -7,6 +7,7 @@
 
 ghost use Rattle.std.specs.Prelude.{◌≡◌, ◌≤◌, length};
 ghost use Rattle.pim_capture.specs.Next.{latest_moment};
+ghost use Rattle.pim_merge.specs.Ends.{IsBoundedEnd};
 ghost use Rattle.pim_replay.specs.FreshHearing.{AreSent};
 ghost use Rattle.pim_replay.specs.MirrorText.{Judges, TellsMirror, TellsExchange, AsksBy, of_mirror};
 ghost use Rattle.pim_replay.specs.MirrorText.{failures_of_mirror};
@@ -16,7 +17,7 @@ use crate::quiet::replay_quietly;
 use crate::replay::ReplayFault;
 use pim_addr::{Drain, Family, Feed, Routes, write_all};
 use pim_form::{FormFault, Messages, Writer, one_normal_form};
-use pim_merge::Merge;
+use pim_merge::{End, Merge};
 use pim_mirror::MirrorFault;
 use pim_report::write_messages;
 use pim_router::Router;
@@ -105,10 +106,10 @@ fn exchange<F: Family, W: Drain>(
     Ok(0)
 }
 
-/// Replays the captures of a router's ports, one for each port and in their order, until `after_ms`
-/// milliseconds after the last record. It writes the canonical messages of the router's demand
-/// toward the upstream neighbour of `by`. Each is a line `message LENGTH HEX`, with the length in
-/// bytes; a line with their number follows.
+/// Replays the captures of a router's ports, one for each port and in their order, up to the end of
+/// the run. It writes the canonical messages of the router's demand toward the upstream neighbour of
+/// `by`. Each is a line `message LENGTH HEX`, with the length in bytes; a line with their number
+/// follows.
 ///
 /// Then a fresh router of one port hears each message once, at moment 0 and in order. It may hold
 /// `limit` records and knows no neighbour but the sender. Its canonical messages are compared with
@@ -127,21 +128,21 @@ pub fn mirror_into<F: Family, R: Feed + Drop, W: Drain>(
     alloc: Global,
     merge: &mut Merge<R>,
     router: &mut Router<'_, F>,
-    after_ms: u64,
+    end: End,
     by: &Writer<F>,
     limit: usize,
     writer: &mut W,
 ) -> Result<u8, MirrorTextFault<F>>
     requires ports { length merge.old.lanes ≡ length router.old.ports }
     requires moment { router.old.machines.moment ≤ latest_moment }
-    requires after { after_ms ≤ 1000000000 }
+    requires end { IsBoundedEnd end }
     requires least { 1 ≤ limit }
     requires most { limit ≤ 100000 }
-    ensures text { TellsMirror F.family after_ms by.now limit merge.old merge.new router.old router.new
+    ensures text { TellsMirror F.family end by.now limit merge.old merge.new router.old router.new
         F.bytes_of (W.contents writer.old) (W.contents writer.new) result }
     ensures count { W.failures writer.new ≡ failures_of_mirror (W.failures writer.old) result }
 {
-    match replay_quietly::<F, R>(merge, router, after_ms) {
+    match replay_quietly::<F, R>(merge, router, end) {
         Ok(()) => {}
         Err(fault) => return Err(MirrorTextFault::Replay(fault)),
     }

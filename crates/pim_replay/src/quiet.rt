@@ -2,11 +2,12 @@
 
 ghost use Rattle.std.specs.Prelude.{◌≡◌, ◌≤◌, length};
 ghost use Rattle.pim_capture.specs.Next.{latest_moment};
+ghost use Rattle.pim_merge.specs.Ends.{IsBoundedEnd};
 ghost use Rattle.pim_replay.specs.Quiet.{RunsQuietly};
 
 use crate::replay::{ReplayFault, run_on};
 use pim_addr::{Drain, Failed, Family, Feed};
-use pim_merge::Merge;
+use pim_merge::{End, Merge};
 use pim_router::Router;
 
 /// A device that takes everything and keeps nothing.
@@ -25,9 +26,8 @@ impl Drain for Nowhere {
     }
 }
 
-/// Replays the captures of a router's ports, one for each port and in their order, until `after_ms`
-/// milliseconds after the last record, and writes nothing. The router is then in the same state as
-/// after `replay_into`.
+/// Replays the captures of a router's ports, one for each port and in their order, up to the end of
+/// the run, and writes nothing. The router is then in the same state as after `replay_into`.
 ///
 /// Besides the router, it needs memory for one buffer for each capture.
 ///
@@ -36,14 +36,14 @@ impl Drain for Nowhere {
 pub fn replay_quietly<F: Family, R: Feed + Drop>(
     merge: &mut Merge<R>,
     router: &mut Router<'_, F>,
-    after_ms: u64,
+    end: End,
 ) -> Result<(), ReplayFault>
     requires ports { length merge.old.lanes ≡ length router.old.ports }
     requires moment { router.old.machines.moment ≤ latest_moment }
-    requires after { after_ms ≤ 1000000000 }
-    ensures { RunsQuietly F.family after_ms merge.old merge.new router.old router.new result }
+    requires end { IsBoundedEnd end }
+    ensures { RunsQuietly F.family end merge.old merge.new router.old router.new result }
 {
     let mut nowhere = Nowhere;
-    run_on::<F, R, Nowhere>(merge, router, after_ms, &mut nowhere)?;
+    run_on::<F, R, Nowhere>(merge, router, end, &mut nowhere)?;
     Ok(())
 }

@@ -4,10 +4,11 @@
 //! The caller makes the merge and the router. So it can refuse a configuration before it opens a
 //! file, and open all files before any record is read.
 
-ghost use Rattle.std.specs.Prelude.{◌≡◌, ◌<◌, ◌≤◌, ℕ, List, Option, length, Some, OnOk, OnErr};
+ghost use Rattle.std.specs.Prelude.{◌≡◌, ◌<◌, ◌≤◌, ◌^◌, ℕ, List, Option, length, Some, OnOk, OnErr};
 ghost use Rattle.pim_capture.specs.Next.{latest_moment};
 ghost use Rattle.pim_merge.specs.Lane.{failures_of};
 ghost use Rattle.pim_merge.specs.Next.{MergeState, turns_left};
+ghost use Rattle.pim_merge.specs.Ends.{end_moment, IsBoundedEnd};
 ghost use Rattle.pim_router.specs.State.{RouterState};
 ghost use Rattle.pim_replay.specs.Report.{Replays, failures_of_device};
 ghost use Rattle.pim_replay.specs.Underway.{stopped_by, of_text, IsUnderway, Steps, RunsTurns, RunsOn, IfMore};
@@ -16,7 +17,7 @@ use crate::passing::pass_time;
 use crate::turns::take_turn;
 use pim_addr::{Drain, Family, Feed};
 use pim_capture::CaptureFault;
-use pim_merge::{Merge, MergeFault};
+use pim_merge::{End, Merge, MergeFault};
 use pim_report::{Counts, TextFault, write_state};
 use pim_router::Router;
 use std::alloc::Global;
@@ -53,24 +54,27 @@ fn of_text(fault: TextFault) -> ReplayFault
     }
 }
 
-/// Takes the next turn, if there is one. Returns the counts after it.
+/// Takes the next turn before the end of the run, if there is one. Returns the counts after it.
 fn step<F: Family, R: Feed + Drop, W: Drain>(
     merge: &mut Merge<R>,
     router: &mut Router<'_, F>,
+    end: End,
     writer: &mut W,
     counts: Counts,
 ) -> Result<Option<Counts>, ReplayFault>
     requires ports { length merge.old.lanes ≡ length router.old.ports }
     requires moment { router.old.machines.moment ≤ latest_moment }
     ensures told { (start : MergeState) (state : RouterState) (old : Option (List ℕ)) →
-        IsUnderway F.family start state old merge.old router.old (W.contents writer.old) counts →
-        Steps F.family start state old counts merge.new router.new (W.contents writer.new) result }
+        IsUnderway F.family end start state old
+        merge.old router.old (W.contents writer.old) counts →
+        Steps F.family end start state old counts
+        merge.new router.new (W.contents writer.new) result }
     ensures count { W.failures writer.new ≡ failures_of_device (W.failures writer.old) result }
     ensures ports { OnOk result (length merge.new.lanes ≡ length router.new.ports) }
     ensures moment { OnOk result (router.new.machines.moment ≤ latest_moment) }
     ensures nearer { IfMore result (turns_left merge.new < turns_left merge.old) }
 {
-    let next = match merge.next() {
+    let next = match merge.next_by(end.last()) {
         Ok(next) => next,
         Err(told) => return Err(stopped_by(told)),
     };
@@ -84,15 +88,16 @@ fn step<F: Family, R: Feed + Drop, W: Drain>(
     }
 }
 
-/// Takes all turns. Returns the counts after them.
+/// Takes all turns before the end of the run. Returns the counts after them.
 fn run_turns<F: Family, R: Feed + Drop, W: Drain>(
     merge: &mut Merge<R>,
     router: &mut Router<'_, F>,
+    end: End,
     writer: &mut W,
 ) -> Result<Counts, ReplayFault>
     requires ports { length merge.old.lanes ≡ length router.old.ports }
     requires moment { router.old.machines.moment ≤ latest_moment }
-    ensures told { RunsTurns F.family merge.old router.old (W.contents writer.old)
+    ensures told { RunsTurns F.family end merge.old router.old (W.contents writer.old)
         merge.new router.new (W.contents writer.new) result }
     ensures count { W.failures writer.new ≡ failures_of_device (W.failures writer.old) result }
     ensures moment { OnOk result (router.new.machines.moment ≤ latest_moment) }
@@ -101,29 +106,42 @@ fn run_turns<F: Family, R: Feed + Drop, W: Drain>(
         skipped: 0,
         refreshes: 0,
     };
-    while let Some(more) = step::<F, R, W>(merge, router, writer, counts)? {
+    while let Some(more) = step::<F, R, W>(merge, router, end, writer, counts)? {
         counts = more;
     }
     Ok(counts)
 }
 
-/// Takes all turns, then lets `after_ms` milliseconds pass. Returns the counts.
+/// The moment to which a router runs at the end of its run, where all turns before it were taken.
+fn end_moment<F: Family, R: Feed + Drop>(merge: &Merge<R>, router: &Router<'_, F>, end: End) -> u64
+    requires moment { router.now.machines.moment ≤ latest_moment }
+    requires end { IsBoundedEnd end }
+    ensures moment { result ≡ end_moment end merge.now.clock router.now.machines.moment }
+    ensures bound { result ≤ 10 ^ 15 }
+{
+    match end {
+        End::After(after_ms) => router.now() + after_ms,
+        End::At(time) => merge.moment_at(time),
+    }
+}
+
+/// Takes all turns before the end of the run, then lets the time up to it pass. Returns the counts.
 pub(crate) fn run_on<F: Family, R: Feed + Drop, W: Drain>(
     merge: &mut Merge<R>,
     router: &mut Router<'_, F>,
-    after_ms: u64,
+    end: End,
     writer: &mut W,
 ) -> Result<Counts, ReplayFault>
     requires ports { length merge.old.lanes ≡ length router.old.ports }
     requires moment { router.old.machines.moment ≤ latest_moment }
-    requires after { after_ms ≤ 1000000000 }
-    ensures told { RunsOn F.family merge.old router.old (W.contents writer.old) after_ms
+    requires end { IsBoundedEnd end }
+    ensures told { RunsOn F.family end merge.old router.old (W.contents writer.old)
         merge.new router.new (W.contents writer.new) result }
     ensures count { W.failures writer.new ≡ failures_of_device (W.failures writer.old) result }
 {
-    let counts = run_turns::<F, R, W>(merge, router, writer)?;
-    let end = router.now() + after_ms;
-    let Ok(refreshes) = pass_time::<F, W>(writer, router, end, counts.refreshes) else {
+    let counts = run_turns::<F, R, W>(merge, router, end, writer)?;
+    let moment = end_moment::<F, R>(merge, router, end);
+    let Ok(refreshes) = pass_time::<F, W>(writer, router, moment, counts.refreshes) else {
         return Err(ReplayFault::Output);
     };
     Ok(Counts {
@@ -134,7 +152,7 @@ pub(crate) fn run_on<F: Family, R: Feed + Drop, W: Drain>(
 
 /// Replays the captures of a router's ports, one for each port and in their order, and writes the
 /// report. The report has a line for each packet of the router's family and for each echo, in order
-/// of time. The state that the router holds `after_ms` milliseconds after the last record follows.
+/// of time. The state that the router holds at the end of the run follows.
 /// If `tells_via` is set, each line of the demand names the upstream neighbour. Returns the status,
 /// 0.
 ///
@@ -149,18 +167,18 @@ pub fn replay_into<F: Family, R: Feed + Drop, W: Drain>(
     alloc: Global,
     merge: &mut Merge<R>,
     router: &mut Router<'_, F>,
-    after_ms: u64,
+    end: End,
     tells_via: bool,
     writer: &mut W,
 ) -> Result<u8, ReplayFault>
     requires ports { length merge.old.lanes ≡ length router.old.ports }
     requires moment { router.old.machines.moment ≤ latest_moment }
-    requires after { after_ms ≤ 1000000000 }
-    ensures report { Replays F.family tells_via after_ms merge.old merge.new router.old router.new
+    requires end { IsBoundedEnd end }
+    ensures report { Replays F.family tells_via end merge.old merge.new router.old router.new
         (W.contents writer.old) (W.contents writer.new) result }
     ensures count { W.failures writer.new ≡ failures_of_device (W.failures writer.old) result }
 {
-    let counts = run_on::<F, R, W>(merge, router, after_ms, writer)?;
+    let counts = run_on::<F, R, W>(merge, router, end, writer)?;
     match write_state::<F, W>(alloc, writer, router, tells_via, counts) {
         Ok(()) => Ok(0),
         Err(fault) => Err(of_text(fault)),

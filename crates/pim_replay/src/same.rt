@@ -6,6 +6,7 @@
 
 ghost use Rattle.std.specs.Prelude.{◌≡◌, ◌≤◌, length};
 ghost use Rattle.pim_capture.specs.Next.{latest_moment};
+ghost use Rattle.pim_merge.specs.Ends.{IsBoundedEnd};
 ghost use Rattle.pim_form.specs.declared.fault.FormFault.TheVariants as form;
 ghost use Rattle.pim_replay.specs.Same.{Compares, Judges, Says, of_form, failures_of_answer, answer_line, answer_status};
 
@@ -13,7 +14,7 @@ use crate::quiet::replay_quietly;
 use crate::replay::ReplayFault;
 use pim_addr::{Drain, Family, Feed, write_all};
 use pim_form::{FormFault, Writer};
-use pim_merge::Merge;
+use pim_merge::{End, Merge};
 use pim_router::{Router, same_wants};
 use std::alloc::Global;
 
@@ -89,11 +90,10 @@ fn say<F: Family, W: Drain>(same: bool, writer: &mut W) -> Result<u8, SameFault<
     Ok(answer_status(same))
 }
 
-/// Replays the captures of two routers, one for each port, each until `after_ms` milliseconds after
-/// the last record of its captures. It writes whether the routers then want the same of the
-/// upstream neighbour of `by`, for each valid source, each group and both trees. The line is
-/// `same`, with the status 0 as the result, or `different`, with the status 1. Both routers must
-/// have one table.
+/// Replays the captures of two routers, one for each port, each up to the end of its run. It writes
+/// whether the routers then want the same of the upstream neighbour of `by`, for each valid source,
+/// each group and both trees. The line is `same`, with the status 0 as the result, or `different`,
+/// with the status 1. Both routers must have one table.
 ///
 /// Besides the routers, it needs memory for one buffer for each capture, and at the end that of
 /// `same_wants`.
@@ -109,7 +109,7 @@ pub fn same_into<F: Family, R: Feed + Drop, W: Drain>(
     router_a: &mut Router<'_, F>,
     merge_b: &mut Merge<R>,
     router_b: &mut Router<'_, F>,
-    after_ms: u64,
+    end: End,
     by: &Writer<F>,
     writer: &mut W,
 ) -> Result<u8, SameFault<F>>
@@ -117,15 +117,15 @@ pub fn same_into<F: Family, R: Feed + Drop, W: Drain>(
     requires ports_b { length merge_b.old.lanes ≡ length router_b.old.ports }
     requires moment_a { router_a.old.machines.moment ≤ latest_moment }
     requires moment_b { router_b.old.machines.moment ≤ latest_moment }
-    requires after { after_ms ≤ 1000000000 }
+    requires end { IsBoundedEnd end }
     requires routes { router_a.old.routes ≡ router_b.old.routes }
-    ensures compares { Compares F.family after_ms by.now merge_a.old merge_a.new router_a.old router_a.new
+    ensures compares { Compares F.family end by.now merge_a.old merge_a.new router_a.old router_a.new
         merge_b.old merge_b.new router_b.old router_b.new
         F.bytes_of (W.contents writer.old) (W.contents writer.new) result }
     ensures count { W.failures writer.new ≡ failures_of_answer (W.failures writer.old) result }
 {
-    replay_quietly::<F, R>(merge_a, router_a, after_ms)?;
-    replay_quietly::<F, R>(merge_b, router_b, after_ms)?;
+    replay_quietly::<F, R>(merge_a, router_a, end)?;
+    replay_quietly::<F, R>(merge_b, router_b, end)?;
     let same = judge::<F>(alloc, router_a, router_b, by)?;
     say::<F, W>(same, writer)
 }
