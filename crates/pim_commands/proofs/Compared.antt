@@ -3,6 +3,7 @@ use Rattle.std.proofs.Common.{◌≡◌, inr, refl, sym, ap, subst, ◌∙◌, �
 use Rattle.pim_addr.specs.declared.family.AddressFamily.{AddressFamily}
 use Rattle.pim_form.specs.Messages.{Writing}
 use Rattle.pim_form.specs.Writer.{has_bad_address}
+use Rattle.pim_merge.specs.declared.end.End.{End}
 use Rattle.pim_merge.specs.Next.{MergeState}
 use Rattle.pim_replay.specs.declared.replay.ReplayFault.TheVariants as of_replay
 use Rattle.pim_replay.specs.declared.same.SameFault.{SameFault}
@@ -49,15 +50,15 @@ retold (Ok status) = Ok status
 retold (Err (of_same.Replay told)) = Err (of_same.Replay told)
 retold (Err (of_same.TooBig group)) = Err (of_same.TooBig group)
 
-made_so : {A : Type 0} (family : AddressFamily) (bytes_of : A → List ℕ) (after_ms : ℕ) (writing : Writing) (merge merge' other other' : MergeState) (old new : Option (List ℕ))
+made_so : {A : Type 0} (family : AddressFamily) (bytes_of : A → List ℕ) (end : End) (writing : Writing) (merge merge' other other' : MergeState) (old new : Option (List ℕ))
     (a b : Setup) (router after router_of after_of : RouterState) (told : ComparisonAnswer A) → router ≡ new_router a → router_of ≡ new_router b
-    → Compares family after_ms writing merge merge' router after other other' router_of after_of bytes_of old new told
-    → Compares family after_ms writing merge merge' (new_router a) after other other' (new_router b) after_of bytes_of old new told
-made_so family bytes_of after_ms writing merge merge' other other' old new a b router after router_of after_of told made made_of is =
-    subst (λ (s : RouterState). Compares family after_ms writing merge merge' s after other other' (new_router b) after_of bytes_of old new told) made
-    (subst (λ (s : RouterState). Compares family after_ms writing merge merge' router after other other' s after_of bytes_of old new told) made_of is)
+    → Compares family end writing merge merge' router after other other' router_of after_of bytes_of old new told
+    → Compares family end writing merge merge' (new_router a) after other other' (new_router b) after_of bytes_of old new told
+made_so family bytes_of end writing merge merge' other other' old new a b router after router_of after_of told made made_of is =
+    subst (λ (s : RouterState). Compares family end writing merge merge' s after other other' (new_router b) after_of bytes_of old new told) made
+    (subst (λ (s : RouterState). Compares family end writing merge merge' router after other other' s after_of bytes_of old new told) made_of is)
 
-module _ {F A N : Type 0} (family : AddressFamily) (bytes_of : A → List ℕ) (after_ms : ℕ) (writing : Writing) (merge merge' other other' : MergeState)
+module _ {F A N : Type 0} (family : AddressFamily) (bytes_of : A → List ℕ) (end : End) (writing : Writing) (merge merge' other other' : MergeState)
     (old new : Option (List ℕ)) where
   same_told : (told : Result ℕ (SameFault F A N)) → compared family bytes_of told ≡ compared family bytes_of (retold told)
   same_told (Ok status) = refl
@@ -65,8 +66,8 @@ module _ {F A N : Type 0} (family : AddressFamily) (bytes_of : A → List ℕ) (
   same_told (Err (of_same.TooBig group)) = refl
 
   compares_retold : (router after router_of after_of : RouterState) (told : Result ℕ (SameFault F A N))
-      → Compares family after_ms writing merge merge' router after other other' router_of after_of bytes_of old new told
-      → Compares family after_ms writing merge merge' router after other other' router_of after_of bytes_of old new (retold told)
+      → Compares family end writing merge merge' router after other other' router_of after_of bytes_of old new told
+      → Compares family end writing merge merge' router after other other' router_of after_of bytes_of old new (retold told)
   compares_retold router after router_of after_of (Ok status) is = is
   compares_retold router after router_of after_of (Err (of_same.TooBig group)) is = is
   compares_retold router after router_of after_of (Err (of_same.Replay (of_replay.Capture told))) is = is
@@ -74,26 +75,26 @@ module _ {F A N : Type 0} (family : AddressFamily) (bytes_of : A → List ℕ) (
   compares_retold router after router_of after_of (Err (of_same.Replay of_replay.Memory)) is = is
 
   by_writer : (by : Writing) (router after router_of after_of : RouterState) (told : Result ℕ (SameFault F A N)) → by ≡ writing
-      → Compares family after_ms by merge merge' router after other other' router_of after_of bytes_of old new told
-      → Compares family after_ms writing merge merge' router after other other' router_of after_of bytes_of old new told
+      → Compares family end by merge merge' router after other other' router_of after_of bytes_of old new told
+      → Compares family end writing merge merge' router after other other' router_of after_of bytes_of old new told
   by_writer by router after router_of after_of told same is =
-      subst (λ (w : Writing). Compares family after_ms w merge merge' router after other other' router_of after_of bytes_of old new told) same is
+      subst (λ (w : Writing). Compares family end w merge merge' router after other other' router_of after_of bytes_of old new told) same is
 
   is_compared : (a b : Setup) (router after router_of after_of : RouterState) (told : Result ℕ (SameFault F A N)) → router ≡ new_router a → router_of ≡ new_router b
-      → Compares family after_ms writing merge merge' router after other other' router_of after_of bytes_of old new told
-      → IsCompared family bytes_of after_ms writing merge merge' other other' a b old new (compared family bytes_of told)
+      → Compares family end writing merge merge' router after other other' router_of after_of bytes_of old new told
+      → IsCompared family bytes_of end writing merge merge' other other' a b old new (compared family bytes_of told)
   is_compared a b router after router_of after_of told made made_of is = record {
     after = after;
     after_of = after_of;
     told = retold told;
-    compares = made_so family bytes_of after_ms writing merge merge' other other' old new a b router after router_of after_of (retold told) made made_of (compares_retold router after router_of after_of told is);
+    compares = made_so family bytes_of end writing merge merge' other other' old new a b router after router_of after_of (retold told) made made_of (compares_retold router after router_of after_of told is);
     answer = same_told told;
   }
 
   pub compared_new : (by : Writing) (a wanted_a b wanted_b : Setup) (router after router_of after_of : RouterState) (told : Result ℕ (SameFault F A N)) (result : Result ℕ Fault) → by ≡ writing
       → a ≡ wanted_a → b ≡ wanted_b → router ≡ new_router a → router_of ≡ new_router b
-      → Compares family after_ms by merge merge' router after other other' router_of after_of bytes_of old new told → result ≡ compared family bytes_of told
-      → ComparesNew family bytes_of after_ms writing merge merge' other other' wanted_a wanted_b old new result
+      → Compares family end by merge merge' router after other other' router_of after_of bytes_of old new told → result ≡ compared family bytes_of told
+      → ComparesNew family bytes_of end writing merge merge' other other' wanted_a wanted_b old new result
   compared_new by a wanted_a b wanted_b router after router_of after_of (Ok status) result same_by same_a same_b made made_of is answer =
       rw (answer)
       (is_compared wanted_a wanted_b router after router_of after_of (Ok status) (made ∙ ap new_router same_a) (made_of ∙ ap new_router same_b)

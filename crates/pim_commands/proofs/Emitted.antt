@@ -2,6 +2,7 @@
 use Rattle.std.proofs.Common.{◌≡◌, inr, refl, sym, ap, subst, ◌∙◌, ℕ, List, Option, Result, Ok, Err}
 use Rattle.pim_addr.specs.declared.family.AddressFamily.{AddressFamily}
 use Rattle.pim_form.specs.Messages.{Writing}
+use Rattle.pim_merge.specs.declared.end.End.{End}
 use Rattle.pim_merge.specs.Next.{MergeState}
 use Rattle.pim_replay.specs.declared.emit.EmitFault.{EmitFault}
 use Rattle.pim_replay.specs.declared.emit.EmitFault.TheVariants as of_emission
@@ -20,22 +21,22 @@ retold (Ok status) = Ok status
 retold (Err (of_emission.Replay told)) = Err (of_emission.Replay told)
 retold (Err (of_emission.TooBig group)) = Err (of_emission.TooBig group)
 
-made_so : {A : Type 0} (family : AddressFamily) (bytes_of : A → List ℕ) (after_ms : ℕ) (merge merge' : MergeState) (old new : Option (List ℕ)) (by writing : Writing) (setup : Setup) (router after : RouterState)
-    (told : EmissionAnswer A) → by ≡ writing → router ≡ new_router setup → Emits family after_ms by merge merge' router after bytes_of old new told
-    → Emits family after_ms writing merge merge' (new_router setup) after bytes_of old new told
-made_so family bytes_of after_ms merge merge' old new by writing setup router after told same made is =
-    subst (λ (w : Writing). Emits family after_ms w merge merge' (new_router setup) after bytes_of old new told) same
-    (subst (λ (s : RouterState). Emits family after_ms by merge merge' s after bytes_of old new told) made is)
+made_so : {A : Type 0} (family : AddressFamily) (bytes_of : A → List ℕ) (end : End) (merge merge' : MergeState) (old new : Option (List ℕ)) (by writing : Writing) (setup : Setup) (router after : RouterState)
+    (told : EmissionAnswer A) → by ≡ writing → router ≡ new_router setup → Emits family end by merge merge' router after bytes_of old new told
+    → Emits family end writing merge merge' (new_router setup) after bytes_of old new told
+made_so family bytes_of end merge merge' old new by writing setup router after told same made is =
+    subst (λ (w : Writing). Emits family end w merge merge' (new_router setup) after bytes_of old new told) same
+    (subst (λ (s : RouterState). Emits family end by merge merge' s after bytes_of old new told) made is)
 
-module _ {F A N : Type 0} (family : AddressFamily) (bytes_of : A → List ℕ) (after_ms : ℕ) (merge merge' : MergeState) (old new : Option (List ℕ)) where
+module _ {F A N : Type 0} (family : AddressFamily) (bytes_of : A → List ℕ) (end : End) (merge merge' : MergeState) (old new : Option (List ℕ)) where
   pub same_told : (told : Result ℕ (EmitFault F A N)) → emitted family bytes_of told ≡ emitted family bytes_of (retold told)
   same_told (Ok status) = refl
   same_told (Err (of_emission.Replay told)) = refl
   same_told (Err (of_emission.TooBig group)) = refl
 
   emits_retold : (writing : Writing) (router after : RouterState) (told : Result ℕ (EmitFault F A N))
-      → Emits family after_ms writing merge merge' router after bytes_of old new told
-      → Emits family after_ms writing merge merge' router after bytes_of old new (retold told)
+      → Emits family end writing merge merge' router after bytes_of old new told
+      → Emits family end writing merge merge' router after bytes_of old new (retold told)
   emits_retold writing router after (Ok status) is = is
   emits_retold writing router after (Err (of_emission.TooBig group)) is = is
   emits_retold writing router after (Err (of_emission.Replay (of_replay.Capture told))) is = is
@@ -43,18 +44,18 @@ module _ {F A N : Type 0} (family : AddressFamily) (bytes_of : A → List ℕ) (
   emits_retold writing router after (Err (of_emission.Replay of_replay.Memory)) is = is
 
   is_emitted : (by writing : Writing) (setup : Setup) (router after : RouterState) (told : Result ℕ (EmitFault F A N)) → by ≡ writing → router ≡ new_router setup
-      → Emits family after_ms by merge merge' router after bytes_of old new told
-      → IsEmitted family bytes_of after_ms writing merge merge' setup old new (emitted family bytes_of told)
+      → Emits family end by merge merge' router after bytes_of old new told
+      → IsEmitted family bytes_of end writing merge merge' setup old new (emitted family bytes_of told)
   is_emitted by writing setup router after told same made is = record {
     after = after;
     told = retold told;
-    emits = made_so family bytes_of after_ms merge merge' old new by writing setup router after (retold told) same made (emits_retold by router after told is);
+    emits = made_so family bytes_of end merge merge' old new by writing setup router after (retold told) same made (emits_retold by router after told is);
     answer = same_told told;
   }
 
   pub emitted_new : (by writing : Writing) (setup wanted : Setup) (router after : RouterState) (told : Result ℕ (EmitFault F A N)) (result : Result ℕ Fault) → by ≡ writing
-      → setup ≡ wanted → router ≡ new_router setup → Emits family after_ms by merge merge' router after bytes_of old new told
-      → result ≡ emitted family bytes_of told → EmitsNew family bytes_of after_ms writing merge merge' wanted old new result
+      → setup ≡ wanted → router ≡ new_router setup → Emits family end by merge merge' router after bytes_of old new told
+      → result ≡ emitted family bytes_of told → EmitsNew family bytes_of end writing merge merge' wanted old new result
   emitted_new by writing setup wanted router after (Ok status) result same_by same made is answer =
       rw (answer) (is_emitted by writing wanted router after (Ok status) same_by (made ∙ ap new_router same) is)
   emitted_new by writing setup wanted router after (Err fault) result same_by same made is answer =

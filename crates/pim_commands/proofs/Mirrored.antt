@@ -3,6 +3,7 @@ use Rattle.std.proofs.Common.{◌≡◌, inr, refl, sym, ap, subst, ◌∙◌, �
 use Rattle.pim_addr.specs.declared.family.AddressFamily.{AddressFamily}
 use Rattle.pim_form.specs.Messages.{Writing}
 use Rattle.pim_form.specs.Writer.{has_bad_address}
+use Rattle.pim_merge.specs.declared.end.End.{End}
 use Rattle.pim_merge.specs.Next.{MergeState}
 use Rattle.pim_replay.specs.declared.mirror_text.MirrorTextFault.{MirrorTextFault}
 use Rattle.pim_replay.specs.declared.mirror_text.MirrorTextFault.TheVariants as of_mirror
@@ -36,14 +37,14 @@ retold (Err (of_mirror.Replay told)) = Err (of_mirror.Replay told)
 retold (Err (of_mirror.TooBig group)) = Err (of_mirror.TooBig group)
 retold (Err (of_mirror.Full needed)) = Err (of_mirror.Full needed)
 
-made_so : {A : Type 0} (family : AddressFamily) (bytes_of : A → List ℕ) (after_ms limit : ℕ) (merge merge' : MergeState) (old new : Option (List ℕ)) (by writing : Writing) (setup : Setup) (router after : RouterState)
-    (told : MirrorAnswer A) → by ≡ writing → router ≡ new_router setup → TellsMirror family after_ms by limit merge merge' router after bytes_of old new told
-    → TellsMirror family after_ms writing limit merge merge' (new_router setup) after bytes_of old new told
-made_so family bytes_of after_ms limit merge merge' old new by writing setup router after told same made is =
-    subst (λ (w : Writing). TellsMirror family after_ms w limit merge merge' (new_router setup) after bytes_of old new told) same
-    (subst (λ (s : RouterState). TellsMirror family after_ms by limit merge merge' s after bytes_of old new told) made is)
+made_so : {A : Type 0} (family : AddressFamily) (bytes_of : A → List ℕ) (end : End) (limit : ℕ) (merge merge' : MergeState) (old new : Option (List ℕ)) (by writing : Writing) (setup : Setup) (router after : RouterState)
+    (told : MirrorAnswer A) → by ≡ writing → router ≡ new_router setup → TellsMirror family end by limit merge merge' router after bytes_of old new told
+    → TellsMirror family end writing limit merge merge' (new_router setup) after bytes_of old new told
+made_so family bytes_of end limit merge merge' old new by writing setup router after told same made is =
+    subst (λ (w : Writing). TellsMirror family end w limit merge merge' (new_router setup) after bytes_of old new told) same
+    (subst (λ (s : RouterState). TellsMirror family end by limit merge merge' s after bytes_of old new told) made is)
 
-module _ {F A N : Type 0} (family : AddressFamily) (bytes_of : A → List ℕ) (after_ms limit : ℕ) (merge merge' : MergeState) (old new : Option (List ℕ)) where
+module _ {F A N : Type 0} (family : AddressFamily) (bytes_of : A → List ℕ) (end : End) (limit : ℕ) (merge merge' : MergeState) (old new : Option (List ℕ)) where
   pub same_told : (told : Result ℕ (MirrorTextFault F A N)) → mirrored family bytes_of told ≡ mirrored family bytes_of (retold told)
   same_told (Ok status) = refl
   same_told (Err (of_mirror.Replay told)) = refl
@@ -51,8 +52,8 @@ module _ {F A N : Type 0} (family : AddressFamily) (bytes_of : A → List ℕ) (
   same_told (Err (of_mirror.Full needed)) = refl
 
   mirrors_retold : (writing : Writing) (router after : RouterState) (told : Result ℕ (MirrorTextFault F A N))
-      → TellsMirror family after_ms writing limit merge merge' router after bytes_of old new told
-      → TellsMirror family after_ms writing limit merge merge' router after bytes_of old new (retold told)
+      → TellsMirror family end writing limit merge merge' router after bytes_of old new told
+      → TellsMirror family end writing limit merge merge' router after bytes_of old new (retold told)
   mirrors_retold writing router after (Ok status) is = is
   mirrors_retold writing router after (Err (of_mirror.TooBig group)) is = is
   mirrors_retold writing router after (Err (of_mirror.Full needed)) is = is
@@ -61,18 +62,18 @@ module _ {F A N : Type 0} (family : AddressFamily) (bytes_of : A → List ℕ) (
   mirrors_retold writing router after (Err (of_mirror.Replay of_replay.Memory)) is = is
 
   is_mirrored : (by writing : Writing) (setup : Setup) (router after : RouterState) (told : Result ℕ (MirrorTextFault F A N)) → by ≡ writing → router ≡ new_router setup
-      → TellsMirror family after_ms by limit merge merge' router after bytes_of old new told
-      → IsMirrored family bytes_of after_ms limit writing merge merge' setup old new (mirrored family bytes_of told)
+      → TellsMirror family end by limit merge merge' router after bytes_of old new told
+      → IsMirrored family bytes_of end limit writing merge merge' setup old new (mirrored family bytes_of told)
   is_mirrored by writing setup router after told same made is = record {
     after = after;
     told = retold told;
-    mirrors = made_so family bytes_of after_ms limit merge merge' old new by writing setup router after (retold told) same made (mirrors_retold by router after told is);
+    mirrors = made_so family bytes_of end limit merge merge' old new by writing setup router after (retold told) same made (mirrors_retold by router after told is);
     answer = same_told told;
   }
 
   pub mirrored_new : (by writing : Writing) (setup wanted : Setup) (router after : RouterState) (told : Result ℕ (MirrorTextFault F A N)) (result : Result ℕ Fault) → by ≡ writing
-      → setup ≡ wanted → router ≡ new_router setup → TellsMirror family after_ms by limit merge merge' router after bytes_of old new told
-      → result ≡ mirrored family bytes_of told → MirrorsNew family bytes_of after_ms limit writing merge merge' wanted old new result
+      → setup ≡ wanted → router ≡ new_router setup → TellsMirror family end by limit merge merge' router after bytes_of old new told
+      → result ≡ mirrored family bytes_of told → MirrorsNew family bytes_of end limit writing merge merge' wanted old new result
   mirrored_new by writing setup wanted router after (Ok status) result same_by same made is answer =
       rw (answer) (is_mirrored by writing wanted router after (Ok status) same_by (made ∙ ap new_router same) is)
   mirrored_new by writing setup wanted router after (Err fault) result same_by same made is answer =

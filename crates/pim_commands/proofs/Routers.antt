@@ -6,6 +6,7 @@ use Rattle.pim_addr.specs.Routes.{RouteTable}
 use Rattle.pim_capture.specs.declared.fault.CaptureFault.{CaptureFault}
 use Rattle.pim_capture.specs.declared.fault.CaptureFault.TheVariants as of_capture
 use Rattle.pim_capture.specs.Next.{latest_moment}
+use Rattle.pim_merge.specs.declared.end.End.{End}
 use Rattle.pim_merge.specs.Next.{MergeState}
 use Rattle.pim_replay.specs.declared.replay.ReplayFault.{ReplayFault}
 use Rattle.pim_replay.specs.declared.replay.ReplayFault.TheVariants as of_replay
@@ -41,25 +42,25 @@ unmade_is (first ∷ others) value told is = let same : told ≡ first = cc in r
 -- ---- what is answered of a new router's replay
 
 -- there is none
-pub unmade : (family : AddressFamily) (via : Bool) (after_ms : ℕ) (merge : MergeState) (setup wanted : Setup) (written : Option (List ℕ)) (fault : Fault) → setup ≡ wanted
-    → IsUnmade (config_faults family setup) fault → ReplaysNew family via after_ms merge merge wanted written written (Err fault)
-unmade family via after_ms merge setup wanted written fault same is = inl (subst (λ (s : Setup). IsUnmade (config_faults family s) fault) same is, refl, refl)
+pub unmade : (family : AddressFamily) (via : Bool) (end : End) (merge : MergeState) (setup wanted : Setup) (written : Option (List ℕ)) (fault : Fault) → setup ≡ wanted
+    → IsUnmade (config_faults family setup) fault → ReplaysNew family via end merge merge wanted written written (Err fault)
+unmade family via end merge setup wanted written fault same is = inl (subst (λ (s : Setup). IsUnmade (config_faults family s) fault) same is, refl, refl)
 
-pub replayed : (family : AddressFamily) (via : Bool) (after_ms : ℕ) (merge merge' : MergeState) (setup wanted : Setup) (router after : RouterState) (old new : Option (List ℕ))
-    (told : Result ℕ ReplayFault) (result : Result ℕ Fault) → setup ≡ wanted → router ≡ new_router setup → Replays family via after_ms merge merge' router after old new told
-    → result ≡ answer_of told → ReplaysNew family via after_ms merge merge' wanted old new result
-replayed family via after_ms merge merge' setup wanted router after old new (Ok status) result same made is answer =
+pub replayed : (family : AddressFamily) (via : Bool) (end : End) (merge merge' : MergeState) (setup wanted : Setup) (router after : RouterState) (old new : Option (List ℕ))
+    (told : Result ℕ ReplayFault) (result : Result ℕ Fault) → setup ≡ wanted → router ≡ new_router setup → Replays family via end merge merge' router after old new told
+    → result ≡ answer_of told → ReplaysNew family via end merge merge' wanted old new result
+replayed family via end merge merge' setup wanted router after old new (Ok status) result same made is answer =
     rw (answer) (record {
       after = after;
       told = Ok status;
-      replays = subst (λ (s : RouterState). Replays family via after_ms merge merge' s after old new (Ok status)) (made ∙ ap new_router same) is;
+      replays = subst (λ (s : RouterState). Replays family via end merge merge' s after old new (Ok status)) (made ∙ ap new_router same) is;
       answer = refl;
     })
-replayed family via after_ms merge merge' setup wanted router after old new (Err fault) result same made is answer =
+replayed family via end merge merge' setup wanted router after old new (Err fault) result same made is answer =
     rw (answer) (inr (record {
       after = after;
       told = Err fault;
-      replays = subst (λ (s : RouterState). Replays family via after_ms merge merge' s after old new (Err fault)) (made ∙ ap new_router same) is;
+      replays = subst (λ (s : RouterState). Replays family via end merge merge' s after old new (Err fault)) (made ∙ ap new_router same) is;
       answer = refl;
     }))
 

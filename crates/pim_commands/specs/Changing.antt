@@ -3,6 +3,7 @@
 use Rattle.std.specs.Prelude.{◌≡◌, ◌⊎◌, ℕ, List, Option, Result, Ok, Err}
 use Rattle.pim_addr.specs.declared.family.AddressFamily.{AddressFamily}
 use Rattle.pim_form.specs.Messages.{Writing}
+use Rattle.pim_merge.specs.declared.end.End.{End}
 use Rattle.pim_merge.specs.Next.{MergeState}
 use Rattle.pim_replay.specs.ChangeText.{TellsChange}
 use Rattle.pim_router.specs.State.{Setup, RouterState, new_router}
@@ -13,21 +14,21 @@ use Rattle.pim_commands.specs.Replaying.{IsFirstCause}
 
 -- New routers of these set-ups are replayed and the messages of the change between them are
 -- written. This is the program's result for that of the engine.
-pub record IsChanged {A : Type 0} (family : AddressFamily) (bytes_of : A → List ℕ) (after_ms limit : ℕ)
+pub record IsChanged {A : Type 0} (family : AddressFamily) (bytes_of : A → List ℕ) (end : End) (limit : ℕ)
     (writing : Writing) (merge merge' other other' : MergeState) (a b : Setup) (old new : Option (List ℕ))
     (result : Result ℕ Fault) : Type 0 where
   pub after : RouterState
   pub after_of : RouterState
   pub told : MirrorAnswer A
-  pub tells : TellsChange family after_ms writing limit merge merge' (new_router a) after
+  pub tells : TellsChange family end writing limit merge merge' (new_router a) after
       other other' (new_router b) after_of bytes_of old new told
   pub answer : result ≡ mirrored family bytes_of told
 
 -- The change is written, or there is no writer or no router and nothing is written.
-abbrev pub ChangesNew : {A : Type 0} → AddressFamily → (A → List ℕ) → ℕ → ℕ → Writing → MergeState → MergeState →
+abbrev pub ChangesNew : {A : Type 0} → AddressFamily → (A → List ℕ) → End → ℕ → Writing → MergeState → MergeState →
     MergeState → MergeState → Setup → Setup → Option (List ℕ) → Option (List ℕ) → Result ℕ Fault → Type 0
-ChangesNew family bytes_of after_ms limit writing merge merge' other other' a b old new (Ok status) =
-    IsChanged family bytes_of after_ms limit writing merge merge' other other' a b old new (Ok status)
-ChangesNew family bytes_of after_ms limit writing merge merge' other other' a b old new (Err fault) =
+ChangesNew family bytes_of end limit writing merge merge' other other' a b old new (Ok status) =
+    IsChanged family bytes_of end limit writing merge merge' other other' a b old new (Ok status)
+ChangesNew family bytes_of end limit writing merge merge' other other' a b old new (Err fault) =
     (IsFirstCause (causes family writing a b) fault × (new ≡ old) × (merge' ≡ merge) × (other' ≡ other))
-    ⊎ IsChanged family bytes_of after_ms limit writing merge merge' other other' a b old new (Err fault)
+    ⊎ IsChanged family bytes_of end limit writing merge merge' other other' a b old new (Err fault)

@@ -6,6 +6,7 @@ use Rattle.pim_addr.specs.declared.family.AddressFamily.{AddressFamily}
 use Rattle.pim_files.specs.Captures.{is_of}
 use Rattle.pim_form.specs.Messages.{Writing}
 use Rattle.pim_form.specs.Writer.{has_bad_address}
+use Rattle.pim_merge.specs.declared.end.End.{End}
 use Rattle.pim_merge.specs.Next.{MergeState}
 use Rattle.pim_replay.specs.declared.same.SameFault.{SameFault}
 use Rattle.pim_replay.specs.declared.same.SameFault.TheVariants as of_same
@@ -53,21 +54,21 @@ ComparisonAnswer A = Result ℕ (SameFault (Unit {0}) A (Unit {0}))
 
 -- New routers of these set-ups are compared, and this is the program's result for that of the
 -- engine.
-pub record IsCompared {A : Type 0} (family : AddressFamily) (bytes_of : A → List ℕ) (after_ms : ℕ) (writing : Writing)
+pub record IsCompared {A : Type 0} (family : AddressFamily) (bytes_of : A → List ℕ) (end : End) (writing : Writing)
     (merge merge' other other' : MergeState) (a b : Setup) (old new : Option (List ℕ)) (result : Result ℕ Fault)
     : Type 0 where
   pub after : RouterState
   pub after_of : RouterState
   pub told : ComparisonAnswer A
-  pub compares : Compares family after_ms writing merge merge' (new_router a) after other other' (new_router b) after_of
+  pub compares : Compares family end writing merge merge' (new_router a) after other other' (new_router b) after_of
       bytes_of old new told
   pub answer : result ≡ compared family bytes_of told
 
 -- New routers are compared, or there is no writer or no router and nothing is written.
-abbrev pub ComparesNew : {A : Type 0} → AddressFamily → (A → List ℕ) → ℕ → Writing → MergeState → MergeState →
+abbrev pub ComparesNew : {A : Type 0} → AddressFamily → (A → List ℕ) → End → Writing → MergeState → MergeState →
     MergeState → MergeState → Setup → Setup → Option (List ℕ) → Option (List ℕ) → Result ℕ Fault → Type 0
-ComparesNew family bytes_of after_ms writing merge merge' other other' a b old new (Ok status) =
-    IsCompared family bytes_of after_ms writing merge merge' other other' a b old new (Ok status)
-ComparesNew family bytes_of after_ms writing merge merge' other other' a b old new (Err fault) =
+ComparesNew family bytes_of end writing merge merge' other other' a b old new (Ok status) =
+    IsCompared family bytes_of end writing merge merge' other other' a b old new (Ok status)
+ComparesNew family bytes_of end writing merge merge' other other' a b old new (Err fault) =
     (IsFirstCause (causes family writing a b) fault × (new ≡ old) × (merge' ≡ merge) × (other' ≡ other))
-    ⊎ IsCompared family bytes_of after_ms writing merge merge' other other' a b old new (Err fault)
+    ⊎ IsCompared family bytes_of end writing merge merge' other other' a b old new (Err fault)

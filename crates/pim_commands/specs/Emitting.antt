@@ -3,6 +3,7 @@
 use Rattle.std.specs.Prelude.{◌≡◌, ◌⊎◌, ℕ, List, Option, Result, Ok, Err}
 use Rattle.pim_addr.specs.declared.family.AddressFamily.{AddressFamily}
 use Rattle.pim_form.specs.Messages.{Writing}
+use Rattle.pim_merge.specs.declared.end.End.{End}
 use Rattle.pim_merge.specs.Next.{MergeState}
 use Rattle.pim_replay.specs.declared.emit.EmitFault.{EmitFault}
 use Rattle.pim_replay.specs.declared.emit.EmitFault.TheVariants as of_emission
@@ -35,18 +36,18 @@ EmissionAnswer A = Result ℕ (EmitFault (Unit {0}) A (Unit {0}))
 
 -- A new router of this set-up is replayed and its messages are written. This is the program's
 -- result for that of the engine.
-pub record IsEmitted {A : Type 0} (family : AddressFamily) (bytes_of : A → List ℕ) (after_ms : ℕ) (writing : Writing)
+pub record IsEmitted {A : Type 0} (family : AddressFamily) (bytes_of : A → List ℕ) (end : End) (writing : Writing)
     (merge merge' : MergeState) (setup : Setup) (old new : Option (List ℕ)) (result : Result ℕ Fault) : Type 0 where
   pub after : RouterState
   pub told : EmissionAnswer A
-  pub emits : Emits family after_ms writing merge merge' (new_router setup) after bytes_of old new told
+  pub emits : Emits family end writing merge merge' (new_router setup) after bytes_of old new told
   pub answer : result ≡ emitted family bytes_of told
 
 -- Its messages are written, or there is no writer or no router and nothing is written.
-abbrev pub EmitsNew : {A : Type 0} → AddressFamily → (A → List ℕ) → ℕ → Writing → MergeState → MergeState → Setup →
+abbrev pub EmitsNew : {A : Type 0} → AddressFamily → (A → List ℕ) → End → Writing → MergeState → MergeState → Setup →
     Option (List ℕ) → Option (List ℕ) → Result ℕ Fault → Type 0
-EmitsNew family bytes_of after_ms writing merge merge' setup old new (Ok status) =
-    IsEmitted family bytes_of after_ms writing merge merge' setup old new (Ok status)
-EmitsNew family bytes_of after_ms writing merge merge' setup old new (Err fault) =
+EmitsNew family bytes_of end writing merge merge' setup old new (Ok status) =
+    IsEmitted family bytes_of end writing merge merge' setup old new (Ok status)
+EmitsNew family bytes_of end writing merge merge' setup old new (Err fault) =
     (IsFirstCause (mirror_causes family writing setup) fault × (new ≡ old) × (merge' ≡ merge))
-    ⊎ IsEmitted family bytes_of after_ms writing merge merge' setup old new (Err fault)
+    ⊎ IsEmitted family bytes_of end writing merge merge' setup old new (Err fault)

@@ -3,6 +3,7 @@ use Rattle.std.specs.Prelude.{◌≡◌, ◌⊎◌, ℕ, List, ◌++◌, map, Op
 use Rattle.pim_addr.specs.declared.family.AddressFamily.{AddressFamily}
 use Rattle.pim_form.specs.Messages.{Writing}
 use Rattle.pim_form.specs.Writer.{has_bad_address}
+use Rattle.pim_merge.specs.declared.end.End.{End}
 use Rattle.pim_merge.specs.Next.{MergeState}
 use Rattle.pim_replay.specs.declared.mirror_text.MirrorTextFault.{MirrorTextFault}
 use Rattle.pim_replay.specs.declared.mirror_text.MirrorTextFault.TheVariants as of_mirror
@@ -42,19 +43,19 @@ MirrorAnswer A = Result ℕ (MirrorTextFault (Unit {0}) A (Unit {0}))
 
 -- A new router of this set-up is replayed and mirrored, and this is the program's result for that
 -- of the engine.
-pub record IsMirrored {A : Type 0} (family : AddressFamily) (bytes_of : A → List ℕ) (after_ms limit : ℕ)
+pub record IsMirrored {A : Type 0} (family : AddressFamily) (bytes_of : A → List ℕ) (end : End) (limit : ℕ)
     (writing : Writing) (merge merge' : MergeState) (setup : Setup) (old new : Option (List ℕ))
     (result : Result ℕ Fault) : Type 0 where
   pub after : RouterState
   pub told : MirrorAnswer A
-  pub mirrors : TellsMirror family after_ms writing limit merge merge' (new_router setup) after bytes_of old new told
+  pub mirrors : TellsMirror family end writing limit merge merge' (new_router setup) after bytes_of old new told
   pub answer : result ≡ mirrored family bytes_of told
 
 -- A new router is mirrored, or there is no writer or no router and nothing is written.
-abbrev pub MirrorsNew : {A : Type 0} → AddressFamily → (A → List ℕ) → ℕ → ℕ → Writing → MergeState → MergeState →
+abbrev pub MirrorsNew : {A : Type 0} → AddressFamily → (A → List ℕ) → End → ℕ → Writing → MergeState → MergeState →
     Setup → Option (List ℕ) → Option (List ℕ) → Result ℕ Fault → Type 0
-MirrorsNew family bytes_of after_ms limit writing merge merge' setup old new (Ok status) =
-    IsMirrored family bytes_of after_ms limit writing merge merge' setup old new (Ok status)
-MirrorsNew family bytes_of after_ms limit writing merge merge' setup old new (Err fault) =
+MirrorsNew family bytes_of end limit writing merge merge' setup old new (Ok status) =
+    IsMirrored family bytes_of end limit writing merge merge' setup old new (Ok status)
+MirrorsNew family bytes_of end limit writing merge merge' setup old new (Err fault) =
     (IsFirstCause (mirror_causes family writing setup) fault × (new ≡ old) × (merge' ≡ merge))
-    ⊎ IsMirrored family bytes_of after_ms limit writing merge merge' setup old new (Err fault)
+    ⊎ IsMirrored family bytes_of end limit writing merge merge' setup old new (Err fault)

@@ -26,7 +26,7 @@ use Rattle.pim_commands.specs.Changing.{ChangesNew}
 use Rattle.pim_commands.specs.Comparing.{side_setup, ComparesNew}
 use Rattle.pim_commands.specs.Emitting.{EmitsNew}
 use Rattle.pim_commands.specs.Mirroring.{MirrorsNew}
-use Rattle.pim_commands.specs.Replaying.{config_of, config_told, writer_told, ReplaysNew}
+use Rattle.pim_commands.specs.Replaying.{config_of, config_told, end_of, writer_told, ReplaysNew}
 use Rattle.pim_commands.specs.Words.{routes_fault}
 
 -- The program's fault for a fault of opening.
@@ -128,29 +128,29 @@ module _ {A R : Type 0} (family : AddressFamily) (bytes_of : A → List ℕ) (re
   -- What `replay` returns and writes. It writes upstream neighbours if a file of routes is named.
   abbrev pub ReplaysFiles : Option (List ℕ) → Option (List ℕ) → Result ℕ Fault → Type 0
   ReplaysFiles old new result = OpensOne None old new result (λ table merge merge'.
-      ReplaysNew family (is_some captures.routes) captures.after_ms merge merge' (setup_under table) old new result)
+      ReplaysNew family (is_some captures.routes) (end_of captures) merge merge' (setup_under table) old new result)
 
   -- What `mirror` returns and writes.
   abbrev pub MirrorsFiles : Writing A → Option (List ℕ) → Option (List ℕ) → Result ℕ Fault → Type 0
   MirrorsFiles writing old new result = OpensOne (Some writing.upstream) old new result (λ table merge merge'.
-      MirrorsNew family bytes_of captures.after_ms captures.limit (writing_of writing) merge merge' (setup_under table)
+      MirrorsNew family bytes_of (end_of captures) captures.limit (writing_of writing) merge merge' (setup_under table)
       old new result)
 
   -- What `emit` returns and writes.
   abbrev pub EmitsFiles : Writing A → Option (List ℕ) → Option (List ℕ) → Result ℕ Fault → Type 0
   EmitsFiles writing old new result = OpensOne (Some writing.upstream) old new result (λ table merge merge'.
-      EmitsNew family bytes_of captures.after_ms (writing_of writing) merge merge' (setup_under table) old new result)
+      EmitsNew family bytes_of (end_of captures) (writing_of writing) merge merge' (setup_under table) old new result)
 
   -- What `same` returns and writes.
   abbrev pub ComparesFiles : Writing A → Option (List ℕ) → Option (List ℕ) → Result ℕ Fault → Type 0
   ComparesFiles writing old new result = OpensBoth (Some writing.upstream) old new result
       (λ table merge merge' other other'.
-      ComparesNew family bytes_of captures.after_ms (writing_of writing) merge merge' other other'
+      ComparesNew family bytes_of (end_of captures) (writing_of writing) merge merge' other other'
       (side_setup_under side.A table) (side_setup_under side.B table) old new result)
 
   -- What `change` returns and writes.
   abbrev pub ChangesFiles : Writing A → Option (List ℕ) → Option (List ℕ) → Result ℕ Fault → Type 0
   ChangesFiles writing old new result = OpensBoth (Some writing.upstream) old new result
       (λ table merge merge' other other'.
-      ChangesNew family bytes_of captures.after_ms captures.limit (writing_of writing) merge merge' other other'
+      ChangesNew family bytes_of (end_of captures) captures.limit (writing_of writing) merge merge' other other'
       (side_setup_under side.A table) (side_setup_under side.B table) old new result)

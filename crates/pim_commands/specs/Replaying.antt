@@ -1,9 +1,11 @@
 -- The replay that a task asks for: its router, and what is returned and written of its captures.
 use Rattle.std.specs.Prelude.{◌≡◌, ◌⊎◌, ⊤, ℕ, Bool, List, [], ◌∷◌}
-use Rattle.std.specs.Prelude.{Option, Result, Ok, Err}
+use Rattle.std.specs.Prelude.{Option, None, Some, Result, Ok, Err}
 use Rattle.pim_addr.specs.declared.family.AddressFamily.{AddressFamily}
 use Rattle.pim_capture.specs.declared.fault.CaptureFault.{CaptureFault}
 use Rattle.pim_capture.specs.declared.fault.CaptureFault.TheVariants as of_capture
+use Rattle.pim_merge.specs.declared.end.End.{End}
+use Rattle.pim_merge.specs.declared.end.End.TheVariants.{After, At}
 use Rattle.pim_merge.specs.Next.{MergeState}
 use Rattle.pim_replay.specs.declared.replay.ReplayFault.{ReplayFault}
 use Rattle.pim_replay.specs.declared.replay.ReplayFault.TheVariants as of_replay
@@ -13,9 +15,11 @@ use Rattle.pim_router.specs.declared.config.ConfigFault.TheVariants as of_config
 use Rattle.pim_router.specs.declared.config.PortConfig.{PortConfig}
 use Rattle.pim_router.specs.Config.{config_faults}
 use Rattle.pim_router.specs.State.{Setup, RouterState, new_router}
+use Rattle.pim_time.specs.declared.reading.Time.{Time}
 use Rattle.pim_words.specs.declared.fault.ConfigCause.{ConfigCause}
 use Rattle.pim_words.specs.declared.fault.ConfigCause.TheVariants as cause
 use Rattle.pim_words.specs.declared.fault.Fault.TheVariants as of_words
+use Rattle.pim_words.specs.declared.task.Captures.{Captures}
 use Rattle.pim_words.specs.declared.task.Port.{Port}
 use Rattle.pim_commands.specs.declared.causes.CaptureCause.TheVariants as capture
 use Rattle.pim_commands.specs.declared.fault.Fault.{Fault}
@@ -25,6 +29,17 @@ use Rattle.pim_commands.specs.declared.fault.Fault.TheVariants.{Words, Capture, 
 -- milliseconds: Propagation_delay_default and t_override_default.
 abbrev pub config_of : {A : Type 0} → Port A → PortConfig A
 config_of port = record { address = port.address; propagation = 500; override_ms = 2500 }
+
+-- ---- the end of the run
+
+-- The end at this time if one is given, otherwise so long after the last record.
+abbrev pub end_by : ℕ → Option Time → End
+end_by after_ms None = After after_ms
+end_by after_ms (Some time) = At time
+
+-- The end of the run that the words ask for.
+abbrev pub end_of : {A : Type 0} → Captures A → End
+end_of captures = end_by captures.after_ms captures.at
 
 -- ---- faults of the program
 
@@ -77,18 +92,18 @@ IsUnmade [] fault = ⊥
 IsUnmade (first ∷ others) fault = fault ≡ config_fault first
 
 -- A new router of this set-up is replayed, and this is the program's result for that of the engine.
-pub record IsReplayed (family : AddressFamily) (tells_via : Bool) (after_ms : ℕ) (merge merge' : MergeState)
+pub record IsReplayed (family : AddressFamily) (tells_via : Bool) (end : End) (merge merge' : MergeState)
     (setup : Setup) (old new : Option (List ℕ)) (result : Result ℕ Fault) : Type 0 where
   pub after : RouterState
   pub told : Result ℕ ReplayFault
-  pub replays : Replays family tells_via after_ms merge merge' (new_router setup) after old new told
+  pub replays : Replays family tells_via end merge merge' (new_router setup) after old new told
   pub answer : result ≡ answer_of told
 
 -- A new router is replayed, or there is none and nothing is written.
-abbrev pub ReplaysNew : AddressFamily → Bool → ℕ → MergeState → MergeState → Setup → Option (List ℕ) → Option (List ℕ) →
+abbrev pub ReplaysNew : AddressFamily → Bool → End → MergeState → MergeState → Setup → Option (List ℕ) → Option (List ℕ) →
     Result ℕ Fault → Type 0
-ReplaysNew family tells_via after_ms merge merge' setup old new (Ok status) =
-    IsReplayed family tells_via after_ms merge merge' setup old new (Ok status)
-ReplaysNew family tells_via after_ms merge merge' setup old new (Err fault) =
+ReplaysNew family tells_via end merge merge' setup old new (Ok status) =
+    IsReplayed family tells_via end merge merge' setup old new (Ok status)
+ReplaysNew family tells_via end merge merge' setup old new (Err fault) =
     (IsUnmade (config_faults family setup) fault × (new ≡ old) × (merge' ≡ merge))
-    ⊎ IsReplayed family tells_via after_ms merge merge' setup old new (Err fault)
+    ⊎ IsReplayed family tells_via end merge merge' setup old new (Err fault)

@@ -61,6 +61,7 @@ routes_fault routes.Memory = Memory
 -- The words of a fault of the command line.
 abbrev pub plan_words : WordsFault → List ℕ
 plan_words (words.Clap refusal) = refusal_words refusal.kind
+plan_words words.TwoEnds = codes "two ends"
 plan_words (words.Address word) = codes "address " ++ word.now
 plan_words (words.Word word) = codes "word " ++ word.now
 plan_words words.Family = codes "family"

@@ -4,6 +4,7 @@ ghost use Rattle.std.specs.Prelude.{◌≡◌, length, filter};
 ghost use Rattle.pim_form.specs.Seen.{writing_seen};
 ghost use Rattle.pim_words.specs.Plan.{IsBounded, IsLimited, IsWritable};
 ghost use Rattle.pim_files.specs.Captures.{is_of};
+ghost use Rattle.pim_commands.specs.Replaying.{end_of};
 ghost use Rattle.pim_commands.specs.Comparing.{side_setup};
 ghost use Rattle.pim_commands.specs.Changing.{ChangesNew};
 ghost use Rattle.pim_commands.specs.Opening.{ChangesFiles};
@@ -12,7 +13,7 @@ ghost use Rattle.pim_commands.specs.Report.{write_failures_after};
 use crate::comparing::side_configs;
 use crate::fault::Fault;
 use crate::mirroring::mirrored;
-use crate::replaying::router_of;
+use crate::replaying::{end_of, router_of};
 use crate::writing::writer_of;
 use pim_addr::{Drain, Family, Feed, Routes};
 use pim_files::{Opener, Pair, open_both, table};
@@ -42,7 +43,7 @@ pub fn change_opened<F: Family, R: Feed + Drop, W: Drain>(
     requires writing { IsWritable writing.now }
     requires a { length pair.old.a.lanes ≡ length (filter (is_of Side.A) captures.now.ports.items) }
     requires b { length pair.old.b.lanes ≡ length (filter (is_of Side.B) captures.now.ports.items) }
-    ensures text { ChangesNew F.family F.bytes_of captures.now.after_ms captures.now.limit
+    ensures text { ChangesNew F.family F.bytes_of (end_of captures.now) captures.now.limit
         (writing_seen F.bytes_of writing.now.upstream writing.now.own writing.now.holdtime writing.now.budget)
         pair.old.a pair.new.a pair.old.b pair.new.b
         (side_setup F.bytes_of Side.A captures.now.ports.items routes.now captures.now.limit)
@@ -50,6 +51,7 @@ pub fn change_opened<F: Family, R: Feed + Drop, W: Drain>(
         (W.contents writer.old) (W.contents writer.new) result }
     ensures count { W.failures writer.new ≡ write_failures_after (W.failures writer.old) result }
 {
+    let end = end_of(captures);
     let by = match writer_of::<F>(writing) {
         Ok(by) => by,
         Err(fault) => return Err(fault),
@@ -74,7 +76,7 @@ pub fn change_opened<F: Family, R: Feed + Drop, W: Drain>(
         &mut a,
         &mut pair.b,
         &mut b,
-        captures.after_ms,
+        end,
         &by,
         captures.limit,
         writer,

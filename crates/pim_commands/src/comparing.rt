@@ -3,14 +3,14 @@
 ghost use Rattle.std.specs.Prelude.{◌≡◌, length, map, filter, IfOk};
 ghost use Rattle.pim_form.specs.Seen.{writing_seen};
 ghost use Rattle.pim_words.specs.Plan.{IsBounded, IsLimited, IsWritable};
-ghost use Rattle.pim_commands.specs.Replaying.{config_of};
+ghost use Rattle.pim_commands.specs.Replaying.{end_of, config_of};
 ghost use Rattle.pim_files.specs.Captures.{is_of};
 ghost use Rattle.pim_commands.specs.Comparing.{same_fault, compared, side_setup, ComparesNew};
 ghost use Rattle.pim_commands.specs.Opening.{ComparesFiles};
 ghost use Rattle.pim_commands.specs.Report.{write_failures_after};
 
 use crate::fault::Fault;
-use crate::replaying::{config, replay_fault, router_of};
+use crate::replaying::{config, end_of, replay_fault, router_of};
 use crate::writing::{address_of, writer_of};
 use pim_addr::{Drain, Family, Feed, Routes};
 use pim_files::{Opener, Pair, open_both, table};
@@ -87,7 +87,7 @@ pub fn same_opened<F: Family, R: Feed + Drop, W: Drain>(
     requires writing { IsWritable writing.now }
     requires a { length pair.old.a.lanes ≡ length (filter (is_of Side.A) captures.now.ports.items) }
     requires b { length pair.old.b.lanes ≡ length (filter (is_of Side.B) captures.now.ports.items) }
-    ensures report { ComparesNew F.family F.bytes_of captures.now.after_ms
+    ensures report { ComparesNew F.family F.bytes_of (end_of captures.now)
         (writing_seen F.bytes_of writing.now.upstream writing.now.own writing.now.holdtime writing.now.budget)
         pair.old.a pair.new.a pair.old.b pair.new.b
         (side_setup F.bytes_of Side.A captures.now.ports.items routes.now captures.now.limit)
@@ -95,6 +95,7 @@ pub fn same_opened<F: Family, R: Feed + Drop, W: Drain>(
         (W.contents writer.old) (W.contents writer.new) result }
     ensures count { W.failures writer.new ≡ write_failures_after (W.failures writer.old) result }
 {
+    let end = end_of(captures);
     let by = match writer_of::<F>(writing) {
         Ok(by) => by,
         Err(fault) => return Err(fault),
@@ -119,7 +120,7 @@ pub fn same_opened<F: Family, R: Feed + Drop, W: Drain>(
         &mut a,
         &mut pair.b,
         &mut b,
-        captures.after_ms,
+        end,
         &by,
         writer,
     ))

@@ -4,13 +4,13 @@ ghost use Rattle.std.specs.Prelude.{◌≡◌, length, map};
 ghost use Rattle.pim_form.specs.Seen.{writing_seen};
 ghost use Rattle.pim_router.specs.Seen.{setup_seen};
 ghost use Rattle.pim_words.specs.Plan.{IsBounded, IsLimited, IsWritable};
-ghost use Rattle.pim_commands.specs.Replaying.{config_of};
+ghost use Rattle.pim_commands.specs.Replaying.{end_of, config_of};
 ghost use Rattle.pim_commands.specs.Emitting.{emit_fault, emitted, EmitsNew};
 ghost use Rattle.pim_commands.specs.Opening.{EmitsFiles};
 ghost use Rattle.pim_commands.specs.Report.{write_failures_after};
 
 use crate::fault::Fault;
-use crate::replaying::{configs, replay_fault, router_of};
+use crate::replaying::{configs, end_of, replay_fault, router_of};
 use crate::writing::{address_of, writer_of};
 use pim_addr::{Drain, Family, Feed, Routes};
 use pim_files::{Opener, open_all, table};
@@ -59,13 +59,14 @@ pub fn emit_opened<F: Family, R: Feed + Drop, W: Drain>(
     requires limit { IsLimited captures.now }
     requires writing { IsWritable writing.now }
     requires ports { length merge.old.lanes ≡ length captures.now.ports.items }
-    ensures bytes { EmitsNew F.family F.bytes_of captures.now.after_ms
+    ensures bytes { EmitsNew F.family F.bytes_of (end_of captures.now)
         (writing_seen F.bytes_of writing.now.upstream writing.now.own writing.now.holdtime writing.now.budget)
         merge.old merge.new
         (setup_seen F.bytes_of (map config_of captures.now.ports.items) routes.now captures.now.limit)
         (W.contents writer.old) (W.contents writer.new) result }
     ensures count { W.failures writer.new ≡ write_failures_after (W.failures writer.old) result }
 {
+    let end = end_of(captures);
     let by = match writer_of::<F>(writing) {
         Ok(by) => by,
         Err(fault) => return Err(fault),
@@ -77,7 +78,7 @@ pub fn emit_opened<F: Family, R: Feed + Drop, W: Drain>(
         Ok(router) => router,
         Err(fault) => return Err(fault),
     };
-    emitted::<F>(emit_into::<F, R, W>(alloc, merge, &mut router, captures.after_ms, &by, writer))
+    emitted::<F>(emit_into::<F, R, W>(alloc, merge, &mut router, end, &by, writer))
 }
 
 /// `emit_opened` of the captures that the words name. It reads the file of routes first, then opens

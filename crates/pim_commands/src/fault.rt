@@ -163,6 +163,7 @@ fn write_plan_words<W: Drain>(fault: &pim_words::Fault<'_>, writer: &mut W) -> R
             writer,
             refusal_words(refusal.kind).as_bytes(),
         ),
+        pim_words::Fault::TwoEnds => write_plain(writer, b"two ends"),
         pim_words::Fault::Address(word) => write_word(writer, b"address ", word),
         pim_words::Fault::Word(word) => write_word(writer, b"word ", word),
         pim_words::Fault::Family => write_plain(writer, b"family"),

@@ -4,13 +4,13 @@ ghost use Rattle.std.specs.Prelude.{◌≡◌, length, map};
 ghost use Rattle.pim_form.specs.Seen.{writing_seen};
 ghost use Rattle.pim_router.specs.Seen.{setup_seen};
 ghost use Rattle.pim_words.specs.Plan.{IsBounded, IsLimited, IsWritable};
-ghost use Rattle.pim_commands.specs.Replaying.{config_of};
+ghost use Rattle.pim_commands.specs.Replaying.{end_of, config_of};
 ghost use Rattle.pim_commands.specs.Mirroring.{mirror_fault, mirrored, MirrorsNew};
 ghost use Rattle.pim_commands.specs.Opening.{MirrorsFiles};
 ghost use Rattle.pim_commands.specs.Report.{write_failures_after};
 
 use crate::fault::Fault;
-use crate::replaying::{configs, replay_fault, router_of};
+use crate::replaying::{configs, end_of, replay_fault, router_of};
 use crate::writing::{address_of, writer_of};
 use pim_addr::{Drain, Family, Feed, Routes};
 use pim_files::{Opener, open_all, table};
@@ -60,13 +60,14 @@ pub fn mirror_opened<F: Family, R: Feed + Drop, W: Drain>(
     requires limit { IsLimited captures.now }
     requires writing { IsWritable writing.now }
     requires ports { length merge.old.lanes ≡ length captures.now.ports.items }
-    ensures text { MirrorsNew F.family F.bytes_of captures.now.after_ms captures.now.limit
+    ensures text { MirrorsNew F.family F.bytes_of (end_of captures.now) captures.now.limit
         (writing_seen F.bytes_of writing.now.upstream writing.now.own writing.now.holdtime writing.now.budget)
         merge.old merge.new
         (setup_seen F.bytes_of (map config_of captures.now.ports.items) routes.now captures.now.limit)
         (W.contents writer.old) (W.contents writer.new) result }
     ensures count { W.failures writer.new ≡ write_failures_after (W.failures writer.old) result }
 {
+    let end = end_of(captures);
     let by = match writer_of::<F>(writing) {
         Ok(by) => by,
         Err(fault) => return Err(fault),
@@ -82,7 +83,7 @@ pub fn mirror_opened<F: Family, R: Feed + Drop, W: Drain>(
         alloc,
         merge,
         &mut router,
-        captures.after_ms,
+        end,
         &by,
         captures.limit,
         writer,

@@ -3,11 +3,12 @@
 //! All files are opened before any record is read. So a fault of opening comes before all output.
 
 ghost use Rattle.std.specs.Prelude.{◌≡◌, [], length, map, is_some, IfOk, MatchResult};
+ghost use Rattle.pim_merge.specs.Ends.{IsBoundedEnd};
 ghost use Rattle.pim_router.specs.Config.{config_faults};
 ghost use Rattle.pim_router.specs.Seen.{setup_seen};
 ghost use Rattle.pim_router.specs.State.{new_router};
 ghost use Rattle.pim_words.specs.Plan.{IsBounded, IsLimited};
-ghost use Rattle.pim_commands.specs.Replaying.{config_of, config_fault, capture_fault, replay_fault, answer_of};
+ghost use Rattle.pim_commands.specs.Replaying.{end_of, config_of, config_fault, capture_fault, replay_fault, answer_of};
 ghost use Rattle.pim_commands.specs.Replaying.{IsUnmade, ReplaysNew};
 ghost use Rattle.pim_commands.specs.Opening.{ReplaysFiles};
 ghost use Rattle.pim_commands.specs.Report.{write_failures_after};
@@ -17,7 +18,7 @@ use crate::fault::Fault;
 use pim_addr::{Drain, Family, Feed, Routes};
 use pim_capture::CaptureFault;
 use pim_files::{Opener, open_all, table};
-use pim_merge::Merge;
+use pim_merge::{End, Merge};
 use pim_replay::{ReplayFault, replay_into};
 use pim_router::{Config, ConfigFault, PortConfig, Router};
 use pim_words::{Captures, ConfigCause, Port};
@@ -28,6 +29,20 @@ const PROPAGATION: u16 = 500;
 
 /// The override delay of each port, in milliseconds (RFC 7761, 4.11: t_override_default).
 const OVERRIDE: u16 = 2_500;
+
+/// The end of the run that the words ask for: at a time if they name one, otherwise so long after
+/// the last record.
+pub fn end_of<A>(captures: &Captures<'_, A>) -> End
+    requires { IsBounded captures.now }
+    ensures end { result ≡ end_of captures.now }
+    ensures bounded { IsBoundedEnd result }
+{
+    let at = captures.at;
+    match at {
+        Some(time) => End::At(time),
+        None => End::After(captures.after_ms),
+    }
+}
 
 /// The configuration of a port that a word names, with the default delays.
 pub fn config<A: Copy>(port: &Port<'_, A>) -> PortConfig<A>
@@ -140,11 +155,12 @@ pub fn replay_opened<F: Family, R: Feed + Drop, W: Drain>(
     requires after { IsBounded captures.now }
     requires limit { IsLimited captures.now }
     requires ports { length merge.old.lanes ≡ length captures.now.ports.items }
-    ensures report { ReplaysNew F.family (is_some captures.now.routes) captures.now.after_ms merge.old merge.new
+    ensures report { ReplaysNew F.family (is_some captures.now.routes) (end_of captures.now) merge.old merge.new
         (setup_seen F.bytes_of (map config_of captures.now.ports.items) routes.now captures.now.limit)
         (W.contents writer.old) (W.contents writer.new) result }
     ensures count { W.failures writer.new ≡ write_failures_after (W.failures writer.old) result }
 {
+    let end = end_of(captures);
     let Ok(ports) = configs(alloc, &captures.ports) else {
         return Err(Fault::Memory);
     };
@@ -156,7 +172,7 @@ pub fn replay_opened<F: Family, R: Feed + Drop, W: Drain>(
         alloc,
         merge,
         &mut router,
-        captures.after_ms,
+        end,
         captures.routes.is_some(),
         writer,
     ))

@@ -75,11 +75,12 @@ returns-clause-report g c =
     c.deref-3.ensures.value ∙ c.in-Ok-side_configs.ensures ∙ ap (λ (l : List (Port g.row.F-Addr.Denot)). map config_of (filter (is_of A) l)) c.deref.ensures.value in
     let same_b : c.deref-4.result.now ≡ map config_of (filter (is_of B) ports) =
     c.deref-4.ensures.value ∙ c.in-Ok-side_configs-2.ensures ∙ ap (λ (l : List (Port g.row.F-Addr.Denot)). map config_of (filter (is_of B) l)) c.deref-2.ensures.value in
-    compared_new g.F.Family.family bytes_of c.args.captures.now.after_ms writing c.args.pair.now.a c.same_into.new.merge_a c.args.pair.now.b c.same_into.new.merge_b
+    rw (← c.end_of-end.ensures.end)
+    (compared_new g.F.Family.family bytes_of c.end_of-end.result writing c.args.pair.now.a c.same_into.new.merge_a c.args.pair.now.b c.same_into.new.merge_b
     (g.W.Drain.contents c.args.writer.now) (g.W.Drain.contents c.same_into.new.writer) c.in-Ok.by (setup c.deref-3.result.now) (setup (map config_of (filter (is_of A) ports)))
     (setup c.deref-4.result.now) (setup (map config_of (filter (is_of B) ports))) c.in-Ok-router_of.router c.same_into.new.router_a c.in-Ok-router_of-2.router c.same_into.new.router_b
     c.same_into.result c.compared.result c.in-Ok.ensures.0 (ap setup same_a) (ap setup same_b) c.in-Ok-router_of.ensures.1 c.in-Ok-router_of-2.ensures.1 c.same_into.ensures.compares
-    c.compared.ensures
+    c.compared.ensures)
 
 pub returns-clause-count : goal.returns-clause-count
 returns-clause-count g c =

@@ -40,10 +40,11 @@ returns-clause-bytes g c =
     let writing : Writing = writing_seen bytes_of c.args.writing.now.upstream c.args.writing.now.own c.args.writing.now.holdtime c.args.writing.now.budget in
     let setup : List (PortConfig g.row.F-Addr.Denot) → Setup = λ configs. setup_seen bytes_of configs c.args.routes.now c.args.captures.now.limit in
     let same : c.deref-2.result.now ≡ map config_of ports = c.deref-2.ensures.value ∙ c.in-Ok-configs.ensures ∙ ap (map config_of) c.deref.ensures.value in
-    emitted_new g.F.Family.family bytes_of c.args.captures.now.after_ms c.args.merge.now c.emit_into.new.merge
+    rw (← c.end_of-end.ensures.end)
+    (emitted_new g.F.Family.family bytes_of c.end_of-end.result c.args.merge.now c.emit_into.new.merge
     (g.W.Drain.contents c.args.writer.now) (g.W.Drain.contents c.emit_into.new.writer) c.in-Ok.by writing (setup c.deref-2.result.now) (setup (map config_of ports))
     c.in-Ok-router_of.router c.emit_into.new.router c.emit_into.result c.emitted.result c.in-Ok.ensures.0 (ap setup same) c.in-Ok-router_of.ensures.1
-    c.emit_into.ensures.emits c.emitted.ensures
+    c.emit_into.ensures.emits c.emitted.ensures)
 
 pub returns-clause-count : goal.returns-clause-count
 returns-clause-count g c =
