@@ -1,0 +1,19 @@
+use Rattle.std.proofs.Common.{flat_map, ap}
+use Rattle.pim_down.specs.Hearing.{set_events, events_of}
+use Rattle.pim_down.specs.Known.{known_in}
+use Rattle.pim_transitions.proofs.StarSets.{marked_more, all_marked}
+use Rattle.pim_transitions.proofs.stars.star_marks.Goals as goal
+
+pub push_set-requires : goal.push_set-requires
+push_set-requires g c = record { walked = c.loop-set.invariant.groups }
+
+pub loop-set-preserved : goal.loop-set-preserved
+loop-set-preserved g c =
+    marked_more c.args.port c.args.ports.now.records _ _ _ _ _ _ _ (rw c.in-Some.ensures.steps at c.loop-set.invariant)
+    c.in_ok-push_set.ensures.stars c.in_ok-push_set.ensures.walked
+
+pub returns : goal.returns
+returns g c =
+    let known = known_in g.F.Family.family c.args.routes.now in
+    all_marked c.args.port c.args.ports.now.records (events_of known c.args.message.now) _ _ _
+    (ap (flat_map (set_events known)) c.in-None.ensures.steps.0) c.loop-set.invariant
