@@ -1,9 +1,9 @@
 -- Texts and the pieces of which they are made.
-use Rattle.std.proofs.Common.{◌≡◌, ℕ, List, [], ◌∷◌, ◌++◌, codes, decimal, sym, ap, ◌∙◌, append_assoc}
+use Rattle.std.proofs.Common.{◌≡◌, ℕ, List, [], ◌∷◌, ◌++◌, codes, decimal, refl, sym, ap, ◌∙◌, append_assoc, append-nil}
 use Rattle.pim_addr.specs.declared.family.AddressFamily.{AddressFamily}
 use Rattle.pim_addr.specs.Text.{address_text}
 use Rattle.pim_router.specs.declared.verdict.Verdict.{Verdict}
-use Rattle.pim_report.specs.PacketLine.{mark_of, told_words, sender_words, verdict_line}
+use Rattle.pim_report.specs.PacketLine.{mark_of, told_words, sender_words, verdict_words, verdict_line}
 
 -- what is said of something, in its four pieces, before other words
 said_last : (words name more digits told behind : List ℕ) → words ++ (name ++ (more ++ digits)) ≡ told → words ++ (name ++ (more ++ (digits ++ behind))) ≡ told ++ behind
@@ -19,3 +19,9 @@ pub verdict_pieces : (verdict : Verdict) (mark words name more digits : List ℕ
     → mark ++ (words ++ (name ++ (more ++ (digits ++ (10 ∷ []))))) ≡ verdict_line verdict
 verdict_pieces verdict mark words name more digits s t =
     rw s (ap (λ l. mark_of verdict ++ l) (said_last words name more digits (told_words verdict) (10 ∷ []) t) ∙ sym (append_assoc (mark_of verdict) (told_words verdict) (10 ∷ [])))
+
+-- the words of a verdict, in their pieces
+pub words_pieces : (verdict : Verdict) (mark words name more digits : List ℕ) → mark ≡ mark_of verdict → words ++ (name ++ (more ++ digits)) ≡ told_words verdict
+    → mark ++ (words ++ (name ++ (more ++ (digits ++ [])))) ≡ verdict_words verdict
+words_pieces verdict mark words name more digits s t =
+    rw (s, append-nil digits, t) refl

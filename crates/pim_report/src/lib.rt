@@ -4,8 +4,8 @@
 //! `specs/` defines each line byte by byte. At Ok the whole text was written. If the device fails,
 //! a prefix of it was, and only then does the device's count of failures rise.
 //! - `write_pieces` writes a text piece by piece, and `Shown` has the text of an address.
-//! - `write_packet_line` and `write_verdict_line` write the verdict on a packet, and
-//!   `write_malformed_words` the words of its fault.
+//! - `write_packet_line` and `write_verdict_line` write the verdict on a packet,
+//!   `write_verdict_words` its words, and `write_malformed_words` those of its fault.
 //! - `write_echo_line` and `write_refresh_line` write what a router reports when time passes.
 //! - `write_record_line`, `write_demand` and `write_messages` write a machine's record, the demand
 //!   of a normal form, and messages as hexadecimal digits.
@@ -30,7 +30,7 @@ pub use demand_text::write_demand;
 pub use echo_line::write_echo_line;
 pub use malformed::write_malformed_words;
 pub use message_text::write_messages;
-pub use packet_line::{write_packet_line, write_verdict_line};
+pub use packet_line::{write_packet_line, write_verdict_line, write_verdict_words};
 pub use pieces::{Shown, number_or, write_pieces};
 pub use record_line::write_record_line;
 pub use refresh_line::write_refresh_line;

@@ -87,6 +87,26 @@ fn write_sender<F: Family, W: Drain>(
     write_pieces(writer, &pieces)
 }
 
+/// Writes the words of a verdict, without the end of a line.
+///
+/// # Errors
+/// The device failed: a prefix of the words was written.
+pub fn write_verdict_words<W: Drain>(writer: &mut W, judged: Verdict) -> Result<(), Failed>
+    ensures bytes { AppendsAll (W.contents writer.old) (W.contents writer.new) result (verdict_words judged) }
+    ensures count { W.failures writer.new ≡ failures_after (W.failures writer.old) result }
+{
+    let said = verdict_said(judged);
+    let mut number = Buffer::new();
+    let pieces = [
+        mark_of(&judged),
+        said.words(),
+        said.name(),
+        said.more(),
+        said.digits(&mut number),
+    ];
+    write_pieces(writer, &pieces)
+}
+
 /// Writes the line of a verdict: its words alone.
 ///
 /// # Errors
