@@ -19,7 +19,7 @@ use Rattle.pim_time.specs.declared.reading.Time.{Time}
 use Rattle.pim_time.specs.declared.reading.Time.TheVariants.{Moment, Epoch}
 use Rattle.pim_events.specs.Events.{Happened, Judged, Occurrence, hello_taken, packet_judged, machine_changed}
 use Rattle.pim_events.specs.Events.{join_ignored, record_skipped, timer_fired, run_ended}
-use Rattle.pim_events.specs.TextLine.{state_in, pending_in}
+use Rattle.pim_events.specs.Parts.{state_in, pending_in}
 use Rattle.pim_events.specs.declared.event.Skip.{Skip}
 use Rattle.pim_events.specs.declared.event.Skip.TheVariants.{NoPacket, OtherFamily}
 use Rattle.pim_events.specs.declared.event.Transition.{Transition}

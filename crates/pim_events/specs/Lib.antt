@@ -2,8 +2,5 @@
 pub mod Events
 pub mod ShortText
 pub mod Names
-pub mod Moments
-pub mod Counts
-pub mod TextLine
-pub mod JsonLine
+pub mod Parts
 pub mod Filter

@@ -1,6 +1,5 @@
 -- The names of ports.
-use Rattle.std.specs.Prelude.{ℕ, Bool, false, ◌&&◌, ◌||◌, ◌==◌, nat_le, List, [], ◌∷◌, length, slice_index_or}
-use Rattle.std.specs.Prelude.{Option, None, Some}
+use Rattle.std.specs.Prelude.{ℕ, Bool, false, ◌&&◌, ◌||◌, ◌==◌, nat_le, List, [], ◌∷◌, length}
 use Rattle.std.specs.Char.{is_ascii_alphabetic, is_ascii_alphanumeric}
 use Rattle.std.specs.List.{list_all}
 
@@ -13,7 +12,3 @@ abbrev pub is_name : List ℕ → Bool
 is_name [] = false
 is_name (first ∷ others) =
     is_ascii_alphabetic first && (list_all is_name_byte others && nat_le (length others) 31)
-
--- The name of a port; empty where there is none.
-abbrev pub name_of : List (List ℕ) → ℕ → List ℕ
-name_of names port = slice_index_or names port []

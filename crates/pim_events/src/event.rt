@@ -8,6 +8,7 @@ use pim_down::{Machine, State, Timer, What};
 use pim_hello::Heard;
 use pim_jp::JpView;
 use pim_router::Verdict;
+use pim_transitions::By;
 
 /// One event of a trace.
 #[derive(Drop)]
@@ -71,17 +72,6 @@ pub struct Judgment<'a, F: Family> {
     pub verdict: Verdict,
     /// The message, if the packet reads as a Join/Prune.
     pub message: Option<JpView<'a, F>>,
-}
-
-/// By what a message changed the state of a machine.
-#[derive(Clone, Copy, Debug, PartialEq, Eq)]
-pub enum By {
-    /// A Join.
-    Join,
-    /// A Prune.
-    Prune,
-    /// The end of the message (RFC 7761, 4.5.3).
-    End,
 }
 
 /// A change of a machine by a Join/Prune message (RFC 7761, 4.5.1 to 4.5.3).

@@ -5,14 +5,14 @@ ghost use Rattle.std.specs.List.{list_any};
 ghost use Rattle.pim_down.specs.Seen.{what_seen};
 ghost use Rattle.pim_jp.specs.Seen.{entry_seen};
 ghost use Rattle.pim_events.specs.Events.{event_seen, happening_seen, transition_seen};
-ghost use Rattle.pim_events.specs.TextLine.{pending_in};
+ghost use Rattle.pim_events.specs.Parts.{pending_in};
 ghost use Rattle.pim_events.specs.Filter.{filter_seen, is_same_again, is_usual, state_number, keeps_state, is_over};
 ghost use Rattle.pim_events.specs.Filter.{is_fragment, is_news, is_wanted, is_wanted_machine, is_wanted_entry};
 ghost use Rattle.pim_events.specs.Filter.{has_wanted_entry, is_wanted_set, is_wanted_message, is_wanted_packet};
 ghost use Rattle.pim_events.specs.Filter.{is_chosen, is_early, is_epoch_before, is_end, is_shown};
 
 use crate::event::{Event, Happening, Skip, Transition};
-use crate::words::{pending_in, state_in};
+use crate::parts::{pending_in, state_in};
 use pim_addr::Family;
 use pim_capture::Why;
 use pim_down::{Pending, State, What};

@@ -1,32 +1,30 @@
-//! The events of a trace, their lines as text and as JSON, and which of them are shown.
+//! The events of a trace, and which of them are shown.
 //!
 //! - `Event` is a value: what happened, when, on which port, and why.
-//! - `specs/TextLine.antt` and `specs/JsonLine.antt` define the line of each event byte by byte,
-//!   and `specs/Filter.antt` which events are shown. A line depends on nothing but its event, the
-//!   names of the ports and the form of times.
-//! - `Teller` takes events. `Silent` writes nothing of them.
+//! - `Filter` says which events a user wants to see; `is_shown` tells whether an event is one of them.
+//!   `specs/Filter.antt` defines it.
+//! - `Teller` takes events, and writes a text of each to a device. `Silent` writes nothing of them.
 //! - `ShortText` has the text of an address: that of RFC 5952 for IPv6. It names the address.
 //! - `Name` is the name of a port. It has no byte that a JSON string has to escape.
 //!
-//! The crate does not compute events.
+//! The crate does not compute events. It is separate from their lines, so that what computes them
+//! does not wait for the proofs of lines.
 #![tactic(auto)]
 
 mod buffers;
-mod counts;
 mod event;
 mod filter;
-mod moments;
 mod name;
+mod parts;
 mod short_text;
 mod teller;
-mod words;
 
 pub use event::{
-    By, Cause, Ending, Event, Fired, Greeting, Happening, Ignored, Judgment, OwnRestart, Skip,
+    Cause, Ending, Event, Fired, Greeting, Happening, Ignored, Judgment, OwnRestart, Skip,
     SkipCounts, Skipping, TimeOut, Transition,
 };
 pub use filter::{Filter, is_shown};
-pub use moments::TimeForm;
 pub use name::Name;
+pub use parts::{pending_in, state_in};
 pub use short_text::{ShortText, run_is_longest, short_text_names};
 pub use teller::{Silent, Teller};

@@ -1,10 +1,11 @@
 //! The names of ports.
 
-ghost use Rattle.std.specs.Prelude.{◌≡◌, ◌≤◌, true, false, [], length, IfSome, IfNone};
+ghost use Rattle.std.specs.Prelude.{◌≡◌, ◌≤◌, true, false, length, decimal, IfSome, IfNone};
 ghost use Rattle.std.specs.List.{list_all};
-ghost use Rattle.pim_events.specs.Names.{is_name, is_name_byte, name_of};
+ghost use Rattle.pim_events.specs.Names.{is_name, is_name_byte};
 
 use crate::buffers::put_front;
+use itoa::Buffer;
 use std::marker::Model;
 
 /// The name of a port: at most 32 letters, digits, `.`, `_` and `-`. Contracts see the text, which
@@ -83,6 +84,15 @@ impl Name {
         Some(Name::copied(bytes))
     }
 
+    /// The number of a port as its name.
+    #[tactic(auto, using(crate::proofs::Decimals::decimal_is_name))]
+    pub fn number(port: usize) -> Name
+        ensures { result ≡ decimal port }
+    {
+        let mut digits = Buffer::new();
+        Name::copied(digits.format(port).as_bytes())
+    }
+
     /// The text.
     pub fn text(&self) -> &[u8]
         ensures text { result.now ≡ self.now }
@@ -90,15 +100,5 @@ impl Name {
         ensures named { list_all is_name_byte self.now ≡ true }
     {
         &self.text[..self.length]
-    }
-}
-
-/// The name of a port; empty where there is none.
-pub(crate) fn name_of(names: &[Name], port: usize) -> &[u8]
-    ensures { result.now ≡ name_of names.now port }
-{
-    match names.get(port) {
-        Some(name) => name.text(),
-        None => b"",
     }
 }

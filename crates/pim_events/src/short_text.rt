@@ -191,7 +191,7 @@ impl ShortText {
     }
 
     /// The text of an address, or nothing where there is none.
-    pub(crate) fn maybe<F: Family>(address: Option<F::Addr>) -> Self
+    pub fn maybe<F: Family>(address: Option<F::Addr>) -> Self
         ensures { result ≡ maybe_short F.family (option_map F.bytes_of address) }
     {
         match address {

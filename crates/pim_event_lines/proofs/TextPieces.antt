@@ -1,0 +1,146 @@
+-- The pieces in which lines of text are written.
+use Rattle.std.proofs.Common.{◌≡◌, ℕ, ◌-◌, List, [], ◌∷◌, ◌++◌, Option, Some, codes, decimal, refl, ◌∙◌}
+use Rattle.pim_addr.specs.declared.family.AddressFamily.{AddressFamily}
+use Rattle.pim_report.specs.EchoLine.{kind_of}
+use Rattle.pim_report.specs.PacketLine.{heard_words}
+use Rattle.pim_report.specs.Pieces.{line}
+use Rattle.pim_events.specs.Parts.{state_in}
+use Rattle.pim_events.specs.ShortText.{short_text}
+use Rattle.pim_events.specs.declared.event.Fired.{Fired}
+use Rattle.pim_events.specs.declared.event.Greeting.{Greeting}
+use Rattle.pim_events.specs.declared.event.Ignored.{Ignored}
+use Rattle.pim_events.specs.declared.event.OwnRestart.{OwnRestart}
+use Rattle.pim_events.specs.declared.event.SkipCounts.{SkipCounts}
+use Rattle.pim_events.specs.declared.event.TimeOut.{TimeOut}
+use Rattle.pim_events.specs.declared.event.Transition.{Transition}
+use Rattle.pim_event_lines.specs.TextLine.{generation_text, generation_part, restarted_part, restart_line, counts_text, held_text, overrides_part, by_words, timer_words, cause_words, echo_text, source_words, state_text, sender_text, greeting_text, entry_text, time_out_line, change_text, effect_text, cause_line}
+use Rattle.pim_event_lines.proofs.Nested.{Text, part, ◌⋄◌, ◌⊕◌, spread, in_parts}
+
+-- ---- packets
+
+-- `#FRAME A`
+abbrev sender_of : List ℕ → List ℕ → Text
+sender_of frame from = part (codes "#") ⋄ frame ⋄ codes " " ⋄ from
+
+abbrev shown_of : List ℕ → List ℕ → Text
+shown_of frame from = sender_of frame from ⋄ codes ": "
+
+pub sender_pieces : (family : AddressFamily) (frame : ℕ) (from : List ℕ) (digits shown : List ℕ) → digits ≡ decimal frame → shown ≡ short_text family from
+    → spread (shown_of digits shown) [] ≡ sender_text family frame from ++ codes ": "
+sender_pieces family frame from digits shown p0 p1 =
+    in_parts (shown_of digits shown) ∙ rw (p0, p1) (refl {a = sender_text family frame from ++ codes ": "})
+
+abbrev greeting_of : List ℕ → List ℕ → List ℕ → Text
+greeting_of frame from word = sender_of frame from ⋄ codes ": " ⋄ word
+
+pub greeting_pieces : (family : AddressFamily) (hello : Greeting (List ℕ)) (frame from word : List ℕ) → frame ≡ decimal hello.frame → from ≡ short_text family hello.from → word ≡ heard_words hello.verdict
+    → spread (greeting_of frame from word) [] ≡ greeting_text family hello
+greeting_pieces family hello frame from word p0 p1 p2 =
+    in_parts (greeting_of frame from word) ∙ rw (p0, p1, p2) (refl {a = greeting_text family hello})
+
+abbrev generation_of : List ℕ → Text
+generation_of shown = part (codes ", generation ") ⋄ shown ⋄ (10 ∷ [])
+
+pub generation_pieces : (number : Option ℕ) (shown : List ℕ) → shown ≡ generation_text number
+    → spread (generation_of shown) [] ≡ line (generation_part number)
+generation_pieces number shown p0 = in_parts (generation_of shown) ∙ rw p0 (refl {a = line (generation_part number)})
+
+abbrev restarted_of : List ℕ → List ℕ → Text
+restarted_of was generation =
+    part (codes ", generation ") ⋄ was ⋄ codes " -> " ⋄ generation ⋄ codes "; its joins stay until they expire" ⋄ (10 ∷ [])
+
+pub restarted_pieces : (before after : Option ℕ) (was generation : List ℕ) → was ≡ generation_text before → generation ≡ generation_text after
+    → spread (restarted_of was generation) [] ≡ line (restarted_part before after)
+restarted_pieces before after was generation p0 p1 =
+    in_parts (restarted_of was generation) ∙ rw (p0, p1) (refl {a = line (restarted_part before after)})
+
+abbrev entry_of : List ℕ → List ℕ → List ℕ → List ℕ → Text
+entry_of frame from of names =
+    sender_of frame from ⋄ codes " joins star " ⋄ of ⋄ codes ": ignored, it names RP " ⋄ names ⋄ codes ", and "
+
+pub entry_pieces : (family : AddressFamily) (entry : Ignored (List ℕ)) (frame from of names : List ℕ) → frame ≡ decimal entry.frame → from ≡ short_text family entry.from → of ≡ short_text family entry.group → names ≡ short_text family entry.names
+    → spread (entry_of frame from of names) [] ≡ entry_text family entry
+entry_pieces family entry frame from of names p0 p1 p2 p3 =
+    in_parts (entry_of frame from of names) ∙ rw (p0, p1, p2, p3) (refl {a = entry_text family entry})
+
+abbrev restart_of : List ℕ → List ℕ → List ℕ → Text
+restart_of frame was generation =
+    part (codes "#") ⋄ frame ⋄ codes " own Hello, generation " ⋄ was ⋄ codes " -> " ⋄ generation
+    ⋄ codes ": this router restarted; it lost what it held, the replay keeps it" ⋄ (10 ∷ [])
+
+pub restart_pieces : (restart : OwnRestart) (frame was generation : List ℕ) → frame ≡ decimal restart.frame → was ≡ generation_text restart.was → generation ≡ generation_text restart.generation
+    → spread (restart_of frame was generation) [] ≡ restart_line restart
+restart_pieces restart frame was generation p0 p1 p2 =
+    in_parts (restart_of frame was generation) ∙ rw (p0, p1, p2) (refl {a = restart_line restart})
+
+-- ---- machines, neighbours and the end
+
+abbrev overrides_of : List ℕ → Text
+overrides_of digits = part (codes ", overrides #") ⋄ digits ⋄ (10 ∷ [])
+
+pub overrides_pieces : (frame : ℕ) (digits : List ℕ) → digits ≡ decimal frame → spread (overrides_of digits) [] ≡ line (overrides_part (Some frame))
+overrides_pieces frame digits p0 = in_parts (overrides_of digits) ∙ rw p0 (refl {a = line (overrides_part (Some frame))})
+
+-- `STATE -> STATE`
+abbrev states_of : List ℕ → List ℕ → Text
+states_of was new = part was ⋄ codes " -> " ⋄ new
+
+-- `star G`, `source S G` or `rpt S G`, with the space after S as a part of its own
+abbrev machine_of : List ℕ → List ℕ → List ℕ → List ℕ → Text
+machine_of kind source gap of = part kind ⊕ (part source ⋄ gap) ⋄ of
+
+abbrev change_of : List ℕ → List ℕ → List ℕ → Text → Text → Text
+change_of frame from word machine states = sender_of frame from ⋄ word ⊕ machine ⋄ codes ": " ⊕ states
+
+pub change_pieces : (family : AddressFamily) (change : Transition (List ℕ)) (frame from word kind source gap of was new : List ℕ) → frame ≡ decimal change.frame → from ≡ short_text family change.from → word ≡ by_words change.by
+    → kind ≡ kind_of change.what → source ++ gap ≡ source_words family change.what → of ≡ short_text family change.group → was ≡ state_text change.before → new ≡ state_text (state_in change.after)
+    → spread (change_of frame from word (machine_of kind source gap of) (states_of was new)) [] ≡ change_text family change
+change_pieces family change frame from word kind source gap of was new p0 p1 p2 p3 p4 p5 p6 p7 =
+    in_parts (change_of frame from word (machine_of kind source gap of) (states_of was new))
+    ∙ rw (p4, p0, p1, p2, p3, p5, p6, p7) (refl {a = change_text family change})
+
+abbrev effect_of : List ℕ → Text → Text → List ℕ → Text
+effect_of word machine states echo = part word ⊕ machine ⋄ codes ": " ⊕ states ⋄ echo
+
+pub effect_pieces : (family : AddressFamily) (firing : Fired (List ℕ)) (word kind source gap of was new echo : List ℕ) → word ≡ timer_words firing.timer → kind ≡ kind_of firing.what
+    → source ++ gap ≡ source_words family firing.what → of ≡ short_text family firing.group → was ≡ state_text (Some firing.before) → new ≡ state_text firing.after → echo ≡ echo_text firing.timer firing.echo
+    → spread (effect_of word (machine_of kind source gap of) (states_of was new) echo) [] ≡ effect_text family firing
+effect_pieces family firing word kind source gap of was new echo p0 p1 p2 p3 p4 p5 p6 =
+    in_parts (effect_of word (machine_of kind source gap of) (states_of was new) echo)
+    ∙ rw (p2, p0, p1, p3, p4, p5, p6) (refl {a = effect_text family firing})
+
+abbrev cause_of : List ℕ → List ℕ → List ℕ → List ℕ → Text
+cause_of word from frame before =
+    part word ⋄ from ⋄ codes " in #" ⋄ frame ⋄ codes ", " ⋄ before ⋄ codes " ms before" ⋄ (10 ∷ [])
+
+pub cause_pieces : (family : AddressFamily) (ms : ℕ) (firing : Fired (List ℕ)) (word from frame before : List ℕ) → word ≡ cause_words firing.timer → from ≡ short_text family firing.cause.from → frame ≡ decimal firing.cause.frame → before ≡ decimal (ms - firing.cause.ms)
+    → spread (cause_of word from frame before) [] ≡ cause_line family ms firing
+cause_pieces family ms firing word from frame before p0 p1 p2 p3 =
+    in_parts (cause_of word from frame before) ∙ rw (p0, p1, p2, p3) (refl {a = cause_line family ms firing})
+
+abbrev time_out_of : List ℕ → List ℕ → List ℕ → Text
+time_out_of neighbour frame before =
+    part (codes "neighbour ") ⋄ neighbour ⋄ codes " timed out; Hello #" ⋄ frame ⋄ codes ", " ⋄ before
+    ⋄ codes " ms before; its joins stay until they expire" ⋄ (10 ∷ [])
+
+pub time_out_pieces : (family : AddressFamily) (ms : ℕ) (over : TimeOut (List ℕ)) (neighbour frame before : List ℕ) → neighbour ≡ short_text family over.neighbour → frame ≡ decimal over.frame → before ≡ decimal (ms - over.ms)
+    → spread (time_out_of neighbour frame before) [] ≡ time_out_line family ms over
+time_out_pieces family ms over neighbour frame before p0 p1 p2 =
+    in_parts (time_out_of neighbour frame before) ∙ rw (p0, p1, p2) (refl {a = time_out_line family ms over})
+
+abbrev held_of : List ℕ → List ℕ → Text
+held_of a b = part (codes "end: records ") ⋄ a ⋄ codes " neighbours " ⋄ b
+
+pub held_pieces : (records neighbours : ℕ) (a b : List ℕ) → a ≡ decimal records → b ≡ decimal neighbours
+    → spread (held_of a b) [] ≡ held_text records neighbours
+held_pieces records neighbours a b p0 p1 = in_parts (held_of a b) ∙ rw (p0, p1) (refl {a = held_text records neighbours})
+
+abbrev counts_of : List ℕ → List ℕ → List ℕ → List ℕ → List ℕ → List ℕ → Text
+counts_of a b c d e f =
+    part (codes " skipped cut ") ⋄ a ⋄ codes " not-ip " ⋄ b ⋄ codes " bad-header " ⋄ c ⋄ codes " not-pim " ⋄ d
+    ⋄ codes " fragment " ⋄ e ⋄ codes " family " ⋄ f ⋄ (10 ∷ [])
+
+pub counts_pieces : (counts : SkipCounts) (a b c d e f : List ℕ) → a ≡ decimal counts.cut → b ≡ decimal counts.not_ip → c ≡ decimal counts.bad_header → d ≡ decimal counts.not_pim → e ≡ decimal counts.fragment → f ≡ decimal counts.family
+    → spread (counts_of a b c d e f) [] ≡ line (counts_text counts)
+counts_pieces counts a b c d e f p0 p1 p2 p3 p4 p5 =
+    in_parts (counts_of a b c d e f) ∙ rw (p0, p1, p2, p3, p4, p5) (refl {a = line (counts_text counts)})

@@ -1,0 +1,10 @@
+use Rattle.std.proofs.Common.{rules, subst}
+use Rattle.pim_device.specs.Device.{AppendsAll}
+use Rattle.pim_event_lines.proofs.JsonPieces.{skipped_members}
+use Rattle.pim_event_lines.proofs.json_packets.write_skipped_json.Goals as goal
+
+pub returns-clause-bytes : goal.returns-clause-bytes
+returns-clause-bytes g c =
+    subst (λ t. AppendsAll (g.W.Drain.contents c.args.writer.now) (g.W.Drain.contents c.write_pieces.new.writer) c.write_pieces.result t)
+    (skipped_members c.args.skipped c.as_bytes.result.now c.skip_word.result.now (search rules) (search rules))
+    c.write_pieces.ensures.bytes

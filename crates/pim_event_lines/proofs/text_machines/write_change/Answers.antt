@@ -1,0 +1,11 @@
+use Rattle.std.proofs.Common.{rules, subst}
+use Rattle.pim_device.specs.Device.{AppendsAll}
+use Rattle.pim_events.specs.Events.{transition_seen}
+use Rattle.pim_event_lines.proofs.TextPieces.{change_pieces}
+use Rattle.pim_event_lines.proofs.text_machines.write_change.Goals as goal
+
+pub returns-clause-bytes : goal.returns-clause-bytes
+returns-clause-bytes g c =
+    subst (λ t. AppendsAll (g.W.Drain.contents c.args.writer.now) (g.W.Drain.contents c.write_pieces.new.writer) c.write_pieces.result t)
+    (change_pieces g.F.Family.family (transition_seen g.F.Family.bytes_of c.args.change.now) c.as_bytes.result.now c.text.result.now c.by_words.result.now c.kind.result.now c.source.result.now c.gap.result.now c.text-2.result.now c.state_text.result.now c.state_text-2.result.now (search rules) (search rules) (search rules) (search rules) (search rules) (search rules) (search rules) (search rules))
+    c.write_pieces.ensures.bytes

@@ -1,0 +1,10 @@
+use Rattle.std.proofs.Common.{rules, subst}
+use Rattle.pim_device.specs.Device.{AppendsAll}
+use Rattle.pim_event_lines.proofs.TextPieces.{overrides_pieces}
+use Rattle.pim_event_lines.proofs.text_machines.write_overrides.Goals as goal
+
+pub returns-clause-bytes : goal.returns-clause-bytes
+returns-clause-bytes g c =
+    rw c.in-Some.is (subst (λ t. AppendsAll (g.W.Drain.contents c.args.writer.now) (g.W.Drain.contents c.write_pieces.new.writer) c.write_pieces.result t)
+    (overrides_pieces c.in-Some.frame c.as_bytes.result.now (search rules))
+    c.write_pieces.ensures.bytes)

@@ -1,0 +1,11 @@
+use Rattle.std.proofs.Common.{rules, subst}
+use Rattle.pim_device.specs.Device.{AppendsAll}
+use Rattle.pim_events.specs.Events.{ignored_seen}
+use Rattle.pim_event_lines.proofs.TextPieces.{entry_pieces}
+use Rattle.pim_event_lines.proofs.text_packets.write_entry.Goals as goal
+
+pub returns-clause-bytes : goal.returns-clause-bytes
+returns-clause-bytes g c =
+    subst (λ t. AppendsAll (g.W.Drain.contents c.args.writer.now) (g.W.Drain.contents c.write_pieces.new.writer) c.write_pieces.result t)
+    (entry_pieces g.F.Family.family (ignored_seen g.F.Family.bytes_of c.args.entry.now) c.as_bytes.result.now c.text.result.now c.text-2.result.now c.text-3.result.now (search rules) (search rules) (search rules) (search rules))
+    c.write_pieces.ensures.bytes

@@ -1,0 +1,266 @@
+-- The line of an event as JSON (RFC 8259): one object, without spaces. No text in it needs an escape: each is a
+-- word, an address, a decimal, or the name of a port.
+use Rattle.std.specs.Prelude.{ℕ, Bool, true, false, List, [], ◌++◌, Option, None, Some, codes, decimal}
+use Rattle.pim_addr.specs.declared.family.AddressFamily.{AddressFamily}
+use Rattle.pim_capture.specs.declared.event.Why.{Why}
+use Rattle.pim_capture.specs.declared.event.Why.TheVariants.{Cut, NotIp, BadHeader, NotPim, Fragment}
+use Rattle.pim_down.specs.declared.key.What.{What}
+use Rattle.pim_down.specs.declared.key.What.TheVariants.{Star, Source, Rpt}
+use Rattle.pim_down.specs.declared.machine.Machine.{Machine}
+use Rattle.pim_down.specs.declared.machine.State.{State}
+use Rattle.pim_hello.specs.declared.heard.Heard.{Heard}
+use Rattle.pim_hello.specs.declared.heard.Heard.TheVariants.{New, Same, Restarted, Gone}
+use Rattle.pim_jp.specs.Message.{Message}
+use Rattle.pim_report.specs.PacketLine.{verdict_words}
+use Rattle.pim_report.specs.Pieces.{line, number_or}
+use Rattle.pim_report.specs.RecordLine.{time_left}
+use Rattle.pim_time.specs.Text.{seconds_text}
+use Rattle.pim_event_lines.specs.Counts.{joined_in, pruned_in}
+use Rattle.pim_events.specs.Events.{Happened, Judged, Occurrence, hello_taken, packet_judged, machine_changed}
+use Rattle.pim_events.specs.Events.{join_ignored, own_restart, record_skipped, neighbour_gone, timer_fired, run_ended}
+use Rattle.pim_events.specs.Parts.{state_in, pending_in}
+use Rattle.pim_events.specs.ShortText.{short_text}
+use Rattle.pim_event_lines.specs.TextLine.{state_text, name_of}
+use Rattle.pim_transitions.specs.declared.transition.By.{By}
+use Rattle.pim_transitions.specs.declared.transition.By.TheVariants as by
+use Rattle.pim_events.specs.declared.event.Cause.{Cause}
+use Rattle.pim_events.specs.declared.event.Ending.{Ending}
+use Rattle.pim_events.specs.declared.event.Fired.{Fired}
+use Rattle.pim_events.specs.declared.event.Greeting.{Greeting}
+use Rattle.pim_events.specs.declared.event.Ignored.{Ignored}
+use Rattle.pim_events.specs.declared.event.OwnRestart.{OwnRestart}
+use Rattle.pim_events.specs.declared.event.Skip.{Skip}
+use Rattle.pim_events.specs.declared.event.Skip.TheVariants.{NoPacket, OtherFamily}
+use Rattle.pim_events.specs.declared.event.Skipping.{Skipping}
+use Rattle.pim_events.specs.declared.event.SkipCounts.{SkipCounts}
+use Rattle.pim_events.specs.declared.event.TimeOut.{TimeOut}
+use Rattle.pim_down.specs.declared.step.Timer.{Timer}
+use Rattle.pim_down.specs.declared.step.Timer.TheVariants.{PrunePending, Expiry}
+use Rattle.pim_events.specs.declared.event.Transition.{Transition}
+
+-- ---- values
+
+-- A text as a JSON string.
+abbrev pub quoted : List ℕ → List ℕ
+quoted text = codes "\"" ++ text ++ codes "\""
+
+-- A number, or `null` where there is none.
+abbrev pub number_json : Option ℕ → List ℕ
+number_json number = number_or (codes "null") number
+
+-- An address as text, or `null` where there is none.
+abbrev pub address_json : AddressFamily → Option (List ℕ) → List ℕ
+address_json family None = codes "null"
+address_json family (Some address) = quoted (short_text family address)
+
+-- The time since 1970 in seconds, as text.
+abbrev pub epoch_json : Option ℕ → List ℕ
+epoch_json None = codes "null"
+epoch_json (Some millis) = quoted (seconds_text millis)
+
+-- The name of the port.
+abbrev pub port_json : List (List ℕ) → Option ℕ → List ℕ
+port_json names None = codes "null"
+port_json names (Some port) = quoted (name_of names port)
+
+-- What a Hello means for its sender.
+abbrev pub meaning_word : Heard → List ℕ
+meaning_word New = codes "new"
+meaning_word Same = codes "same"
+meaning_word Restarted = codes "restarted"
+meaning_word Gone = codes "gone"
+
+-- By what a message changed a state.
+abbrev pub by_word : By → List ℕ
+by_word by.Join = codes "join"
+by_word by.Prune = codes "prune"
+by_word by.End = codes "end"
+
+-- The kind of a machine.
+abbrev pub kind_word : What (List ℕ) → List ℕ
+kind_word Star = codes "star"
+kind_word (Source source) = codes "source"
+kind_word (Rpt source) = codes "rpt"
+
+-- The source of a machine that has one.
+abbrev pub source_in : What (List ℕ) → Option (List ℕ)
+source_in Star = None
+source_in (Source source) = Some source
+source_in (Rpt source) = Some source
+
+-- The time left on an Expiry Timer that runs.
+abbrev pub never_json : Option ℕ → List ℕ
+never_json time = number_or (codes "\"never\"") time
+
+-- The time left on the Expiry Timer of a machine.
+abbrev pub expiry_json : Option Machine → List ℕ
+expiry_json None = codes "null"
+expiry_json (Some machine) = never_json machine.expires_in
+
+-- The time left on the Prune-Pending Timer of a machine, if it runs.
+abbrev pub pending_json : Option Machine → List ℕ
+pending_json machine = number_json (time_left (pending_in machine))
+
+-- Why a record is skipped.
+abbrev pub skip_word : Skip → List ℕ
+skip_word (NoPacket Cut) = codes "cut"
+skip_word (NoPacket NotIp) = codes "not-ip"
+skip_word (NoPacket BadHeader) = codes "bad-header"
+skip_word (NoPacket NotPim) = codes "not-pim"
+skip_word (NoPacket Fragment) = codes "fragment"
+skip_word OtherFamily = codes "family"
+
+-- A timer.
+abbrev pub timer_word : Timer → List ℕ
+timer_word PrunePending = codes "ppt"
+timer_word Expiry = codes "et"
+
+-- Yes or no.
+abbrev pub bool_json : Bool → List ℕ
+bool_json true = codes "true"
+bool_json false = codes "false"
+
+-- ---- what follows the name of the event
+
+-- `restarted`: the port's own router.
+abbrev pub restart_json : OwnRestart → List ℕ
+restart_json restart = line (codes "restarted\",\"frame\":" ++ decimal restart.frame ++ codes ",\"was\":"
+    ++ number_json restart.was ++ codes ",\"generation\":" ++ number_json restart.generation ++ codes "}")
+
+-- `skipped`.
+abbrev pub skipped_json : Skipping → List ℕ
+skipped_json skipped = line (codes "skipped\",\"frame\":" ++ decimal skipped.frame ++ codes ",\"why\":\""
+    ++ skip_word skipped.why ++ codes "\"}")
+
+-- The counts of skipped records.
+abbrev pub counts_json : SkipCounts → List ℕ
+counts_json counts = codes "{\"cut\":" ++ decimal counts.cut ++ codes ",\"not-ip\":" ++ decimal counts.not_ip
+    ++ codes ",\"bad-header\":" ++ decimal counts.bad_header ++ codes ",\"not-pim\":" ++ decimal counts.not_pim
+    ++ codes ",\"fragment\":" ++ decimal counts.fragment ++ codes ",\"family\":" ++ decimal counts.family ++ codes "}"
+
+-- The number of machines that are held, and of neighbours of all ports, up to the counts.
+abbrev pub held_json : ℕ → ℕ → List ℕ
+held_json records neighbours = codes "end\",\"records\":" ++ decimal records ++ codes ",\"neighbours\":"
+    ++ decimal neighbours ++ codes ",\"skipped\":"
+
+-- `end`.
+abbrev pub ending_json : Ending → List ℕ
+ending_json ending = held_json ending.records ending.neighbours ++ line (counts_json ending.skipped ++ codes "}")
+
+-- The states before and after a message.
+abbrev pub states_json : Option State → Option State → List ℕ
+states_json before after = codes ",\"was\":" ++ quoted (state_text before) ++ codes ",\"now\":"
+    ++ quoted (state_text after)
+
+-- The states before and after a message, the timers after it, the neighbours of the port, and what the message
+-- overrides.
+abbrev pub outcome_json : Transition (List ℕ) → List ℕ
+outcome_json change = line (states_json change.before (state_in change.after) ++ codes ",\"et\":"
+    ++ expiry_json change.after ++ codes ",\"ppt\":" ++ pending_json change.after ++ codes ",\"neighbours\":"
+    ++ decimal change.neighbours ++ codes ",\"overrides\":" ++ number_json change.overrides ++ codes "}")
+
+module _ (family : AddressFamily) where
+  -- The frame and the sender of a packet.
+  abbrev pub sender_json : ℕ → List ℕ → List ℕ
+  sender_json frame from = codes "\",\"frame\":" ++ decimal frame ++ codes ",\"from\":"
+      ++ quoted (short_text family from)
+
+  -- The kind of a machine and its group, up to its source.
+  abbrev pub machine_json : List ℕ → What (List ℕ) → List ℕ
+  machine_json group what = codes ",\"what\":\"" ++ kind_word what ++ codes "\",\"group\":"
+      ++ quoted (short_text family group) ++ codes ",\"source\":"
+
+  -- The source of a machine, if it has one.
+  abbrev pub source_json : What (List ℕ) → List ℕ
+  source_json what = address_json family (source_in what)
+
+  -- `hello`.
+  abbrev pub hello_json : Greeting (List ℕ) → List ℕ
+  hello_json hello = line (codes "hello" ++ sender_json hello.frame hello.from ++ codes ",\"verdict\":"
+      ++ quoted (meaning_word hello.verdict) ++ codes ",\"was\":" ++ number_json hello.was ++ codes ",\"generation\":"
+      ++ number_json hello.generation ++ codes "}")
+
+  -- To whom a Join/Prune message is addressed, and the number of its entries.
+  abbrev pub message_json : Option Message → List ℕ
+  message_json None = codes ",\"for\":null,\"joined\":null,\"pruned\":null"
+  message_json (Some message) = codes ",\"for\":" ++ quoted (short_text family message.upstream)
+      ++ codes ",\"joined\":" ++ decimal (joined_in message.sets)
+      ++ codes ",\"pruned\":" ++ decimal (pruned_in message.sets)
+
+  -- The verdict on a packet, without the last quote.
+  abbrev pub verdict_json : Judged → List ℕ
+  verdict_json packet = (codes "packet" ++ sender_json packet.frame packet.from ++ codes ",\"verdict\":\"")
+      ++ verdict_words packet.verdict
+
+  -- `packet`.
+  abbrev pub judged_json : Judged → List ℕ
+  judged_json packet = verdict_json packet ++ line (codes "\"" ++ message_json packet.message ++ codes "}")
+
+  -- By what a message changed which machine, up to its source.
+  abbrev pub change_json : Transition (List ℕ) → List ℕ
+  change_json change = codes "transition" ++ sender_json change.frame change.from ++ codes ",\"by\":"
+      ++ quoted (by_word change.by) ++ machine_json change.group change.what
+
+  -- `transition`.
+  abbrev pub transition_json : Transition (List ℕ) → List ℕ
+  transition_json change = change_json change ++ (source_json change.what ++ outcome_json change)
+
+  -- A Join(*,G) that is ignored, up to the RP of its group.
+  abbrev pub entry_json : Ignored (List ℕ) → List ℕ
+  entry_json entry = codes "ignored" ++ sender_json entry.frame entry.from ++ codes ",\"group\":"
+      ++ quoted (short_text family entry.group) ++ codes ",\"names\":" ++ quoted (short_text family entry.names)
+      ++ codes ",\"rp\":"
+
+  -- `ignored`.
+  abbrev pub ignored_json : Ignored (List ℕ) → List ℕ
+  ignored_json entry = entry_json entry ++ (address_json family entry.rp ++ line (codes "}"))
+
+  -- `timed-out`: the neighbour, and its last Hello that was taken.
+  abbrev pub time_out_json : TimeOut (List ℕ) → List ℕ
+  time_out_json over = line (codes "timed-out\",\"neighbour\":" ++ quoted (short_text family over.neighbour)
+      ++ codes ",\"cause\":{\"frame\":" ++ decimal over.frame ++ codes ",\"ms\":" ++ decimal over.ms ++ codes "}}")
+
+  -- The packet that set a timer.
+  abbrev pub cause_json : Cause (List ℕ) → List ℕ
+  cause_json cause = codes ",\"cause\":{\"frame\":" ++ decimal cause.frame ++ codes ",\"from\":"
+      ++ quoted (short_text family cause.from) ++ codes ",\"ms\":" ++ decimal cause.ms ++ codes "}"
+
+  -- The timer and its machine, up to its source.
+  abbrev pub timer_json : Fired (List ℕ) → List ℕ
+  timer_json firing = codes "fired\",\"timer\":" ++ quoted (timer_word firing.timer)
+      ++ machine_json firing.group firing.what
+
+  -- The states before and after, whether an echo is to be sent, and the packet that set the timer.
+  abbrev pub effect_json : Fired (List ℕ) → List ℕ
+  effect_json firing = line (states_json (Some firing.before) firing.after ++ codes ",\"echo\":"
+      ++ bool_json firing.echo ++ cause_json firing.cause ++ codes "}")
+
+  -- `fired`.
+  abbrev pub fired_json : Fired (List ℕ) → List ℕ
+  fired_json firing = timer_json firing ++ (source_json firing.what ++ effect_json firing)
+
+  -- What happened: the name of the event without its first quote, and the members after it.
+  abbrev pub what_json : Happened → List ℕ
+  what_json (hello_taken hello) = hello_json hello
+  what_json (packet_judged packet) = judged_json packet
+  what_json (machine_changed change) = transition_json change
+  what_json (join_ignored entry) = ignored_json entry
+  what_json (own_restart restart) = restart_json restart
+  what_json (record_skipped skipped) = skipped_json skipped
+  what_json (neighbour_gone over) = time_out_json over
+  what_json (timer_fired firing) = fired_json firing
+  what_json (run_ended ending) = ending_json ending
+
+-- ---- whole lines
+
+-- The moment and the time since 1970.
+abbrev pub time_json : Occurrence → List ℕ
+time_json event = codes "{\"ms\":" ++ decimal event.ms ++ codes ",\"epoch\":" ++ epoch_json event.epoch
+
+-- The port, up to the name of the event.
+abbrev pub place_json : List (List ℕ) → Occurrence → List ℕ
+place_json names event = codes ",\"port\":" ++ port_json names event.port ++ codes ",\"event\":\""
+
+-- The line of an event as JSON.
+abbrev pub json_line : AddressFamily → List (List ℕ) → Occurrence → List ℕ
+json_line family names event = time_json event ++ (place_json names event ++ what_json family event.what)

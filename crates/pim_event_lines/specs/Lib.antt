@@ -1,0 +1,5 @@
+-- The definitions of `pim_event_lines`.
+pub mod Moments
+pub mod Counts
+pub mod TextLine
+pub mod JsonLine

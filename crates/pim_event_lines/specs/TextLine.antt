@@ -1,0 +1,270 @@
+-- The line of an event as text.
+use Rattle.std.specs.Prelude.{ℕ, ◌-◌, ◌==◌, if◌then◌else◌, Bool, true, false, List, [], ◌++◌, Option, None, Some}
+use Rattle.std.specs.Prelude.{slice_index_or, codes, decimal}
+use Rattle.pim_addr.specs.declared.family.AddressFamily.{AddressFamily}
+use Rattle.pim_capture.specs.declared.event.Why.{Why}
+use Rattle.pim_capture.specs.declared.event.Why.TheVariants.{Cut, NotIp, BadHeader, NotPim, Fragment}
+use Rattle.pim_down.specs.declared.key.What.{What}
+use Rattle.pim_down.specs.declared.key.What.TheVariants.{Star, Source, Rpt}
+use Rattle.pim_down.specs.declared.machine.Machine.{Machine}
+use Rattle.pim_down.specs.declared.machine.Pending.{Pending}
+use Rattle.pim_down.specs.declared.machine.State.{State}
+use Rattle.pim_hello.specs.declared.heard.Heard.{Heard}
+use Rattle.pim_hello.specs.declared.heard.Heard.TheVariants.{New, Same, Restarted, Gone}
+use Rattle.pim_jp.specs.Message.{Message}
+use Rattle.pim_report.specs.EchoLine.{kind_of}
+use Rattle.pim_report.specs.PacketLine.{heard_words, verdict_words}
+use Rattle.pim_report.specs.Pieces.{line, number_or}
+use Rattle.pim_report.specs.RecordLine.{state_name}
+use Rattle.pim_event_lines.specs.Counts.{joined_in, pruned_in}
+use Rattle.pim_events.specs.Events.{Happened, Judged, Occurrence, hello_taken, packet_judged, machine_changed}
+use Rattle.pim_events.specs.Events.{join_ignored, own_restart, record_skipped, neighbour_gone, timer_fired, run_ended}
+use Rattle.pim_event_lines.specs.Moments.{moment_text}
+use Rattle.pim_events.specs.Parts.{state_in, pending_in}
+use Rattle.pim_events.specs.ShortText.{short_text}
+use Rattle.pim_transitions.specs.declared.transition.By.{By}
+use Rattle.pim_transitions.specs.declared.transition.By.TheVariants as by
+use Rattle.pim_events.specs.declared.event.Ending.{Ending}
+use Rattle.pim_events.specs.declared.event.Fired.{Fired}
+use Rattle.pim_events.specs.declared.event.Greeting.{Greeting}
+use Rattle.pim_events.specs.declared.event.Ignored.{Ignored}
+use Rattle.pim_events.specs.declared.event.OwnRestart.{OwnRestart}
+use Rattle.pim_events.specs.declared.event.Skip.{Skip}
+use Rattle.pim_events.specs.declared.event.Skip.TheVariants.{NoPacket, OtherFamily}
+use Rattle.pim_events.specs.declared.event.Skipping.{Skipping}
+use Rattle.pim_events.specs.declared.event.SkipCounts.{SkipCounts}
+use Rattle.pim_events.specs.declared.event.TimeOut.{TimeOut}
+use Rattle.pim_down.specs.declared.step.Timer.{Timer}
+use Rattle.pim_down.specs.declared.step.Timer.TheVariants.{PrunePending, Expiry}
+use Rattle.pim_events.specs.declared.event.Transition.{Transition}
+use Rattle.pim_event_lines.specs.declared.moments.TimeForm.{TimeForm}
+
+-- ---- words
+
+-- A Generation ID, or `-` where there is none.
+abbrev pub generation_text : Option ℕ → List ℕ
+generation_text generation = number_or (codes "-") generation
+
+-- The name of a state; `no-info` is that of a machine that is not held.
+abbrev pub state_text : Option State → List ℕ
+state_text None = codes "no-info"
+state_text (Some state) = state_name state
+
+-- `STATE -> STATE`.
+abbrev pub states_text : Option State → Option State → List ℕ
+states_text before after = state_text before ++ codes " -> " ++ state_text after
+
+-- What a message does to a machine.
+abbrev pub by_words : By → List ℕ
+by_words by.Join = codes " joins "
+by_words by.Prune = codes " prunes "
+by_words by.End = codes " no longer prunes "
+
+-- Why a record is skipped.
+abbrev pub skip_words : Skip → List ℕ
+skip_words (NoPacket Fragment) = codes "a fragment of a PIM message"
+skip_words (NoPacket Cut) = codes "fewer bytes captured than its lengths say"
+skip_words (NoPacket NotIp) = codes "not IPv4 or IPv6"
+skip_words (NoPacket BadHeader) = codes "a bad IP header"
+skip_words (NoPacket NotPim) = codes "not PIM"
+skip_words OtherFamily = codes "PIM of the other family"
+
+-- `N neighbours`, or `1 neighbour`.
+abbrev pub neighbours_text : ℕ → List ℕ
+neighbours_text count = decimal count ++ (if count == 1 then codes " neighbour" else codes " neighbours")
+
+-- ---- the parts of a transition that may lack
+
+-- The time left on the Expiry Timer of a machine that is held.
+abbrev pub expiry_part : Option Machine → List ℕ
+expiry_part None = []
+expiry_part (Some machine) = codes ", et " ++ number_or (codes "never") machine.expires_in
+
+-- The time left on the Prune-Pending Timer and the number of neighbours, if that timer runs.
+abbrev pub waiting_part : ℕ → Option Pending → List ℕ
+waiting_part neighbours None = []
+waiting_part neighbours (Some timer) = codes ", ppt " ++ decimal timer.ends_in ++ codes ", "
+    ++ neighbours_text neighbours
+
+-- The packet that is overridden, if one is.
+abbrev pub overrides_part : Option ℕ → List ℕ
+overrides_part None = []
+overrides_part (Some frame) = codes ", overrides #" ++ decimal frame
+
+-- `, echo` where the router is to send a PruneEcho.
+abbrev pub echo_part : Bool → List ℕ
+echo_part false = []
+echo_part true = codes ", echo"
+
+-- ---- the lines without the moment and the port
+
+-- The timers of the machine after a message, and what the message overrides.
+abbrev pub timers_line : Transition (List ℕ) → List ℕ
+timers_line change = expiry_part change.after
+    ++ (waiting_part change.neighbours (pending_in change.after) ++ line (overrides_part change.overrides))
+
+-- A restart of the port's own router.
+abbrev pub restart_line : OwnRestart → List ℕ
+restart_line restart = line (codes "#" ++ decimal restart.frame ++ codes " own Hello, generation "
+    ++ generation_text restart.was ++ codes " -> " ++ generation_text restart.generation
+    ++ codes ": this router restarted; it lost what it held, the replay keeps it")
+
+-- A record that is skipped.
+abbrev pub skipped_line : Skipping → List ℕ
+skipped_line skipped = line (codes "#" ++ decimal skipped.frame ++ codes " skipped: " ++ skip_words skipped.why)
+
+-- What the end of a timer means.
+abbrev pub timer_words : Timer → List ℕ
+timer_words PrunePending = codes "prune takes effect "
+timer_words Expiry = codes "expired "
+
+-- What its cause did.
+abbrev pub cause_words : Timer → List ℕ
+cause_words PrunePending = codes "; pruned by "
+cause_words Expiry = codes "; time set by "
+
+-- The echo is that of a Prune that takes effect.
+abbrev pub echo_text : Timer → Bool → List ℕ
+echo_text PrunePending echo = echo_part echo
+echo_text Expiry echo = []
+
+-- The counts of skipped records.
+abbrev pub counts_text : SkipCounts → List ℕ
+counts_text counts = codes " skipped cut " ++ decimal counts.cut ++ codes " not-ip " ++ decimal counts.not_ip
+    ++ codes " bad-header " ++ decimal counts.bad_header ++ codes " not-pim " ++ decimal counts.not_pim
+    ++ codes " fragment " ++ decimal counts.fragment ++ codes " family " ++ decimal counts.family
+
+-- The number of machines that are held, and of neighbours of all ports.
+abbrev pub held_text : ℕ → ℕ → List ℕ
+held_text records neighbours = codes "end: records " ++ decimal records ++ codes " neighbours " ++ decimal neighbours
+
+-- The end of the run.
+abbrev pub ending_line : Ending → List ℕ
+ending_line ending = held_text ending.records ending.neighbours ++ line (counts_text ending.skipped)
+
+-- The Generation ID of a Hello.
+abbrev pub generation_part : Option ℕ → List ℕ
+generation_part generation = codes ", generation " ++ generation_text generation
+
+-- The Generation IDs before and after a restart.
+abbrev pub restarted_part : Option ℕ → Option ℕ → List ℕ
+restarted_part was generation = codes ", generation " ++ generation_text was ++ codes " -> "
+    ++ generation_text generation ++ codes "; its joins stay until they expire"
+
+-- What a Hello means for its sender.
+abbrev pub meaning_text : Heard → Option ℕ → Option ℕ → List ℕ
+meaning_text New was generation = generation_part generation
+meaning_text Same was generation = generation_part generation
+meaning_text Restarted was generation = restarted_part was generation
+meaning_text Gone was generation = codes "; its joins stay until they expire"
+
+module _ (family : AddressFamily) where
+  -- `#FRAME A`.
+  abbrev pub sender_text : ℕ → List ℕ → List ℕ
+  sender_text frame from = codes "#" ++ decimal frame ++ codes " " ++ short_text family from
+
+  -- The source of a machine and a space, or nothing for (*,G).
+  abbrev pub source_words : What (List ℕ) → List ℕ
+  source_words Star = []
+  source_words (Source source) = short_text family source ++ codes " "
+  source_words (Rpt source) = short_text family source ++ codes " "
+
+  -- `star G`, `source S G` or `rpt S G`.
+  abbrev pub machine_text : List ℕ → What (List ℕ) → List ℕ
+  machine_text group what = kind_of what ++ source_words what ++ short_text family group
+
+  -- The sender of a Hello that was taken, and what it means.
+  abbrev pub greeting_text : Greeting (List ℕ) → List ℕ
+  greeting_text hello = sender_text hello.frame hello.from ++ codes ": " ++ heard_words hello.verdict
+
+  -- A Hello that was taken.
+  abbrev pub hello_line : Greeting (List ℕ) → List ℕ
+  hello_line hello = greeting_text hello ++ line (meaning_text hello.verdict hello.was hello.generation)
+
+  -- To whom a Join/Prune message is addressed, and the number of its entries.
+  abbrev pub message_part : Option Message → List ℕ
+  message_part None = []
+  message_part (Some message) = codes ", for " ++ short_text family message.upstream ++ codes ", joined "
+      ++ decimal (joined_in message.sets) ++ codes " pruned " ++ decimal (pruned_in message.sets)
+
+  -- The verdict on a packet.
+  abbrev pub verdict_text : Judged → List ℕ
+  verdict_text packet = (sender_text packet.frame packet.from ++ codes ": ") ++ verdict_words packet.verdict
+
+  -- A packet with its verdict.
+  abbrev pub judged_line : Judged → List ℕ
+  judged_line packet = verdict_text packet ++ line (message_part packet.message)
+
+  -- What a message does to a machine, and the states before and after it.
+  abbrev pub change_text : Transition (List ℕ) → List ℕ
+  change_text change = sender_text change.frame change.from ++ by_words change.by
+      ++ machine_text change.group change.what ++ codes ": " ++ states_text change.before (state_in change.after)
+
+  -- A machine that a message changed.
+  abbrev pub transition_line : Transition (List ℕ) → List ℕ
+  transition_line change = change_text change ++ timers_line change
+
+  -- The RP of the group, if it has one.
+  abbrev pub rp_part : Option (List ℕ) → List ℕ
+  rp_part None = codes "this group has no RP (--rp)"
+  rp_part (Some rp) = codes "the RP of this group is " ++ short_text family rp
+
+  -- A Join(*,G) that is ignored, and the RP that it names.
+  abbrev pub entry_text : Ignored (List ℕ) → List ℕ
+  entry_text entry = sender_text entry.frame entry.from ++ codes " joins star " ++ short_text family entry.group
+      ++ codes ": ignored, it names RP " ++ short_text family entry.names ++ codes ", and "
+
+  -- A Join(*,G) that is ignored.
+  abbrev pub ignored_line : Ignored (List ℕ) → List ℕ
+  ignored_line entry = entry_text entry ++ line (rp_part entry.rp)
+
+  -- A neighbour whose time is over, at this moment.
+  abbrev pub time_out_line : ℕ → TimeOut (List ℕ) → List ℕ
+  time_out_line ms over = line (codes "neighbour " ++ short_text family over.neighbour
+      ++ codes " timed out; Hello #" ++ decimal over.frame ++ codes ", " ++ decimal (ms - over.ms)
+      ++ codes " ms before; its joins stay until they expire")
+
+  -- A timer that fired, its machine, the states before and after, and whether an echo is to be sent.
+  abbrev pub effect_text : Fired (List ℕ) → List ℕ
+  effect_text firing = timer_words firing.timer ++ machine_text firing.group firing.what ++ codes ": "
+      ++ states_text (Some firing.before) firing.after ++ echo_text firing.timer firing.echo
+
+  -- The packet that set the timer, and how long before this moment it came.
+  abbrev pub cause_line : ℕ → Fired (List ℕ) → List ℕ
+  cause_line ms firing = line (cause_words firing.timer ++ short_text family firing.cause.from ++ codes " in #"
+      ++ decimal firing.cause.frame ++ codes ", " ++ decimal (ms - firing.cause.ms) ++ codes " ms before")
+
+  -- A timer that fired, at this moment.
+  abbrev pub fired_line : ℕ → Fired (List ℕ) → List ℕ
+  fired_line ms firing = effect_text firing ++ cause_line ms firing
+
+  -- What happened, at this moment.
+  abbrev pub what_line : ℕ → Happened → List ℕ
+  what_line ms (hello_taken hello) = hello_line hello
+  what_line ms (packet_judged packet) = judged_line packet
+  what_line ms (machine_changed change) = transition_line change
+  what_line ms (join_ignored entry) = ignored_line entry
+  what_line ms (own_restart restart) = restart_line restart
+  what_line ms (record_skipped skipped) = skipped_line skipped
+  what_line ms (neighbour_gone over) = time_out_line ms over
+  what_line ms (timer_fired firing) = fired_line ms firing
+  what_line ms (run_ended ending) = ending_line ending
+
+-- ---- whole lines
+
+-- The name of a port; empty where there is none.
+abbrev pub name_of : List (List ℕ) → ℕ → List ℕ
+name_of names port = slice_index_or names port []
+
+-- The name of the port and a space; nothing where there is no port.
+abbrev pub port_text : List (List ℕ) → Option ℕ → List ℕ
+port_text names None = []
+port_text names (Some port) = name_of names port ++ codes " "
+
+-- `MOMENT NAME `, or `MOMENT ` where there is no port.
+abbrev pub head_text : List (List ℕ) → TimeForm → Occurrence → List ℕ
+head_text names form event = moment_text form event.ms event.epoch ++ codes " " ++ port_text names event.port
+
+-- The line of an event: its moment, its port, and what happened.
+abbrev pub text_line : AddressFamily → List (List ℕ) → TimeForm → Occurrence → List ℕ
+text_line family names form event = head_text names form event ++ what_line family event.ms event.what

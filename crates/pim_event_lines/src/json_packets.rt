@@ -1,0 +1,225 @@
+//! The JSON of packets and records, from the name of the event on.
+
+ghost use Rattle.std.specs.Prelude.{◌≡◌, ◌++◌, codes, option_map};
+ghost use Rattle.pim_device.specs.Device.{AppendsAll, failures_after};
+ghost use Rattle.pim_events.specs.Events.{greeting_seen, judgment_seen, ignored_seen};
+ghost use Rattle.pim_event_lines.specs.JsonLine.{sender_json, hello_json, message_json};
+ghost use Rattle.pim_event_lines.specs.JsonLine.{verdict_json, judged_json, entry_json};
+ghost use Rattle.pim_event_lines.specs.JsonLine.{address_json, ignored_json, restart_json};
+ghost use Rattle.pim_event_lines.specs.JsonLine.{skipped_json};
+ghost use Rattle.pim_report.specs.Pieces.{line};
+
+use crate::counts::{joined_in, pruned_in};
+use crate::words::{meaning_word, skip_word, wide};
+use itoa::Buffer;
+use pim_addr::{Drain, Failed, Family, write_all};
+use pim_events::{Greeting, Ignored, Judgment, OwnRestart, ShortText, Skipping};
+use pim_jp::JpView;
+use pim_report::{number_or, write_pieces, write_verdict_words};
+
+/// Writes the members of a Hello that was taken.
+pub(crate) fn write_hello_json<F: Family, W: Drain>(
+    writer: &mut W,
+    hello: &Greeting<F::Addr>,
+) -> Result<(), Failed>
+    ensures bytes { AppendsAll (W.contents writer.old) (W.contents writer.new) result
+        (hello_json F.family (greeting_seen F.bytes_of hello.now)) }
+    ensures count { W.failures writer.new ≡ failures_after (W.failures writer.old) result }
+{
+    let verdict = hello.verdict;
+    let mut frame = Buffer::new();
+    let from = ShortText::of::<F>(hello.from);
+    let mut before = Buffer::new();
+    let mut after = Buffer::new();
+    let pieces = [
+        b"hello\",\"frame\":",
+        frame.format(hello.frame).as_bytes(),
+        b",\"from\":\"",
+        from.text(),
+        b"\",\"verdict\":\"",
+        meaning_word(&verdict),
+        b"\",\"was\":",
+        number_or(&mut before, wide(hello.was), b"null"),
+        b",\"generation\":",
+        number_or(&mut after, wide(hello.generation), b"null"),
+        b"}\n",
+    ];
+    write_pieces(writer, &pieces)
+}
+
+/// Writes the sender of a packet, up to its verdict.
+fn write_sender<F: Family, W: Drain>(
+    writer: &mut W,
+    frame: u64,
+    from: F::Addr,
+) -> Result<(), Failed>
+    ensures bytes { AppendsAll (W.contents writer.old) (W.contents writer.new) result
+        (codes "packet" ++ sender_json F.family frame (F.bytes_of from)
+        ++ codes ",\"verdict\":\"") }
+    ensures count { W.failures writer.new ≡ failures_after (W.failures writer.old) result }
+{
+    let mut number = Buffer::new();
+    let from = ShortText::of::<F>(from);
+    let pieces = [
+        b"packet\",\"frame\":",
+        number.format(frame).as_bytes(),
+        b",\"from\":\"",
+        from.text(),
+        b"\",\"verdict\":\"",
+    ];
+    write_pieces(writer, &pieces)
+}
+
+/// Writes the verdict on a packet.
+fn write_verdict<F: Family, W: Drain>(
+    writer: &mut W,
+    packet: &Judgment<'_, F>,
+) -> Result<(), Failed>
+    ensures bytes { AppendsAll (W.contents writer.old) (W.contents writer.new) result
+        (verdict_json F.family (judgment_seen F.bytes_of packet.now)) }
+    ensures count { W.failures writer.new ≡ failures_after (W.failures writer.old) result }
+{
+    write_sender::<F, W>(writer, packet.frame, packet.from)?;
+    write_verdict_words(writer, packet.verdict)
+}
+
+/// Writes to whom a Join/Prune message is addressed, and the number of its entries.
+fn write_message<F: Family, W: Drain>(
+    writer: &mut W,
+    message: &Option<JpView<'_, F>>,
+) -> Result<(), Failed>
+    ensures bytes { AppendsAll (W.contents writer.old) (W.contents writer.new) result
+        (line (codes "\"" ++ message_json F.family message.now ++ codes "}")) }
+    ensures count { W.failures writer.new ≡ failures_after (W.failures writer.old) result }
+{
+    let Some(message) = message else {
+        return write_all(
+            writer,
+            b"\",\"for\":null,\"joined\":null,\"pruned\":null}\n",
+        );
+    };
+    let upstream = ShortText::of::<F>(message.upstream());
+    let mut joined = Buffer::new();
+    let mut pruned = Buffer::new();
+    let pieces = [
+        b"\",\"for\":\"",
+        upstream.text(),
+        b"\",\"joined\":",
+        joined.format(joined_in::<F>(message)).as_bytes(),
+        b",\"pruned\":",
+        pruned.format(pruned_in::<F>(message)).as_bytes(),
+        b"}\n",
+    ];
+    write_pieces(writer, &pieces)
+}
+
+/// Writes the members of a packet with its verdict.
+pub(crate) fn write_judged_json<F: Family, W: Drain>(
+    writer: &mut W,
+    packet: &Judgment<'_, F>,
+) -> Result<(), Failed>
+    ensures bytes { AppendsAll (W.contents writer.old) (W.contents writer.new) result
+        (judged_json F.family (judgment_seen F.bytes_of packet.now)) }
+    ensures count { W.failures writer.new ≡ failures_after (W.failures writer.old) result }
+{
+    write_verdict::<F, W>(writer, packet)?;
+    write_message::<F, W>(writer, &packet.message)
+}
+
+/// Writes the members of a Join(*,G) that is ignored, up to the RP of its group.
+fn write_entry<F: Family, W: Drain>(writer: &mut W, entry: &Ignored<F::Addr>) -> Result<(), Failed>
+    ensures bytes { AppendsAll (W.contents writer.old) (W.contents writer.new) result
+        (entry_json F.family (ignored_seen F.bytes_of entry.now)) }
+    ensures count { W.failures writer.new ≡ failures_after (W.failures writer.old) result }
+{
+    let mut frame = Buffer::new();
+    let from = ShortText::of::<F>(entry.from);
+    let group = ShortText::of::<F>(entry.group);
+    let names = ShortText::of::<F>(entry.names);
+    let pieces = [
+        b"ignored\",\"frame\":",
+        frame.format(entry.frame).as_bytes(),
+        b",\"from\":\"",
+        from.text(),
+        b"\",\"group\":\"",
+        group.text(),
+        b"\",\"names\":\"",
+        names.text(),
+        b"\",\"rp\":",
+    ];
+    write_pieces(writer, &pieces)
+}
+
+/// Writes an address as a string, or `null`, and ends the object.
+fn write_last_address<F: Family, W: Drain>(
+    writer: &mut W,
+    address: Option<F::Addr>,
+) -> Result<(), Failed>
+    ensures bytes { AppendsAll (W.contents writer.old) (W.contents writer.new) result
+        (address_json F.family (option_map F.bytes_of address) ++ line (codes "}")) }
+    ensures count { W.failures writer.new ≡ failures_after (W.failures writer.old) result }
+{
+    match address {
+        Some(address) => {
+            let shown = ShortText::of::<F>(address);
+            let pieces = [b"\"", shown.text(), b"\"}\n"];
+            write_pieces(writer, &pieces)
+        }
+        None => write_all(writer, b"null}\n"),
+    }
+}
+
+/// Writes the members of a Join(*,G) that is ignored.
+pub(crate) fn write_ignored_json<F: Family, W: Drain>(
+    writer: &mut W,
+    entry: &Ignored<F::Addr>,
+) -> Result<(), Failed>
+    ensures bytes { AppendsAll (W.contents writer.old) (W.contents writer.new) result
+        (ignored_json F.family (ignored_seen F.bytes_of entry.now)) }
+    ensures count { W.failures writer.new ≡ failures_after (W.failures writer.old) result }
+{
+    write_entry::<F, W>(writer, entry)?;
+    write_last_address::<F, W>(writer, entry.rp)
+}
+
+/// Writes the members of a restart of the port's own router.
+pub(crate) fn write_restart_json<W: Drain>(
+    writer: &mut W,
+    restart: OwnRestart,
+) -> Result<(), Failed>
+    ensures bytes { AppendsAll (W.contents writer.old) (W.contents writer.new) result
+        (restart_json restart) }
+    ensures count { W.failures writer.new ≡ failures_after (W.failures writer.old) result }
+{
+    let mut frame = Buffer::new();
+    let mut before = Buffer::new();
+    let mut after = Buffer::new();
+    let pieces = [
+        b"restarted\",\"frame\":",
+        frame.format(restart.frame).as_bytes(),
+        b",\"was\":",
+        number_or(&mut before, wide(restart.was), b"null"),
+        b",\"generation\":",
+        number_or(&mut after, wide(restart.generation), b"null"),
+        b"}\n",
+    ];
+    write_pieces(writer, &pieces)
+}
+
+/// Writes the members of a record that is skipped.
+pub(crate) fn write_skipped_json<W: Drain>(writer: &mut W, skipped: Skipping) -> Result<(), Failed>
+    ensures bytes { AppendsAll (W.contents writer.old) (W.contents writer.new) result
+        (skipped_json skipped) }
+    ensures count { W.failures writer.new ≡ failures_after (W.failures writer.old) result }
+{
+    let why = skipped.why;
+    let mut frame = Buffer::new();
+    let pieces = [
+        b"skipped\",\"frame\":",
+        frame.format(skipped.frame).as_bytes(),
+        b",\"why\":\"",
+        skip_word(&why),
+        b"\"}\n",
+    ];
+    write_pieces(writer, &pieces)
+}

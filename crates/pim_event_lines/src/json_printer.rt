@@ -1,0 +1,135 @@
+//! Writes events as JSON.
+
+ghost use Rattle.std.specs.Prelude.{◌≡◌, ◌++◌, ℕ, List};
+ghost use Rattle.pim_device.specs.Device.{AppendsAll, failures_after};
+ghost use Rattle.pim_events.specs.Events.{happening_seen, event_seen};
+ghost use Rattle.pim_event_lines.specs.JsonLine.{time_json, place_json, what_json, json_line};
+
+use crate::json_machines::{
+    write_ending_json, write_fired_json, write_time_out_json, write_transition_json,
+};
+use crate::json_packets::{
+    write_hello_json, write_ignored_json, write_judged_json, write_restart_json, write_skipped_json,
+};
+use crate::moments::Stamp;
+use crate::words::name_of;
+use itoa::Buffer;
+use pim_addr::{Drain, Failed, Family, write_all};
+use pim_events::{Event, Filter, Happening, Name, Teller, is_shown};
+use pim_report::write_pieces;
+
+/// Writes the moment of an event and the time since 1970.
+fn write_time<F: Family, W: Drain>(writer: &mut W, event: &Event<'_, F>) -> Result<(), Failed>
+    ensures bytes { AppendsAll (W.contents writer.old) (W.contents writer.new) result
+        (time_json (event_seen F.bytes_of event.now)) }
+    ensures count { W.failures writer.new ≡ failures_after (W.failures writer.old) result }
+{
+    let mut digits = Buffer::new();
+    let ms = digits.format(event.ms).as_bytes();
+    match event.epoch {
+        Some(epoch) => {
+            let stamp = Stamp::seconds(epoch);
+            let pieces = [b"{\"ms\":", ms, b",\"epoch\":\"", stamp.text(), b"\""];
+            write_pieces(writer, &pieces)
+        }
+        None => {
+            let pieces = [b"{\"ms\":", ms, b",\"epoch\":null"];
+            write_pieces(writer, &pieces)
+        }
+    }
+}
+
+/// Writes the name of the port of an event, up to the name of the event.
+fn write_place<F: Family, W: Drain>(
+    writer: &mut W,
+    names: &[Name],
+    event: &Event<'_, F>,
+) -> Result<(), Failed>
+    ensures bytes { AppendsAll (W.contents writer.old) (W.contents writer.new) result
+        (place_json names.now (event_seen F.bytes_of event.now)) }
+    ensures count { W.failures writer.new ≡ failures_after (W.failures writer.old) result }
+{
+    match event.port {
+        Some(port) => {
+            let pieces = [b",\"port\":\"", name_of(names, port), b"\",\"event\":\""];
+            write_pieces(writer, &pieces)
+        }
+        None => write_all(writer, b",\"port\":null,\"event\":\""),
+    }
+}
+
+/// Writes the name of an event, and its members after it.
+fn write_what<F: Family, W: Drain>(writer: &mut W, what: &Happening<'_, F>) -> Result<(), Failed>
+    ensures bytes { AppendsAll (W.contents writer.old) (W.contents writer.new) result
+        (what_json F.family (happening_seen F.bytes_of what.now)) }
+    ensures count { W.failures writer.new ≡ failures_after (W.failures writer.old) result }
+{
+    match what {
+        Happening::Hello(hello) => write_hello_json::<F, W>(writer, hello),
+        Happening::Packet(packet) => write_judged_json::<F, W>(writer, packet),
+        Happening::Transition(change) => write_transition_json::<F, W>(writer, change),
+        Happening::Ignored(entry) => write_ignored_json::<F, W>(writer, entry),
+        Happening::Restarted(restart) => write_restart_json(writer, *restart),
+        Happening::Skipped(skipped) => write_skipped_json(writer, *skipped),
+        Happening::TimedOut(over) => write_time_out_json::<F, W>(writer, over),
+        Happening::Fired(firing) => write_fired_json::<F, W>(writer, firing),
+        Happening::Ended(ending) => write_ending_json(writer, *ending),
+    }
+}
+
+/// Writes the port of an event, and what happened.
+fn write_rest<F: Family, W: Drain>(
+    writer: &mut W,
+    names: &[Name],
+    event: &Event<'_, F>,
+) -> Result<(), Failed>
+    ensures bytes { AppendsAll (W.contents writer.old) (W.contents writer.new) result
+        (place_json names.now (event_seen F.bytes_of event.now)
+        ++ what_json F.family (happening_seen F.bytes_of event.now.what)) }
+    ensures count { W.failures writer.new ≡ failures_after (W.failures writer.old) result }
+{
+    write_place::<F, W>(writer, names, event)?;
+    write_what::<F, W>(writer, &event.what)
+}
+
+/// Writes the line of an event.
+fn write_line<F: Family, W: Drain>(
+    writer: &mut W,
+    names: &[Name],
+    event: &Event<'_, F>,
+) -> Result<(), Failed>
+    ensures bytes { AppendsAll (W.contents writer.old) (W.contents writer.new) result
+        (json_line F.family names.now (event_seen F.bytes_of event.now)) }
+    ensures count { W.failures writer.new ≡ failures_after (W.failures writer.old) result }
+{
+    write_time::<F, W>(writer, event)?;
+    write_rest::<F, W>(writer, names, event)
+}
+
+/// Writes the line of each event that is shown, as JSON.
+#[derive(Clone, Copy)]
+pub struct JsonPrinter<'a, A> {
+    /// The names of the ports, in the order of their numbers.
+    pub names: &'a [Name],
+    /// Which events are shown.
+    pub filter: Filter<'a, A>,
+}
+
+impl<'a, F: Family, W: Drain> Teller<F, W> for JsonPrinter<'a, F::Addr> {
+    ghost use Rattle.pim_events.specs.Filter.{filter_seen, if_shown};
+    ghost use Rattle.pim_event_lines.specs.JsonLine.{json_line};
+
+    ghost line = { λ printer event. if_shown (filter_seen F.bytes_of printer.filter) event
+        (json_line F.family printer.names.now event) };
+
+    ghost contents = { W.contents };
+
+    ghost failures = { W.failures };
+
+    fn tell(&self, device: &mut W, event: &Event<'_, F>) -> Result<(), Failed> {
+        if !is_shown::<F>(&self.filter, event) {
+            return Ok(());
+        }
+        write_line::<F, W>(device, self.names, event)
+    }
+}

@@ -1,0 +1,110 @@
+//! Writes events as text.
+
+ghost use Rattle.std.specs.Prelude.{◌≡◌, ℕ, List};
+ghost use Rattle.pim_device.specs.Device.{AppendsAll, failures_after};
+ghost use Rattle.pim_events.specs.Events.{happening_seen, event_seen};
+ghost use Rattle.pim_event_lines.specs.TextLine.{head_text, what_line, text_line};
+
+use crate::moments::{Stamp, TimeForm};
+use crate::text_machines::{
+    write_ending_line, write_fired_line, write_time_out_line, write_transition_line,
+};
+use crate::text_packets::{
+    write_hello_line, write_ignored_line, write_judged_line, write_restart_line, write_skipped_line,
+};
+use crate::words::name_of;
+use pim_addr::{Drain, Failed, Family};
+use pim_events::{Event, Filter, Happening, Name, Teller, is_shown};
+use pim_report::write_pieces;
+
+/// Writes the moment of an event and the name of its port.
+fn write_head<F: Family, W: Drain>(
+    writer: &mut W,
+    names: &[Name],
+    form: TimeForm,
+    event: &Event<'_, F>,
+) -> Result<(), Failed>
+    ensures bytes { AppendsAll (W.contents writer.old) (W.contents writer.new) result
+        (head_text names.now form (event_seen F.bytes_of event.now)) }
+    ensures count { W.failures writer.new ≡ failures_after (W.failures writer.old) result }
+{
+    let stamp = Stamp::of(form, event.ms, event.epoch);
+    match event.port {
+        Some(port) => {
+            let pieces = [stamp.text(), b" ", name_of(names, port), b" "];
+            write_pieces(writer, &pieces)
+        }
+        None => {
+            let pieces = [stamp.text(), b" "];
+            write_pieces(writer, &pieces)
+        }
+    }
+}
+
+/// Writes what happened at this moment, in milliseconds.
+fn write_what<F: Family, W: Drain>(
+    writer: &mut W,
+    ms: u64,
+    what: &Happening<'_, F>,
+) -> Result<(), Failed>
+    ensures bytes { AppendsAll (W.contents writer.old) (W.contents writer.new) result
+        (what_line F.family ms (happening_seen F.bytes_of what.now)) }
+    ensures count { W.failures writer.new ≡ failures_after (W.failures writer.old) result }
+{
+    match what {
+        Happening::Hello(hello) => write_hello_line::<F, W>(writer, hello),
+        Happening::Packet(packet) => write_judged_line::<F, W>(writer, packet),
+        Happening::Transition(change) => write_transition_line::<F, W>(writer, change),
+        Happening::Ignored(entry) => write_ignored_line::<F, W>(writer, entry),
+        Happening::Restarted(restart) => write_restart_line(writer, *restart),
+        Happening::Skipped(skipped) => write_skipped_line(writer, *skipped),
+        Happening::TimedOut(over) => write_time_out_line::<F, W>(writer, ms, over),
+        Happening::Fired(firing) => write_fired_line::<F, W>(writer, ms, firing),
+        Happening::Ended(ending) => write_ending_line(writer, *ending),
+    }
+}
+
+/// Writes the line of an event.
+fn write_line<F: Family, W: Drain>(
+    writer: &mut W,
+    names: &[Name],
+    form: TimeForm,
+    event: &Event<'_, F>,
+) -> Result<(), Failed>
+    ensures bytes { AppendsAll (W.contents writer.old) (W.contents writer.new) result
+        (text_line F.family names.now form (event_seen F.bytes_of event.now)) }
+    ensures count { W.failures writer.new ≡ failures_after (W.failures writer.old) result }
+{
+    write_head::<F, W>(writer, names, form, event)?;
+    write_what::<F, W>(writer, event.ms, &event.what)
+}
+
+/// Writes the line of each event that is shown, as text.
+#[derive(Clone, Copy)]
+pub struct TextPrinter<'a, A> {
+    /// The names of the ports, in the order of their numbers.
+    pub names: &'a [Name],
+    /// How moments are written.
+    pub form: TimeForm,
+    /// Which events are shown.
+    pub filter: Filter<'a, A>,
+}
+
+impl<'a, F: Family, W: Drain> Teller<F, W> for TextPrinter<'a, F::Addr> {
+    ghost use Rattle.pim_events.specs.Filter.{filter_seen, if_shown};
+    ghost use Rattle.pim_event_lines.specs.TextLine.{text_line};
+
+    ghost line = { λ printer event. if_shown (filter_seen F.bytes_of printer.filter) event
+        (text_line F.family printer.names.now printer.form event) };
+
+    ghost contents = { W.contents };
+
+    ghost failures = { W.failures };
+
+    fn tell(&self, device: &mut W, event: &Event<'_, F>) -> Result<(), Failed> {
+        if !is_shown::<F>(&self.filter, event) {
+            return Ok(());
+        }
+        write_line::<F, W>(device, self.names, self.form, event)
+    }
+}

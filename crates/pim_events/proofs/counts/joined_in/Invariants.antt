@@ -1,8 +1,0 @@
-use Rattle.std.proofs.Common.{◌≡◌, ◌+◌, ◌*◌, ◌≤◌, length}
-use Rattle.pim_events.specs.Counts.{joined_in}
-use Rattle.pim_events.proofs.counts.joined_in.Given as goal
-
--- what is counted and what is left make the whole, and there is room for what is left
-abbrev pub invariant-loop-set : goal.invariant-loop-set
-invariant-loop-set g l =
-    (l.count + joined_in l.set-iterator ≡ joined_in l.message.sets) × (l.count + 65535 * length l.set-iterator ≤ 16711425)
