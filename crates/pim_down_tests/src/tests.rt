@@ -5,6 +5,7 @@
 
 mod blocks;
 mod bodies;
+mod changes;
 mod courses;
 mod limits;
 mod looks;

@@ -9,3 +9,4 @@ mod Sorting
 mod StarSets
 mod Candidates
 mod OneList
+mod Existing

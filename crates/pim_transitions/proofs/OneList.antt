@@ -18,17 +18,17 @@ use Rattle.pim_transitions.specs.Laws.{TransitionsAreOneList}
 use Rattle.pim_transitions.proofs.Effects.{or_true, by_test}
 use Rattle.pim_transitions.proofs.Keys.{key_total, equal_keys, same_keys, same_itself, less_apart}
 
-abbrev Items : Type 0
+abbrev pub Items : Type 0
 Items = List (Transition (List ℕ))
 
-abbrev AreAbove : Key (List ℕ) → Items → Type 0
+abbrev pub AreAbove : Key (List ℕ) → Items → Type 0
 AreAbove key items = AllByRecursion (λ other. key_cmp key other ≡ Less) (keys_told items)
 
 not_told : (key : Key (List ℕ)) (items : Items) → AreAbove key items → is_told key items ≡ false
 not_told key [] above = refl
 not_told key (item ∷ items) above = ap (λ b. b || is_told key items) (less_apart key item.key above.0) ∙ not_told key items above.1
 
-all_above : (key next : Key (List ℕ)) (items : Items) → key_cmp key next ≡ Less → AreAbove next items → AreAbove key items
+pub all_above : (key next : Key (List ℕ)) (items : Items) → key_cmp key next ≡ Less → AreAbove next items → AreAbove key items
 all_above key next [] less above = tt
 all_above key next (item ∷ items) less above = (key_total.trans key next item.key less above.0, all_above key next items less above.1)
 

@@ -29,6 +29,12 @@ TransitionsAreOneList =
     AreTransitions port start events before after one →
     AreTransitions port start events before after other → one ≡ other
 
+-- A message has a list of transitions, whatever records there are before it and after.
+abbrev pub TransitionsAreThere : Type 0
+TransitionsAreThere =
+    (port : ℕ) (start : Start) (events : List Event) (before after : List (Record (List ℕ))) →
+    (items : List (Transition (List ℕ))) × AreTransitions port start events before after items
+
 -- Each transition is a path of rows of the tables: the machine after it is what the message's
 -- events make of the machine before it, one after the other, and End of Message after them.
 abbrev pub TransitionsArePaths : Type 0

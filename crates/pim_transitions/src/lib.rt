@@ -22,6 +22,9 @@ mod stars;
 mod transition;
 
 pub use changes::Changes;
-pub use laws::{candidates_tell_transitions, transitions_are_one_list, transitions_are_paths};
+pub use laws::{
+    candidates_tell_transitions, transitions_are_one_list, transitions_are_paths,
+    transitions_are_there,
+};
 pub use named::Named;
 pub use transition::{By, Transition};
