@@ -1,0 +1,115 @@
+-- The end of a trace: the time behind the last turn, and the end of the run.
+use Rattle.std.proofs.Common.{◌≡◌, ◌∙◌, ℕ, Bool, true, false, List, [], ◌∷◌, ◌++◌, Option, Ok, Err, refl, ap, subst, inl}
+use Rattle.pim_addr.specs.declared.family.AddressFamily.{AddressFamily}
+use Rattle.pim_merge.specs.declared.end.End.{End}
+use Rattle.pim_merge.specs.Ends.{end_moment, clock_of, Takes}
+use Rattle.pim_merge.specs.Next.{MergeState}
+use Rattle.pim_router.specs.State.{RouterState}
+use Rattle.std.specs.Io.KnownBytes.{Appends}
+use Rattle.pim_device.specs.Device.{AppendsFront}
+use Rattle.pim_events.specs.Events.{Occurrence}
+use Rattle.pim_trace.specs.declared.trace.TraceFault.{TraceFault}
+use Rattle.pim_trace.specs.declared.trace.TraceFault.TheVariants.{Capture, Output, Memory}
+use Rattle.pim_trace.specs.Ledger.{Ledger}
+use Rattle.pim_trace.specs.Passing.{PassesTime}
+use Rattle.pim_trace.specs.Telling.{HasTold, HasBegun}
+use Rattle.pim_trace.specs.Trace.{TellsTurns, TellsAll, IsTrace, ending, ledger_for, HasSome, HasTrace, Wrote, WroteFront, Traces}
+use Rattle.pim_trace.specs.Underway.{HasAll, Steps, RunsTurns, IfMore}
+use Rattle.pim_trace.proofs.Pieces.{none_told, all_told, told_then, told_begun, begun_longer, one_told, one_begun}
+
+-- a fact that holds after one more turn
+pub if_more : {P : Type 0} (more : Bool) → more ≡ true → IfMore (Ok more) P → P
+if_more {P} more is holds = subst (λ (b : Bool). IfMore (Ok b) P) is holds
+
+module _ (line : Occurrence → List ℕ) (family : AddressFamily) (end : End) (start : MergeState) (state : RouterState) (old : Option (List ℕ)) where
+  pub one_more : (merge : MergeState) (ledger : Ledger) (now : RouterState) (new : Option (List ℕ)) (more : Bool) → more ≡ true → Steps line family end start state old merge ledger now new (Ok more)
+      → Steps line family end start state old merge ledger now new (Ok true)
+  one_more merge ledger now new more is steps = subst (λ (b : Bool). Steps line family end start state old merge ledger now new (Ok b)) is steps
+
+  pub no_more : (merge : MergeState) (ledger : Ledger) (now : RouterState) (new : Option (List ℕ)) (more : Bool) → more ≡ false → Steps line family end start state old merge ledger now new (Ok more)
+      → HasAll line family end start state old merge ledger now new
+  no_more merge ledger now new more is steps = subst (λ (b : Bool). Steps line family end start state old merge ledger now new (Ok b)) is steps
+
+  pub ends_so : (merge : MergeState) (ledger : Ledger) (now : RouterState) (new : Option (List ℕ)) (fault : TraceFault) → Steps line family end start state old merge ledger now new (Err fault)
+      → RunsTurns line family end start state old {A = Unit {0}} merge ledger now new (Err fault)
+  ends_so merge ledger now new (Capture told) p = p
+  ends_so merge ledger now new Output p = p
+  ends_so merge ledger now new Memory p = p
+
+  -- nothing was told, since there was no memory for the ledger
+  pub nothing_yet : HasSome line family end start state old old
+  unfolding Takes TellsTurns
+  nothing_yet = record {
+    events = [];
+    tells = record {
+      taken = [];
+      are = λ captures coming. record { clock_then = start.clock; rest = captures; takes_them = (refl, refl); is_rest = tt };
+      ledger = ledger_for state;
+      after = state;
+      tells = (refl, refl, refl);
+    };
+    written = all_told line old old [] (none_told line old);
+  }
+
+  -- the turns ended the trace
+  pub turns_end_it : (merge : MergeState) (ledger : Ledger) (now after : RouterState) (new : Option (List ℕ)) (fault : TraceFault) → RunsTurns line family end start state old {A = Unit {0}} merge ledger now new (Err fault)
+      → Traces {A = Unit {0}} line family end start merge state after old new (Err fault)
+  turns_end_it merge ledger now after new (Capture told) p = p
+  turns_end_it merge ledger now after new Output p = inl p
+  turns_end_it merge ledger now after new Memory p = inl p
+
+  module _ (merge : MergeState) (ledger_then : Ledger) (between : RouterState) (new : Option (List ℕ)) (h : HasAll line family end start state old merge ledger_then between new) (moment : ℕ)
+      (is_end : moment ≡ end_moment end merge.clock between.machines.moment) where
+    at_end : moment ≡ end_moment end (clock_of start.clock h.taken) between.machines.moment
+    at_end = is_end ∙ ap (λ c. end_moment end c between.machines.moment) h.clock
+
+    all_of : (way : List Occurrence) (ledger : Ledger) (after : RouterState) → PassesTime moment ledger_then between way ledger after → TellsAll family end start state (h.events ++ way) ledger after
+    all_of way ledger after passes = record {
+      taken = h.taken;
+      are = h.are;
+      turns = h.events;
+      ledger_then = ledger_then;
+      between = between;
+      tells = h.tells;
+      way = way;
+      passes = subst (λ (m : ℕ). PassesTime m ledger_then between way ledger after) at_end passes;
+      events_are = refl;
+    }
+
+    trace_of : (way : List Occurrence) (ledger : Ledger) (after : RouterState) → PassesTime moment ledger_then between way ledger after
+        → IsTrace family end start state ((h.events ++ way) ++ ending ledger after ∷ []) after
+    trace_of way ledger after passes = record { told = h.events ++ way; ledger = ledger; tells = all_of way ledger after passes; events_are = refl }
+
+    -- the device failed in the time behind the last turn
+    pub stopped_behind : (newer : Option (List ℕ)) → HasBegun line (PassesTime moment ledger_then between) new newer → (last : RouterState) × HasTrace line family end start state last (WroteFront line old newer)
+    stopped_behind newer way = (
+      way.after,
+      record {
+        events = (h.events ++ way.events) ++ ending way.ledger way.after ∷ [];
+        is_trace = trace_of way.events way.ledger way.after way.are;
+        written = begun_longer line old newer (h.events ++ way.events) (ending way.ledger way.after ∷ []) (told_begun line old new newer h.events way.events h.written way.written);
+      },
+    )
+
+    module _ (ledger : Ledger) (after : RouterState) (newer last : Option (List ℕ)) (way : HasTold line (PassesTime moment ledger_then between) ledger after new newer) where
+      told_so_far : Wrote line old newer (h.events ++ way.events)
+      told_so_far = told_then line old new newer h.events way.events h.written way.written
+
+      -- the whole trace was told
+      pub end_told : Appends newer last (line (ending ledger after)) → HasTrace line family end start state after (Wrote line old last)
+      end_told p = record {
+        events = (h.events ++ way.events) ++ ending ledger after ∷ [];
+        is_trace = trace_of way.events ledger after way.are;
+        written = told_then line old newer last (h.events ++ way.events) (ending ledger after ∷ []) told_so_far (one_told line newer last (ending ledger after) p);
+      }
+
+      -- the device failed at the end of the run
+      pub end_begun : AppendsFront newer last (line (ending ledger after)) → (final : RouterState) × HasTrace line family end start state final (WroteFront line old last)
+      end_begun p = (
+        after,
+        record {
+          events = (h.events ++ way.events) ++ ending ledger after ∷ [];
+          is_trace = trace_of way.events ledger after way.are;
+          written = told_begun line old newer last (h.events ++ way.events) (ending ledger after ∷ []) told_so_far (one_begun line newer last (ending ledger after) p);
+        },
+      )

@@ -1,0 +1,207 @@
+-- The events of a packet that a port receives lead each machine from its state before it to its state after it.
+use Rattle.std.proofs.Common.{◌≡◌, ◌∙◌, ℕ, List, [], ◌∷◌, ◌++◌, map, length, slice_index_or, Option, None, Some, refl}
+use Rattle.std.proofs.Common.{sym, ap, subst}
+use Rattle.std.proofs.lemmas.List.{map-append}
+use Rattle.pim_addr.specs.declared.family.AddressFamily.{AddressFamily}
+use Rattle.pim_addr.specs.Faults.{judged}
+use Rattle.pim_frame.specs.Frame.{Content, hello, join_prune, other, content}
+use Rattle.pim_frame.specs.declared.frame.FrameFault.{FrameFault}
+use Rattle.pim_jp.specs.declared.fault.JpFault.{JpFault}
+use Rattle.pim_jp.specs.Faults.{faults as join_prune_faults}
+use Rattle.pim_jp.specs.Message.{Message, message_of}
+use Rattle.pim_down.specs.declared.machine.Record.{Record}
+use Rattle.pim_down.specs.Hearing.{events_of, start_of}
+use Rattle.pim_down.specs.Known.{known_in}
+use Rattle.pim_down.specs.Laws.{KeysAreToldApart, HearingKeepsTheOrder, HearingLeavesOtherPorts}
+use Rattle.pim_down.specs.Records.{IsAscending, state_of}
+use Rattle.pim_router.specs.declared.verdict.Verdict.{Verdict}
+use Rattle.pim_router.specs.declared.verdict.Verdict.TheVariants as verdict
+use Rattle.pim_router.specs.declared.verdict.Malformed.TheVariants as malformed
+use Rattle.pim_router.specs.Packets.{Packet, received, body_causes, message_causes, body_taken, neighbours_on}
+use Rattle.pim_router.specs.Packets.{timing_on}
+use Rattle.pim_router.specs.State.{RouterState}
+use Rattle.pim_events.specs.Events.{Happened, Occurrence}
+use Rattle.pim_transitions.specs.declared.transition.Transition.{Transition}
+use Rattle.pim_transitions.specs.Transitions.{AreTransitions}
+use Rattle.pim_trace.specs.Heard.{event_on, greeting, judgment, all_ignored, changes_of, restarts, as_cause}
+use Rattle.pim_trace.specs.Heard.{message_says, applied_says, says, records_after, AreChangesOf, HearsPacket}
+use Rattle.pim_trace.specs.Ledger.{Ledger}
+use Rattle.pim_trace.specs.Reading.{Read, as_hello, as_message, unread, message_by, message_in, read_by, hello_read}
+use Rattle.pim_trace.specs.Reading.{message_read, packet_read}
+use Rattle.pim_trace.proofs.Folding.{Quiet, AllQuiet, LeadsAll, all_on, all_quiet}
+use Rattle.pim_trace.proofs.FoldedHearing.{changes_lead, quiet_ignored, quiet_restarts}
+use Rattle.pim_trace.proofs.Verdicts.{by_causes, applied_leaves}
+
+-- ---- packets that are not applied leave the machines
+
+parts_nil : {A : Type 0} (xs ys : List A) → xs ++ ys ≡ [] → xs ≡ []
+parts_nil [] ys e = refl
+parts_nil (x ∷ xs) ys e = absurd cc
+
+unmapped_nil : {A B : Type 0} (f : A → B) (xs : List A) → map f xs ≡ [] → xs ≡ []
+unmapped_nil f [] e = refl
+unmapped_nil f (x ∷ xs) e = absurd cc
+
+some_none : (message : Message) → ◌≡◌ {A = Option Message} (Some message) None → ⊥
+some_none message e = cc
+
+module _ (family : AddressFamily) (packet : Packet) (state : RouterState) where
+  -- a body that reads as a message is read
+  message_reads : {faults : List FrameFault} → faults ≡ [] → (body : List ℕ) →
+      body_causes family packet.port packet.source state (join_prune body) ≡ [] →
+      message_in (read_by family (judged faults (join_prune body))) ≡ Some (message_of family body)
+  message_reads {faults = faults} none body bodies =
+      let no_faults =
+      unmapped_nil (λ (fault : JpFault). verdict.Malformed (malformed.JoinPrune fault))
+      (join_prune_faults family body)
+      (parts_nil
+      (map (λ (fault : JpFault). verdict.Malformed (malformed.JoinPrune fault)) (join_prune_faults family body))
+      (message_causes family packet.port packet.source state (message_of family body)) bodies) in
+      ap (λ fs. message_in (read_by family (judged fs (join_prune body)))) none
+      ∙ ap (λ fs. message_in (message_by (judged fs (message_of family body)))) no_faults
+
+  -- no message was applied: the machines stay
+  stays : ((received family packet state).0 ≡ verdict.Applied → message_read family packet ≡ None) →
+      (received family packet state).1.machines.records ≡ state.machines.records
+  stays =
+      by_causes family state packet
+      (λ (end : Verdict × RouterState). (end.0 ≡ verdict.Applied → message_read family packet ≡ None) →
+      end.1.machines.records ≡ state.machines.records)
+      (λ v e never. refl) (λ frames bodies never. by frames (content packet.bytes) bodies never)
+    where
+      by : {faults : List FrameFault} → faults ≡ [] → (body : Content) →
+          body_causes family packet.port packet.source state body ≡ [] →
+          ((body_taken family packet.port packet.source state body).0 ≡ verdict.Applied →
+          message_in (read_by family (judged faults body)) ≡ None) →
+          (body_taken family packet.port packet.source state body).1.machines.records ≡ state.machines.records
+      by none (other type) bodies never = refl
+      by none (hello body) bodies never = refl
+      by none (join_prune body) bodies never =
+          absurd (some_none (message_of family body) (sym (message_reads none body bodies) ∙ never refl))
+
+  -- a packet with a message reads as it
+  reads_as : (message : Message) → message_read family packet ≡ Some message → packet_read family packet
+      ≡ as_message message
+  reads_as message = by (packet_read family packet)
+    where
+      by : (read : Read) → message_in read ≡ Some message → read ≡ as_message message
+      by (as_hello said) e = absurd cc
+      by (as_message said) e = cc
+      by unread e = absurd cc
+
+-- ---- the events of a packet
+
+module _ (apart : KeysAreToldApart) (keeps : HearingKeepsTheOrder) (leaves : HearingLeavesOtherPorts)
+    (family : AddressFamily) (frame : ℕ) (packet : Packet) (ledger : Ledger) (state : RouterState)
+    (up : IsAscending state.machines.records) where
+  abbrev records : List (Record (List ℕ))
+  records = state.machines.records
+
+  abbrev then : List (Record (List ℕ))
+  then = (received family packet state).1.machines.records
+
+  abbrev events_of_all : List Happened → List Occurrence
+  events_of_all whats = map (event_on ledger state.machines.moment packet.port) whats
+
+  quietly : ((received family packet state).0 ≡ verdict.Applied → message_read family packet ≡ None) →
+      (whats : List Happened) → AllQuiet whats → LeadsAll records (events_of_all whats) then
+  quietly unapplied whats quiet =
+      let same = stays family packet state unapplied in
+      all_quiet records then ledger state.machines.moment packet.port whats (subst IsAscending (sym same) up)
+      (λ key. ap (state_of key) (sym same)) quiet
+
+  abbrev applied_whats : Message → List (Transition (List ℕ)) → List Happened
+  applied_whats message changes =
+      judgment family frame packet verdict.Applied
+      ∷ message_says family frame packet state ledger message.sets changes
+
+  heard_lead : (message : Message) (changes : List (Transition (List ℕ))) →
+      AreTransitions packet.port (start_of message.holdtime (timing_on packet.port state))
+      (events_of (known_in family state.routes) message) records
+      (records_after family packet.port state message) changes →
+      LeadsAll records (events_of_all (applied_whats message changes)) (records_after family packet.port state message)
+  heard_lead message changes are =
+      let ignored = all_ignored frame packet.source (known_in family state.routes) message.sets in
+      let first = judgment family frame packet verdict.Applied ∷ ignored in
+      let changed =
+      changes_of ledger (as_cause frame packet state) (length (neighbours_on packet.port state).entries) changes in
+      subst (λ (es : List Occurrence). LeadsAll records es (records_after family packet.port state message))
+      (sym (map-append (event_on ledger state.machines.moment packet.port) first changed))
+      (all_on records records (records_after family packet.port state message) (events_of_all first)
+      (events_of_all changed)
+      (all_quiet records records ledger state.machines.moment packet.port first up (λ key. refl)
+      ((λ key port. refl), quiet_ignored frame packet.source (known_in family state.routes) message.sets))
+      (changes_lead apart packet.port (as_cause frame packet state) state.machines.moment
+      (length (neighbours_on packet.port state).entries) leaves keeps
+      (start_of message.holdtime (timing_on packet.port state))
+      (events_of (known_in family state.routes) message) records up changes are ledger ledger))
+
+  abbrev Are : Verdict → Option Message → List (Transition (List ℕ)) → Type 0
+  Are v message changes = AreChangesOf family packet state (received family packet state).1 v message changes
+
+  applied_lead : (received family packet state).0 ≡ verdict.Applied → (message : Option Message) →
+      message_read family packet ≡ message → (changes : List (Transition (List ℕ))) →
+      Are verdict.Applied message changes →
+      LeadsAll records
+      (events_of_all (judgment family frame packet verdict.Applied
+      ∷ applied_says family frame packet state ledger message changes)) then
+  applied_lead is None read changes are =
+      quietly (λ applied. read) (judgment family frame packet verdict.Applied ∷ []) ((λ key port. refl), tt)
+  applied_lead is (Some message) read changes are =
+      let left : then ≡ records_after family packet.port state message =
+      ap (λ (s : RouterState). s.machines.records)
+      (applied_leaves family packet state message (reads_as family packet state message read) is) in
+      subst (λ (rs : List (Record (List ℕ))). LeadsAll records (events_of_all (applied_whats message changes)) rs)
+      (sym left)
+      (heard_lead message changes
+      (subst (λ (rs : List (Record (List ℕ))).
+      AreTransitions packet.port (start_of message.holdtime (timing_on packet.port state))
+      (events_of (known_in family state.routes) message) records rs changes) left are))
+
+  -- another verdict than `Applied`
+  alone : (v : Verdict) → (received family packet state).0 ≡ v → (v ≡ verdict.Applied → ⊥) → (what : Happened) →
+      Quiet what → LeadsAll records (events_of_all (what ∷ [])) then
+  alone v is never what quiet = quietly (λ applied. absurd (never (sym is ∙ applied))) (what ∷ []) (quiet, tt)
+
+  says_lead : (v : Verdict) → (received family packet state).0 ≡ v → (changes : List (Transition (List ℕ))) →
+      Are v (message_read family packet) changes →
+      LeadsAll records (events_of_all (says family frame packet state ledger v changes)) then
+  says_lead verdict.Mine is changes are =
+      let restarted = restarts frame (slice_index_or ledger.own packet.port None) (hello_read family packet) in
+      quietly (λ applied. absurd (never_mine (sym is ∙ applied)))
+      (judgment family frame packet verdict.Mine ∷ restarted) (
+        (λ key port. refl),
+        quiet_restarts frame (slice_index_or ledger.own packet.port None)
+            (hello_read family packet),
+      )
+    where
+      never_mine : verdict.Mine ≡ verdict.Applied → ⊥
+      never_mine e = cc
+  says_lead (verdict.Malformed fault) is changes are =
+      alone (verdict.Malformed fault) is (λ e. cc) (judgment family frame packet (verdict.Malformed fault))
+      (λ key port. refl)
+  says_lead (verdict.OtherType type) is changes are =
+      alone (verdict.OtherType type) is (λ e. cc) (judgment family frame packet (verdict.OtherType type))
+      (λ key port. refl)
+  says_lead (verdict.HelloTaken heard) is changes are =
+      alone (verdict.HelloTaken heard) is (λ e. cc) (greeting family frame packet state heard) (λ key port. refl)
+  says_lead verdict.UnknownNeighbour is changes are =
+      alone verdict.UnknownNeighbour is (λ e. cc) (judgment family frame packet verdict.UnknownNeighbour)
+      (λ key port. refl)
+  says_lead verdict.NotForUs is changes are =
+      alone verdict.NotForUs is (λ e. cc) (judgment family frame packet verdict.NotForUs) (λ key port. refl)
+  says_lead (verdict.Full full) is changes are =
+      alone (verdict.Full full) is (λ e. cc) (judgment family frame packet (verdict.Full full)) (λ key port. refl)
+  says_lead verdict.Applied is changes are = applied_lead is (message_read family packet) refl changes are
+
+  pub packet_leads : (events : List Occurrence) (ledger' : Ledger) (after : RouterState) →
+      HearsPacket family frame packet ledger state events ledger' after →
+      LeadsAll records events after.machines.records
+  packet_leads events ledger' after h =
+      let same : (received family packet state).1 ≡ after = sym h.after_is in
+      subst (λ (s : RouterState). LeadsAll records events s.machines.records) same
+      (subst (λ (es : List Occurrence). LeadsAll records es then) (sym h.events_are)
+      (says_lead (received family packet state).0 refl h.changes
+      (subst
+      (λ (s : RouterState). AreChangesOf family packet state s (received family packet state).0
+      (message_read family packet) h.changes) h.after_is h.are)))

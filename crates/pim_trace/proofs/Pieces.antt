@@ -1,0 +1,41 @@
+-- What is written of events, where the device took all of it or a front.
+use Rattle.std.proofs.Common.{ℕ, List, [], ◌∷◌, ◌++◌, Option, sym, subst, append-nil}
+use Rattle.std.proofs.lemmas.Grind.{flat_map-append}
+use Rattle.std.specs.List.{flat_map}
+use Rattle.std.specs.Io.KnownBytes.{Appends}
+use Rattle.std.proofs.KnownBytes.{Appends-nil, Appends-trans}
+use Rattle.pim_device.specs.Device.{AppendsFront}
+use Rattle.pim_events.specs.Events.{Occurrence}
+use Rattle.pim_trace.specs.Trace.{Wrote, WroteFront}
+use Rattle.pim_trace.proofs.Written.{front-longer, front-more}
+use Rattle.pim_trace.proofs.Writing.{all-is-front}
+
+module _ (line : Occurrence → List ℕ) where
+  -- nothing was written of no events
+  pub none_told : (old : Option (List ℕ)) → Wrote line old old []
+  none_told old = Appends-nil old
+
+  -- the line of one event
+  pub one_told : (old new : Option (List ℕ)) (event : Occurrence) → Appends old new (line event) → Wrote line old new (event ∷ [])
+  one_told old new event p = subst (λ (text : List ℕ). Appends old new text) (sym (append-nil (line event))) p
+
+  pub one_begun : (old new : Option (List ℕ)) (event : Occurrence) → AppendsFront old new (line event) → WroteFront line old new (event ∷ [])
+  one_begun old new event p = subst (λ (text : List ℕ). AppendsFront old new text) (sym (append-nil (line event))) p
+
+  -- all of what is written of events is a front of it
+  pub all_told : (old new : Option (List ℕ)) (events : List Occurrence) → Wrote line old new events → WroteFront line old new events
+  all_told old new events p = all-is-front old new (flat_map line events) p
+
+  -- some events, and then others
+  pub told_then : (old mid new : Option (List ℕ)) (one more : List Occurrence) → Wrote line old mid one → Wrote line mid new more → Wrote line old new (one ++ more)
+  told_then old mid new one more p q =
+      subst (λ (text : List ℕ). Appends old new text) (sym (flat_map-append line one more)) (Appends-trans old mid new (flat_map line one) (flat_map line more) p q)
+
+  pub told_begun : (old mid new : Option (List ℕ)) (one more : List Occurrence) → Wrote line old mid one → WroteFront line mid new more → WroteFront line old new (one ++ more)
+  told_begun old mid new one more p q =
+      subst (λ (text : List ℕ). AppendsFront old new text) (sym (flat_map-append line one more)) (front-more old mid new (flat_map line one) (flat_map line more) p q)
+
+  -- nothing behind the first events was written
+  pub begun_longer : (old new : Option (List ℕ)) (one more : List Occurrence) → WroteFront line old new one → WroteFront line old new (one ++ more)
+  begun_longer old new one more p =
+      subst (λ (text : List ℕ). AppendsFront old new text) (sym (flat_map-append line one more)) (front-longer old new (flat_map line one) (flat_map line more) p)

@@ -1,0 +1,228 @@
+-- A turn: the time up to it, and then what its record holds.
+use Rattle.std.proofs.Common.{◌≡◌, ◌∙◌, ℕ, Bool, true, false, if◌then◌else◌, List, [], ◌∷◌, ◌++◌, Option, None, Some, Ok, Err, Result, slice_index_or, map, refl, sym, ap, subst}
+use Rattle.std.specs.Option.{option_map}
+use Rattle.std.specs.Io.KnownBytes.{Appends}
+use Rattle.pim_device.specs.Device.{AppendsFront}
+use Rattle.pim_addr.specs.declared.family.AddressFamily.{AddressFamily}
+use Rattle.pim_addr.specs.Families.{is_same}
+use Rattle.pim_capture.specs.Frame.{Datagram}
+use Rattle.pim_merge.specs.Merge.{Taken}
+use Rattle.pim_jp.specs.Message.{Message}
+use Rattle.pim_down.specs.Hearing.{events_of, start_of}
+use Rattle.pim_down.specs.Known.{known_in}
+use Rattle.pim_router.specs.declared.verdict.Verdict.{Verdict}
+use Rattle.pim_router.specs.declared.verdict.Verdict.TheVariants as verdict
+use Rattle.pim_router.specs.Packets.{Packet, received, timing_on}
+use Rattle.pim_router.specs.State.{RouterState}
+use Rattle.pim_events.specs.declared.event.Skip.TheVariants.{OtherFamily}
+use Rattle.pim_events.specs.declared.event.Skipping.{Skipping}
+use Rattle.pim_events.specs.Events.{Occurrence, record_skipped}
+use Rattle.pim_transitions.specs.declared.transition.Transition.{Transition}
+use Rattle.pim_transitions.specs.Laws.{TransitionsAreThere}
+use Rattle.pim_trace.specs.declared.turns.Ends.{Ends}
+use Rattle.pim_trace.specs.Heard.{AreChangesOf, event_on, says, remembers}
+use Rattle.pim_trace.specs.Held.{ends_seen, ends_in}
+use Rattle.pim_trace.specs.Ledger.{Ledger, frame_of, with_skip}
+use Rattle.pim_trace.specs.Passing.{PassesTime}
+use Rattle.pim_trace.specs.Reading.{message_read}
+use Rattle.pim_trace.specs.Telling.{HasTold, HasBegun, Tells}
+use Rattle.pim_trace.specs.Turn.{Content, held, passed_over, no_record, packet_on, datagram_in, content_in, Skips, Rests, TakesContent, TakesRecord, counting, TellsTurn}
+use Rattle.pim_trace.proofs.Pieces.{none_told, one_told, one_begun, told_then, told_begun, begun_longer}
+
+-- ---- what a record holds
+
+if_here : {A : Type 0} (b : Bool) (x y : A) → b ≡ true → (if b then x else y) ≡ x
+if_here true x y e = refl
+if_here false x y e = absurd cc
+
+if_there : {A : Type 0} (b : Bool) (x y : A) → b ≡ false → (if b then x else y) ≡ y
+if_there true x y e = absurd cc
+if_there false x y e = refl
+
+-- a value that is there only where the test holds
+is_here : {A : Type 0} (b : Bool) (p q : A) → Some p ≡ (if b then Some q else None) → (b ≡ true) × (p ≡ q)
+is_here true p q e = (refl, cc)
+is_here false p q e = absurd cc
+
+is_gone : {A : Type 0} (b : Bool) (q : A) → None ≡ (if b then Some q else None) → b ≡ false
+is_gone true q e = absurd cc
+is_gone false q e = refl
+
+abbrev made : ℕ → List ℕ → List ℕ → List ℕ → Packet
+made port source destination bytes = record { port = port; source = source; destination = destination; bytes = bytes }
+
+same_packet : (port : ℕ) (a b c d e f : List ℕ) → a ≡ d → b ≡ e → c ≡ f → made port a b c ≡ made port d e f
+same_packet port a b c d e f p q r = ap (λ l. made port l b c) p ∙ (ap (λ l. made port d l c) q ∙ ap (λ l. made port d e l) r)
+
+module _ {A : Type 0} (bytes_of : A → List ℕ) (family : AddressFamily) (port frame : ℕ) (datagram : Datagram) (ends : Option (Ends A))
+    (is : option_map (ends_seen bytes_of) ends ≡ ends_in family datagram) where
+  -- a packet of the other family
+  pub of_other : ends ≡ None → passed_over (record { frame = frame; why = OtherFamily }) ≡ datagram_in family port frame datagram
+  of_other none =
+      let test : is_same family datagram.family ≡ false = is_gone (is_same family datagram.family) (datagram.source, datagram.destination) (ap (option_map (ends_seen bytes_of)) (sym none) ∙ is) in
+      sym (if_there (is_same family datagram.family) (held frame (packet_on port datagram)) (passed_over (record { frame = frame; why = OtherFamily })) test)
+
+  -- a packet of the router's family
+  pub of_family : (two : Ends A) (bytes : List ℕ) → ends ≡ Some two → bytes ≡ datagram.payload
+      → held frame (made port (bytes_of two.source) (bytes_of two.destination) bytes) ≡ datagram_in family port frame datagram
+  of_family two bytes there same =
+      let facts : (is_same family datagram.family ≡ true) × ◌≡◌ {A = List ℕ × List ℕ} (bytes_of two.source, bytes_of two.destination) (datagram.source, datagram.destination) =
+      is_here (is_same family datagram.family) (bytes_of two.source, bytes_of two.destination) (datagram.source, datagram.destination) (ap (option_map (ends_seen bytes_of)) (sym there) ∙ is)
+      in
+      ap (λ sent. held frame sent)
+      (same_packet port (bytes_of two.source) (bytes_of two.destination) bytes datagram.source datagram.destination datagram.payload (ap (λ (p : List ℕ × List ℕ). p.0) facts.1)
+      (ap (λ (p : List ℕ × List ℕ). p.1) facts.1) same)
+      ∙ sym (if_here (is_same family datagram.family) (held frame (packet_on port datagram)) (passed_over (record { frame = frame; why = OtherFamily })) facts.0)
+
+-- ---- each record has its events
+
+-- Some events are those of the content, with what is remembered and the router after it.
+pub record HasEvents (family : AddressFamily) (port : ℕ) (content : Content) (ledger : Ledger) (state : RouterState) : Type 0 where
+  pub events : List Occurrence
+  pub ledger' : Ledger
+  pub after : RouterState
+  pub takes : TakesContent family port content ledger state events ledger' after
+
+module _ (law : TransitionsAreThere) (family : AddressFamily) where
+  record HasChanges (packet : Packet) (state after : RouterState) (told : Verdict) (message : Option Message) : Type 0 where
+    pub changes : List (Transition (List ℕ))
+    pub are : AreChangesOf family packet state after told message changes
+
+  some_changes : (packet : Packet) (state after : RouterState) (told : Verdict) (message : Option Message) → HasChanges packet state after told message
+  some_changes packet state after verdict.Applied (Some message) =
+      let list = law packet.port (start_of message.holdtime (timing_on packet.port state)) (events_of (known_in family state.routes) message) state.machines.records after.machines.records in
+      record { changes = list.0; are = list.1 }
+  some_changes packet state after verdict.Applied None = record { changes = []; are = refl }
+  some_changes packet state after verdict.Mine message = record { changes = []; are = refl }
+  some_changes packet state after (verdict.Malformed fault) message = record { changes = []; are = refl }
+  some_changes packet state after (verdict.OtherType type) message = record { changes = []; are = refl }
+  some_changes packet state after verdict.UnknownNeighbour message = record { changes = []; are = refl }
+  some_changes packet state after verdict.NotForUs message = record { changes = []; are = refl }
+  some_changes packet state after (verdict.Full store) message = record { changes = []; are = refl }
+  some_changes packet state after (verdict.HelloTaken heard) message = record { changes = []; are = refl }
+
+  pub some_events : (port : ℕ) (content : Content) (ledger : Ledger) (state : RouterState) → HasEvents family port content ledger state
+  some_events port (held frame packet) ledger state =
+      let told = received family packet state in
+      let some = some_changes packet state told.1 told.0 (message_read family packet) in
+      record {
+        events = map (event_on ledger state.machines.moment packet.port) (says family frame packet state ledger told.0 some.changes);
+        ledger' = remembers family frame packet state ledger told.0 some.changes;
+        after = told.1;
+        takes = record { changes = some.changes; are = some.are; after_is = refl; events_are = refl; ledger_is = refl };
+      }
+  some_events port (passed_over skipping) ledger state = record {
+    events = event_on ledger state.machines.moment port (record_skipped skipping) ∷ [];
+    ledger' = with_skip skipping.why ledger;
+    after = state;
+    takes = (refl, refl, refl);
+  }
+  some_events port no_record ledger state = record { events = []; ledger' = ledger; after = state; takes = (refl, refl, refl) }
+
+-- ---- a record that is skipped
+
+module _ (line : Occurrence → List ℕ) (port : ℕ) (skipping : Skipping) (ledger : Ledger) (state : RouterState) (ms : ℕ) (now : ms ≡ state.machines.moment) where
+  abbrev event_at : ℕ → Occurrence
+  event_at moment = event_on ledger moment port (record_skipped skipping)
+
+  pub skip_begun : (old new : Option (List ℕ)) → AppendsFront old new (line (event_at ms)) → HasBegun line (Skips port skipping ledger state) old new
+  skip_begun old new p = record {
+    events = event_at state.machines.moment ∷ [];
+    ledger = with_skip skipping.why ledger;
+    after = state;
+    are = (refl, refl, refl);
+    written = one_begun line old new (event_at state.machines.moment) (subst (λ (m : ℕ). AppendsFront old new (line (event_at m))) now p);
+  }
+
+  pub skip_told : (ledger' : Ledger) → ledger' ≡ with_skip skipping.why ledger → (old new : Option (List ℕ)) → Appends old new (line (event_at ms))
+      → HasTold line (Skips port skipping ledger state) ledger' state old new
+  skip_told ledger' counts old new p = record {
+    events = event_at state.machines.moment ∷ [];
+    are = (refl, counts, refl);
+    written = one_told line old new (event_at state.machines.moment) (subst (λ (m : ℕ). Appends old new (line (event_at m))) now p);
+  }
+
+-- nothing was told of what is no record
+pub rest_told : (line : Occurrence → List ℕ) (ledger : Ledger) (state : RouterState) (old : Option (List ℕ)) → HasTold line (Rests ledger state) ledger state old old
+rest_told line ledger state old = record { events = []; are = (refl, refl, refl); written = none_told line old }
+
+-- ---- the turn
+
+same_frame : (port : ℕ) (one other : Ledger) → one.frames ≡ other.frames → frame_of port one ≡ frame_of port other
+same_frame port one other same = ap (λ (frames : List ℕ). slice_index_or frames port 0) same
+
+module _ (line : Occurrence → List ℕ) (family : AddressFamily) (turn : Taken) (ledger counted : Ledger) (state : RouterState) (counts : counted ≡ counting turn ledger) where
+  -- the time that passed up to the turn
+  abbrev Way : List Occurrence → Ledger → RouterState → Type 0
+  Way = PassesTime turn.moment counted state
+
+  abbrev Tell : List Occurrence → Ledger → RouterState → Type 0
+  Tell = TellsTurn family turn ledger state
+
+  passes_so : (events : List Occurrence) (ledger_then : Ledger) (between : RouterState) → Way events ledger_then between → PassesTime turn.moment (counting turn ledger) state events ledger_then between
+  passes_so events ledger_then between passes = subst (λ (l : Ledger). PassesTime turn.moment l state events ledger_then between) counts passes
+
+  -- the device failed on the way
+  pub stopped_on_the_way : TransitionsAreThere → (old new : Option (List ℕ)) → HasBegun line Way old new → HasBegun line Tell old new
+  stopped_on_the_way law old new way =
+      let rest = some_events law family turn.capture (content_in family turn.capture (frame_of turn.capture way.ledger) turn.told) way.ledger way.after in
+      record {
+        events = way.events ++ rest.events;
+        ledger = rest.ledger';
+        after = rest.after;
+        are = record {
+          way = way.events;
+          between = way.after;
+          ledger_then = way.ledger;
+          passes = passes_so way.events way.ledger way.after way.are;
+          of_record = rest.events;
+          takes = rest.takes;
+          events_are = refl;
+        };
+        written = begun_longer line old new way.events rest.events way.written;
+      }
+
+  module _ (ledger_then : Ledger) (between : RouterState) (old mid : Option (List ℕ)) (way : HasTold line Way ledger_then between old mid) (frame : ℕ) (numbered : frame ≡ frame_of turn.capture counted)
+      (frames : ledger_then.frames ≡ counted.frames) (content : Content) (holds : content ≡ content_in family turn.capture frame turn.told) where
+    -- what was taken is the record of the turn
+    takes_it : (events : List Occurrence) (ledger' : Ledger) (after : RouterState) → TakesContent family turn.capture content ledger_then between events ledger' after
+        → TakesRecord family turn.capture turn.told ledger_then between events ledger' after
+    takes_it events ledger' after takes =
+        subst (λ (c : Content). TakesContent family turn.capture c ledger_then between events ledger' after)
+        (holds ∙ ap (λ n. content_in family turn.capture n turn.told) (numbered ∙ same_frame turn.capture counted ledger_then (sym frames))) takes
+
+    turn_is : (events : List Occurrence) (ledger' : Ledger) (after : RouterState) → TakesContent family turn.capture content ledger_then between events ledger' after
+        → Tell (way.events ++ events) ledger' after
+    turn_is events ledger' after takes = record {
+      way = way.events;
+      between = between;
+      ledger_then = ledger_then;
+      passes = passes_so way.events ledger_then between way.are;
+      of_record = events;
+      takes = takes_it events ledger' after takes;
+      events_are = refl;
+    }
+
+    -- the whole turn was told
+    pub turn_told : (ledger' : Ledger) (after : RouterState) (new : Option (List ℕ)) → HasTold line (TakesContent family turn.capture content ledger_then between) ledger' after mid new
+        → HasTold line Tell ledger' after old new
+    turn_told ledger' after new one = record {
+      events = way.events ++ one.events;
+      are = turn_is one.events ledger' after one.are;
+      written = told_then line old mid new way.events one.events way.written one.written;
+    }
+
+    -- a front of what its record tells was told
+    pub turn_begun : (new : Option (List ℕ)) → HasBegun line (TakesContent family turn.capture content ledger_then between) mid new → HasBegun line Tell old new
+    turn_begun new one = record {
+      events = way.events ++ one.events;
+      ledger = one.ledger;
+      after = one.after;
+      are = turn_is one.events one.ledger one.after one.are;
+      written = told_begun line old mid new way.events one.events way.written one.written;
+    }
+
+    pub turn_over : {E : Type 0} (ledger' : Ledger) (after : RouterState) (new : Option (List ℕ)) (result : Result (Unit {0}) E) → Tells line (TakesContent family turn.capture content ledger_then between) ledger' after mid new result
+        → Tells line Tell ledger' after old new result
+    turn_over ledger' after new (Ok done) p = turn_told ledger' after new p
+    turn_over ledger' after new (Err fault) p = turn_begun new p

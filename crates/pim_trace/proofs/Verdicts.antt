@@ -1,0 +1,224 @@
+-- What a verdict tells of the packet, and what the packet tells of its verdict.
+use Rattle.std.proofs.Common.{◌≡◌, ℕ, Bool, true, false, not, nat_eq, nat_lt, List, [], ◌∷◌, ◌++◌, map, Result, Ok, Err, IfOk, refl, sym, ap, ◌∙◌}
+use Rattle.std.specs.List.{AllByRecursion}
+use Rattle.std.specs.Cmp.Lexicographic.{pointwise}
+use Rattle.std.proofs.lemmas.Bool.{false≢true}
+use Rattle.pim_addr.specs.declared.family.AddressFamily.{AddressFamily}
+use Rattle.pim_addr.specs.Faults.{fault_if, judged}
+use Rattle.pim_frame.specs.Frame.{Content, hello, join_prune, other, content, frame_faults}
+use Rattle.pim_frame.specs.declared.frame.FrameFault.{FrameFault}
+use Rattle.pim_hello.specs.Faults.{faults as hello_faults}
+use Rattle.pim_hello.specs.Hello.{Hello, Parameters}
+use Rattle.pim_hello.specs.declared.fault.HelloFault.{HelloFault}
+use Rattle.pim_hello.specs.declared.heard.Heard.{Heard}
+use Rattle.pim_hello.specs.Value.{hello_of}
+use Rattle.pim_jp.specs.Faults.{faults as join_prune_faults}
+use Rattle.pim_jp.specs.declared.fault.JpFault.{JpFault}
+use Rattle.pim_jp.specs.Message.{Message, message_of}
+use Rattle.pim_router.specs.declared.verdict.Verdict.{Verdict}
+use Rattle.pim_router.specs.declared.verdict.Verdict.TheVariants as verdict
+use Rattle.pim_router.specs.declared.verdict.Malformed.TheVariants as malformed
+use Rattle.pim_router.specs.declared.verdict.Store.TheVariants as store
+use Rattle.pim_router.specs.Packets.{Packet, Receives, received, unless, causes, body_causes, message_causes, hello_causes, room_causes, body_taken, message_taken, knows, own_address, needed_by}
+use Rattle.pim_router.specs.State.{RouterState}
+use Rattle.pim_trace.specs.Reading.{as_hello, as_message, hello_by, message_by, read_by, packet_read}
+
+-- ---- lists of causes
+
+nil_parts : {A : Type 0} (xs ys : List A) → xs ++ ys ≡ [] → (xs ≡ []) × (ys ≡ [])
+nil_parts [] ys e = (refl, e)
+nil_parts (x ∷ xs) ys e = absurd cc
+
+map_nil : {A B : Type 0} (f : A → B) (xs : List A) → map f xs ≡ [] → xs ≡ []
+map_nil f [] e = refl
+map_nil f (x ∷ xs) e = absurd cc
+
+-- a verdict that refuses the packet
+pub refuses : Verdict → Bool
+refuses verdict.Mine = true
+refuses (verdict.Malformed fault) = true
+refuses (verdict.OtherType type) = true
+refuses (verdict.HelloTaken heard) = false
+refuses verdict.UnknownNeighbour = true
+refuses verdict.NotForUs = true
+refuses (verdict.Full full) = true
+refuses verdict.Applied = false
+
+abbrev Refuse : List Verdict → Type 0
+Refuse told = AllByRecursion (λ v. refuses v ≡ true) told
+
+refuse_append : (xs ys : List Verdict) → Refuse xs → Refuse ys → Refuse (xs ++ ys)
+refuse_append [] ys a b = b
+refuse_append (x ∷ xs) ys a b = (a.0, refuse_append xs ys a.1 b)
+
+refuse_if : (b : Bool) (v : Verdict) → refuses v ≡ true → Refuse (fault_if b v)
+refuse_if true v e = (e, tt)
+refuse_if false v e = tt
+
+refuse_map : {A : Type 0} (f : A → Verdict) → ((x : A) → refuses (f x) ≡ true) → (xs : List A) → Refuse (map f xs)
+refuse_map f each [] = tt
+refuse_map f each (x ∷ xs) = (each x, refuse_map f each xs)
+
+module _ (family : AddressFamily) (state : RouterState) where
+  body_refuse : (port : ℕ) (source : List ℕ) (body : Content) → Refuse (body_causes family port source state body)
+  unfolding refuses
+  body_refuse port source (other type) = (refl, tt)
+  body_refuse port source (hello body) =
+      refuse_append (map (λ (fault : HelloFault). verdict.Malformed (malformed.Hello fault)) (hello_faults body)) (hello_causes port source state (hello_of family body).parameters)
+      (refuse_map (λ (fault : HelloFault). verdict.Malformed (malformed.Hello fault)) (λ fault. refl) (hello_faults body)) (refuse_if _ (verdict.Full store.Neighbours) refl)
+  body_refuse port source (join_prune body) =
+      let message = message_of family body in
+      refuse_append (map (λ (fault : JpFault). verdict.Malformed (malformed.JoinPrune fault)) (join_prune_faults family body)) (message_causes family port source state message)
+      (refuse_map (λ (fault : JpFault). verdict.Malformed (malformed.JoinPrune fault)) (λ fault. refl) (join_prune_faults family body))
+      (refuse_append
+      (fault_if (not (knows port source state)) verdict.UnknownNeighbour ++ fault_if (not (pointwise nat_eq message.upstream (own_address port state))) verdict.NotForUs)
+      (room_causes family port state message)
+      (refuse_append (fault_if (not (knows port source state)) verdict.UnknownNeighbour) (fault_if (not (pointwise nat_eq message.upstream (own_address port state))) verdict.NotForUs)
+      (refuse_if (not (knows port source state)) verdict.UnknownNeighbour refl) (refuse_if (not (pointwise nat_eq message.upstream (own_address port state))) verdict.NotForUs refl))
+      (refuse_if (nat_lt state.machines.limit (needed_by family port message state)) (verdict.Full (store.Records (needed_by family port message state))) refl))
+
+  abbrev own_cause : Packet → List Verdict
+  own_cause packet = fault_if (pointwise nat_eq packet.source (own_address packet.port state)) verdict.Mine
+
+  abbrev frame_causes : Packet → List Verdict
+  frame_causes packet = map (λ (fault : FrameFault). verdict.Malformed (malformed.Frame fault)) (frame_faults family packet.source packet.destination packet.bytes)
+
+  all_refuse : (packet : Packet) → Refuse (causes family packet state)
+  unfolding refuses
+  all_refuse packet =
+      refuse_append (own_cause packet ++ frame_causes packet) (body_causes family packet.port packet.source state (content packet.bytes))
+      (refuse_append (own_cause packet) (frame_causes packet) (refuse_if (pointwise nat_eq packet.source (own_address packet.port state)) verdict.Mine refl)
+      (refuse_map (λ (fault : FrameFault). verdict.Malformed (malformed.Frame fault)) (λ fault. refl) (frame_faults family packet.source packet.destination packet.bytes)))
+      (body_refuse packet.port packet.source (content packet.bytes))
+
+  -- a packet is refused by a cause, or it has none and is taken
+  by_unless : (P : Verdict × RouterState → Type 0) (told : List Verdict) (taken : Verdict × RouterState) → Refuse told → ((v : Verdict) → refuses v ≡ true → P (v, state)) → (told ≡ [] → P taken)
+      → P (unless told state taken)
+  by_unless P [] taken all refused takes = takes refl
+  by_unless P (v ∷ others) taken all refused takes = refused v all.0
+
+  pub by_causes : (packet : Packet) (P : Verdict × RouterState → Type 0) → ((v : Verdict) → refuses v ≡ true → P (v, state))
+      → (frame_faults family packet.source packet.destination packet.bytes ≡ [] → body_causes family packet.port packet.source state (content packet.bytes) ≡ []
+      → P (body_taken family packet.port packet.source state (content packet.bytes)))
+      → P (received family packet state)
+  by_causes packet P refused takes =
+      by_unless P (causes family packet state) (body_taken family packet.port packet.source state (content packet.bytes)) (all_refuse packet) refused none
+    where
+      none : causes family packet state ≡ [] → P (body_taken family packet.port packet.source state (content packet.bytes))
+      none e =
+          let parts = nil_parts (own_cause packet ++ frame_causes packet) (body_causes family packet.port packet.source state (content packet.bytes)) e in
+          let first = nil_parts (own_cause packet) (frame_causes packet) parts.0 in
+          takes (map_nil (λ (fault : FrameFault). verdict.Malformed (malformed.Frame fault)) (frame_faults family packet.source packet.destination packet.bytes) first.1) parts.1
+
+-- ---- a Hello that was taken
+
+taken_refuses : (v : Verdict) (heard : Heard) → refuses v ≡ true → v ≡ verdict.HelloTaken heard → ⊥
+unfolding refuses
+taken_refuses v heard e is = false≢true (sym (ap refuses is) ∙ e)
+
+applied_refuses : (v : Verdict) → refuses v ≡ true → v ≡ verdict.Applied → ⊥
+unfolding refuses
+applied_refuses v e is = false≢true (sym (ap refuses is) ∙ e)
+
+pub record ReadsHello (family : AddressFamily) (packet : Packet) : Type 0 where
+  pub said : Parameters
+  pub is : packet_read family packet ≡ as_hello said
+
+-- a Hello is taken only if the packet reads as one
+pub taken_reads : (family : AddressFamily) (packet : Packet) (state : RouterState) (heard : Heard) → (received family packet state).0 ≡ verdict.HelloTaken heard → ReadsHello family packet
+taken_reads family packet state heard =
+    by_causes family state packet (λ (end : Verdict × RouterState). end.0 ≡ verdict.HelloTaken heard → ReadsHello family packet)
+    (λ v e is. absurd (taken_refuses v heard e is)) (λ frames bodies is. record { said = (reads frames (content packet.bytes) bodies is).0; is = (reads frames (content packet.bytes) bodies is).1 })
+  where
+    reads : {faults : List FrameFault} → faults ≡ [] → (body : Content) → body_causes family packet.port packet.source state body ≡ [] → (body_taken family packet.port packet.source state body).0 ≡ verdict.HelloTaken heard
+        → (said : Parameters) × (read_by family (judged faults body) ≡ as_hello said)
+    reads {faults = faults} none (other type) bodies is = absurd cc
+    reads {faults = faults} none (hello body) bodies is =
+        let parts = nil_parts (map (λ (fault : HelloFault). verdict.Malformed (malformed.Hello fault)) (hello_faults body)) (hello_causes packet.port packet.source state (hello_of family body).parameters) bodies in
+        let no_faults = map_nil (λ (fault : HelloFault). verdict.Malformed (malformed.Hello fault)) (hello_faults body) parts.0 in (
+          (hello_of family body).parameters,
+          ap (λ fs. read_by family (judged fs (hello body))) none ∙ ap (λ fs. hello_by (judged fs (hello_of family body))) no_faults,
+        )
+    reads {faults = faults} none (join_prune body) bodies is = absurd cc
+
+-- ---- a message
+
+-- the message is the body of the packet
+record IsBody (family : AddressFamily) (faults : List FrameFault) (body : Content) (message : Message) : Type 0 where
+  bytes : List ℕ
+  sound : faults ≡ []
+  body_is : body ≡ join_prune bytes
+  is : message_of family bytes ≡ message
+
+message_is : (family : AddressFamily) (faults : List FrameFault) (body : Content) (message : Message) → read_by family (judged faults body) ≡ as_message message → IsBody family faults body message
+message_is family (fault ∷ faults) body message e = absurd cc
+message_is family [] (other type) message e = absurd cc
+message_is family [] (hello body) message e = absurd (by (judged (hello_faults body) (hello_of family body)) e)
+  where
+    by : (r : Result Hello HelloFault) → hello_by r ≡ as_message message → ⊥
+    by (Ok said) e = cc
+    by (Err fault) e = cc
+message_is family [] (join_prune body) message e = by (join_prune_faults family body) e
+  where
+    by : (faults : List JpFault) → message_by (judged faults (message_of family body)) ≡ as_message message → IsBody family [] (join_prune body) message
+    by [] e = record { bytes = body; sound = refl; body_is = refl; is = cc }
+    by (fault ∷ faults) e = absurd cc
+
+module _ (family : AddressFamily) (packet : Packet) (state : RouterState) (message : Message) (read : packet_read family packet ≡ as_message message) where
+  body_of : IsBody family (frame_faults family packet.source packet.destination packet.bytes) (content packet.bytes) message
+  body_of = message_is family (frame_faults family packet.source packet.destination packet.bytes) (content packet.bytes) message read
+
+  -- a message that was applied leaves the router that the message makes
+  pub applied_leaves : (received family packet state).0 ≡ verdict.Applied → (received family packet state).1 ≡ (message_taken family packet.port state message).1
+  applied_leaves =
+      by_causes family state packet (λ (end : Verdict × RouterState). end.0 ≡ verdict.Applied → end.1 ≡ (message_taken family packet.port state message).1)
+      (λ v e is. absurd (applied_refuses v e is))
+      (λ frames bodies is.
+      ap (λ (body : Content). (body_taken family packet.port packet.source state body).1) body_of.body_is ∙ ap (λ (m : Message). (message_taken family packet.port state m).1) body_of.is)
+
+  -- a message to another router isn't applied
+  pub other_is_refused : pointwise nat_eq message.upstream (own_address packet.port state) ≡ false → (received family packet state).0 ≡ verdict.Applied → ⊥
+  other_is_refused other_name =
+      by_causes family state packet (λ (end : Verdict × RouterState). end.0 ≡ verdict.Applied → ⊥)
+      (λ v e is. applied_refuses v e is)
+      (λ frames bodies is. refused (sym (ap (body_causes family packet.port packet.source state) body_of.body_is) ∙ bodies))
+    where
+      refused : body_causes family packet.port packet.source state (join_prune body_of.bytes) ≡ [] → ⊥
+      refused e =
+          let said = message_of family body_of.bytes in
+          let first = nil_parts (map (λ (fault : JpFault). verdict.Malformed (malformed.JoinPrune fault)) (join_prune_faults family body_of.bytes)) (message_causes family packet.port packet.source state said) e in
+          let unknown = fault_if (not (knows packet.port packet.source state)) verdict.UnknownNeighbour in
+          let elsewhere = fault_if (not (pointwise nat_eq said.upstream (own_address packet.port state))) verdict.NotForUs in
+          let second = nil_parts (unknown ++ elsewhere) (room_causes family packet.port state said) first.1 in
+          let third = nil_parts unknown elsewhere second.0 in
+          let name : pointwise nat_eq said.upstream (own_address packet.port state) ≡ false =
+          ap (λ (m : Message). pointwise nat_eq m.upstream (own_address packet.port state)) body_of.is ∙ other_name in
+          let one : verdict.NotForUs ∷ [] ≡ [] = sym (ap (λ b. fault_if (not b) verdict.NotForUs) name) ∙ third.1 in
+          cc
+
+-- ---- what stays
+
+unless_moment : (told : List Verdict) (state : RouterState) (taken : Verdict × RouterState) → taken.1.machines.moment ≡ state.machines.moment → (unless told state taken).1.machines.moment ≡ state.machines.moment
+unless_moment [] state taken e = e
+unless_moment (cause ∷ others) state taken e = refl
+
+body_moment : (family : AddressFamily) (port : ℕ) (source : List ℕ) (state : RouterState) (body : Content) → (body_taken family port source state body).1.machines.moment ≡ state.machines.moment
+body_moment family port source state (other type) = refl
+body_moment family port source state (hello body) = refl
+body_moment family port source state (join_prune body) = refl
+
+-- a packet takes no time
+pub packet_moment : (family : AddressFamily) (packet : Packet) (state : RouterState) → (received family packet state).1.machines.moment ≡ state.machines.moment
+packet_moment family packet state =
+    unless_moment (causes family packet state) state (body_taken family packet.port packet.source state (content packet.bytes)) (body_moment family packet.port packet.source state (content packet.bytes))
+
+-- ---- the call that receives a packet
+
+pub received_ok : {E : Type 0} (told : List Verdict) (end : Verdict × RouterState) (old new : RouterState) (r : Result Verdict E) → Receives told end old r new → IfOk r (λ v. (v, new) ≡ end)
+received_ok told end old new (Ok v) p = p
+received_ok told end old new (Err e) p = tt
+
+pub received_moment : {E : Type 0} (family : AddressFamily) (packet : Packet) (told : List Verdict) (old new : RouterState) (r : Result Verdict E) → Receives told (received family packet old) old r new
+    → new.machines.moment ≡ old.machines.moment
+received_moment family packet told old new (Ok v) p = ap (λ (end : Verdict × RouterState). end.1.machines.moment) p ∙ packet_moment family packet old
+received_moment family packet told old new (Err e) p = ap (λ (s : RouterState). s.machines.moment) p.1

@@ -1,0 +1,39 @@
+use Rattle.std.proofs.Common.{length, sym, subst}
+use Rattle.pim_device.specs.Device.{AppendsFront, AppendsAll}
+use Rattle.pim_down.specs.Known.{known_in}
+use Rattle.pim_router.specs.Packets.{neighbours_on}
+use Rattle.pim_transitions.specs.Named.{transitions_to}
+use Rattle.pim_trace.specs.Heard.{all_ignored, changes_of, as_cause}
+use Rattle.pim_trace.specs.Kept.{ledger_seen}
+use Rattle.pim_trace.specs.Read.{packet_in}
+use Rattle.pim_trace.specs.Telling.{text_on}
+use Rattle.pim_trace.proofs.Written.{front-longer}
+use Rattle.pim_trace.proofs.Writing.{all-more, text-append}
+use Rattle.pim_trace.proofs.hearing.tell_effects.Goals as goal
+
+pub returns-in_default-clause-bytes : goal.returns-in_default-clause-bytes
+returns-in_default-clause-bytes g c =
+    let line = g.T.Teller.line c.args.teller.now in
+    let state = c.args.router.now in
+    let ledger = ledger_seen g.F.Family.bytes_of c.args.ledger.now in
+    let packet = packet_in g.F.Family.bytes_of c.args.packet.now in
+    let first = all_ignored c.args.packet.now.frame packet.source (known_in g.F.Family.family state.routes) c.args.effects.sets in
+    let more = changes_of ledger (as_cause c.args.packet.now.frame packet state) (length (neighbours_on packet.port state).entries) (transitions_to state.machines.records c.args.effects.named) in
+    let old = g.T.Teller.contents c.args.device.now in
+    let new = g.T.Teller.contents c.tell_ignored.new.device in
+    subst (λ l. AppendsFront old new l) (sym (text-append line ledger state.machines.moment packet.port first more))
+    (front-longer old new (text_on line ledger state.machines.moment packet.port first) (text_on line ledger state.machines.moment packet.port more) c.in_default.ensures.bytes)
+
+pub returns-clause-bytes : goal.returns-clause-bytes
+returns-clause-bytes g c =
+    let line = g.T.Teller.line c.args.teller.now in
+    let state = c.args.router.now in
+    let ledger = ledger_seen g.F.Family.bytes_of c.args.ledger.now in
+    let packet = packet_in g.F.Family.bytes_of c.args.packet.now in
+    let first = all_ignored c.args.packet.now.frame packet.source (known_in g.F.Family.family state.routes) c.args.effects.sets in
+    let more = changes_of ledger (as_cause c.args.packet.now.frame packet state) (length (neighbours_on packet.port state).entries) (transitions_to state.machines.records c.args.effects.named) in
+    let old = g.T.Teller.contents c.args.device.now in
+    let between = g.T.Teller.contents c.tell_ignored.new.device in
+    let new = g.T.Teller.contents c.tell_changes.new.device in
+    subst (λ l. AppendsAll old new c.tell_changes.result l) (sym (text-append line ledger state.machines.moment packet.port first more))
+    (all-more c.tell_changes.result old between new (text_on line ledger state.machines.moment packet.port first) (text_on line ledger state.machines.moment packet.port more) c.in-Ok.ensures.bytes c.tell_changes.ensures.bytes)

@@ -1,0 +1,25 @@
+use Rattle.std.proofs.Common.{◌≡◌, ◌≤◌, [], max}
+use Rattle.pim_router.specs.State.{setup_of}
+use Rattle.pim_router.specs.Time.{turns_left}
+use Rattle.pim_trace.specs.Kept.{ledger_seen}
+use Rattle.pim_trace.specs.Passing.{gone_by}
+use Rattle.pim_trace.proofs.OnTheWay.{IsOnTheWay}
+use Rattle.pim_trace.proofs.passing.fire_all.Given as goal
+
+-- what happens from here happens from the start, and nobody goes
+abbrev pub invariant-loop-firing : goal.invariant-loop-firing
+invariant-loop-firing g l = record {
+  way : IsOnTheWay (g.T.Teller.line l.fn.teller) l.fn.moment (ledger_seen g.F.Family.bytes_of l.fn.ledger) l.fn.router (g.T.Teller.contents l.fn.device)
+      (ledger_seen g.F.Family.bytes_of l.ledger) l.router (g.T.Teller.contents l.device);
+  nobody : gone_by l.fn.moment l.router ≡ [];
+  failures : g.T.Teller.failures l.device ≡ g.T.Teller.failures l.fn.device;
+  later : l.fn.router.machines.moment ≤ l.router.machines.moment;
+  within : l.router.machines.moment ≤ max l.fn.router.machines.moment l.fn.moment;
+  setup : setup_of l.router ≡ setup_of l.fn.router;
+  frames : l.ledger.frames.items ≡ l.fn.ledger.frames.items;
+  own : l.ledger.own.items ≡ l.fn.ledger.own.items;
+}
+
+-- each timer that fires brings the router nearer to the moment
+abbrev pub decreases-loop-firing : goal.decreases-loop-firing
+decreases-loop-firing g l = turns_left l.fn.moment l.router

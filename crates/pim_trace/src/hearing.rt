@@ -1,0 +1,483 @@
+//! A packet that a port receives: the router takes it, and the trace says what it did.
+//!
+//! The message is read before the router takes it, since what it says is told beside the verdict.
+//! The machines that a message may change are looked up only if it is for this router.
+
+ghost use Rattle.std.specs.Prelude.{◌≡◌, ◌<◌, ◌^◌, [], ◌∷◌, None, nat_eq, length, IfOk, OnOk};
+ghost use Rattle.std.specs.Prelude.{slice_index_or};
+ghost use Rattle.std.specs.Cmp.Lexicographic.{pointwise};
+ghost use Rattle.pim_device.specs.Device.{AppendsAll};
+ghost use Rattle.pim_hello.specs.Neighbours.{neighbour_at};
+ghost use Rattle.pim_router.specs.Packets.{received, own_address, neighbours_on};
+ghost use Rattle.pim_router.specs.State.{setup_of};
+ghost use Rattle.pim_events.specs.Events.{hello_taken, greeting_seen};
+ghost use Rattle.pim_transitions.specs.Named.{transitions_to};
+ghost use Rattle.pim_trace.specs.Heard.{HearsPacket, generation_of, judgment, restart_of};
+ghost use Rattle.pim_trace.specs.Heard.{as_cause, sent_by, message_says, records_after};
+ghost use Rattle.pim_trace.specs.Heard.{AreTransitionsOf};
+ghost use Rattle.pim_trace.specs.Ledger.{with_own, with_hello, with_changes};
+ghost use Rattle.pim_trace.specs.Kept.{ledger_seen};
+ghost use Rattle.pim_trace.specs.Read.{packet_in, IsHello, IsForOther, as_read, is_applied};
+ghost use Rattle.pim_trace.specs.Reading.{packet_read, message_read, as_message};
+ghost use Rattle.pim_trace.specs.Telling.{Tells, text_on, failures_by};
+
+use crate::changing::tell_changes;
+use crate::ignoring::tell_ignored;
+use crate::ledger::{Ledger, Sent};
+use crate::reading::{Reading, read};
+use crate::telling::tell_on;
+use pim_addr::Family;
+use pim_events::{Greeting, Happening, Judgment, OwnRestart, Teller};
+use pim_hello::Heard;
+use pim_jp::{JpView, Sets};
+use pim_report::TextFault;
+use pim_router::{Router, Verdict};
+use pim_transitions::{Named, candidates_tell_transitions, transitions_are_there};
+use std::alloc::{AllocError, Global};
+
+/// A packet of the router's family, as a capture has it.
+#[derive(Clone, Copy)]
+pub(crate) struct Packet<'a, A> {
+    /// The port that receives it.
+    pub(crate) port: usize,
+    /// The number of its record in its capture, from 1.
+    pub(crate) frame: u64,
+    pub(crate) source: A,
+    pub(crate) destination: A,
+    /// The PIM message.
+    pub(crate) bytes: &'a [u8],
+}
+
+/// What is told of a message that is applied: its group sets, and the machines that it may change.
+#[derive(Drop)]
+struct Effects<'m, F: Family> {
+    sets: Sets<'m, F>,
+    named: Named<F>,
+}
+
+/// Lets the router take a packet.
+fn take<F: Family>(
+    router: &mut Router<'_, F>,
+    packet: &Packet<'_, F::Addr>,
+) -> Result<Verdict, AllocError>
+    requires port { packet.now.port < length router.old.ports }
+    requires bytes { length packet.now.bytes.now < 2 ^ 32 }
+    ensures told { IfOk result (λ verdict.
+        (verdict, router.new) ≡ received F.family (packet_in F.bytes_of packet.now) router.old) }
+    ensures setup { setup_of router.new ≡ setup_of router.old }
+    ensures moment { router.new.machines.moment ≡ router.old.machines.moment }
+{
+    router.take_packet(packet.port, packet.source, packet.destination, packet.bytes)
+}
+
+/// The Generation ID that is kept of the packet's sender.
+fn generation_kept<F: Family>(router: &Router<'_, F>, packet: &Packet<'_, F::Addr>) -> Option<u32>
+    requires { packet.now.port < length router.now.ports }
+    ensures { result ≡ generation_of
+        (neighbour_at (F.bytes_of packet.now.source) (neighbours_on packet.now.port router.now)) }
+{
+    router.is_router();
+    match router.neighbour(packet.port, packet.source) {
+        Some(known) => known.parameters.generation,
+        None => None,
+    }
+}
+
+/// Whether a message names the port's address as its upstream neighbour.
+fn is_for_port<F: Family>(router: &Router<'_, F>, port: usize, message: &JpView<'_, F>) -> bool
+    requires { port < length router.now.ports }
+    ensures { result ≡ pointwise nat_eq message.now.upstream (own_address port router.now) }
+{
+    message.upstream() == router.port(port).address
+}
+
+// ---- Hellos
+
+/// Remembers a Hello that was taken at this moment, or forgets its sender at a goodbye.
+fn remember_hello<F: Family>(
+    ledger: &mut Ledger<F>,
+    ms: u64,
+    port: usize,
+    greeting: &Greeting<F::Addr>,
+) -> Result<(), AllocError>
+    ensures ledger { OnOk result (ledger_seen F.bytes_of ledger.new
+        ≡ with_hello port (F.bytes_of greeting.now.from)
+        (sent_by greeting.now.frame ms greeting.now.verdict) (ledger_seen F.bytes_of ledger.old)) }
+    ensures frames { ledger.new.frames.items ≡ ledger.old.frames.items }
+    ensures own { ledger.new.own.items ≡ ledger.old.own.items }
+{
+    let sent = Sent {
+        frame: greeting.frame,
+        ms,
+    };
+    match greeting.verdict {
+        Heard::Gone => {
+            let _last = ledger.forget_neighbour(port, greeting.from);
+            Ok(())
+        }
+        _ => ledger.hear_hello(port, greeting.from, sent),
+    }
+}
+
+/// Tells a Hello that was taken, and remembers it.
+fn greet<F: Family, W, T: Teller<F, W>>(
+    teller: &T,
+    device: &mut W,
+    ledger: &mut Ledger<F>,
+    ms: u64,
+    port: usize,
+    greeting: Greeting<F::Addr>,
+) -> Result<(), TextFault>
+    ensures bytes { AppendsAll (T.contents device.old) (T.contents device.new) result
+        (text_on (T.line teller.now) (ledger_seen F.bytes_of ledger.old) ms port
+        (hello_taken (greeting_seen F.bytes_of greeting) ∷ [])) }
+    ensures ledger { OnOk result (ledger_seen F.bytes_of ledger.new
+        ≡ with_hello port (F.bytes_of greeting.from) (sent_by greeting.frame ms greeting.verdict)
+        (ledger_seen F.bytes_of ledger.old)) }
+    ensures frames { ledger.new.frames.items ≡ ledger.old.frames.items }
+    ensures own { ledger.new.own.items ≡ ledger.old.own.items }
+    ensures count { T.failures device.new ≡ failures_by (T.failures device.old) result }
+{
+    let event = Happening::Hello(greeting);
+    let Ok(()) = tell_on(teller, device, ledger, ms, port, event) else {
+        return Err(TextFault::Output);
+    };
+    let Ok(()) = remember_hello(ledger, ms, port, &greeting) else {
+        return Err(TextFault::Memory);
+    };
+    Ok(())
+}
+
+/// Tells the verdict on a packet that is no Join/Prune message.
+fn tell_verdict<F: Family, W, T: Teller<F, W>>(
+    teller: &T,
+    device: &mut W,
+    ledger: &Ledger<F>,
+    ms: u64,
+    packet: &Packet<'_, F::Addr>,
+    verdict: Verdict,
+) -> Result<(), TextFault>
+    requires { message_read F.family (packet_in F.bytes_of packet.now) ≡ None }
+    ensures bytes { AppendsAll (T.contents device.old) (T.contents device.new) result
+        (text_on (T.line teller.now) (ledger_seen F.bytes_of ledger.now) ms packet.now.port
+        (judgment F.family packet.now.frame (packet_in F.bytes_of packet.now) verdict ∷ [])) }
+    ensures count { T.failures device.new ≡ failures_by (T.failures device.old) result }
+{
+    let event = Happening::Packet(Judgment {
+        frame: packet.frame,
+        from: packet.source,
+        verdict,
+        message: None,
+    });
+    let Ok(()) = tell_on(teller, device, ledger, ms, packet.port, event) else {
+        return Err(TextFault::Output);
+    };
+    Ok(())
+}
+
+/// Remembers a Hello of the port's own address. Tells whether its Generation ID is another than
+/// that of the Hello before it.
+fn tell_restart<F: Family, W, T: Teller<F, W>>(
+    teller: &T,
+    device: &mut W,
+    ledger: &mut Ledger<F>,
+    ms: u64,
+    packet: &Packet<'_, F::Addr>,
+    generation: Option<u32>,
+) -> Result<(), TextFault>
+    requires { packet.now.port < length ledger.old.own.items }
+    ensures bytes { AppendsAll (T.contents device.old) (T.contents device.new) result
+        (text_on (T.line teller.now) (ledger_seen F.bytes_of ledger.old) ms packet.now.port
+        (restart_of packet.now.frame (slice_index_or ledger.old.own.items packet.now.port None)
+        generation)) }
+    ensures ledger { ledger_seen F.bytes_of ledger.new
+        ≡ with_own packet.now.port generation (ledger_seen F.bytes_of ledger.old) }
+    ensures count { T.failures device.new ≡ failures_by (T.failures device.old) result }
+{
+    let Some(was) = ledger.send_own(packet.port, generation) else {
+        return Ok(());
+    };
+    if was == generation {
+        return Ok(());
+    }
+    let restart = Happening::Restarted(OwnRestart {
+        frame: packet.frame,
+        was,
+        generation,
+    });
+    let Ok(()) = tell_on(teller, device, ledger, ms, packet.port, restart) else {
+        return Err(TextFault::Output);
+    };
+    Ok(())
+}
+
+/// The port's own address sent a Hello with this Generation ID.
+fn hear_own<F: Family, W, T: Teller<F, W>>(
+    teller: &T,
+    device: &mut W,
+    ledger: &mut Ledger<F>,
+    ms: u64,
+    packet: &Packet<'_, F::Addr>,
+    generation: Option<u32>,
+) -> Result<(), TextFault>
+    requires own { packet.now.port < length ledger.old.own.items }
+    requires message { message_read F.family (packet_in F.bytes_of packet.now) ≡ None }
+    ensures bytes { AppendsAll (T.contents device.old) (T.contents device.new) result
+        (text_on (T.line teller.now) (ledger_seen F.bytes_of ledger.old) ms packet.now.port
+        (judgment F.family packet.now.frame (packet_in F.bytes_of packet.now) Verdict.Mine
+        ∷ restart_of packet.now.frame (slice_index_or ledger.old.own.items packet.now.port None)
+        generation)) }
+    ensures ledger { OnOk result (ledger_seen F.bytes_of ledger.new
+        ≡ with_own packet.now.port generation (ledger_seen F.bytes_of ledger.old)) }
+    ensures frames { ledger.new.frames.items ≡ ledger.old.frames.items }
+    ensures own { length ledger.new.own.items ≡ length ledger.old.own.items }
+    ensures count { T.failures device.new ≡ failures_by (T.failures device.old) result }
+{
+    tell_verdict(teller, device, ledger, ms, packet, Verdict::Mine)?;
+    tell_restart(teller, device, ledger, ms, packet, generation)
+}
+
+/// A port receives a Hello with this Generation ID.
+fn hear_hello<F: Family, W, T: Teller<F, W>>(
+    teller: &T,
+    device: &mut W,
+    router: &mut Router<'_, F>,
+    ledger: &mut Ledger<F>,
+    packet: &Packet<'_, F::Addr>,
+    generation: Option<u32>,
+) -> Result<(), TextFault>
+    requires port { packet.now.port < length router.old.ports }
+    requires own { packet.now.port < length ledger.old.own.items }
+    requires bytes { length packet.now.bytes.now < 2 ^ 32 }
+    requires hello { IsHello generation (packet_read F.family (packet_in F.bytes_of packet.now)) }
+    ensures told { Tells (T.line teller.now)
+        (HearsPacket F.family packet.now.frame (packet_in F.bytes_of packet.now)
+        (ledger_seen F.bytes_of ledger.old) router.old)
+        (ledger_seen F.bytes_of ledger.new) router.new (T.contents device.old)
+        (T.contents device.new) result }
+    ensures count { T.failures device.new ≡ failures_by (T.failures device.old) result }
+    ensures setup { setup_of router.new ≡ setup_of router.old }
+    ensures moment { router.new.machines.moment ≡ router.old.machines.moment }
+    ensures frames { ledger.new.frames.items ≡ ledger.old.frames.items }
+    ensures own { length ledger.new.own.items ≡ length ledger.old.own.items }
+{
+    let ms = router.now();
+    let was = generation_kept(router, packet);
+    let Ok(verdict) = take(router, packet) else {
+        return Err(TextFault::Memory);
+    };
+    match verdict {
+        Verdict::HelloTaken(heard) => {
+            let greeting = Greeting {
+                frame: packet.frame,
+                from: packet.source,
+                verdict: heard,
+                was,
+                generation,
+            };
+            greet(teller, device, ledger, ms, packet.port, greeting)
+        }
+        Verdict::Mine => hear_own(teller, device, ledger, ms, packet, generation),
+        _ => tell_verdict(teller, device, ledger, ms, packet, verdict),
+    }
+}
+
+// ---- other packets
+
+/// Whether a message was applied.
+fn is_applied(verdict: Verdict) -> bool
+    ensures { result ≡ is_applied verdict }
+{
+    matches!(verdict, Verdict::Applied)
+}
+
+/// Lets the router take a packet that is no Hello, and tells the verdict. Returns whether it was
+/// applied.
+fn judge<F: Family, W, T: Teller<F, W>>(
+    teller: &T,
+    device: &mut W,
+    router: &mut Router<'_, F>,
+    ledger: &Ledger<F>,
+    packet: &Packet<'_, F::Addr>,
+    message: Option<JpView<'_, F>>,
+) -> Result<bool, TextFault>
+    requires port { packet.now.port < length router.old.ports }
+    requires bytes { length packet.now.bytes.now < 2 ^ 32 }
+    requires message { message_read F.family (packet_in F.bytes_of packet.now) ≡ message }
+    ensures bytes { AppendsAll (T.contents device.old) (T.contents device.new) result
+        (text_on (T.line teller.now) (ledger_seen F.bytes_of ledger.now) router.old.machines.moment
+        packet.now.port (judgment F.family packet.now.frame (packet_in F.bytes_of packet.now)
+        (received F.family (packet_in F.bytes_of packet.now) router.old).0 ∷ [])) }
+    ensures router { OnOk result (router.new ≡
+        (received F.family (packet_in F.bytes_of packet.now) router.old).1) }
+    ensures applied { IfOk result (λ applied. applied ≡
+        is_applied (received F.family (packet_in F.bytes_of packet.now) router.old).0) }
+    ensures count { T.failures device.new ≡ failures_by (T.failures device.old) result }
+    ensures setup { setup_of router.new ≡ setup_of router.old }
+    ensures moment { router.new.machines.moment ≡ router.old.machines.moment }
+{
+    let ms = router.now();
+    let Ok(verdict) = take(router, packet) else {
+        return Err(TextFault::Memory);
+    };
+    let event = Happening::Packet(Judgment {
+        frame: packet.frame,
+        from: packet.source,
+        verdict,
+        message,
+    });
+    let Ok(()) = tell_on(teller, device, ledger, ms, packet.port, event) else {
+        return Err(TextFault::Output);
+    };
+    Ok(is_applied(verdict))
+}
+
+/// The machines that a message may change which the router takes next. Those of them that differ
+/// afterwards are its transitions.
+fn named_by<F: Family>(
+    alloc: Global,
+    router: &Router<'_, F>,
+    port: usize,
+    message: &JpView<'_, F>,
+) -> Result<Named<F>, AllocError>
+    ensures { IfOk result (λ named. AreTransitionsOf F.family port router.now message.now
+        (transitions_to (records_after F.family port router.now message.now) named)) }
+{
+    candidates_tell_transitions();
+    let ports = router.ports();
+    ports.is_sound();
+    Named::of(alloc, ports, port, message, router.routes())
+}
+
+/// Tells what a message did that was applied.
+fn tell_effects<F: Family, W, T: Teller<F, W>>(
+    teller: &T,
+    device: &mut W,
+    router: &Router<'_, F>,
+    ledger: &mut Ledger<F>,
+    packet: &Packet<'_, F::Addr>,
+    effects: Effects<'_, F>,
+) -> Result<(), TextFault>
+    requires { packet.now.port < length router.now.ports }
+    ensures bytes { AppendsAll (T.contents device.old) (T.contents device.new) result
+        (text_on (T.line teller.now) (ledger_seen F.bytes_of ledger.old) router.now.machines.moment
+        packet.now.port (message_says F.family packet.now.frame (packet_in F.bytes_of packet.now)
+        router.now (ledger_seen F.bytes_of ledger.old) effects.entry.sets
+        (transitions_to router.now.machines.records effects.entry.named))) }
+    ensures ledger { OnOk result (ledger_seen F.bytes_of ledger.new
+        ≡ with_changes (as_cause packet.now.frame (packet_in F.bytes_of packet.now) router.now)
+        (transitions_to router.now.machines.records effects.entry.named)
+        (ledger_seen F.bytes_of ledger.old)) }
+    ensures frames { ledger.new.frames.items ≡ ledger.old.frames.items }
+    ensures own { ledger.new.own.items ≡ ledger.old.own.items }
+    ensures count { T.failures device.new ≡ failures_by (T.failures device.old) result }
+{
+    let Effects { sets, named } = effects;
+    let Ok(()) = tell_ignored(teller, device, router, ledger, packet, sets) else {
+        return Err(TextFault::Output);
+    };
+    tell_changes(teller, device, router, ledger, packet, &named)
+}
+
+/// A port receives a Join/Prune message.
+fn hear_message<F: Family, W, T: Teller<F, W>>(
+    teller: &T,
+    device: &mut W,
+    router: &mut Router<'_, F>,
+    ledger: &mut Ledger<F>,
+    packet: &Packet<'_, F::Addr>,
+    message: JpView<'_, F>,
+) -> Result<(), TextFault>
+    requires port { packet.now.port < length router.old.ports }
+    requires bytes { length packet.now.bytes.now < 2 ^ 32 }
+    requires message { packet_read F.family (packet_in F.bytes_of packet.now) ≡ as_message message }
+    ensures told { Tells (T.line teller.now)
+        (HearsPacket F.family packet.now.frame (packet_in F.bytes_of packet.now)
+        (ledger_seen F.bytes_of ledger.old) router.old)
+        (ledger_seen F.bytes_of ledger.new) router.new (T.contents device.old)
+        (T.contents device.new) result }
+    ensures count { T.failures device.new ≡ failures_by (T.failures device.old) result }
+    ensures setup { setup_of router.new ≡ setup_of router.old }
+    ensures moment { router.new.machines.moment ≡ router.old.machines.moment }
+    ensures frames { ledger.new.frames.items ≡ ledger.old.frames.items }
+    ensures own { ledger.new.own.items ≡ ledger.old.own.items }
+{
+    transitions_are_there();
+    let sets = message.sets();
+    let Ok(named) = named_by(ledger.alloc(), router, packet.port, &message) else {
+        return Err(TextFault::Memory);
+    };
+    let effects = Effects { sets, named };
+    let applied = judge(teller, device, router, ledger, packet, Some(message))?;
+    if !applied {
+        return Ok(());
+    }
+    tell_effects(teller, device, router, ledger, packet, effects)
+}
+
+/// A port receives a packet that is neither a Hello nor a message for it.
+fn hear_other<F: Family, W, T: Teller<F, W>>(
+    teller: &T,
+    device: &mut W,
+    router: &mut Router<'_, F>,
+    ledger: &Ledger<F>,
+    packet: &Packet<'_, F::Addr>,
+    message: Option<JpView<'_, F>>,
+) -> Result<(), TextFault>
+    requires port { packet.now.port < length router.old.ports }
+    requires bytes { length packet.now.bytes.now < 2 ^ 32 }
+    requires read { packet_read F.family (packet_in F.bytes_of packet.now) ≡ as_read message }
+    requires other { IsForOther (own_address packet.now.port router.old) message }
+    ensures told { Tells (T.line teller.now)
+        (HearsPacket F.family packet.now.frame (packet_in F.bytes_of packet.now)
+        (ledger_seen F.bytes_of ledger.now) router.old)
+        (ledger_seen F.bytes_of ledger.now) router.new (T.contents device.old)
+        (T.contents device.new) result }
+    ensures count { T.failures device.new ≡ failures_by (T.failures device.old) result }
+    ensures setup { setup_of router.new ≡ setup_of router.old }
+    ensures moment { router.new.machines.moment ≡ router.old.machines.moment }
+{
+    match judge(teller, device, router, ledger, packet, message) {
+        Ok(_) => Ok(()),
+        Err(fault) => Err(fault),
+    }
+}
+
+/// A port receives a packet: the router takes it, and the teller gets its events.
+///
+/// # Errors
+/// The device failed, or memory was refused: some of the events were told.
+pub(crate) fn hear_packet<F: Family, W, T: Teller<F, W>>(
+    teller: &T,
+    device: &mut W,
+    router: &mut Router<'_, F>,
+    ledger: &mut Ledger<F>,
+    packet: &Packet<'_, F::Addr>,
+) -> Result<(), TextFault>
+    requires port { packet.now.port < length router.old.ports }
+    requires own { packet.now.port < length ledger.old.own.items }
+    requires bytes { length packet.now.bytes.now < 2 ^ 32 }
+    ensures told { Tells (T.line teller.now)
+        (HearsPacket F.family packet.now.frame (packet_in F.bytes_of packet.now)
+        (ledger_seen F.bytes_of ledger.old) router.old)
+        (ledger_seen F.bytes_of ledger.new) router.new (T.contents device.old)
+        (T.contents device.new) result }
+    ensures count { T.failures device.new ≡ failures_by (T.failures device.old) result }
+    ensures setup { setup_of router.new ≡ setup_of router.old }
+    ensures moment { router.new.machines.moment ≡ router.old.machines.moment }
+    ensures frames { ledger.new.frames.items ≡ ledger.old.frames.items }
+    ensures own { length ledger.new.own.items ≡ length ledger.old.own.items }
+{
+    match read::<F>(packet.source, packet.destination, packet.bytes) {
+        Reading::Hello { generation } => {
+            hear_hello(teller, device, router, ledger, packet, generation)
+        }
+        Reading::JoinPrune(message) => {
+            if is_for_port(router, packet.port, &message) {
+                return hear_message(teller, device, router, ledger, packet, message);
+            }
+            hear_other(teller, device, router, ledger, packet, Some(message))
+        }
+        Reading::Other => hear_other(teller, device, router, ledger, packet, None),
+    }
+}

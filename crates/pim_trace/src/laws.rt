@@ -1,0 +1,24 @@
+//! Laws of the definitions. These functions do nothing; their clauses are the laws.
+
+ghost use Rattle.pim_trace.specs.Folding.{EventsTellTheState, TurnsTellTheState};
+
+/// The events of a trace tell the state of each machine: from that at the start, each event leads
+/// on to the next, and the last one leads to that at the end.
+pub fn events_tell_the_state()
+    ensures { EventsTellTheState }
+{
+    pim_down::keys_are_told_apart();
+    pim_down::firing_says_more();
+    pim_down::hearing_keeps_the_order();
+    pim_down::hearing_leaves_other_ports();
+}
+
+/// The events of some first turns of a trace tell the state of each machine, too.
+pub fn turns_tell_the_state()
+    ensures { TurnsTellTheState }
+{
+    pim_down::keys_are_told_apart();
+    pim_down::firing_says_more();
+    pim_down::hearing_keeps_the_order();
+    pim_down::hearing_leaves_other_ports();
+}

@@ -1,0 +1,236 @@
+//! A trace goes over the records of a router's captures and tells each change of each machine, with
+//! its cause.
+
+ghost use Rattle.std.specs.Prelude.{◌≡◌, ◌<◌, ◌≤◌, ◌^◌, ℕ, List, Option, length, OnOk};
+ghost use Rattle.pim_capture.specs.Next.{latest_moment};
+ghost use Rattle.pim_device.specs.Device.{AppendsAll, failures_after};
+ghost use Rattle.pim_merge.specs.Ends.{end_moment, IsBoundedEnd};
+ghost use Rattle.pim_merge.specs.Next.{MergeState, turns_left};
+ghost use Rattle.pim_router.specs.State.{RouterState};
+ghost use Rattle.pim_trace.specs.Kept.{ledger_seen};
+ghost use Rattle.pim_trace.specs.Trace.{neighbours_in, ending, ledger_for, Traces};
+ghost use Rattle.pim_trace.specs.Trace.{failures_of_device};
+ghost use Rattle.pim_trace.specs.Underway.{stopped_by, of_text, AreAlike, IsUnderway, Steps};
+ghost use Rattle.pim_trace.specs.Underway.{RunsTurns, IfMore};
+
+use crate::ledger::Ledger;
+use crate::passing::pass_time;
+use crate::turns::take_turn;
+use pim_addr::{Failed, Family, Feed};
+use pim_capture::CaptureFault;
+use pim_events::{Ending, Event, Happening, Teller};
+use pim_merge::{End, Merge, MergeFault};
+use pim_report::TextFault;
+use pim_router::Router;
+use std::alloc::Global;
+
+/// Why a trace stopped.
+#[derive(Clone, Copy, Debug, PartialEq, Eq)]
+pub enum TraceFault {
+    /// The next answer of a capture is this fault, or a read of it failed. It is never `Memory`. If
+    /// several captures have a fault, it is that of the first one.
+    Capture(MergeFault),
+    /// The device failed.
+    Output,
+    /// Memory was refused.
+    Memory,
+}
+
+/// Why a trace stops at this fault of its merge.
+fn stopped_by(told: MergeFault) -> TraceFault
+    ensures { result ≡ stopped_by told }
+{
+    match told.fault {
+        CaptureFault::Memory => TraceFault::Memory,
+        _ => TraceFault::Capture(told),
+    }
+}
+
+/// Why a trace stops when a turn isn't told.
+fn of_text(fault: TextFault) -> TraceFault
+    ensures { result ≡ of_text fault }
+{
+    match fault {
+        TextFault::Output => TraceFault::Output,
+        TextFault::Memory => TraceFault::Memory,
+    }
+}
+
+/// Takes the next turn before the end of the run, if there is one.
+fn step<F: Family, R: Feed + Drop, W, T: Teller<F, W>>(
+    teller: &T,
+    device: &mut W,
+    merge: &mut Merge<R>,
+    router: &mut Router<'_, F>,
+    ledger: &mut Ledger<F>,
+    end: End,
+) -> Result<bool, TraceFault>
+    requires alike { AreAlike merge.old (ledger_seen F.bytes_of ledger.old) router.old }
+    ensures told { (start : MergeState) (state : RouterState) (old : Option (List ℕ)) →
+        IsUnderway (T.line teller.now) F.family end start state old
+        merge.old (ledger_seen F.bytes_of ledger.old) router.old (T.contents device.old) →
+        Steps (T.line teller.now) F.family end start state old
+        merge.new (ledger_seen F.bytes_of ledger.new) router.new (T.contents device.new) result }
+    ensures count { T.failures device.new ≡ failures_of_device (T.failures device.old) result }
+    ensures alike { OnOk result
+        (AreAlike merge.new (ledger_seen F.bytes_of ledger.new) router.new) }
+    ensures nearer { IfMore result (turns_left merge.new < turns_left merge.old) }
+{
+    let next = match merge.next_by(end.last()) {
+        Ok(next) => next,
+        Err(told) => return Err(stopped_by(told)),
+    };
+    let Some(turn) = next else {
+        return Ok(false);
+    };
+    let bytes = merge.bytes(turn.capture);
+    match take_turn(teller, device, router, ledger, &turn, bytes) {
+        Ok(()) => Ok(true),
+        Err(fault) => Err(of_text(fault)),
+    }
+}
+
+/// Takes all turns before the end of the run, where nothing was told before.
+fn run_turns<F: Family, R: Feed + Drop, W, T: Teller<F, W>>(
+    teller: &T,
+    device: &mut W,
+    merge: &mut Merge<R>,
+    router: &mut Router<'_, F>,
+    ledger: &mut Ledger<F>,
+    end: End,
+) -> Result<(), TraceFault>
+    requires new { ledger_seen F.bytes_of ledger.old ≡ ledger_for router.old }
+    requires alike { AreAlike merge.old (ledger_seen F.bytes_of ledger.old) router.old }
+    ensures told { RunsTurns (T.line teller.now) F.family end
+        merge.old router.old (T.contents device.old)
+        merge.new (ledger_seen F.bytes_of ledger.new) router.new (T.contents device.new) result }
+    ensures count { T.failures device.new ≡ failures_of_device (T.failures device.old) result }
+    ensures moment { OnOk result (router.new.machines.moment ≤ latest_moment) }
+{
+    while step(teller, device, merge, router, ledger, end)? {}
+    Ok(())
+}
+
+/// The moment to which a router runs at the end of its run, where all turns before it were taken.
+fn end_moment<F: Family, R: Feed + Drop>(merge: &Merge<R>, router: &Router<'_, F>, end: End) -> u64
+    requires moment { router.now.machines.moment ≤ latest_moment }
+    requires end { IsBoundedEnd end }
+    ensures moment { result ≡ end_moment end merge.now.clock router.now.machines.moment }
+    ensures bound { result ≤ 10 ^ 15 }
+{
+    match end {
+        End::After(after_ms) => router.now() + after_ms,
+        End::At(time) => merge.moment_at(time),
+    }
+}
+
+/// The number of neighbours of all ports.
+fn neighbour_count<F: Family>(router: &Router<'_, F>) -> usize
+    ensures { result ≡ neighbours_in router.now.tables }
+{
+    router.is_router();
+    router.ports().is_sound();
+    let mut count = 0;
+    for port in 0..router.port_count() {
+        count += router.neighbour_count(port);
+    }
+    count
+}
+
+/// The number of machines of all ports.
+fn record_count<F: Family>(router: &Router<'_, F>) -> usize
+    ensures { result ≡ length router.now.machines.records }
+{
+    router.is_router();
+    router.ports().is_sound();
+    let mut count = 0;
+    for port in 0..router.port_count() {
+        count += router.ports().count_on(port);
+    }
+    count
+}
+
+/// Tells the end of the run.
+fn tell_end<F: Family, W, T: Teller<F, W>>(
+    teller: &T,
+    device: &mut W,
+    router: &Router<'_, F>,
+    ledger: &Ledger<F>,
+) -> Result<(), Failed>
+    ensures bytes { AppendsAll (T.contents device.old) (T.contents device.new) result
+        (T.line teller.now (ending (ledger_seen F.bytes_of ledger.now) router.now)) }
+    ensures count { T.failures device.new ≡ failures_after (T.failures device.old) result }
+{
+    let event = Event {
+        ms: router.now(),
+        epoch: ledger.epoch(router.now()),
+        port: None,
+        what: Happening::Ended(Ending {
+            records: record_count(router),
+            neighbours: neighbour_count(router),
+            skipped: ledger.skipped(),
+        }),
+    };
+    teller.tell(device, &event)
+}
+
+/// Traces a whole run with this ledger, which is new.
+fn trace_with<F: Family, R: Feed + Drop, W, T: Teller<F, W>>(
+    teller: &T,
+    device: &mut W,
+    merge: &mut Merge<R>,
+    router: &mut Router<'_, F>,
+    ledger: &mut Ledger<F>,
+    end: End,
+) -> Result<(), TraceFault>
+    requires new { ledger_seen F.bytes_of ledger.old ≡ ledger_for router.old }
+    requires alike { AreAlike merge.old (ledger_seen F.bytes_of ledger.old) router.old }
+    requires end { IsBoundedEnd end }
+    ensures events { Traces (T.line teller.now) F.family end
+        merge.old merge.new router.old router.new
+        (T.contents device.old) (T.contents device.new) result }
+    ensures count { T.failures device.new ≡ failures_of_device (T.failures device.old) result }
+{
+    run_turns(teller, device, merge, router, ledger, end)?;
+    let moment = end_moment(merge, router, end);
+    let Ok(()) = pass_time(teller, device, router, ledger, moment) else {
+        return Err(TraceFault::Output);
+    };
+    let Ok(()) = tell_end(teller, device, router, ledger) else {
+        return Err(TraceFault::Output);
+    };
+    Ok(())
+}
+
+/// Goes over the captures of a router's ports, one for each port and in their order, and tells what
+/// happens. The events of the records up to the end of the run come in order of time. Those of the
+/// time up to that end follow, then the end itself.
+///
+/// Besides the router, it needs memory for one buffer for each capture, for what the trace
+/// remembers, and for the machines that a message may change.
+///
+/// # Errors
+/// - `Capture`: a capture has a fault, and exactly the events of the turns before it were told.
+/// - `Output` if the device fails, `Memory` if memory is refused: a front of what is written of the
+///   events was written.
+pub fn trace_into<F: Family, R: Feed + Drop, W, T: Teller<F, W>>(
+    alloc: Global,
+    teller: &T,
+    device: &mut W,
+    merge: &mut Merge<R>,
+    router: &mut Router<'_, F>,
+    end: End,
+) -> Result<(), TraceFault>
+    requires ports { length merge.old.lanes ≡ length router.old.ports }
+    requires moment { router.old.machines.moment ≤ latest_moment }
+    requires end { IsBoundedEnd end }
+    ensures events { Traces (T.line teller.now) F.family end
+        merge.old merge.new router.old router.new
+        (T.contents device.old) (T.contents device.new) result }
+    ensures count { T.failures device.new ≡ failures_of_device (T.failures device.old) result }
+{
+    let Ok(mut ledger) = Ledger::<F>::new(alloc, router.port_count()) else {
+        return Err(TraceFault::Memory);
+    };
+    trace_with(teller, device, merge, router, &mut ledger, end)
+}
