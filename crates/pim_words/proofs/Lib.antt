@@ -1,7 +1,10 @@
+pub mod Choosing
 pub mod FirstWrong
+pub mod Labelling
 pub mod Numbers
 pub mod Offered
 pub mod OneFamily
+pub mod Orders
 pub mod Passed
 pub mod Planned
 pub mod Refusals

@@ -1,18 +1,23 @@
 -- What the answer of `clap` says of the words.
-use Rattle.std.proofs.Common.{◌≡◌, ◌≤◌, inl, inr, ℕ, Bool, true, false, cond, List, [], ◌∷◌, Option, None, Some, refl, sym, ap, subst, option_map, Result, Ok, Err, MatchResult, IfOk}
-use Rattle.std.specs.Prelude.{find, IsSomeAnd}
+use Rattle.std.proofs.Common.{◌≡◌, ◌∙◌, ◌≤◌, inl, inr, ℕ, suc, Bool, true, false, not, cond, List, [], ◌∷◌, ◌++◌, length, Option, None, Some, refl, sym, ap, subst, option_map, Result, Ok, Err, MatchResult, IfOk}
+use Rattle.std.specs.Prelude.{find, IfSome, IsSomeAnd}
+use Rattle.std.specs.Borrow.{Bor}
 use Rattle.std.specs.List.{AllByRecursion}
 use Rattle.clap.specs.Words.{App, Row, Text, built, fault_of, subcommand_of}
 use Rattle.clap.specs.Walk.{answers_to, stop_after}
 use Rattle.clap.specs.Simple.{Shape, argument_words, entered, label_of, names_of, rows_at}
 use Rattle.clap.proofs.OnLiterals.{clap_on_literals}
+use Rattle.std.proofs.lemmas.List.{length-map}
+use Rattle.clap.proofs.WalkLemmas.{both}
 use Rattle.pim_addr.specs.declared.family.AddressFamily.{AddressFamily}
 use Rattle.pim_addr.specs.declared.family.AddressFamily.TheVariants.{Ipv4, Ipv6}
 use Rattle.pim_words.specs.declared.addresses.Address.{Address}
 use Rattle.pim_words.specs.declared.fault.Fault.{Fault}
 use Rattle.pim_words.specs.declared.task.Captures.{Captures}
 use Rattle.pim_words.specs.declared.task.Kind.{Kind}
-use Rattle.pim_words.specs.declared.task.Kind.TheVariants.{Check, Build, Replay, Same, Mirror, Emit, Change}
+use Rattle.pim_words.specs.declared.task.Kind.TheVariants.{Check, Build, Replay, Trace, Same, Mirror, Emit, Change}
+use Rattle.pim_words.specs.declared.task.Tracing.{Tracing}
+use Rattle.pim_words.specs.declared.task.Port.{Port}
 use Rattle.pim_words.specs.declared.task.Plan.{Plan}
 use Rattle.pim_words.specs.declared.task.Plan.TheVariants.{V4, V6, Session}
 use Rattle.pim_words.specs.declared.task.Task.{Task}
@@ -20,11 +25,12 @@ use Rattle.pim_words.specs.declared.task.Task.TheVariants as task
 use Rattle.pim_words.specs.declared.task.Writing.{Writing}
 use Rattle.pim_words.specs.CommandLine.{pimtree}
 use Rattle.pim_words.specs.Ends.{IsEarly}
-use Rattle.pim_words.specs.Given.{IsKnown}
-use Rattle.pim_words.specs.Plan.{HasCause, IsBounded, IsLimited, IsWritable, IsInRange, IsPlanInRange, IsTaskOf, IsPlanOfTask, IsPlanOf, Plans}
+use Rattle.pim_words.specs.Given.{IsKnown, words_of}
+use Rattle.pim_words.specs.Labels.{AreLabelled, AreLabelledAfter, has_name, is_fresh, is_name}
+use Rattle.pim_words.specs.Plan.{AreNames, HasCause, IsBounded, IsLimited, IsWritable, IsInRange, IsPlanInRange, IsTaskOf, IsPlanOfTask, IsPlanOf, Plans}
 use Rattle.pim_words.specs.Reading.{IsTask, IsWriting}
 use Rattle.pim_words.specs.Seen.{IsGiven, IsOffered}
-use Rattle.pim_words.specs.Typed.{IsPlanFor, SameCaptures, SameTask, SameWriting}
+use Rattle.pim_words.specs.Typed.{IsPlanFor, SameCaptures, SameTask, SameTracing, SameWriting, port_seen}
 use Rattle.pim_words.proofs.Numbers.{has_numbers}
 
 -- ---- the command line
@@ -37,7 +43,7 @@ whole = record {
   free = refl;
   known = (
     inr (Check, refl),
-    (inr (Build, refl), (inr (Replay, refl), (inr (Same, refl), (inr (Mirror, refl), (inr (Emit, refl), (inr (Change, refl), (inl refl, tt))))))),
+    (inr (Build, refl), (inr (Replay, refl), (inr (Trace, refl), (inr (Same, refl), (inr (Mirror, refl), (inr (Emit, refl), (inr (Change, refl), (inl refl, tt)))))))),
   );
   limit = refl;
   after = refl;
@@ -69,6 +75,23 @@ given a words met offered none found = (met_named IsKnown a words met offered.kn
 
 -- ---- the numbers of a plan are in their ranges
 
+-- the names that words give are ones that ports may have
+may_have : (earlier : List (Option (Bor Text))) (name : Option (Bor Text)) → is_fresh earlier name ≡ true → IfSome name (λ text. is_name text.now ≡ true)
+may_have earlier None fresh = tt
+may_have earlier (Some text) fresh = (both (is_name text.now) (not (has_name earlier text.now)) fresh).0
+
+names_after : (earlier : List (Option (Bor Text))) (words : List Text) (ports : List (Port Address)) (names : List (Option (Bor Text))) → AreLabelledAfter earlier words ports names
+    → (length names ≡ length ports) × AllByRecursion (λ name. IfSome name (λ text. is_name text.now ≡ true)) names
+names_after earlier [] [] [] are = (refl, tt)
+names_after earlier (word ∷ words) (port ∷ ports) (name ∷ names) are =
+    let others = names_after (earlier ++ name ∷ []) words ports names are.1 in
+    (ap suc others.0, (may_have earlier name are.0.fresh, others.1))
+names_after earlier words ports names are = absurd are
+
+given_names : (words : List Text) (ports : List (Port Address)) (names : List (Option (Bor Text))) → AreLabelled words ports names
+    → (length names ≡ length ports) × AllByRecursion (λ name. IfSome name (λ text. is_name text.now ≡ true)) names
+given_names words ports names are = names_after [] words ports names are
+
 writable : (rows : List Row) (writing : Writing Address) → IsWriting rows writing → IsWritable writing
 writable rows writing is = (is.holdtime.least, is.budget.least, is.budget.most)
 
@@ -79,6 +102,9 @@ task_in_range Build rows (task.Build source destination) is = tt
 task_in_range Build rows other is = absurd is
 task_in_range Replay rows (task.Replay captures) is = ((is.1.run.after.most, is.1.run.early), (is.1.run.limit.least, is.1.run.limit.most))
 task_in_range Replay rows other is = absurd is
+task_in_range Trace rows (task.Trace captures tracing) is =
+    ((is.1.run.after.most, is.1.run.early), (is.1.run.limit.least, is.1.run.limit.most), given_names (words_of rows) captures.ports.items tracing.names.items is.1.labelled)
+task_in_range Trace rows other is = absurd is
 task_in_range Same rows (task.Same captures writing) is = ((is.0.1.run.after.most, is.0.1.run.early), (is.0.1.run.limit.least, is.0.1.run.limit.most), writable rows writing is.1)
 task_in_range Same rows other is = absurd is
 task_in_range Mirror rows (task.Mirror captures writing) is = ((is.0.1.run.after.most, is.0.1.run.early), (is.0.1.run.limit.least, is.0.1.run.limit.most), writable rows writing is.1)
@@ -102,11 +128,20 @@ module _ {A : Type 0} (family : AddressFamily) (bytes_of : A → List ℕ) where
     subst (λ (n : ℕ). n ≤ 65000) (sym same.budget) is.2,
   )
 
+  same_names : (typed : Captures A) (asked : Captures Address) (how : Tracing A) (tracing : Tracing Address) → AreNames asked tracing → SameCaptures family bytes_of typed asked → SameTracing family bytes_of how tracing → AreNames typed how
+  same_names typed asked how tracing are same shown = (
+    ap length shown.names ∙ are.0 ∙ sym (ap length same.ports) ∙ length-map typed.ports.items (port_seen family bytes_of),
+    subst (λ l. AllByRecursion (λ name. IfSome name (λ text. is_name text.now ≡ true)) l) (sym shown.names) are.1,
+  )
+
   same_in_range : (typed : Task A) (asked : Task Address) → IsInRange asked → SameTask family bytes_of typed asked → IsInRange typed
   same_in_range (task.Check a b) asked is same = tt
   same_in_range (task.Build a b) asked is same = tt
   same_in_range (task.Replay typed) (task.Replay captures) is same = (same_bounded typed captures is.0 same, same_limited typed captures is.1 same)
   same_in_range (task.Replay typed) other is same = absurd same
+  same_in_range (task.Trace typed how) (task.Trace captures tracing) is same =
+      (same_bounded typed captures is.0 same.0, same_limited typed captures is.1 same.0, same_names typed captures how tracing is.2 same.0 same.1)
+  same_in_range (task.Trace typed how) other is same = absurd same
   same_in_range (task.Same typed how) (task.Same captures writing) is same =
       (same_bounded typed captures is.0 same.0, same_limited typed captures is.1 same.0, same_writable how writing is.2 same.1)
   same_in_range (task.Same typed how) other is same = absurd same

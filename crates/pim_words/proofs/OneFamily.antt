@@ -9,7 +9,7 @@ use Rattle.pim_words.specs.declared.task.Port.{Port}
 use Rattle.pim_words.specs.declared.fault.Fault.{Fault}
 use Rattle.pim_words.specs.Faults.{is_in, are_captures_in}
 use Rattle.pim_words.specs.Seen.{IsForeign}
-use Rattle.pim_words.specs.Typed.{port_seen}
+use Rattle.pim_words.specs.Typed.{address_in, port_seen}
 
 module _ {A : Type 0} (family : AddressFamily) (bytes_of : A → List ℕ) where
   abbrev are_in : List (Port Address) → Bool
@@ -22,6 +22,11 @@ module _ {A : Type 0} (family : AddressFamily) (bytes_of : A → List ℕ) where
   pub record IsSoFar (all left : List (Port Address)) (typed : List (Port A)) : Type 0 where
     pub tests : are_in all ≡ are_in left
     pub whole : seen typed ++ left ≡ all
+
+  -- The addresses before those that are left are these.
+  pub record AreSoFar (all left : List Address) (typed : List A) : Type 0 where
+    pub tests : list_all (is_in family) all ≡ list_all (is_in family) left
+    pub whole : map (λ a. address_in family (bytes_of a)) typed ++ left ≡ all
 
 -- the second of two tests fails
 fails_behind : (first second : Bool) (fault : Fault) → first ≡ true → IsForeign second fault → IsForeign (first && second) fault

@@ -8,10 +8,10 @@ use Rattle.pim_words.specs.declared.task.Kind.{Kind}
 use Rattle.pim_words.specs.declared.task.Kind.TheVariants.{Same, Mirror, Emit, Change}
 use Rattle.pim_words.specs.Ends.{are_both_given, has_two_ends}
 use Rattle.pim_words.specs.Given.{address_texts, is_sided}
-use Rattle.pim_words.specs.Reading.{AreRead, IsUnreadable, IsWrongRun}
+use Rattle.pim_words.specs.Reading.{AreRead, IsUnreadable, IsWrongRun, IsWrongRunOf}
 use Rattle.pim_words.specs.Seen.{AreWritten, OrMemory}
 
-wrong_run : (kind : Kind) (rows : List Row) (fault : Fault) → has_two_ends kind rows ≡ false → AreRead (address_texts kind rows) → OrMemory (IsWrongRun (is_sided kind) rows) fault
+wrong_run : (kind : Kind) (rows : List Row) (fault : Fault) → has_two_ends kind rows ≡ false → AreRead (address_texts kind rows) → OrMemory (IsWrongRunOf kind rows) fault
     → IsUnreadable kind rows fault
 wrong_run kind rows Memory one read is = tt
 wrong_run kind rows fault one read is = inr (one, inr (read, is))

@@ -2,7 +2,7 @@
 use Rattle.std.specs.Prelude.{ℕ, [], ◌∷◌, Some, true, codes}
 use Rattle.clap.specs.Words.{App, Rule, Shape, Text, new_app, new_rule, with_rule, with_subcommand}
 use Rattle.clap.specs.Simple.{new_shape}
-use Rattle.clap.specs.declared.builder.action.ArgAction.TheVariants.{Append}
+use Rattle.clap.specs.declared.builder.action.ArgAction.TheVariants.{Append, SetTrue}
 use Rattle.clap.specs.declared.builder.value_parser.ValueParser.TheVariants.{Unsigned}
 
 -- ---- options
@@ -18,6 +18,14 @@ required_option name = record (text_option name) { required = true }
 -- An option that takes a number from `low` to `high`.
 abbrev pub number_option : Text → ℕ → ℕ → Rule
 number_option name low high = record (text_option name) { parser = Some (Unsigned low high) }
+
+-- An option that takes one text and may be given several times.
+abbrev pub repeated_option : Text → Rule
+repeated_option name = record (text_option name) { action = Some Append }
+
+-- An option without a value.
+abbrev pub flag : Text → Rule
+flag name = record (new_rule name) { long = Some name; action = Some SetTrue }
 
 -- The words that aren't options.
 abbrev pub words_rule : Rule
@@ -41,6 +49,18 @@ with_writing command =
     with_rule (with_rule (with_rule command (text_option (codes "routes"))) (number_option (codes "holdtime") 99 65535))
     (number_option (codes "budget") 70 65000)
 
+-- What a trace is about: `[--from TIME] [--group G].. [--source S]..`.
+abbrev pub with_choices : App → App
+with_choices command =
+    with_rule (with_rule (with_rule command (text_option (codes "from"))) (repeated_option (codes "group")))
+    (repeated_option (codes "source"))
+
+-- What a trace shows: what it is about, and `[--time FORM] [--all] [--json]`.
+abbrev pub with_shown : App → App
+with_shown command =
+    with_rule (with_rule (with_rule (with_choices command) (text_option (codes "time"))) (flag (codes "all")))
+    (flag (codes "json"))
+
 -- ---- commands
 
 -- A command on one message, `check` or `build`: `[--src A] [--dst A]`.
@@ -53,6 +73,11 @@ of_message name = record (new_shape name) {
 abbrev pub replay : Shape
 replay = (with_run_options (with_rule (with_rule (new_app (codes "replay")) (text_option (codes "rp")))
     (text_option (codes "routes")))).top
+
+-- `trace [--rp A] [--routes FILE]`, the options of a run, and what is shown.
+abbrev pub trace : Shape
+trace = (with_shown (with_run_options (with_rule (with_rule (new_app (codes "trace")) (text_option (codes "rp")))
+    (text_option (codes "routes"))))).top
 
 -- A command that writes messages: `same`, `mirror`, `emit` or `change`.
 abbrev pub writing : Text → Shape
@@ -78,7 +103,7 @@ message_commands =
 
 -- The program with the commands that need no writer of messages.
 abbrev pub reading_commands : App
-reading_commands = with_subcommand message_commands replay
+reading_commands = with_subcommand (with_subcommand message_commands replay) trace
 
 -- The program with all its commands but `session`.
 abbrev pub writing_commands : App

@@ -15,9 +15,10 @@ use Rattle.pim_words.specs.declared.fault.Side.{Side}
 use Rattle.pim_words.specs.declared.fault.Side.TheVariants.{A, B}
 use Rattle.pim_words.specs.declared.task.Captures.{Captures}
 use Rattle.pim_words.specs.declared.task.Port.{Port}
+use Rattle.pim_words.specs.declared.task.Tracing.{Tracing}
 use Rattle.pim_words.specs.declared.task.Writing.{Writing}
 use Rattle.pim_words.specs.declared.task.Task.{Task}
-use Rattle.pim_words.specs.declared.task.Task.TheVariants.{Check, Build, Replay, Same, Mirror, Emit, Change}
+use Rattle.pim_words.specs.declared.task.Task.TheVariants.{Check, Build, Replay, Trace, Same, Mirror, Emit, Change}
 
 -- ---- addresses
 
@@ -46,6 +47,11 @@ abbrev pub are_captures_in : AddressFamily → Captures Address → Bool
 are_captures_in family captures =
     option_map_or (is_in family) captures.rp true && list_all (λ port. is_in family port.address) captures.ports.items
 
+-- Whether the groups and the sources that a trace shows are of this family.
+abbrev pub is_tracing_in : AddressFamily → Tracing Address → Bool
+is_tracing_in family tracing =
+    list_all (is_in family) tracing.groups.items && list_all (is_in family) tracing.sources.items
+
 -- Whether the addresses of the writer are of this family.
 abbrev pub is_writing_in : AddressFamily → Writing Address → Bool
 is_writing_in family writing = is_in family writing.upstream && is_in family writing.own
@@ -55,6 +61,7 @@ abbrev pub are_in : AddressFamily → Task Address → Bool
 are_in family (Check source destination) = is_in family source && is_in family destination
 are_in family (Build source destination) = is_in family source && is_in family destination
 are_in family (Replay captures) = are_captures_in family captures
+are_in family (Trace captures tracing) = are_captures_in family captures && is_tracing_in family tracing
 are_in family (Same captures writing) = are_captures_in family captures && is_writing_in family writing
 are_in family (Mirror captures writing) = are_captures_in family captures && is_writing_in family writing
 are_in family (Emit captures writing) = are_captures_in family captures && is_writing_in family writing
@@ -110,6 +117,7 @@ abbrev pub setting_faults : Task Address → List Fault
 setting_faults (Check source destination) = []
 setting_faults (Build source destination) = []
 setting_faults (Replay captures) = router_faults A captures
+setting_faults (Trace captures tracing) = router_faults A captures
 setting_faults (Same captures writing) = faults_of_two captures writing
 setting_faults (Mirror captures writing) = writer_faults writing ++ router_faults A captures
 setting_faults (Emit captures writing) = writer_faults writing ++ router_faults A captures

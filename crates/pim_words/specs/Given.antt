@@ -1,9 +1,10 @@
 -- What a command was given: the values of its options, as texts, and its words.
 use Rattle.std.specs.Prelude.{◌≡◌, ◌≤◌, ◌⊎◌, ℕ, Bool, true, false, List, [], ◌∷◌, Option, Some, None, codes, unwrap_or}
+use Rattle.std.specs.Str.{bytes_eq}
 use Rattle.std.specs.Str.Parse.{IsNumeral, digits_value, without_leading_plus}
 use Rattle.clap.specs.Words.{Row, Text, first_of, all_of}
 use Rattle.pim_words.specs.declared.task.Kind.{Kind}
-use Rattle.pim_words.specs.declared.task.Kind.TheVariants.{Check, Build, Replay, Same, Mirror, Emit, Change}
+use Rattle.pim_words.specs.declared.task.Kind.TheVariants.{Check, Build, Replay, Trace, Same, Mirror, Emit, Change}
 
 -- The value of an option, or its default if the words have none.
 abbrev pub option_or : Text → Text → List Row → Text
@@ -12,6 +13,10 @@ option_or default name rows = unwrap_or (first_of name rows) default
 -- The value of an option that must be given. `clap` refuses words without it.
 abbrev pub required : Text → List Row → Text
 required name rows = option_or [] name rows
+
+-- Whether a flag is given: `clap` has the text `true` for it then, and `false` otherwise.
+abbrev pub is_flag : Text → List Row → Bool
+is_flag name rows = bytes_eq (option_or (codes "false") name rows) (codes "true")
 
 -- The words that aren't options.
 abbrev pub words_of : List Row → List Text
@@ -38,6 +43,7 @@ abbrev pub kind_name : Kind → Text
 kind_name Check = codes "check"
 kind_name Build = codes "build"
 kind_name Replay = codes "replay"
+kind_name Trace = codes "trace"
 kind_name Same = codes "same"
 kind_name Mirror = codes "mirror"
 kind_name Emit = codes "emit"
@@ -66,6 +72,7 @@ abbrev pub rp_text : Kind → List Row → Option Text
 rp_text Check rows = None
 rp_text Build rows = None
 rp_text Replay rows = first_of (codes "rp") rows
+rp_text Trace rows = first_of (codes "rp") rows
 rp_text kind rows = Some (required (codes "rp") rows)
 
 -- The text of the source address of a message.
@@ -81,5 +88,6 @@ abbrev pub address_texts : Kind → List Row → List (Option Text)
 address_texts Check rows = Some (source_text rows) ∷ Some (destination_text rows) ∷ []
 address_texts Build rows = Some (source_text rows) ∷ Some (destination_text rows) ∷ []
 address_texts Replay rows = rp_text Replay rows ∷ []
+address_texts Trace rows = rp_text Trace rows ∷ []
 address_texts kind rows =
     rp_text kind rows ∷ Some (required (codes "upstream") rows) ∷ Some (required (codes "own") rows) ∷ []

@@ -4,7 +4,9 @@ pub mod Addresses
 pub mod Faults
 pub mod Ends
 pub mod Given
+pub mod Labels
 pub mod Ports
+pub mod Shown
 pub mod Reading
 pub mod Seen
 pub mod Table

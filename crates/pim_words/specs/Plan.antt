@@ -1,5 +1,6 @@
 -- What is to be done, by the words of the command line.
-use Rattle.std.specs.Prelude.{◌≡◌, ◌≤◌, ◌⊎◌, List, [], ◌∷◌, ⊤, true, IsSomeAnd, Result, Ok, Err}
+use Rattle.std.specs.Prelude.{◌≡◌, ◌≤◌, ◌⊎◌, List, [], ◌∷◌, length, ⊤, true, IfSome, IsSomeAnd, Result, Ok, Err}
+use Rattle.std.specs.List.{AllByRecursion}
 use Rattle.std.specs.declared.alloc.AllocError.{AllocError}
 use Rattle.std.specs.declared.alloc.Global.{Global}
 use Rattle.std.specs.declared.string.String.{String}
@@ -13,12 +14,14 @@ use Rattle.pim_words.specs.declared.task.Kind.{Kind}
 use Rattle.pim_words.specs.declared.task.Plan.{Plan}
 use Rattle.pim_words.specs.declared.task.Plan.TheVariants.{V4, V6, Session}
 use Rattle.pim_words.specs.declared.task.Task.{Task}
-use Rattle.pim_words.specs.declared.task.Task.TheVariants.{Check, Build, Replay, Same, Mirror, Emit, Change}
+use Rattle.pim_words.specs.declared.task.Task.TheVariants.{Check, Build, Replay, Trace, Same, Mirror, Emit, Change}
 use Rattle.pim_words.specs.declared.task.Captures.{Captures}
+use Rattle.pim_words.specs.declared.task.Tracing.{Tracing}
 use Rattle.pim_words.specs.declared.task.Writing.{Writing}
 use Rattle.pim_words.specs.Ends.{IsEarly}
 use Rattle.pim_words.specs.Faults.{task_faults}
 use Rattle.pim_words.specs.Given.{kind_name, session_name}
+use Rattle.pim_words.specs.Labels.{is_name}
 use Rattle.pim_words.specs.Reading.{IsTask, IsUnreadable}
 use Rattle.pim_words.specs.Typed.{IsPlanFor}
 
@@ -101,11 +104,17 @@ IsLimited captures = (1 ≤ captures.limit) × (captures.limit ≤ 100000)
 abbrev pub IsWritable : {A : Type 0} → Writing A → Type 0
 IsWritable writing = (99 ≤ writing.holdtime) × (70 ≤ writing.budget) × (writing.budget ≤ 65000)
 
+-- Each port has a name or none, and the names are ones that a port may have.
+abbrev pub AreNames : {A : Type 0} → Captures A → Tracing A → Type 0
+AreNames captures tracing = (length tracing.names.items ≡ length captures.ports.items)
+    × AllByRecursion (λ name. IfSome name (λ text. is_name text.now ≡ true)) tracing.names.items
+
 -- The numbers of the task are in their ranges.
 abbrev pub IsInRange : {A : Type 0} → Task A → Type 0
 IsInRange (Check source destination) = ⊤
 IsInRange (Build source destination) = ⊤
 IsInRange (Replay captures) = IsBounded captures × IsLimited captures
+IsInRange (Trace captures tracing) = IsBounded captures × IsLimited captures × AreNames captures tracing
 IsInRange (Same captures writing) = IsBounded captures × IsLimited captures × IsWritable writing
 IsInRange (Mirror captures writing) = IsBounded captures × IsLimited captures × IsWritable writing
 IsInRange (Emit captures writing) = IsBounded captures × IsLimited captures × IsWritable writing

@@ -8,16 +8,19 @@ use Rattle.pim_words.specs.declared.addresses.Address.{Address}
 use Rattle.pim_words.specs.declared.fault.Fault.{Fault}
 use Rattle.pim_words.specs.declared.fault.Fault.TheVariants as cause
 use Rattle.pim_words.specs.declared.task.Captures.{Captures}
+use Rattle.pim_words.specs.declared.task.Tracing.{Tracing}
 use Rattle.pim_words.specs.declared.task.Writing.{Writing}
 use Rattle.pim_words.specs.declared.task.Kind.{Kind}
 use Rattle.pim_words.specs.declared.task.Kind.TheVariants as kind
 use Rattle.pim_words.specs.declared.task.Task.{Task}
-use Rattle.pim_words.specs.declared.task.Task.TheVariants.{Check, Build, Replay, Same, Mirror, Emit, Change}
+use Rattle.pim_words.specs.declared.task.Task.TheVariants.{Check, Build, Replay, Trace, Same, Mirror, Emit, Change}
 use Rattle.pim_words.specs.Addresses.{Names, IsRead, IsUnread}
 use Rattle.pim_words.specs.Ends.{are_both_given, has_two_ends, time_text, IsTimed, IsEarly, IsUntimed, IsTimely}
-use Rattle.pim_words.specs.Given.{IsNumber, address_texts, is_sided, option_or, required, rp_text, words_of}
+use Rattle.pim_words.specs.Given.{IsNumber, address_texts, is_flag, is_sided, option_or, required, rp_text, words_of}
 use Rattle.pim_words.specs.Given.{source_text, destination_text}
+use Rattle.pim_words.specs.Labels.{AreLabelled, IsFirstWrongLabelled}
 use Rattle.pim_words.specs.Ports.{IsPort, IsFirstWrongOf}
+use Rattle.pim_words.specs.Shown.{IsShown, IsShowable, IsWrongShown, shown_of}
 
 -- ---- what is read
 
@@ -41,6 +44,19 @@ pub record AreCaptures (is_sided : Bool) (rows : List Row) (captures : Captures 
   pub run : IsRun rows captures
   pub ports : AllZip (IsPort is_sided) (words_of rows) captures.ports.items
 
+-- The options of a trace, and the ports with their names.
+pub record AreTraced (rows : List Row) (captures : Captures Address) (tracing : Tracing Address) : Type 0 where
+  pub run : IsRun rows captures
+  pub shown : IsShown rows (shown_of tracing)
+  pub all : tracing.all ≡ is_flag (codes "all") rows
+  pub json : tracing.json ≡ is_flag (codes "json") rows
+  pub labelled : AreLabelled (words_of rows) captures.ports.items tracing.names.items
+
+-- The task of a trace with this RP.
+abbrev pub IsTraced : List Row → Option Address → Task Address → Type 0
+IsTraced rows rp (Trace captures tracing) = (captures.rp ≡ rp) × AreTraced rows captures tracing
+IsTraced rows rp other = ⊥
+
 -- The options of the writer.
 pub record IsWriting (rows : List Row) (writing : Writing Address) : Type 0 where
   pub upstream : Names (required (codes "upstream") rows) writing.upstream
@@ -60,6 +76,8 @@ IsTask kind.Check rows (Check source destination) =
 IsTask kind.Build rows (Build source destination) =
     Names (source_text rows) source × Names (destination_text rows) destination
 IsTask kind.Replay rows (Replay captures) = AreCapturesOf kind.Replay rows captures
+IsTask kind.Trace rows (Trace captures tracing) =
+    IsNamed (rp_text kind.Trace rows) captures.rp × AreTraced rows captures tracing
 IsTask kind.Same rows (Same captures writing) = AreCapturesOf kind.Same rows captures × IsWriting rows writing
 IsTask kind.Mirror rows (Mirror captures writing) = AreCapturesOf kind.Mirror rows captures × IsWriting rows writing
 IsTask kind.Emit rows (Emit captures writing) = AreCapturesOf kind.Emit rows captures × IsWriting rows writing
@@ -93,12 +111,25 @@ IsWrongRun is_sided rows fault =
     IsUntimed (time_text rows) fault
     ⊎ (IsTimely (time_text rows) × IsFirstWrongOf is_sided (words_of rows) fault)
 
+-- The fault of a trace's words: the time of its end can't be read, or else a value of what it shows, or
+-- else a word.
+abbrev pub IsWrongTrace : List Row → Fault → Type 0
+IsWrongTrace rows fault =
+    IsUntimed (time_text rows) fault
+    ⊎ (IsTimely (time_text rows) × (IsWrongShown rows fault
+    ⊎ (IsShowable rows × IsFirstWrongLabelled [] (words_of rows) fault)))
+
+-- The same, of the run of a command.
+abbrev pub IsWrongRunOf : Kind → List Row → Fault → Type 0
+IsWrongRunOf kind.Trace rows fault = IsWrongTrace rows fault
+IsWrongRunOf command rows fault = IsWrongRun (is_sided command) rows fault
+
 -- The fault of texts that can't be read: of the first such address of an option, otherwise of the
--- time, otherwise of the first such word.
+-- time, of what a trace shows, or of the first such word.
 abbrev pub IsUnreadOf : Kind → List Row → Fault → Type 0
 IsUnreadOf command rows fault =
     IsFirstUnread (address_texts command rows) fault
-    ⊎ (AreRead (address_texts command rows) × IsWrongRun (is_sided command) rows fault)
+    ⊎ (AreRead (address_texts command rows) × IsWrongRunOf command rows fault)
 
 -- The fault of words that don't give a task: the run has two ends, otherwise a text can't be read.
 -- Or memory is refused.

@@ -7,11 +7,12 @@ use Rattle.pim_words.specs.declared.addresses.Address.{Address}
 use Rattle.pim_words.specs.declared.addresses.Address.TheVariants as either
 use Rattle.pim_words.specs.declared.task.Captures.{Captures}
 use Rattle.pim_words.specs.declared.task.Port.{Port}
+use Rattle.pim_words.specs.declared.task.Tracing.{Tracing}
 use Rattle.pim_words.specs.declared.task.Writing.{Writing}
 use Rattle.pim_words.specs.declared.task.Plan.{Plan}
 use Rattle.pim_words.specs.declared.task.Plan.TheVariants.{V4, V6, Session}
 use Rattle.pim_words.specs.declared.task.Task.{Task}
-use Rattle.pim_words.specs.declared.task.Task.TheVariants.{Check, Build, Replay, Same, Mirror, Emit, Change}
+use Rattle.pim_words.specs.declared.task.Task.TheVariants.{Check, Build, Replay, Trace, Same, Mirror, Emit, Change}
 
 -- The address of this family with these bytes.
 abbrev pub address_in : AddressFamily → List ℕ → Address
@@ -36,6 +37,16 @@ module _ {A : Type 0} (family : AddressFamily) (bytes_of : A → List ℕ) where
     pub at : typed.at ≡ captures.at
     pub ports : map port_seen typed.ports.items ≡ captures.ports.items
 
+  -- The two show the same: the time from which they show, groups, sources, form, all or not, JSON or not, and names.
+  pub record SameTracing (typed : Tracing A) (tracing : Tracing Address) : Type 0 where
+    pub from : typed.from ≡ tracing.from
+    pub groups : map address_seen typed.groups.items ≡ tracing.groups.items
+    pub sources : map address_seen typed.sources.items ≡ tracing.sources.items
+    pub form : typed.form ≡ tracing.form
+    pub all : typed.all ≡ tracing.all
+    pub json : typed.json ≡ tracing.json
+    pub names : typed.names.items ≡ tracing.names.items
+
   -- The two have the same addresses, holdtime and budget.
   pub record SameWriting (typed : Writing A) (writing : Writing Address) : Type 0 where
     pub upstream : address_seen typed.upstream ≡ writing.upstream
@@ -50,6 +61,7 @@ module _ {A : Type 0} (family : AddressFamily) (bytes_of : A → List ℕ) where
   SameTask (Build source destination) (Build from to) =
       (address_seen source ≡ from) × (address_seen destination ≡ to)
   SameTask (Replay typed) (Replay captures) = SameCaptures typed captures
+  SameTask (Trace typed how) (Trace captures tracing) = SameCaptures typed captures × SameTracing how tracing
   SameTask (Same typed how) (Same captures writing) = SameCaptures typed captures × SameWriting how writing
   SameTask (Mirror typed how) (Mirror captures writing) = SameCaptures typed captures × SameWriting how writing
   SameTask (Emit typed how) (Emit captures writing) = SameCaptures typed captures × SameWriting how writing

@@ -6,9 +6,10 @@
 ghost use Rattle.std.specs.Prelude.{◌≡◌, IfOk, true, false, []};
 ghost use Rattle.clap.specs.declared.builder.command.Command.TheViews.{out-Command};
 ghost use Rattle.clap.specs.Words.{app_of, shape_of, rule_of, with_rule, with_subcommand};
-ghost use Rattle.pim_words.specs.CommandLine.{text_option, required_option, number_option, words_rule};
-ghost use Rattle.pim_words.specs.CommandLine.{with_run_options, with_addresses, with_writing, of_message};
-ghost use Rattle.pim_words.specs.CommandLine.{replay, writing, session, bare, message_commands};
+ghost use Rattle.pim_words.specs.CommandLine.{text_option, required_option, number_option, repeated_option, flag};
+ghost use Rattle.pim_words.specs.CommandLine.{words_rule, with_run_options, with_addresses, with_writing};
+ghost use Rattle.pim_words.specs.CommandLine.{with_choices, with_shown, of_message, replay, trace};
+ghost use Rattle.pim_words.specs.CommandLine.{writing, session, bare, message_commands};
 ghost use Rattle.pim_words.specs.CommandLine.{reading_commands, writing_commands, pimtree};
 
 use clap::builder::ValueParser;
@@ -155,6 +156,11 @@ const REPLAY_RP_HELP: &str =
     "Rendezvous point of all groups. A Join(*,G) counts only{n}where it names the RP of G: without \
 --rp and --routes{n}none does";
 
+/// The help of `--rp` of `trace`.
+const TRACE_RP_HELP: &str =
+    "Rendezvous point of all groups. A Join(*,G) that names{n}another one is ignored; without --rp \
+and --routes{n}each is";
+
 /// The help of `--upstream`.
 const UPSTREAM_HELP: &str = "Upstream neighbour the messages go to [required]";
 
@@ -185,6 +191,33 @@ const AFTER_MS_HELP: &str =
 const AT_HELP: &str =
     "Time at which the run ends, in place of --after:{n}milliseconds since the first record,\
 {n}seconds since 1970 (1795329744.5), or a{n}UTC date (2026-11-22T06:42:24.5Z)";
+
+/// The help of `--from`.
+const FROM_HELP: &str = "Leave out what is before this time";
+
+/// The help of `--group`.
+const GROUP_HELP: &str = "Show only this group; up to 64 times [default: all]";
+
+/// The help of `--source`.
+const SOURCE_HELP: &str = "Show only this source, and (*,G); up to 64 times{n}[default: all]";
+
+/// The help of `--time`.
+const TIME_HELP: &str =
+    "Form of times: ms since the first record, epoch{n}(seconds since 1970), or utc [default: ms]";
+
+/// The help of `--all`.
+const ALL_HELP: &str = "Show what changes no state, too, such as refreshes";
+
+/// The help of `--json`.
+const JSON_HELP: &str = "Write a JSON object a line in place of text";
+
+/// The name in help of a word of `trace`.
+const NAMED_PORT: &str = "[NAME=]ADDRESS@FILE";
+
+/// The help of a word of `trace`.
+const NAMED_PORT_HELP: &str =
+    "A port: a name for it, the router's address on its{n}link, and a capture of that \
+link; 1 to 64 ports";
 
 /// The name in help of a word of a command with one router.
 const PORT: &str = "ADDRESS@FILE";
@@ -241,6 +274,61 @@ Then come the demand toward upstream, and two counts:
 
 Example, at the top of the repository:
   pimtree replay --rp 10.9.9.9 10.0.0.2@examples/lan.pcap",
+};
+
+/// The texts of `trace`.
+const TRACE: Texts<'static> = Texts {
+    about: "What changed in this router, when, and which packet was the cause?",
+    usage: "pimtree trace [OPTIONS] [NAME=]ADDRESS@FILE...",
+    word: NAMED_PORT,
+    word_help: NAMED_PORT_HELP,
+    after_help: "Each line begins with a time and the name of a port, which is its place, from 0,
+unless its word gives one: a letter, then up to 31 letters, digits, . _ or -.
+#N is the record N of the port's FILE, from 1, as other tools number it.
+`pimtree replay --help` explains what a FILE is, and each verdict.
+
+A machine is `star G` for (*,G), `source S G` or `rpt S G`. Its states are
+no-info, join, prune-pending and prune. A packet that changes one has a line
+  #N A joins MACHINE: STATE -> STATE
+  #N A prunes MACHINE: ..
+  #N A no longer prunes MACHINE: ..       the message ends without that Prune
+  .., et N                 the state ends in N milliseconds, or `never`
+  .., ppt N, N neighbours  a prune that others can override for N milliseconds
+  .., overrides #N         a Join in time: the Prune in record N has no effect
+
+What time does, each with the packet that set the timer, and how long before:
+  prune takes effect MACHINE: ..; pruned by A in #N, ..
+                           nobody overrode; `echo`: the router repeats the Prune
+  expired MACHINE: ..; time set by A in #N, ..
+                           no Join or Prune came again within its holdtime
+  neighbour A timed out; Hello #N, ..
+                           no Hello came again; what it joined stays
+
+Other packets:
+  #N A: hello new          first Hello of a neighbour, with its Generation ID
+  #N A: hello restarted    another Generation ID: the neighbour lost its state
+  #N A: hello gone         Hello with holdtime 0: the neighbour leaves
+  #N A: VERDICT            a packet without effect; a Join/Prune has its
+                           upstream neighbour, and how many entries it has
+  #N A joins star G: ignored, ..
+                           the Join names another RP than --rp or --routes do
+  #N own Hello, ..: this router restarted
+                           a capture can't show that it lost what it held
+  #N skipped: a fragment of a PIM message
+
+The last line is `end:`, with the machines and the neighbours that are held, and
+the skipped records by cause.
+
+--all also shows refreshes (STATE -> the same STATE), `hello same`, each packet
+that is applied, the router's own, and each skipped record. --group leaves out
+machines of other groups, --source those of other sources, and Join/Prune
+messages about neither.
+
+--json writes these events: hello, packet, transition, ignored, restarted,
+skipped, timed-out, fired, end. Members without a value are null.
+
+Example, at the top of the repository:
+  pimtree trace --rp 10.9.9.9 --after 5000 lan=10.0.0.2@examples/lan.pcap",
 };
 
 /// The texts of `same`.
@@ -336,6 +424,25 @@ fn number_option<'a>(
     ensures local { result.global ≡ false }
 {
     text_option(alloc, name, value, help).value_parser(ValueParser::unsigned(low, high))
+}
+
+/// An option that takes one text and may be given several times.
+fn repeated_option<'a>(alloc: Global, name: &'a str, value: &'a str, help: &'a str) -> Arg<'a>
+    ensures rule { rule_of result ≡ repeated_option name.entry.now }
+    ensures local { result.global ≡ false }
+{
+    text_option(alloc, name, value, help).action(ArgAction::Append)
+}
+
+/// An option without a value.
+fn flag<'a>(alloc: Global, name: &'a str, help: &'a str) -> Arg<'a>
+    ensures rule { rule_of result ≡ flag name.entry.now }
+    ensures local { result.global ≡ false }
+{
+    Arg::new(alloc, name)
+        .long(name)
+        .action(ArgAction::SetTrue)
+        .help(help)
 }
 
 /// The words that aren't options, any number of them.
@@ -464,6 +571,50 @@ fn replay_command<'a>(alloc: Global) -> Result<Command<'a>, AllocError>
     with_run_options(alloc, command, REPLAY)
 }
 
+/// Adds what a trace is about: `--from`, `--group` and `--source`.
+fn with_choices<'a>(alloc: Global, command: Command<'a>) -> Result<Command<'a>, AllocError>
+    requires { (out-Command command).has_globals ≡ false }
+    ensures app { IfOk result (λ c. app_of c ≡ with_choices (app_of command.entry)) }
+    ensures local { IfOk result (λ c. (out-Command c).has_globals ≡ false) }
+{
+    let command = with_option(command, text_option(alloc, "from", "TIME", FROM_HELP))?;
+    let command = with_option(
+        command,
+        repeated_option(alloc, "group", "ADDRESS", GROUP_HELP),
+    )?;
+    with_option(
+        command,
+        repeated_option(alloc, "source", "ADDRESS", SOURCE_HELP),
+    )
+}
+
+/// Adds what a trace shows: what it is about, `--time`, `--all` and `--json`.
+fn with_shown<'a>(alloc: Global, command: Command<'a>) -> Result<Command<'a>, AllocError>
+    requires { (out-Command command).has_globals ≡ false }
+    ensures app { IfOk result (λ c. app_of c ≡ with_shown (app_of command.entry)) }
+    ensures local { IfOk result (λ c. (out-Command c).has_globals ≡ false) }
+{
+    let command = with_choices(alloc, command)?;
+    let command = with_option(command, text_option(alloc, "time", "FORM", TIME_HELP))?;
+    let command = with_option(command, flag(alloc, "all", ALL_HELP))?;
+    with_option(command, flag(alloc, "json", JSON_HELP))
+}
+
+/// The command `trace`.
+fn trace_command<'a>(alloc: Global) -> Result<Command<'a>, AllocError>
+    ensures shape { IfOk result (λ c. shape_of c ≡ trace) }
+    ensures local { IfOk result (λ c. (out-Command c).has_globals ≡ false) }
+{
+    let command = Command::new(alloc, "trace")
+        .about(TRACE.about)
+        .override_usage(TRACE.usage)
+        .after_help(TRACE.after_help);
+    let command = with_option(command, text_option(alloc, "rp", "ADDRESS", TRACE_RP_HELP))?;
+    let command = with_option(command, text_option(alloc, "routes", "FILE", ROUTES_HELP))?;
+    let command = with_run_options(alloc, command, TRACE)?;
+    with_shown(alloc, command)
+}
+
 /// A command that writes messages: `same`, `mirror`, `emit` or `change`.
 fn writing_command<'a>(
     alloc: Global,
@@ -528,7 +679,9 @@ fn reading_commands<'a>(alloc: Global) -> Result<Command<'a>, AllocError>
 {
     let whole = message_commands(alloc)?;
     let replay = replay_command(alloc)?;
-    with_command(whole, replay)
+    let whole = with_command(whole, replay)?;
+    let trace = trace_command(alloc)?;
+    with_command(whole, trace)
 }
 
 /// The program with all its commands but `session`.

@@ -44,13 +44,15 @@ pub struct Refusal {
 pub enum Fault<'a> {
     /// `clap` refuses the words, or they ask for help or the version.
     Clap(Refusal),
-    /// The value of an option isn't an address, or the address in a word can't be read. The text is
+    /// A value of an option isn't an address, or the address in a word can't be read. The text is
     /// the value or the whole word.
     Address(&'a str),
     /// The words give both `--after` and `--at`.
     TwoEnds,
-    /// The word isn't `ADDRESS@FILE`, or with two routers `a=ADDRESS@FILE` or `b=ADDRESS@FILE`. Or it
-    /// is the value of `--at` and names no time.
+    /// The word isn't `ADDRESS@FILE`, or with two routers `a=ADDRESS@FILE` or `b=ADDRESS@FILE`.
+    /// Or its name isn't one of a port, or is that of a port before it. Or it is the value of
+    /// `--at` or `--from` and names no time. Or it is that of `--time` and names no form, or the
+    /// 65th value of `--group` or `--source`.
     Word(&'a str),
     /// The addresses of the command aren't all of one family.
     Family,

@@ -4,7 +4,7 @@
 
 ghost use Rattle.std.specs.Prelude.{◌≡◌, MatchOption, option_map};
 ghost use Rattle.clap.specs.Words.{rows_of, found_of, first_of, IsUnsignedIn};
-ghost use Rattle.pim_words.specs.Given.{option_or, IsNumber, IsNoNumber};
+ghost use Rattle.pim_words.specs.Given.{option_or, is_flag, IsNumber, IsNoNumber};
 
 use clap::ArgMatches;
 
@@ -20,6 +20,13 @@ pub(crate) fn option_or<'a>(options: &ArgMatches<'a>, name: &str, default: &'a s
     ensures { result.now ≡ option_or default.entry.now name.now (rows_of (found_of options.now)) }
 {
     option_of(options, name).unwrap_or(default)
+}
+
+/// Whether a flag is given.
+pub(crate) fn is_flag(options: &ArgMatches<'_>, name: &str) -> bool
+    ensures { result ≡ is_flag name.now (rows_of (found_of options.now)) }
+{
+    option_or(options, name, "false") == "true"
 }
 
 /// The number that a text spells, if it is from `low` to `high`.

@@ -171,7 +171,7 @@ pub(crate) fn judge(task: &Task<'_, Address>) -> Result<(), Fault<'static>>
 {
     match task {
         Task::Check { .. } | Task::Build { .. } => Ok(()),
-        Task::Replay(captures) => judge_router(Side::A, captures),
+        Task::Replay(captures) | Task::Trace(captures, _) => judge_router(Side::A, captures),
         Task::Same(captures, writing) | Task::Change(captures, writing) => {
             judge_two(captures, *writing)
         }

@@ -1,11 +1,13 @@
 //! What the words of a command line ask for.
 //!
-//! `plan` reads the words of `check`, `replay`, `same`, `mirror`, `emit` and `change`, and opens
-//! nothing. At Ok it returns the task that the words ask for.
+//! `plan` reads the words of `check`, `build`, `replay`, `trace`, `same`, `mirror`, `emit` and
+//! `change`, and opens nothing. At Ok it returns the task that the words ask for.
 //! - All addresses are of one family, and options that are missing have their defaults.
 //! - A router runs on for at most 10^9 ms after the last record, or to a time below 10^15 ms, and a
 //!   port holds 1 to 100,000 records.
 //! - The holdtime is at least 99 s, and the budget is 70 to 65,000 bytes.
+//! - A trace shows at most 64 groups and 64 sources. Each port has a name or none, and no two ports
+//!   have the same.
 //!
 //! Otherwise it returns a fault whose cause exists, the first in the order that `plan` lists, or
 //! `Memory`. A request for help or the version is a fault too (`Clap`). Faults that name a word,
@@ -13,7 +15,9 @@
 //!
 //! `clap` finds the options and checks the ranges of numbers, so its faults come first. This crate
 //! sets the defaults itself, since `clap` promises defaults for its top command only. It refuses
-//! `--after` beside `--at` itself, since `clap`'s definition covers no options in conflict.
+//! `--after` beside `--at` itself, since `clap`'s definition covers no options in conflict. It also
+//! judges the value of `--time`: the rule of an option with a list of values holds the list's place
+//! in memory, so no constant command line has such a rule.
 //!
 //! `given_table` makes the route table of an RP and an upstream neighbour. Both must be valid
 //! sources, as those of a plan are.
@@ -26,9 +30,12 @@ mod commands;
 mod fault;
 mod given;
 mod judging;
+mod label;
+mod named;
 mod planning;
 mod port;
 mod reading;
+mod shown;
 mod table;
 mod task;
 mod typed;
@@ -37,4 +44,4 @@ pub use addresses::Address;
 pub use fault::{ConfigCause, Fault, Refusal, Side};
 pub use planning::plan;
 pub use table::given_table;
-pub use task::{Captures, Kind, Plan, Port, Task, Writing};
+pub use task::{Captures, Kind, Plan, Port, Task, TimeForm, Tracing, Writing};

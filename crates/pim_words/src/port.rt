@@ -16,17 +16,17 @@ use std::alloc::Global;
 
 /// A word that is cut into its parts.
 #[derive(Clone, Copy, Debug, PartialEq, Eq)]
-struct Cut<'a> {
+pub(crate) struct Cut<'a> {
     /// The router of the word.
-    side: Side,
+    pub side: Side,
     /// The text of the address.
-    address: &'a str,
+    pub address: &'a str,
     /// The name of the file.
-    file: &'a str,
+    pub file: &'a str,
 }
 
 /// Cuts `ADDRESS@FILE` at its first `@`. `None` if there is none.
-fn cut_text<'a>(side: Side, text: &'a str) -> Option<Cut<'a>>
+pub(crate) fn cut_text<'a>(side: Side, text: &'a str) -> Option<Cut<'a>>
     ensures { MatchOption result (LacksAtSign text.now) (IsCutFor side text.now) }
 {
     match text.split_once('@') {

@@ -3,29 +3,32 @@
 //! The defaults are set in this module. A required option that is missing counts as the empty text;
 //! `clap` refuses words without it.
 
-ghost use Rattle.std.specs.Prelude.{◌≡◌, MatchResult, IfOk, IfErr, true, false, Some, option_map, codes, map};
+ghost use Rattle.std.specs.Prelude.{◌≡◌, MatchResult, IfOk, IfErr, true, false, Some, [], option_map, codes, map};
 ghost use Rattle.std.specs.List.{AllZip};
 ghost use Rattle.clap.specs.Words.{rows_of, found_of};
 ghost use Rattle.pim_words.specs.Addresses.{Names};
 ghost use Rattle.pim_words.specs.Ends.{are_both_given, time_text, IsTimed, IsEarly, IsUntimed};
 ghost use Rattle.pim_words.specs.declared.fault.Fault.TheVariants.{TwoEnds};
 ghost use Rattle.pim_words.specs.Given.{words_of, required, address_texts, is_sided};
+ghost use Rattle.pim_words.specs.Labels.{AreLabelled, IsFirstWrongLabelled};
 ghost use Rattle.pim_words.specs.Ports.{IsPort, IsFirstWrongOf};
 ghost use Rattle.pim_words.specs.Reading.{IsNamed, IsUnreadText, IsUnreadValue, IsFirstUnread, IsRun, AreCaptures};
-ghost use Rattle.pim_words.specs.Reading.{IsWriting, IsTask, IsUnreadable, IsWrongRun};
+ghost use Rattle.pim_words.specs.Reading.{IsWriting, IsTraced, IsTask, IsUnreadable, IsWrongRun, IsWrongTrace};
 ghost use Rattle.pim_words.specs.Seen.{OrMemory, AreEnds, AreWritten, HasNumbers};
 
 use crate::addresses::{Address, read_address};
 use crate::fault::Fault;
-use crate::given::{number_of, option_of, option_or};
+use crate::given::{is_flag, number_of, option_of, option_or};
+use crate::named::{Labelled, read_labelled};
 use crate::port::read_ports;
-use crate::task::{Captures, Kind, Port, Task, Writing};
+use crate::shown::read_shown;
+use crate::task::{Captures, Kind, Port, Task, Tracing, Writing};
 use clap::ArgMatches;
 use pim_time::{Time, read_time};
 use std::alloc::Global;
 
 /// The address that is the value of an option.
-fn read_option<'a>(text: &'a str) -> Result<Address, Fault<'a>>
+pub(crate) fn read_option<'a>(text: &'a str) -> Result<Address, Fault<'a>>
     ensures { MatchResult result (Names text.now) (IsUnreadText text.now) }
 {
     match read_address(text) {
@@ -49,7 +52,7 @@ fn read_given<'a>(text: Option<&'a str>) -> Result<Option<Address>, Fault<'a>>
 }
 
 /// The time that is the value of an option, if it is given.
-fn read_at<'a>(text: Option<&'a str>) -> Result<Option<Time>, Fault<'a>>
+pub(crate) fn read_at<'a>(text: Option<&'a str>) -> Result<Option<Time>, Fault<'a>>
     ensures read { MatchResult result (IsTimed (option_map (λ s. s.now) text.entry))
         (IsUntimed (option_map (λ s. s.now) text.entry)) }
     ensures early { IfOk result IsEarly }
@@ -197,6 +200,59 @@ fn read_replay<'a>(alloc: Global, options: &ArgMatches<'a>) -> Result<Task<'a, A
     Ok(Task::Replay(captures))
 }
 
+/// The ports that the words of a trace name, with their names.
+fn read_labelled_words<'a>(
+    alloc: Global,
+    options: &ArgMatches<'a>,
+) -> Result<Labelled<'a>, Fault<'a>>
+    ensures { MatchResult result
+        (λ labelled. AreLabelled (words_of (rows_of (found_of options.now))) labelled.ports.items labelled.names.items)
+        (OrMemory (IsFirstWrongLabelled [] (words_of (rows_of (found_of options.now))))) }
+{
+    match options.get_raw("words") {
+        Some(words) => read_labelled(alloc, words),
+        None => Ok(Labelled::none(alloc)),
+    }
+}
+
+/// The captures of a trace with this RP, and what it shows.
+fn read_traced<'a>(
+    alloc: Global,
+    rp: Option<Address>,
+    options: &ArgMatches<'a>,
+) -> Result<Task<'a, Address>, Fault<'a>>
+    requires numbers { HasNumbers (rows_of (found_of options.now)) }
+    requires one_end { are_both_given (rows_of (found_of options.now)) ≡ false }
+    ensures task { IfOk result (IsTraced (rows_of (found_of options.now)) rp) }
+    ensures told { IfErr result (OrMemory (IsWrongTrace (rows_of (found_of options.now)))) }
+{
+    let end = read_at(option_of(options, "at"))?;
+    let shown = read_shown(alloc, options)?;
+    let labelled = read_labelled_words(alloc, options)?;
+    let captures = captures_of(rp, end, labelled.ports, options);
+    let tracing = Tracing {
+        from: shown.from,
+        groups: shown.groups,
+        sources: shown.sources,
+        form: shown.form,
+        all: is_flag(options, "all"),
+        json: is_flag(options, "json"),
+        names: labelled.names,
+    };
+    Ok(Task::Trace(captures, tracing))
+}
+
+/// The task of `trace`.
+fn read_trace<'a>(alloc: Global, options: &ArgMatches<'a>) -> Result<Task<'a, Address>, Fault<'a>>
+    requires { HasNumbers (rows_of (found_of options.now)) }
+    ensures { MatchResult result (IsTask Kind.Trace (rows_of (found_of options.now)))
+        (IsUnreadable Kind.Trace (rows_of (found_of options.now))) }
+{
+    judge_end(options)?;
+    let rp = read_given(option_of(options, "rp"))?;
+    read_traced(alloc, rp, options)
+}
+
 /// The addresses of a command that writes messages.
 #[derive(Clone, Copy, Debug, PartialEq, Eq)]
 struct Addresses {
@@ -301,6 +357,7 @@ pub(crate) fn read_task<'a>(
         Kind::Check => read_check(options),
         Kind::Build => read_build(options),
         Kind::Replay => read_replay(alloc, options),
+        Kind::Trace => read_trace(alloc, options),
         Kind::Same => read_same(alloc, options),
         Kind::Mirror => read_mirror(alloc, options),
         Kind::Emit => read_emit(alloc, options),

@@ -50,6 +50,36 @@ pub struct Writing<A> {
     pub budget: usize,
 }
 
+/// How the moments of a trace are written as text.
+#[derive(Clone, Copy, Debug, PartialEq, Eq)]
+pub enum TimeForm {
+    /// `ms`: milliseconds since the first record.
+    Ms,
+    /// `epoch`: seconds since 1970.
+    Epoch,
+    /// `utc`: a UTC date.
+    Utc,
+}
+
+/// What a trace shows of its events, and how.
+#[derive(Debug, Drop)]
+pub struct Tracing<'a, A> {
+    /// The time before which nothing is shown, if one is given.
+    pub from: Option<Time>,
+    /// The groups that are shown, at most 64. All are if there are none.
+    pub groups: Vec<A>,
+    /// The sources that are shown, at most 64. All are if there are none.
+    pub sources: Vec<A>,
+    /// How moments are written as text.
+    pub form: TimeForm,
+    /// Whether what changes nothing is shown, too.
+    pub all: bool,
+    /// Whether JSON is written in place of text.
+    pub json: bool,
+    /// The names of the ports, in their order. A port without a name goes under its number.
+    pub names: Vec<Option<&'a str>>,
+}
+
 /// What a command asks for.
 #[derive(Debug, Drop)]
 pub enum Task<'a, A> {
@@ -69,6 +99,8 @@ pub enum Task<'a, A> {
     },
     /// To report the packets of a router's captures and its state after them.
     Replay(Captures<'a, A>),
+    /// To print each change of a router's machines, in time, with its cause.
+    Trace(Captures<'a, A>, Tracing<'a, A>),
     /// To report whether two routers want the same traffic.
     Same(Captures<'a, A>, Writing<A>),
     /// To print the messages that make a fresh router want what this router wants.
@@ -100,6 +132,8 @@ pub enum Kind {
     Build,
     /// `replay`
     Replay,
+    /// `trace`
+    Trace,
     /// `same`
     Same,
     /// `mirror`

@@ -4,13 +4,14 @@
 ghost use Rattle.std.specs.Prelude.{◌≡◌, MatchResult, true, map, option_map};
 ghost use Rattle.std.specs.List.{list_all};
 ghost use Rattle.std.specs.Option.{option_map_or};
-ghost use Rattle.pim_words.specs.Faults.{is_in, are_captures_in, is_writing_in, are_in};
-ghost use Rattle.pim_words.specs.Typed.{address_in, port_seen, SameCaptures, SameWriting, SameTask};
+ghost use Rattle.pim_words.specs.declared.fault.Fault.TheVariants.{Memory};
+ghost use Rattle.pim_words.specs.Faults.{is_in, are_captures_in, is_tracing_in, is_writing_in, are_in};
+ghost use Rattle.pim_words.specs.Typed.{address_in, port_seen, SameCaptures, SameTracing, SameWriting, SameTask};
 ghost use Rattle.pim_words.specs.Seen.{IsForeign};
 
 use crate::addresses::Address;
 use crate::fault::Fault;
-use crate::task::{Captures, Port, Task, Writing};
+use crate::task::{Captures, Port, Task, Tracing, Writing};
 use pim_addr::{AddressFamily, Family};
 use std::alloc::Global;
 
@@ -104,6 +105,65 @@ fn captures_in_family<'a, F: Family>(
     })
 }
 
+/// The addresses, if all are of this family.
+fn all_in_family<F: Family>(
+    alloc: Global,
+    addresses: &[Address],
+) -> Result<Vec<F::Addr>, Fault<'static>>
+    ensures { MatchResult result
+        (λ typed. (list_all (is_in F.family) addresses.now ≡ true)
+        × (map (λ a. address_in F.family (F.bytes_of a)) typed.items ≡ addresses.now))
+        (IsForeign (list_all (is_in F.family) addresses.now)) }
+{
+    let mut typed = Vec::new(alloc);
+    for address in addresses {
+        let address = in_family::<F>(*address)?;
+        if typed.push(address).is_err() {
+            return Err(Fault::Memory);
+        }
+    }
+    Ok(typed)
+}
+
+/// A copy of the names.
+fn copied<'a>(
+    alloc: Global,
+    names: &[Option<&'a str>],
+) -> Result<Vec<Option<&'a str>>, Fault<'static>>
+    ensures { MatchResult result (λ copied. copied.items ≡ names.now) (λ fault. fault ≡ Memory) }
+{
+    let mut copied = Vec::new(alloc);
+    for name in names {
+        if copied.push(*name).is_err() {
+            return Err(Fault::Memory);
+        }
+    }
+    Ok(copied)
+}
+
+/// What a trace shows, if all its groups and sources are of this family.
+fn tracing_in_family<'a, F: Family>(
+    alloc: Global,
+    tracing: &Tracing<'a, Address>,
+) -> Result<Tracing<'a, F::Addr>, Fault<'static>>
+    ensures { MatchResult result
+        (λ typed. (is_tracing_in F.family tracing.now ≡ true) × SameTracing F.family F.bytes_of typed tracing.now)
+        (IsForeign (is_tracing_in F.family tracing.now)) }
+{
+    let groups = all_in_family::<F>(alloc, &tracing.groups)?;
+    let sources = all_in_family::<F>(alloc, &tracing.sources)?;
+    let names = copied(alloc, &tracing.names)?;
+    Ok(Tracing {
+        from: tracing.from,
+        groups,
+        sources,
+        form: tracing.form,
+        all: tracing.all,
+        json: tracing.json,
+        names,
+    })
+}
+
 /// The writer, if both its addresses are of this family.
 fn writing_in_family<F: Family>(
     writing: Writing<Address>,
@@ -168,6 +228,11 @@ pub(crate) fn task_in_family<'a, F: Family>(
             Ok(captures) => Ok(Task::Replay(captures)),
             Err(fault) => Err(fault),
         },
+        Task::Trace(captures, tracing) => {
+            let captures = captures_in_family::<F>(alloc, captures)?;
+            let tracing = tracing_in_family::<F>(alloc, tracing)?;
+            Ok(Task::Trace(captures, tracing))
+        }
         Task::Same(captures, writing) => {
             let captures = captures_in_family::<F>(alloc, captures)?;
             let writing = writing_in_family::<F>(*writing)?;

@@ -4,7 +4,7 @@ use Rattle.clap.specs.Words.{Text, found_of, rows_of}
 use Rattle.clap.proofs.WalkLemmas.{raw_values-rows}
 use Rattle.pim_words.specs.Ports.{IsPort, IsFirstWrongOf}
 use Rattle.pim_words.specs.Seen.{OrMemory}
-use Rattle.pim_words.proofs.Values.{words_are, no_words}
+use Rattle.pim_words.proofs.Values.{no_values, values_are}
 use Rattle.pim_words.proofs.reading.read_words.Goals as goal
 
 pub returns-in-Some : goal.returns-in-Some
@@ -12,9 +12,9 @@ returns-in-Some c =
     let rows = rows_of (found_of c.args.options.now) in
     let found = c.get_raw.ensures ∙ raw_values-rows (found_of c.args.options.now) (codes "words") in
     subst (λ (words : List Text). MatchResult c.read_ports.result (λ ports. AllZip (IsPort c.args.is_sided) words ports.items) (OrMemory (IsFirstWrongOf c.args.is_sided words)))
-    (words_are rows c.get_raw.result c.in-Some.words found c.in-Some.is) c.read_ports.ensures
+    (values_are (codes "words") rows c.get_raw.result found c.in-Some.words c.in-Some.is) c.read_ports.ensures
 
 pub returns-in-None : goal.returns-in-None
 returns-in-None c =
     let found = c.get_raw.ensures ∙ raw_values-rows (found_of c.args.options.now) (codes "words") in
-    rw (no_words (rows_of (found_of c.args.options.now)) c.get_raw.result found c.in-None.is, c.new.ensures.items) tt
+    rw (no_values (codes "words") (rows_of (found_of c.args.options.now)) c.get_raw.result found c.in-None.is, c.new.ensures.items) tt

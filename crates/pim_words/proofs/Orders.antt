@@ -1,0 +1,37 @@
+-- A fault behind what was read well, or memory.
+use Rattle.std.proofs.Common.{inl, inr, Option, None, Some, List, []}
+use Rattle.clap.specs.Words.{Row, Text}
+use Rattle.pim_time.specs.declared.reading.Time.{Time}
+use Rattle.pim_words.specs.declared.fault.Fault.{Fault}
+use Rattle.pim_words.specs.declared.fault.Fault.TheVariants.{Memory}
+use Rattle.pim_words.specs.declared.shown.Shown.{Shown}
+use Rattle.pim_words.specs.Ends.{time_text, IsTimed, IsTimely}
+use Rattle.pim_words.specs.Given.{words_of}
+use Rattle.pim_words.specs.Labels.{IsFirstWrongLabelled}
+use Rattle.pim_words.specs.Reading.{IsWrongTrace}
+use Rattle.pim_words.specs.Seen.{OrMemory}
+use Rattle.pim_words.specs.Shown.{IsShown, IsWrongShown}
+
+pub or_memory : (P : Fault → Type 0) (fault : Fault) → P fault → OrMemory P fault
+or_memory P Memory is = tt
+or_memory P fault is = is
+
+module _ (P Q : Fault → Type 0) where
+  pub or_more : ((fault : Fault) → P fault → Q fault) → (fault : Fault) → OrMemory P fault → OrMemory Q fault
+  or_more more Memory is = tt
+  or_more more fault is = more fault is
+
+pub timely : (given : Option Text) (time : Option Time) → IsTimed given time → IsTimely given
+timely None time is = tt
+timely (Some text) None is = absurd is
+timely (Some text) (Some time) is = (time, is)
+
+-- ---- the words of a trace
+
+module _ (rows : List Row) (at : Option Time) (timed : IsTimed (time_text rows) at) where
+  pub wrong_shown : (fault : Fault) → OrMemory (IsWrongShown rows) fault → OrMemory (IsWrongTrace rows) fault
+  wrong_shown fault is = or_more (IsWrongShown rows) (IsWrongTrace rows) (λ f e. inr (timely (time_text rows) at timed, inl e)) fault is
+
+  pub wrong_words : (shown : Shown) (fault : Fault) → IsShown rows shown → OrMemory (IsFirstWrongLabelled [] (words_of rows)) fault → OrMemory (IsWrongTrace rows) fault
+  wrong_words shown fault are is =
+      or_more (IsFirstWrongLabelled [] (words_of rows)) (IsWrongTrace rows) (λ f e. inr (timely (time_text rows) at timed, inr ((shown, are), e))) fault is

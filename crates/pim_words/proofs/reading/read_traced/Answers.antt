@@ -1,0 +1,18 @@
+use Rattle.std.proofs.Common.{Option, subst}
+use Rattle.std.proofs.lemmas.Result.{err_from_is_err_and}
+use Rattle.clap.specs.Words.{Text, found_of, rows_of}
+use Rattle.pim_words.specs.Ends.{IsTimed}
+use Rattle.pim_words.proofs.Orders.{wrong_shown, wrong_words}
+use Rattle.pim_words.proofs.reading.read_traced.Goals as goal
+
+pub returns-in_err-shown-clause-told : goal.returns-in_err-shown-clause-told
+returns-in_err-shown-clause-told c =
+    let timed = subst (λ (o : Option Text). IsTimed o c.in_ok-end.end) c.option_of.ensures c.in_ok-end.ensures.read in
+    let p = err_from_is_err_and c.from_residual-in_err-shown.result c.from_residual-in_err-shown.ensures.1 in
+    rw (p.1, p.2) (wrong_shown (rows_of (found_of c.args.options.now)) c.in_ok-end.end timed _ c.in_err-shown.ensures)
+
+pub returns-in_err-labelled-clause-told : goal.returns-in_err-labelled-clause-told
+returns-in_err-labelled-clause-told c =
+    let timed = subst (λ (o : Option Text). IsTimed o c.in_ok-end.end) c.option_of.ensures c.in_ok-end.ensures.read in
+    let p = err_from_is_err_and c.from_residual-in_err-labelled.result c.from_residual-in_err-labelled.ensures.1 in
+    rw (p.1, p.2) (wrong_words (rows_of (found_of c.args.options.now)) c.in_ok-end.end timed c.in_ok-shown.shown _ c.in_ok-shown.ensures c.in_err-labelled.ensures)

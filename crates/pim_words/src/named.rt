@@ -1,0 +1,90 @@
+//! The ports that the words of a trace name, with their names.
+//!
+//! A word is `ADDRESS@FILE`, or `NAME=ADDRESS@FILE`.
+
+ghost use Rattle.std.specs.Prelude.{◌≡◌, MatchResult, [], map};
+ghost use Rattle.pim_words.specs.Labels.{IsLabelled, IsWrongLabelled, AreLabelled, IsFirstWrongLabelled};
+ghost use Rattle.pim_words.specs.Seen.{OrMemory};
+
+use crate::addresses::{Address, read_address};
+use crate::fault::{Fault, Side};
+use crate::label::{is_fresh, label_of};
+use crate::port::cut_text;
+use crate::task::Port;
+use std::alloc::Global;
+
+/// A port and its name, if it has one.
+#[derive(Clone, Copy, Debug, PartialEq, Eq)]
+struct Named<'a> {
+    port: Port<'a, Address>,
+    name: Option<&'a str>,
+}
+
+/// The ports of a trace, and the name of each if it has one.
+#[derive(Debug, Drop)]
+pub(crate) struct Labelled<'a> {
+    /// The ports, in the order of the words.
+    pub ports: Vec<Port<'a, Address>>,
+    /// Their names, in the same order.
+    pub names: Vec<Option<&'a str>>,
+}
+
+impl<'a> Labelled<'a> {
+    /// No ports.
+    pub fn none(alloc: Global) -> Labelled<'a>
+        ensures ports { result.ports.items ≡ [] }
+        ensures names { result.names.items ≡ [] }
+    {
+        Labelled {
+            ports: Vec::new(alloc),
+            names: Vec::new(alloc),
+        }
+    }
+}
+
+/// The port that a word names, after ports with these names. Or the fault of the word.
+fn read_named<'a>(earlier: &[Option<&'a str>], word: &'a str) -> Result<Named<'a>, Fault<'a>>
+    ensures { MatchResult result
+        (λ named. IsLabelled earlier.now word.now named.port named.name)
+        (IsWrongLabelled earlier.now word.now) }
+{
+    let label = label_of(word);
+    if !is_fresh(earlier, label.name) {
+        return Err(Fault::Word(word));
+    }
+    let Some(cut) = cut_text(Side::A, label.text) else {
+        return Err(Fault::Word(word));
+    };
+    let Some(address) = read_address(cut.address) else {
+        return Err(Fault::Address(word));
+    };
+    let port = Port {
+        side: cut.side,
+        address,
+        file: cut.file,
+        word,
+    };
+    Ok(Named {
+        port,
+        name: label.name,
+    })
+}
+
+/// The ports that the words name, in order, with their names. Or the fault of the first wrong word.
+pub(crate) fn read_labelled<'a>(alloc: Global, words: &[&'a str]) -> Result<Labelled<'a>, Fault<'a>>
+    ensures { MatchResult result
+        (λ labelled. AreLabelled (map (λ w. w.now) words.now) labelled.ports.items labelled.names.items)
+        (OrMemory (IsFirstWrongLabelled [] (map (λ w. w.now) words.now))) }
+{
+    let mut labelled = Labelled::none(alloc);
+    for word in words {
+        let named = read_named(&labelled.names, word)?;
+        if labelled.ports.push(named.port).is_err() {
+            return Err(Fault::Memory);
+        }
+        if labelled.names.push(named.name).is_err() {
+            return Err(Fault::Memory);
+        }
+    }
+    Ok(labelled)
+}

@@ -1,0 +1,105 @@
+//! What a trace shows: its options `--from`, `--group`, `--source` and `--time`.
+
+ghost use Rattle.std.specs.Prelude.{◌≡◌, MatchOption, MatchResult, map};
+ghost use Rattle.std.specs.List.{AllZip};
+ghost use Rattle.clap.specs.Words.{rows_of, found_of};
+ghost use Rattle.pim_words.specs.Addresses.{Names};
+ghost use Rattle.pim_words.specs.Seen.{OrMemory};
+ghost use Rattle.pim_words.specs.Shown.{values_of, form_name, IsFormless, AreShownAddresses, IsWrongChoice};
+ghost use Rattle.pim_words.specs.Shown.{IsShown, IsWrongShown};
+
+use crate::addresses::Address;
+use crate::fault::Fault;
+use crate::given::{option_of, option_or};
+use crate::reading::{read_at, read_option};
+use crate::task::TimeForm;
+use clap::ArgMatches;
+use pim_time::Time;
+use std::alloc::Global;
+
+/// The most groups and the most sources that a trace may show by name.
+const MOST_SHOWN: usize = 64;
+
+/// What a trace shows.
+#[derive(Debug, Drop)]
+pub(crate) struct Shown {
+    /// The time before which nothing is shown, if one is given.
+    pub from: Option<Time>,
+    /// The groups that are shown.
+    pub groups: Vec<Address>,
+    /// The sources that are shown.
+    pub sources: Vec<Address>,
+    /// How moments are written as text.
+    pub form: TimeForm,
+}
+
+/// The form of moments that a text names. `None` for any other text.
+fn form_named(text: &str) -> Option<TimeForm>
+    ensures { MatchOption result (IsFormless text.now) (λ form. text.now ≡ form_name form) }
+{
+    if text == "ms" {
+        return Some(TimeForm::Ms);
+    }
+    if text == "epoch" {
+        return Some(TimeForm::Epoch);
+    }
+    if text == "utc" {
+        return Some(TimeForm::Utc);
+    }
+    None
+}
+
+/// The addresses that the values of an option are, or the fault of the first wrong value.
+fn read_texts<'a>(alloc: Global, texts: &[&'a str]) -> Result<Vec<Address>, Fault<'a>>
+    ensures { MatchResult result
+        (λ addresses. AreShownAddresses (map (λ t. t.now) texts.now) addresses.items)
+        (OrMemory (IsWrongChoice 64 (map (λ t. t.now) texts.now))) }
+{
+    let mut addresses = Vec::new(alloc);
+    for text in texts {
+        if addresses.len() == MOST_SHOWN {
+            return Err(Fault::Word(text));
+        }
+        let address = read_option(text)?;
+        if addresses.push(address).is_err() {
+            return Err(Fault::Memory);
+        }
+    }
+    Ok(addresses)
+}
+
+/// The addresses that the values of this option are. None if it isn't given.
+fn read_choice<'a>(
+    alloc: Global,
+    options: &ArgMatches<'a>,
+    name: &str,
+) -> Result<Vec<Address>, Fault<'a>>
+    ensures { MatchResult result
+        (λ addresses. AreShownAddresses (values_of name.now (rows_of (found_of options.now))) addresses.items)
+        (OrMemory (IsWrongChoice 64 (values_of name.now (rows_of (found_of options.now))))) }
+{
+    match options.get_raw(name) {
+        Some(texts) => read_texts(alloc, texts),
+        None => Ok(Vec::new(alloc)),
+    }
+}
+
+/// What a trace shows, or the fault of the first value that is wrong.
+pub(crate) fn read_shown<'a>(alloc: Global, options: &ArgMatches<'a>) -> Result<Shown, Fault<'a>>
+    ensures { MatchResult result (IsShown (rows_of (found_of options.now)))
+        (OrMemory (IsWrongShown (rows_of (found_of options.now)))) }
+{
+    let from = read_at(option_of(options, "from"))?;
+    let groups = read_choice(alloc, options, "group")?;
+    let sources = read_choice(alloc, options, "source")?;
+    let text = option_or(options, "time", "ms");
+    let Some(form) = form_named(text) else {
+        return Err(Fault::Word(text));
+    };
+    Ok(Shown {
+        from,
+        groups,
+        sources,
+        form,
+    })
+}
