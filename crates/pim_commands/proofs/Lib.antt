@@ -7,3 +7,5 @@ pub mod Builds
 pub mod Writes
 pub mod Routers
 pub mod Opened
+pub mod Traced
+pub mod TraceAndReplay

@@ -4,6 +4,8 @@ pub mod Report
 pub mod Ends
 pub mod Telling
 pub mod Replaying
+pub mod Tracing
+pub mod Laws
 pub mod Comparing
 pub mod Mirroring
 pub mod Emitting

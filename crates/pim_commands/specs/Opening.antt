@@ -19,6 +19,7 @@ use Rattle.pim_words.specs.declared.fault.ConfigCause.TheVariants as cause
 use Rattle.pim_words.specs.declared.fault.Side.{Side}
 use Rattle.pim_words.specs.declared.fault.Side.TheVariants as side
 use Rattle.pim_words.specs.declared.task.Captures.{Captures}
+use Rattle.pim_words.specs.declared.task.Tracing.{Tracing}
 use Rattle.pim_words.specs.declared.task.Writing.{Writing}
 use Rattle.pim_commands.specs.declared.fault.Fault.{Fault}
 use Rattle.pim_commands.specs.declared.fault.Fault.TheVariants.{File, Memory}
@@ -27,6 +28,7 @@ use Rattle.pim_commands.specs.Comparing.{side_setup, ComparesNew}
 use Rattle.pim_commands.specs.Emitting.{EmitsNew}
 use Rattle.pim_commands.specs.Mirroring.{MirrorsNew}
 use Rattle.pim_commands.specs.Replaying.{config_of, config_told, end_of, writer_told, ReplaysNew}
+use Rattle.pim_commands.specs.Tracing.{line_of, names_of, TracesNew}
 use Rattle.pim_commands.specs.Words.{routes_fault}
 
 -- The program's fault for a fault of opening.
@@ -129,6 +131,12 @@ module _ {A R : Type 0} (family : AddressFamily) (bytes_of : A → List ℕ) (re
   abbrev pub ReplaysFiles : Option (List ℕ) → Option (List ℕ) → Result ℕ Fault → Type 0
   ReplaysFiles old new result = OpensOne None old new result (λ table merge merge'.
       ReplaysNew family (is_some captures.routes) (end_of captures) merge merge' (setup_under table) old new result)
+
+  -- What `trace` returns and writes.
+  abbrev pub TracesFiles : Tracing A → Option (List ℕ) → Option (List ℕ) → Result ℕ Fault → Type 0
+  TracesFiles tracing old new result = OpensOne None old new result (λ table merge merge'.
+      TracesNew family (line_of family bytes_of (names_of 0 tracing.names.items) tracing) (end_of captures) merge merge'
+      (setup_under table) old new result)
 
   -- What `mirror` returns and writes.
   abbrev pub MirrorsFiles : Writing A → Option (List ℕ) → Option (List ℕ) → Result ℕ Fault → Type 0

@@ -5,16 +5,18 @@
 //! - `build_into` and `build_task` write the bytes of the message that a text states. What they
 //!   write, `check_into` prints as the text of that message.
 //! - `replay` writes the report of a router's captures (`pim_replay`).
+//! - `trace` prints each change of a router's machines, in time, with its cause (`pim_trace`).
 //! - `same` says whether two routers want the same of an upstream neighbour.
 //! - `mirror` writes the messages that make a fresh router want what this one wants.
 //! - `emit` writes these messages as bytes, and `change` those of the change between two routers.
 //! - `tell_into` writes a fault on one of two devices and returns the status.
 //! - `fault_line` writes the line of a fault.
+//! - `trace_ends_as_replay` is a law: `trace` ends with the router whose state `replay` prints.
 //!
 //! `replay_opened` and the other calls named `_opened` run on captures that are open, one for each
-//! port. They return the status of the engine or its fault, and write what `pim_replay` writes.
-//! They write nothing if the writer or a router can't be made. A device's count of failures rises
-//! exactly where its failure is the result.
+//! port. They return the status of the engine or its fault, and write what `pim_replay` or
+//! `pim_trace` writes. They write nothing if the writer or a router can't be made. A device's count
+//! of failures rises exactly where its failure is the result.
 //!
 //! The calls without that suffix open the files first, by an opener that the caller gives
 //! (`pim_files`). They promise what an `_opened` call does over the table and the captures of the
@@ -34,10 +36,12 @@ mod check;
 mod comparing;
 mod emitting;
 mod fault;
+mod laws;
 mod mirroring;
 mod replaying;
 mod running;
 mod telling;
+mod tracing;
 mod unopened;
 mod writing;
 
@@ -48,7 +52,9 @@ pub use check::{check_into, check_task};
 pub use comparing::{same, same_opened};
 pub use emitting::{emit, emit_opened};
 pub use fault::{Fault, fault_line};
+pub use laws::trace_ends_as_replay;
 pub use mirroring::{mirror, mirror_opened};
 pub use replaying::{replay, replay_opened};
 pub use running::run_task;
 pub use telling::{FAULTY, tell_into};
+pub use tracing::{trace, trace_opened};

@@ -82,7 +82,7 @@ fn config_fault(fault: ConfigFault) -> Fault<'static>
 }
 
 /// The program's fault for a fault of a capture.
-fn capture_fault(fault: CaptureFault) -> Fault<'static>
+pub(crate) fn capture_fault(fault: CaptureFault) -> Fault<'static>
     ensures { result ≡ capture_fault fault }
 {
     match fault {

@@ -13,6 +13,7 @@ use crate::emitting::emit;
 use crate::fault::Fault;
 use crate::mirroring::mirror;
 use crate::replaying::replay;
+use crate::tracing::trace;
 use pim_addr::{Drain, Family, Feed};
 use pim_files::Opener;
 use pim_words::Task;
@@ -40,6 +41,9 @@ pub fn run_task<'a, F: Family, O: Opener, R: Feed, W: Drain>(
         Task::Check { .. } => check_task::<F, _, _>(alloc, input, output, task),
         Task::Build { .. } => build_task::<F, _, _>(alloc, input, output, task),
         Task::Replay(captures) => replay::<F, O, W>(alloc, opener, captures, output),
+        Task::Trace(captures, tracing) => {
+            trace::<F, O, W>(alloc, opener, captures, tracing, output)
+        }
         Task::Same(captures, writing) => {
             same::<F, O, W>(alloc, opener, captures, writing, output)
         }

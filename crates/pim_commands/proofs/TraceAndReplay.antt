@@ -1,0 +1,104 @@
+-- A trace and a replay of the same captures lead to the same router.
+use Rattle.std.proofs.Common.{◌≡◌, ◌∙◌, ℕ, Bool, true, false, List, [], ◌∷◌, ◌++◌, None, refl, sym, ap, subst, arith}
+use Rattle.std.specs.Prelude.{if◌then◌else◌}
+use Rattle.pim_addr.specs.declared.family.AddressFamily.{AddressFamily}
+use Rattle.pim_addr.specs.Families.{is_same}
+use Rattle.pim_capture.specs.Capture.{Answer, Told, packet, skipped, ended}
+use Rattle.pim_capture.specs.Frame.{Datagram}
+use Rattle.pim_merge.specs.declared.end.End.{End}
+use Rattle.pim_merge.specs.Ends.{last_of, end_moment, clock_of}
+use Rattle.pim_merge.specs.Lane.{IsComing}
+use Rattle.pim_merge.specs.Laws.{MergeByHasOneEnd}
+use Rattle.pim_merge.specs.Merge.{Taken}
+use Rattle.pim_merge.specs.Next.{MergeState}
+use Rattle.pim_router.specs.declared.step.Step.TheVariants.{Echo, Refresh, Reached}
+use Rattle.pim_router.specs.Course.{Telling, echo, refresh, verdict}
+use Rattle.pim_router.specs.Happening.{Happening, Happens}
+use Rattle.pim_router.specs.Laws.{RunsPastAreTurns, HappeningGoesOn, HappeningHasOneEnd}
+use Rattle.pim_router.specs.Refreshes.{RunsPast}
+use Rattle.pim_router.specs.State.{RouterState}
+use Rattle.pim_events.specs.Events.{Occurrence}
+use Rattle.pim_events.specs.declared.event.Skip.TheVariants.{OtherFamily}
+use Rattle.pim_trace.specs.Ledger.{Ledger, frame_of}
+use Rattle.pim_trace.specs.Passing as trace
+use Rattle.pim_trace.specs.Trace as traces
+use Rattle.pim_trace.specs.Turn as turns
+use Rattle.pim_replay.specs.Passing as replay
+use Rattle.pim_replay.specs.Report as report
+use Rattle.pim_replay.specs.Turn as replayed
+
+module _ (merges : MergeByHasOneEnd) (are_turns : RunsPastAreTurns) (goes_on : HappeningGoesOn) (one_end : HappeningHasOneEnd) (family : AddressFamily) where
+  -- ---- time
+
+  -- the runs of a replay up to a moment are all turns up to it
+  has_happened : (moment : ℕ) (told : List Telling) (lines : List ℕ) (refreshes : ℕ) (state after : RouterState)
+      → replay.Passes family moment told lines refreshes state after
+      → (happened : List (ℕ × Happening)) × Happens moment state happened after
+  unfolding replay.Passes RunsPast
+  has_happened moment [] lines refreshes state after (run, none, zero_told) =
+      let past = are_turns 0 moment state after Reached run in
+      (past.told, record { passes = past.passes; ends = past.ends refl })
+  has_happened moment (echo p g w ∷ told) lines refreshes state after (between, others, run, is, passes) =
+      let past = are_turns 0 moment state between (Echo p g w) run in
+      let rest = has_happened moment told others refreshes between after passes in
+      (past.told ++ rest.0, goes_on moment moment state between after past.told rest.0 (omega arith) past.passes rest.1)
+  has_happened moment (refresh ∷ told) lines refreshes state after (between, others, run, is, passes) =
+      let past = are_turns 0 moment state between Refresh run in
+      let rest = has_happened moment told lines others between after passes in
+      (past.told ++ rest.0, goes_on moment moment state between after past.told rest.0 (omega arith) past.passes rest.1)
+  has_happened moment (verdict v ∷ told) lines refreshes state after passes = absurd passes
+
+  time_same : (moment : ℕ) (ledger ledger' : Ledger) (events : List Occurrence) (lines : List ℕ) (refreshes : ℕ) (state start after other : RouterState)
+      → state ≡ start → trace.PassesTime moment ledger state events ledger' after
+      → replay.PassesTime family moment lines refreshes start other → after ≡ other
+  time_same moment ledger ledger' events lines refreshes state start after other same one two =
+      let happened = has_happened moment two.told lines refreshes start other two.passes in
+      (one_end moment state after other one.happened happened.0 one.happens (subst (λ s. Happens moment s happened.0 other) (sym same) happened.1)).1
+
+  -- ---- a record
+
+  datagram_by : (b : Bool) (port frame : ℕ) (datagram : Datagram) (ledger ledger' : Ledger) (state after : RouterState) (events : List Occurrence)
+      → turns.TakesContent family port (if b then turns.held frame (turns.packet_on port datagram) else turns.passed_over (record { frame = frame; why = OtherFamily })) ledger state events ledger' after
+      → after ≡ (if b then replayed.heard family (replayed.packet_on port datagram) state else replayed.passed_over state).1
+  datagram_by true port frame datagram ledger ledger' state after events takes = takes.after_is
+  datagram_by false port frame datagram ledger ledger' state after events (said, kept, same) = same
+
+  record_same : (port : ℕ) (told : Told) (ledger ledger' : Ledger) (state after : RouterState) (events : List Occurrence)
+      → turns.TakesRecord family port told ledger state events ledger' after → after ≡ (replayed.taking family port told state).1
+  record_same port (packet millis bytes datagram) ledger ledger' state after events takes =
+      datagram_by (is_same family datagram.family) port (frame_of port ledger) datagram ledger ledger' state after events takes
+  record_same port (skipped millis why) ledger ledger' state after events (said, kept, same) = same
+  record_same port ended ledger ledger' state after events (said, kept, same) = same
+
+  -- ---- turns
+
+  turn_same : (this : Taken) (ledger ledger' : Ledger) (events : List Occurrence) (account : replayed.Account) (state start after other : RouterState)
+      → state ≡ start → turns.TellsTurn family this ledger state events ledger' after
+      → replayed.TellsTurn family this account start other → after ≡ other
+  turn_same this ledger ledger' events account state start after other same one two =
+      let between = time_same this.moment (turns.counting this ledger) one.ledger_then one.way two.way two.refreshes state start one.between two.between same one.passes two.passes in
+      record_same this.capture this.told one.ledger_then ledger' one.between after one.of_record one.takes
+      ∙ (ap (λ s. (replayed.taking family this.capture this.told s).1) between ∙ sym two.after_is)
+
+  turns_same : (taken : List Taken) (ledger ledger' : Ledger) (events : List Occurrence) (account : replayed.Account) (state start after other : RouterState)
+      → state ≡ start → traces.TellsTurns family taken ledger state events ledger' after
+      → report.TellsTurns family taken account start other → after ≡ other
+  unfolding traces.TellsTurns report.TellsTurns
+  turns_same [] ledger ledger' events account state start after other same (none, kept, is) (none', is') = is ∙ (same ∙ sym is')
+  turns_same (first ∷ others) ledger ledger' events account state start after other same (a, b, l, s, begins, more, is) (a', b', s', begins', more', is') =
+      let between = turn_same first ledger l a a' state start s s' same begins begins' in
+      turns_same others l ledger' b b' s s' after other between more more'
+
+  -- ---- the whole
+
+  pub trace_and_report : (tells_via : Bool) (end : End) (merge : MergeState) (captures : List (List Answer)) (state after other : RouterState) (events : List Occurrence) (text : List ℕ)
+      → IsComing merge.lanes captures → traces.IsTrace family end merge state events after → report.IsReport family tells_via end merge state other text → after ≡ other
+  trace_and_report tells_via end merge captures state after other events text coming this that =
+      let one = this.tells in
+      let two = that.tells in
+      let same = (merges (last_of end) merge.clock captures one.taken two.taken None None (one.are captures coming) (two.are captures coming)).0 in
+      let between = turns_same one.taken (traces.ledger_for state) one.ledger_then one.turns two.turns state state one.between two.between refl one.tells
+      (subst (λ t. report.TellsTurns family t two.turns state two.between) (sym same) two.tells) in
+      time_same (end_moment end (clock_of merge.clock one.taken) one.between.machines.moment) one.ledger_then this.ledger one.way two.way two.refreshes one.between two.between after other between one.passes
+      (subst (λ t. replay.PassesTime family (end_moment end (clock_of merge.clock t) one.between.machines.moment) two.way two.refreshes two.between other) (sym same)
+      (subst (λ s. replay.PassesTime family (end_moment end (clock_of merge.clock two.taken) s.machines.moment) two.way two.refreshes two.between other) (sym between) two.passes))

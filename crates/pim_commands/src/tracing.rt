@@ -1,0 +1,200 @@
+//! The command `trace`: it opens the files that its words name, and prints the events of their
+//! records.
+//!
+//! All files are opened before any record is read. So a fault of opening comes before all output.
+
+ghost use Rattle.std.specs.Prelude.{◌≡◌, ◌≤◌, length, map, IfOk, IfSome, true};
+ghost use Rattle.std.specs.List.{AllByRecursion};
+ghost use Rattle.pim_capture.specs.Next.{latest_moment};
+ghost use Rattle.pim_router.specs.Seen.{setup_seen};
+ghost use Rattle.pim_words.specs.Labels.{is_name};
+ghost use Rattle.pim_words.specs.Plan.{AreNames, IsBounded, IsLimited};
+ghost use Rattle.pim_commands.specs.Replaying.{end_of, config_of};
+ghost use Rattle.pim_commands.specs.Tracing.{form_of, name_of, names_of, line_of};
+ghost use Rattle.pim_commands.specs.Tracing.{trace_fault, tracing_answer, TracesNew, TracesBy};
+ghost use Rattle.pim_commands.specs.Opening.{TracesFiles};
+ghost use Rattle.pim_commands.specs.Report.{write_failures_after};
+
+use crate::fault::Fault;
+use crate::replaying::{capture_fault, configs, end_of, router_of};
+use pim_addr::{Drain, Family, Feed, Routes};
+use pim_event_lines::{JsonPrinter, TextPrinter};
+use pim_events::{Filter, Name};
+use pim_files::{Opener, open_all, table};
+use pim_merge::Merge;
+use pim_router::Router;
+use pim_trace::{TraceFault, trace_into};
+use pim_words::{Captures, TimeForm, Tracing};
+use std::alloc::{AllocError, Global};
+
+/// The form of moments that the words ask for, as the printer of text takes it.
+fn form_of(form: TimeForm) -> pim_event_lines::TimeForm
+    ensures { result ≡ form_of form }
+{
+    match form {
+        TimeForm::Ms => pim_event_lines::TimeForm::Ms,
+        TimeForm::Epoch => pim_event_lines::TimeForm::Epoch,
+        TimeForm::Utc => pim_event_lines::TimeForm::Utc,
+    }
+}
+
+/// The name of a port: the one that its word gives, or else its number.
+fn name_of(port: usize, given: Option<&str>) -> Name
+    requires { IfSome given (λ text. is_name text.now ≡ true) }
+    ensures { result ≡ name_of port given.entry }
+{
+    let Some(text) = given else {
+        return Name::number(port);
+    };
+    let Some(name) = Name::read(text) else {
+        unreachable!()
+    };
+    name
+}
+
+/// The names of the ports.
+fn names_of(alloc: Global, given: &[Option<&str>]) -> Result<Vec<Name>, AllocError>
+    requires { AllByRecursion (λ name. IfSome name (λ text. is_name text.now ≡ true)) given.now }
+    ensures { IfOk result (λ names. names.items ≡ names_of 0 given.now) }
+{
+    let mut names = Vec::new(alloc);
+    for (port, name) in given.iter().enumerate() {
+        names.push(name_of(port, *name))?;
+    }
+    Ok(names)
+}
+
+/// Which events the words ask for.
+fn filter_of<'t, A>(tracing: &'t Tracing<'_, A>) -> Filter<'t, A>
+    ensures all { result.all ≡ tracing.entry.now.all }
+    ensures groups { result.groups.now ≡ tracing.entry.now.groups.items }
+    ensures sources { result.sources.now ≡ tracing.entry.now.sources.items }
+    ensures from { result.from ≡ tracing.entry.now.from }
+{
+    Filter {
+        all: tracing.all,
+        groups: &tracing.groups,
+        sources: &tracing.sources,
+        from: tracing.from,
+    }
+}
+
+/// The program's fault for a fault of a trace.
+fn trace_fault(fault: TraceFault) -> Fault<'static>
+    ensures { result ≡ trace_fault fault }
+{
+    match fault {
+        TraceFault::Capture(told) => capture_fault(told.fault),
+        TraceFault::Output => Fault::Output,
+        TraceFault::Memory => Fault::Memory,
+    }
+}
+
+/// The program's result for a result of a trace.
+fn tracing_answer(told: Result<(), TraceFault>) -> Result<u8, Fault<'static>>
+    ensures { result ≡ tracing_answer told }
+{
+    match told {
+        Ok(()) => Ok(0),
+        Err(fault) => Err(trace_fault(fault)),
+    }
+}
+
+/// Traces the captures of a router, and prints its events with these names as the words ask.
+fn trace_by<F: Family, R: Feed + Drop, W: Drain>(
+    alloc: Global,
+    asked: (&Captures<'_, F::Addr>, &Tracing<'_, F::Addr>),
+    names: &[Name],
+    merge: &mut Merge<R>,
+    router: &mut Router<'_, F>,
+    writer: &mut W,
+) -> Result<(), TraceFault>
+    requires after { IsBounded asked.0.now }
+    requires ports { length merge.old.lanes ≡ length router.old.ports }
+    requires moment { router.old.machines.moment ≤ latest_moment }
+    ensures events { TracesBy F.family
+        (line_of F.family F.bytes_of names.now asked.entry.1.now) (end_of asked.entry.0.now)
+        merge.old merge.new router.old router.new
+        (W.contents writer.old) (W.contents writer.new) result }
+    ensures count { W.failures writer.new
+        ≡ write_failures_after (W.failures writer.old) (tracing_answer result) }
+{
+    let (captures, tracing) = asked;
+    let end = end_of(captures);
+    let filter = filter_of(tracing);
+    if tracing.json {
+        let printer = JsonPrinter { names, filter };
+        return trace_into(alloc, &printer, writer, merge, router, end);
+    }
+    let printer = TextPrinter {
+        names,
+        form: form_of(tracing.form),
+        filter,
+    };
+    trace_into(alloc, &printer, writer, merge, router, end)
+}
+
+/// Traces the captures of a new router, one for each port in the order of the ports, and prints the
+/// events that are shown. Returns the status, 0.
+///
+/// # Errors
+/// The faults of `pim_trace::trace_into`. If the router can't be made, the result is its first fault
+/// or `Memory`. Then nothing was written, and no capture was read.
+pub fn trace_opened<F: Family, R: Feed + Drop, W: Drain>(
+    alloc: Global,
+    asked: (&Captures<'_, F::Addr>, &Tracing<'_, F::Addr>),
+    routes: &Routes<F>,
+    merge: &mut Merge<R>,
+    writer: &mut W,
+) -> Result<u8, Fault<'static>>
+    requires after { IsBounded asked.0.now }
+    requires limit { IsLimited asked.0.now }
+    requires names { AreNames asked.0.now asked.1.now }
+    requires ports { length merge.old.lanes ≡ length asked.0.now.ports.items }
+    ensures events { TracesNew F.family (line_of F.family F.bytes_of
+        (names_of 0 asked.entry.1.now.names.items) asked.entry.1.now)
+        (end_of asked.entry.0.now) merge.old merge.new
+        (setup_seen F.bytes_of (map config_of asked.entry.0.now.ports.items) routes.now
+        asked.entry.0.now.limit)
+        (W.contents writer.old) (W.contents writer.new) result }
+    ensures count { W.failures writer.new ≡ write_failures_after (W.failures writer.old) result }
+{
+    let (captures, tracing) = asked;
+    let Ok(ports) = configs(alloc, &captures.ports) else {
+        return Err(Fault::Memory);
+    };
+    let Ok(names) = names_of(alloc, &tracing.names) else {
+        return Err(Fault::Memory);
+    };
+    let mut router = match router_of::<F>(alloc, &ports, routes, captures.limit) {
+        Ok(router) => router,
+        Err(fault) => return Err(fault),
+    };
+    tracing_answer(trace_by::<F, R, W>(alloc, asked, &names, merge, &mut router, writer))
+}
+
+/// `trace_opened` of the captures that the words name. It reads the file of routes first, then opens
+/// all captures, then reads records.
+///
+/// # Errors
+/// `File` of a file that can't be opened, or a fault of the file of routes: nothing was written.
+/// Otherwise those of `trace_opened`: of a capture, `Output` and `Memory`.
+pub fn trace<'a, F: Family, O: Opener, W: Drain>(
+    alloc: Global,
+    opener: &mut O,
+    captures: &Captures<'a, F::Addr>,
+    tracing: &Tracing<'a, F::Addr>,
+    writer: &mut W,
+) -> Result<u8, Fault<'a>>
+    requires after { IsBounded captures.now }
+    requires limit { IsLimited captures.now }
+    requires names { AreNames captures.now tracing.now }
+    ensures events { TracesFiles F.family F.bytes_of O.Reader.remaining O.Reader.failures
+        (O.known opener.old) (O.known opener.new) captures.now tracing.now
+        (W.contents writer.old) (W.contents writer.new) result }
+    ensures count { W.failures writer.new ≡ write_failures_after (W.failures writer.old) result }
+{
+    let routes = table::<F, O>(alloc, opener, captures, None)?;
+    let mut merge = open_all(alloc, opener, &captures.ports)?;
+    trace_opened::<F, _, W>(alloc, (captures, tracing), &routes, &mut merge, writer)
+}
