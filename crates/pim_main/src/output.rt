@@ -9,6 +9,7 @@ use pim_words::{Port, Task};
 use std::alloc::Global;
 use std::fs::metadata;
 use std::io::{self, BufWriter, IsTerminal, Write};
+use std::os::unix::fs::FileTypeExt;
 
 /// A writer that keeps bytes in a block. Where it is live, it writes them out at each line feed.
 #[derive(Drop)]
@@ -53,7 +54,7 @@ fn some_may_grow<A>(rt: &HostRuntime, ports: &[Port<'_, A>]) -> bool {
 fn reads_live<A>(rt: &HostRuntime, task: &Task<'_, A>) -> bool {
     match task {
         Task::Check { .. } | Task::Build { .. } => false,
-        Task::Replay(captures) => some_may_grow(rt, &captures.ports),
+        Task::Replay(captures) | Task::Trace(captures, _) => some_may_grow(rt, &captures.ports),
         Task::Same(captures, _)
         | Task::Mirror(captures, _)
         | Task::Emit(captures, _)
@@ -61,9 +62,16 @@ fn reads_live<A>(rt: &HostRuntime, task: &Task<'_, A>) -> bool {
     }
 }
 
-/// Whether each line is written out as soon as it is complete: to a terminal, or from a pipe.
+/// Whether standard output is a FIFO or a pipe. If the system doesn't say, it is none.
+fn writes_into_pipe(rt: &HostRuntime) -> bool {
+    metadata(rt, "/dev/stdout").is_ok_and(|it| it.file_type().is_fifo())
+}
+
+/// Whether each line is written out as soon as it is complete: to a terminal, from a pipe, and in a
+/// trace also to a pipe.
 pub fn is_live<A>(rt: &HostRuntime, task: &Task<'_, A>) -> bool {
-    rt.stdout().is_terminal() || reads_live(rt, task)
+    let is_trace = matches!(task, Task::Trace(..));
+    rt.stdout().is_terminal() || reads_live(rt, task) || is_trace && writes_into_pipe(rt)
 }
 
 /// The device that takes the answers of a session. It keeps bytes in a block, and writes them out

@@ -1,7 +1,9 @@
 //! What commands leave where memory is refused. `tools/each_growth_refused.sh` runs each test with
 //! each allocation refused in turn.
 
-use super::running::{CHANGE, EMIT, MIRROR, NEVER, REPLAY, Row, SAME, all_files, answer};
+use super::running::{
+    CHANGE, EMIT, MIRROR, NEVER, REPLAY, Row, SAME, TRACE, TRACE_JSON, all_files, answer,
+};
 use pim_addr::ScriptedDrain;
 use pim_commands::Fault;
 use pim_words::Fault as Unplanned;
@@ -69,6 +71,16 @@ fn expect(rt: &impl Abort, alloc: Global, row: &Row, left: Left) -> Result<(), A
 #[test]
 fn replay_leaves_a_front(rt: HostRuntime) -> Result<(), Fail> {
     Ok(expect(&rt, rt.alloc(), &REPLAY, Left::Front)?)
+}
+
+#[test]
+fn trace_leaves_a_front(rt: HostRuntime) -> Result<(), Fail> {
+    Ok(expect(&rt, rt.alloc(), &TRACE, Left::Front)?)
+}
+
+#[test]
+fn trace_as_json_leaves_a_front(rt: HostRuntime) -> Result<(), Fail> {
+    Ok(expect(&rt, rt.alloc(), &TRACE_JSON, Left::Front)?)
 }
 
 #[test]

@@ -120,6 +120,47 @@ skipped 0 refreshes 0
     status: 0,
 };
 
+/// All events of the capture, as text.
+pub const TRACE: Row = Row {
+    words: &[
+        "pimtree",
+        "trace",
+        "--rp",
+        "10.9.9.9",
+        "--time",
+        "epoch",
+        "--all",
+        "link=10.0.0.2@joined",
+    ],
+    text: b"100.000 link #1 10.0.0.9: hello new, generation -
+100.005 link #2 10.0.0.9: applied, for 10.0.0.2, joined 1 pruned 0
+100.005 link #2 10.0.0.9 joins star 239.1.1.1: no-info -> join, et 210000
+100.005 end: records 1 neighbours 1 skipped cut 0 not-ip 0 bad-header 0 not-pim 0 fragment 0 family 0
+",
+    status: 0,
+};
+
+/// The events of one group, as JSON.
+pub const TRACE_JSON: Row = Row {
+    words: &[
+        "pimtree",
+        "trace",
+        "--rp",
+        "10.9.9.9",
+        "--group",
+        "239.1.1.1",
+        "--source",
+        "192.0.2.1",
+        "--json",
+        "10.0.0.2@joined",
+    ],
+    text: br#"{"ms":0,"epoch":"100.000","port":"0","event":"hello","frame":1,"from":"10.0.0.9","verdict":"new","was":null,"generation":null}
+{"ms":5,"epoch":"100.005","port":"0","event":"transition","frame":2,"from":"10.0.0.9","by":"join","what":"star","group":"239.1.1.1","source":null,"was":"no-info","now":"join","et":210000,"ppt":null,"neighbours":1,"overrides":null}
+{"ms":5,"epoch":"100.005","port":null,"event":"end","records":1,"neighbours":1,"skipped":{"cut":0,"not-ip":0,"bad-header":0,"not-pim":0,"fragment":0,"family":0}}
+"#,
+    status: 0,
+};
+
 /// Two routers, one of which wants nothing.
 pub const SAME: Row = Row {
     words: &[
