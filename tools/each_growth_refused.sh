@@ -84,6 +84,8 @@ pim_router_tests router::refused::wants_are_compared_again same_wants
 pim_router_tests mirror::mirrored::exception_is_pruned_at_the_final_moment mirror
 pim_codec_tests capture::refused_growth Capture::next
 pimtree_tests refused::replay_leaves_a_front replay
+pimtree_tests refused::trace_leaves_a_front trace
+pimtree_tests refused::trace_as_json_leaves_a_front trace
 pimtree_tests refused::same_leaves_nothing same
 pimtree_tests refused::mirror_leaves_whole_lines mirror
 pimtree_tests refused::emit_leaves_nothing emit

@@ -1,5 +1,5 @@
 #!/usr/bin/env python3
-"""Writes the captures of examples/, with their words and reports, as cases of crates/pimtree_cases.
+"""Writes the captures of examples/, with their words, reports and traces, as cases of crates/pimtree_cases.
 It also writes the first of them as the stored run of crates/pimtree: args, data/ and stdout.
 
     python3 tools/examples_as_tests.py
@@ -30,22 +30,26 @@ def lines(part, data):
     return f"{part}\n{rows}" if rows else ""
 
 
-def case(name):
-    words = " ".join(content(name, "words").decode().split())
+def case(name, command, kind):
+    """The case of a command with the words of the replay, if there is a file of this kind with its output."""
+    output = content(name, kind)
+    if not output:
+        return ""
+    words = " ".join(command + content(name, "words").decode().split()[1:])
     errors = content(name, "errors")
     status = "status 2\n" if errors else ""
-    return (
-        f"\nwords {words}\nfile {name}.pcap\n"
-        + hexadecimal(content(name, "pcap"))
-        + lines("output", content(name, "report"))
-        + lines("errors", errors)
-        + status
-    )
+    return f"\nwords {words}\n" + lines("output", output) + lines("errors", errors) + status
+
+
+def cases(name):
+    replay = case(name, ["replay"], "report")
+    return replay + case(name, ["trace"], "trace") + case(name, ["trace", "--json"], "json")
 
 
 def text():
     head = "# The captures of examples/, written here by tools/examples_as_tests.py.\n"
-    return head + "".join(case(name) for name in NAMES)
+    files = "".join(f"\nfile {name}.pcap\n" + hexadecimal(content(name, "pcap")) for name in NAMES)
+    return head + files + "".join(cases(name) for name in NAMES)
 
 
 def write(path, data):

@@ -34,7 +34,7 @@ WORDS = {
     "README.md": 1000,
     "CONTRIBUTING.md": 600,
     "docs/ARCHITECTURE.md": 1500,
-    "docs/CONTRACTS.md": 2500,
+    "docs/CONTRACTS.md": 2600,
     "docs/DEFINITIONS.md": 1500,
     "docs/HEADLINE.md": 1500,
     "docs/MANUAL.md": 1500,
@@ -42,6 +42,7 @@ WORDS = {
     "docs/PROVING.md": 3000,
     "docs/SESSION.md": 1000,
     "docs/SPEED.md": 1500,
+    "docs/TRACE.md": 1000,
     "docs/WALKTHROUGH.md": 900,
 }
 NAMED = re.compile(r"(?<![\w./~@-])(?:[\w.*-]+/)+[\w.*-]*")
