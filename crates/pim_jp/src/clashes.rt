@@ -13,7 +13,7 @@ use crate::blocks::{TOGETHER, first_clash_by_blocks};
 use crate::entries::{Entries, first_entry};
 use crate::entry::Entry;
 use crate::swapped::first_clash_by_pruned;
-use pim_addr::{Family, source_length};
+use pim_addr::{AddressFamily, Family, source_length};
 use std::mem::size_of_val;
 
 /// Up to this number of joined entries, comparing pair by pair is faster than sorting.
@@ -23,7 +23,8 @@ const FEW: u16 = 4;
 const FEW_PRUNED: u16 = 8;
 
 /// The length of the smallest block. Blocks have three sizes, so that small group sets don't pay
-/// for filling a large block.
+/// for filling a large block. The largest has room for the shorter list of each group set of a
+/// message of 64 KiB, so it has fewer numbers for IPv6.
 const SOME: u16 = 128;
 
 /// The length of the middle block.
@@ -72,7 +73,9 @@ fn first_clash_among_few<F: Family>(count: u16, bytes: &[u8], joined: &Entries<'
 
 /// The same as `first_clash`, by way of sorted blocks of `N` numbers on the stack. The shorter list
 /// is sorted if it fits into a block. Otherwise the joined list is sorted block by block, and each
-/// pruned entry is looked for in each block.
+/// pruned entry is looked for in each block. It is never inlined, so that blocks of one size alone
+/// are on the stack.
+#[inline(never)]
 fn first_clash_among_many<F: Family, const N: usize>(
     count: u16,
     bytes: &[u8],
@@ -129,5 +132,8 @@ pub(crate) fn first_clash<F: Family>(count: u16, bytes: &[u8], joined: &Entries<
     if fewer <= MORE {
         return first_clash_among_many::<F, 1024>(count, bytes, joined);
     }
-    first_clash_among_many::<F, 4096>(count, bytes, joined)
+    match F::family() {
+        AddressFamily::Ipv4 => first_clash_among_many::<F, 4096>(count, bytes, joined),
+        AddressFamily::Ipv6 => first_clash_among_many::<F, 1640>(count, bytes, joined),
+    }
 }

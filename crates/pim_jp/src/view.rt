@@ -41,10 +41,12 @@ impl<'a, F: Family> JpView<'a, F> {
     /// If both lists of a group set have (S,G) entries, or both have (S,G,rpt) entries, it also
     /// looks for sources in both lists. With at most 8 pruned or at most 4 joined entries it
     /// compares them pair by pair. Otherwise it sorts the sources of the shorter list on the stack
-    /// and looks for the others among them. This takes about 40 KiB for IPv4 and 136 KiB for IPv6
-    /// at most, and the sort calls itself at most 8 deep. In all, n entries take about n log n
-    /// steps at most if one list of each set has at most 4,096 entries. Beyond that, each pruned
-    /// entry is looked for once for every 4,096 joined ones.
+    /// and looks for the others among them. The sort calls itself at most 8 deep. In all, the stack
+    /// takes at most 64 KiB: about 42 for IPv4 and 58 for IPv6.
+    ///
+    /// In a message of 64 KiB, n entries take about n log n steps at most. They do in a longer one
+    /// whose sets each have a list of at most 4,096 entries for IPv4, or 1,640 for IPv6. Beyond
+    /// that, each pruned entry is looked for once for each block of that many joined ones.
     ///
     /// # Errors
     /// The fault of least offset; of several kinds at one part, the first in the order of `JpKind`.
