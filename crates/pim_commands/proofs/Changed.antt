@@ -9,7 +9,7 @@ use Rattle.pim_replay.specs.declared.mirror_text.MirrorTextFault.TheVariants as 
 use Rattle.pim_replay.specs.declared.replay.ReplayFault.TheVariants as of_replay
 use Rattle.pim_replay.specs.ChangeText.{TellsChange}
 use Rattle.pim_router.specs.State.{RouterState, Setup, new_router}
-use Rattle.pim_commands.specs.declared.fault.Fault.{Fault}
+use Rattle.pim_check.specs.declared.fault.Fault.{Fault}
 use Rattle.pim_commands.specs.Changing.{IsChanged, ChangesNew}
 use Rattle.pim_commands.specs.Mirroring.{mirrored, MirrorAnswer}
 use Rattle.pim_commands.proofs.Mirrored.{retold, same_told}

@@ -2,9 +2,6 @@ pub mod Compared
 pub mod Mirrored
 pub mod Emitted
 pub mod Changed
-pub mod Reports
-pub mod Builds
-pub mod Writes
 pub mod Routers
 pub mod Opened
 pub mod Traced

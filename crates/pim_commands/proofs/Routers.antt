@@ -18,9 +18,9 @@ use Rattle.pim_router.specs.Config.{IsMadeUnless, config_faults}
 use Rattle.pim_router.specs.Seen.{port_seen, setup_seen}
 use Rattle.pim_router.specs.State.{RouterState, Setup, new_router}
 use Rattle.pim_words.specs.declared.task.Port.{Port}
-use Rattle.pim_commands.specs.declared.fault.Fault.{Fault}
+use Rattle.pim_check.specs.declared.fault.Fault.{Fault}
 use Rattle.pim_commands.specs.Replaying.{config_of, config_fault, capture_fault, answer_of, IsUnmade, ReplaysNew}
-use Rattle.pim_commands.specs.Report.{write_failures_after}
+use Rattle.pim_check.specs.Report.{write_failures_after}
 
 -- a value that was made
 pub made_is : {A : Type 0} (faults : List ConfigFault) (value made : A) → IsMadeUnless faults value (Ok made) → (faults ≡ []) × (made ≡ value)

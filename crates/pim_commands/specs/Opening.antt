@@ -6,7 +6,6 @@ use Rattle.std.specs.Prelude.{Option, None, Some, Result, Ok, Err}
 use Rattle.pim_addr.specs.declared.family.AddressFamily.{AddressFamily}
 use Rattle.pim_addr.specs.Routes.{RouteTable}
 use Rattle.pim_files.specs.declared.fault.OpenFault.{OpenFault}
-use Rattle.pim_files.specs.declared.fault.OpenFault.TheVariants as opening
 use Rattle.pim_files.specs.Captures.{file_name, is_of, HoldFiles, StopsAtPort}
 use Rattle.pim_files.specs.Files.{Known, AsksFor, AsksFront}
 use Rattle.pim_files.specs.Table.{IsTable, IsTableFault, table_names}
@@ -15,29 +14,19 @@ use Rattle.pim_form.specs.Seen.{writing_seen}
 use Rattle.pim_merge.specs.Next.{MergeState}
 use Rattle.pim_router.specs.Seen.{setup_seen}
 use Rattle.pim_router.specs.State.{Setup}
-use Rattle.pim_words.specs.declared.fault.ConfigCause.TheVariants as cause
 use Rattle.pim_words.specs.declared.fault.Side.{Side}
 use Rattle.pim_words.specs.declared.fault.Side.TheVariants as side
 use Rattle.pim_words.specs.declared.task.Captures.{Captures}
 use Rattle.pim_words.specs.declared.task.Tracing.{Tracing}
 use Rattle.pim_words.specs.declared.task.Writing.{Writing}
-use Rattle.pim_commands.specs.declared.fault.Fault.{Fault}
-use Rattle.pim_commands.specs.declared.fault.Fault.TheVariants.{File, Memory}
+use Rattle.pim_check.specs.declared.fault.Fault.{Fault}
 use Rattle.pim_commands.specs.Changing.{ChangesNew}
 use Rattle.pim_commands.specs.Comparing.{side_setup, ComparesNew}
 use Rattle.pim_commands.specs.Emitting.{EmitsNew}
 use Rattle.pim_commands.specs.Mirroring.{MirrorsNew}
-use Rattle.pim_commands.specs.Replaying.{config_of, config_told, end_of, writer_told, ReplaysNew}
+use Rattle.pim_commands.specs.Replaying.{config_of, end_of, ReplaysNew}
 use Rattle.pim_commands.specs.Tracing.{line_of, names_of, TracesNew}
-use Rattle.pim_commands.specs.Words.{routes_fault}
-
--- The program's fault for a fault of opening.
-abbrev pub open_fault : OpenFault → Fault
-open_fault opening.Upstream = writer_told
-open_fault opening.Rp = config_told cause.Rp
-open_fault (opening.File word) = File word
-open_fault (opening.Routes fault) = routes_fault fault
-open_fault opening.Memory = Memory
+use Rattle.pim_check.specs.Unopened.{open_fault}
 
 -- ---- what is opened for these captures, with this upstream neighbour; `known` and `known'` say
 -- what is known of the opener before and after

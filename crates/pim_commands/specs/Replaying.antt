@@ -16,14 +16,13 @@ use Rattle.pim_router.specs.declared.config.PortConfig.{PortConfig}
 use Rattle.pim_router.specs.Config.{config_faults}
 use Rattle.pim_router.specs.State.{Setup, RouterState, new_router}
 use Rattle.pim_time.specs.declared.reading.Time.{Time}
-use Rattle.pim_words.specs.declared.fault.ConfigCause.{ConfigCause}
 use Rattle.pim_words.specs.declared.fault.ConfigCause.TheVariants as cause
-use Rattle.pim_words.specs.declared.fault.Fault.TheVariants as of_words
 use Rattle.pim_words.specs.declared.task.Captures.{Captures}
 use Rattle.pim_words.specs.declared.task.Port.{Port}
-use Rattle.pim_commands.specs.declared.causes.CaptureCause.TheVariants as capture
-use Rattle.pim_commands.specs.declared.fault.Fault.{Fault}
-use Rattle.pim_commands.specs.declared.fault.Fault.TheVariants.{Words, Capture, Output, Memory}
+use Rattle.pim_check.specs.declared.causes.CaptureCause.TheVariants as capture
+use Rattle.pim_check.specs.declared.fault.Fault.{Fault}
+use Rattle.pim_check.specs.declared.fault.Fault.TheVariants.{Capture, Output, Memory}
+use Rattle.pim_check.specs.Unopened.{config_told}
 
 -- The configuration of a port that a word names. Its delays are the defaults of RFC 7761, 4.11, in
 -- milliseconds: Propagation_delay_default and t_override_default.
@@ -42,10 +41,6 @@ abbrev pub end_of : {A : Type 0} → Captures A → End
 end_of captures = end_by captures.after_ms captures.at
 
 -- ---- faults of the program
-
--- The program's fault for this fault of the words.
-abbrev pub config_told : ConfigCause → Fault
-config_told cause = Words (of_words.Config cause)
 
 -- The program's fault for a fault of a router's configuration.
 abbrev pub config_fault : ConfigFault → Fault
@@ -72,10 +67,6 @@ replay_fault of_replay.Memory = Memory
 abbrev pub answer_of : Result ℕ ReplayFault → Result ℕ Fault
 answer_of (Ok status) = Ok status
 answer_of (Err fault) = Err (replay_fault fault)
-
--- The program's fault for a writer whose addresses aren't two different valid sources.
-abbrev pub writer_told : Fault
-writer_told = Words of_words.WriterAddress
 
 -- The fault is the first of these causes, or memory is refused.
 abbrev pub IsFirstCause : List Fault → Fault → Type 0

@@ -20,8 +20,8 @@ use Rattle.pim_trace.specs.Trace.{Traces}
 use Rattle.pim_words.specs.declared.task.TimeForm.{TimeForm}
 use Rattle.pim_words.specs.declared.task.TimeForm.TheVariants.{Ms, Epoch, Utc}
 use Rattle.pim_words.specs.declared.task.Tracing.{Tracing}
-use Rattle.pim_commands.specs.declared.fault.Fault.{Fault}
-use Rattle.pim_commands.specs.declared.fault.Fault.TheVariants.{Output, Memory}
+use Rattle.pim_check.specs.declared.fault.Fault.{Fault}
+use Rattle.pim_check.specs.declared.fault.Fault.TheVariants.{Output, Memory}
 use Rattle.pim_commands.specs.Replaying.{IsUnmade, capture_fault}
 
 -- ---- what is printed of an event

@@ -8,14 +8,14 @@ ghost use Rattle.pim_commands.specs.Replaying.{end_of};
 ghost use Rattle.pim_commands.specs.Comparing.{side_setup};
 ghost use Rattle.pim_commands.specs.Changing.{ChangesNew};
 ghost use Rattle.pim_commands.specs.Opening.{ChangesFiles};
-ghost use Rattle.pim_commands.specs.Report.{write_failures_after};
+ghost use Rattle.pim_check.specs.Report.{write_failures_after};
 
 use crate::comparing::side_configs;
-use crate::fault::Fault;
 use crate::mirroring::mirrored;
 use crate::replaying::{end_of, router_of};
 use crate::writing::writer_of;
 use pim_addr::{Drain, Family, Feed, Routes};
+use pim_check::Fault;
 use pim_files::{Opener, Pair, open_both, table};
 use pim_replay::change_into;
 use pim_words::{Captures, Side, Writing};

@@ -7,12 +7,12 @@ ghost use Rattle.pim_commands.specs.Replaying.{end_of, config_of};
 ghost use Rattle.pim_files.specs.Captures.{is_of};
 ghost use Rattle.pim_commands.specs.Comparing.{same_fault, compared, side_setup, ComparesNew};
 ghost use Rattle.pim_commands.specs.Opening.{ComparesFiles};
-ghost use Rattle.pim_commands.specs.Report.{write_failures_after};
+ghost use Rattle.pim_check.specs.Report.{write_failures_after};
 
-use crate::fault::Fault;
 use crate::replaying::{config, end_of, replay_fault, router_of};
 use crate::writing::{address_of, writer_of};
 use pim_addr::{Drain, Family, Feed, Routes};
+use pim_check::Fault;
 use pim_files::{Opener, Pair, open_both, table};
 use pim_replay::{SameFault, same_into};
 use pim_router::PortConfig;

@@ -1,16 +1,12 @@
 //! The commands of `pimtree`, as calls that take their devices from the caller.
 //!
-//! - `check_into` and `check_task` print one message, or return its fault. They read at most 65,537
-//!   bytes.
-//! - `build_into` and `build_task` write the bytes of the message that a text states. What they
-//!   write, `check_into` prints as the text of that message.
 //! - `replay` writes the report of a router's captures (`pim_replay`).
 //! - `trace` prints each change of a router's machines, in time, with its cause (`pim_trace`).
 //! - `same` says whether two routers want the same of an upstream neighbour.
 //! - `mirror` writes the messages that make a fresh router want what this one wants.
 //! - `emit` writes these messages as bytes, and `change` those of the change between two routers.
-//! - `tell_into` writes a fault on one of two devices and returns the status.
-//! - `fault_line` writes the line of a fault.
+//! - `run_task` does what a task asks for. `check` and `build`, and the faults of all commands, are
+//!   those of `pim_check`, which this crate passes on.
 //! - `trace_ends_as_replay` is a law: `trace` ends with the router whose state `replay` prints.
 //!
 //! `replay_opened` and the other calls named `_opened` run on captures that are open, one for each
@@ -29,32 +25,25 @@
 //! This library is apart from the program, so that tests can call it.
 #![tactic(auto)]
 
-mod build;
-mod causes;
 mod changing;
-mod check;
 mod comparing;
 mod emitting;
-mod fault;
 mod laws;
 mod mirroring;
 mod replaying;
 mod running;
-mod telling;
 mod tracing;
-mod unopened;
 mod writing;
 
-pub use build::{build_into, build_task};
-pub use causes::CaptureCause;
 pub use changing::{change, change_opened};
-pub use check::{check_into, check_task};
 pub use comparing::{same, same_opened};
 pub use emitting::{emit, emit_opened};
-pub use fault::{Fault, fault_line};
 pub use laws::trace_ends_as_replay;
 pub use mirroring::{mirror, mirror_opened};
+pub use pim_check::{
+    CaptureCause, FAULTY, Fault, build_into, build_task, check_into, check_task, fault_line,
+    tell_into,
+};
 pub use replaying::{replay, replay_opened};
 pub use running::run_task;
-pub use telling::{FAULTY, tell_into};
 pub use tracing::{trace, trace_opened};

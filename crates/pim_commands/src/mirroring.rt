@@ -7,12 +7,12 @@ ghost use Rattle.pim_words.specs.Plan.{IsBounded, IsLimited, IsWritable};
 ghost use Rattle.pim_commands.specs.Replaying.{end_of, config_of};
 ghost use Rattle.pim_commands.specs.Mirroring.{mirror_fault, mirrored, MirrorsNew};
 ghost use Rattle.pim_commands.specs.Opening.{MirrorsFiles};
-ghost use Rattle.pim_commands.specs.Report.{write_failures_after};
+ghost use Rattle.pim_check.specs.Report.{write_failures_after};
 
-use crate::fault::Fault;
 use crate::replaying::{configs, end_of, replay_fault, router_of};
 use crate::writing::{address_of, writer_of};
 use pim_addr::{Drain, Family, Feed, Routes};
+use pim_check::Fault;
 use pim_files::{Opener, open_all, table};
 use pim_merge::Merge;
 use pim_replay::{MirrorTextFault, mirror_into};

@@ -11,12 +11,11 @@ ghost use Rattle.pim_words.specs.Plan.{IsBounded, IsLimited};
 ghost use Rattle.pim_commands.specs.Replaying.{end_of, config_of, config_fault, capture_fault, replay_fault, answer_of};
 ghost use Rattle.pim_commands.specs.Replaying.{IsUnmade, ReplaysNew};
 ghost use Rattle.pim_commands.specs.Opening.{ReplaysFiles};
-ghost use Rattle.pim_commands.specs.Report.{write_failures_after};
+ghost use Rattle.pim_check.specs.Report.{write_failures_after};
 
-use crate::causes::CaptureCause;
-use crate::fault::Fault;
 use pim_addr::{Drain, Family, Feed, Routes};
 use pim_capture::CaptureFault;
+use pim_check::{CaptureCause, Fault};
 use pim_files::{Opener, open_all, table};
 use pim_merge::{End, Merge};
 use pim_replay::{ReplayFault, replay_into};

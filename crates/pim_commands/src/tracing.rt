@@ -13,11 +13,11 @@ ghost use Rattle.pim_commands.specs.Replaying.{end_of, config_of};
 ghost use Rattle.pim_commands.specs.Tracing.{form_of, name_of, names_of, line_of};
 ghost use Rattle.pim_commands.specs.Tracing.{trace_fault, tracing_answer, TracesNew, TracesBy};
 ghost use Rattle.pim_commands.specs.Opening.{TracesFiles};
-ghost use Rattle.pim_commands.specs.Report.{write_failures_after};
+ghost use Rattle.pim_check.specs.Report.{write_failures_after};
 
-use crate::fault::Fault;
 use crate::replaying::{capture_fault, configs, end_of, router_of};
 use pim_addr::{Drain, Family, Feed, Routes};
+use pim_check::Fault;
 use pim_event_lines::{JsonPrinter, TextPrinter};
 use pim_events::{Filter, Name};
 use pim_files::{Opener, open_all, table};

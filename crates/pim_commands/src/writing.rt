@@ -6,8 +6,8 @@ ghost use Rattle.pim_words.specs.Plan.{IsWritable};
 ghost use Rattle.pim_words.specs.Typed.{address_in};
 ghost use Rattle.pim_commands.specs.Writing.{IsWriterOf};
 
-use crate::fault::Fault;
 use pim_addr::{AddressFamily, Family};
+use pim_check::Fault;
 use pim_form::{Writer, WriterFault};
 use pim_words::{Address, Writing};
 

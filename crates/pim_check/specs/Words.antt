@@ -15,12 +15,12 @@ use Rattle.pim_words.specs.declared.fault.ConfigCause.{ConfigCause}
 use Rattle.pim_words.specs.declared.fault.ConfigCause.TheVariants as config
 use Rattle.pim_words.specs.declared.fault.Fault.{Fault as WordsFault}
 use Rattle.pim_words.specs.declared.fault.Fault.TheVariants as words
-use Rattle.pim_commands.specs.declared.causes.CaptureCause.{CaptureCause}
-use Rattle.pim_commands.specs.declared.causes.CaptureCause.TheVariants as capture
-use Rattle.pim_commands.specs.declared.fault.Fault.{Fault}
-use Rattle.pim_commands.specs.declared.fault.Fault.TheVariants.{Words, File, RoutesTooLong, RoutesRead, RoutesLine, Capture}
-use Rattle.pim_commands.specs.declared.fault.Fault.TheVariants.{Frame, Hello, JoinPrune, TooBig, Full, InputTooLong}
-use Rattle.pim_commands.specs.declared.fault.Fault.TheVariants.{TextTooLong, TextLine, TextFamily, InputRead, Output, Memory}
+use Rattle.pim_check.specs.declared.causes.CaptureCause.{CaptureCause}
+use Rattle.pim_check.specs.declared.causes.CaptureCause.TheVariants as capture
+use Rattle.pim_check.specs.declared.fault.Fault.{Fault}
+use Rattle.pim_check.specs.declared.fault.Fault.TheVariants.{Words, File, RoutesTooLong, RoutesRead, RoutesLine, Capture}
+use Rattle.pim_check.specs.declared.fault.Fault.TheVariants.{Frame, Hello, JoinPrune, TooBig, Full, InputTooLong}
+use Rattle.pim_check.specs.declared.fault.Fault.TheVariants.{TextTooLong, TextLine, TextFamily, InputRead, Output, Memory}
 use Rattle.pim_text.specs.Text.{line}
 
 -- The short text that `clap` has for a kind of error. It has none for a request for help.

@@ -3,9 +3,9 @@
 ghost use Rattle.std.specs.Prelude.{◌≡◌, ◌≤◌, ◌++◌, take, decimal};
 ghost use Rattle.pim_device.specs.Device.{AppendsAll, failures_after};
 ghost use Rattle.pim_report.specs.Malformed.{malformed_words};
-ghost use Rattle.pim_commands.specs.declared.fault.Fault.TheVariants.{Words};
+ghost use Rattle.pim_check.specs.declared.fault.Fault.TheVariants.{Words};
 ghost use Rattle.pim_text.specs.Text.{line};
-ghost use Rattle.pim_commands.specs.Words.{refusal_words, address_words, plan_words, fault_words, fault_text, routes_fault};
+ghost use Rattle.pim_check.specs.Words.{refusal_words, address_words, plan_words, fault_words, fault_text, routes_fault};
 
 use crate::causes::{CaptureCause, capture_words, config_words, no_port_words};
 use clap::error::ErrorKind;

@@ -1,6 +1,6 @@
 use Rattle.std.proofs.lemmas.Result.{err_from_is_err_and}
-use Rattle.pim_commands.proofs.Builds.{refused_input, written_front, written_whole}
-use Rattle.pim_commands.proofs.build.build_into.Goals as goal
+use Rattle.pim_check.proofs.Builds.{refused_input, written_front, written_whole}
+use Rattle.pim_check.proofs.build.build_into.Goals as goal
 
 pub returns-in_err-message-clause-builds : goal.returns-in_err-message-clause-builds
 returns-in_err-message-clause-builds g c =

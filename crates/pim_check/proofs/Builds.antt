@@ -15,11 +15,11 @@ use Rattle.pim_build.specs.Building.{Value, a_hello, a_message, IsBuilt, IsReadA
 use Rattle.pim_build.specs.Reading.{IsReadFaultOf}
 use Rattle.pim_build.specs.declared.fault.BuildFault.{BuildFault}
 use Rattle.pim_build.specs.declared.fault.BuildFault.TheVariants as of_build
-use Rattle.pim_commands.specs.declared.fault.Fault.{Fault}
-use Rattle.pim_commands.specs.declared.fault.Fault.TheVariants.{Frame, Hello, JoinPrune, Output}
-use Rattle.pim_commands.specs.Building.{build_fault, IsAccepted, IsRefusedBy, Explains, Builds}
-use Rattle.pim_commands.specs.Report.{content_faults, content_text, message_faults, message_report}
-use Rattle.pim_commands.proofs.Reports.{keeps_self, short_input}
+use Rattle.pim_check.specs.declared.fault.Fault.{Fault}
+use Rattle.pim_check.specs.declared.fault.Fault.TheVariants.{Frame, Hello, JoinPrune, Output}
+use Rattle.pim_check.specs.Building.{build_fault, IsAccepted, IsRefusedBy, Explains, Builds}
+use Rattle.pim_check.specs.Report.{content_faults, content_text, message_faults, message_report}
+use Rattle.pim_check.proofs.Reports.{keeps_self, short_input}
 
 -- ---- the faults of a message, as the program's
 

@@ -1,7 +1,7 @@
 use Rattle.pim_frame.specs.Frame.{join_prune}
-use Rattle.pim_commands.specs.Report.{IsStated}
-use Rattle.pim_commands.proofs.Reports.{if_returned, stated_message}
-use Rattle.pim_commands.proofs.check.report_join_prune.Goals as goal
+use Rattle.pim_check.specs.Report.{IsStated}
+use Rattle.pim_check.proofs.Reports.{if_returned, stated_message}
+use Rattle.pim_check.proofs.check.report_join_prune.Goals as goal
 
 pub returns-in-Ok-clause-states : goal.returns-in-Ok-clause-states
 returns-in-Ok-clause-states g c =

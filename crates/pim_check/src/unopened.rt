@@ -1,7 +1,7 @@
 //! The program's faults for files that aren't open.
 
 ghost use Rattle.std.specs.Prelude.{◌≡◌};
-ghost use Rattle.pim_commands.specs.Opening.{open_fault};
+ghost use Rattle.pim_check.specs.Unopened.{open_fault};
 
 use crate::fault::Fault;
 use pim_files::OpenFault;

@@ -1,8 +1,8 @@
 use Rattle.std.specs.Prelude.{codes}
 use Rattle.pim_text.specs.Text.{line}
-use Rattle.pim_commands.specs.Words.{fault_words}
-use Rattle.pim_commands.proofs.Writes.{stopped_at_first}
-use Rattle.pim_commands.proofs.fault.fault_line.Goals as goal
+use Rattle.pim_check.specs.Words.{fault_words}
+use Rattle.pim_check.proofs.Writes.{stopped_at_first}
+use Rattle.pim_check.proofs.fault.fault_line.Goals as goal
 
 pub returns-in_err-write_all-clause-bytes : goal.returns-in_err-write_all-clause-bytes
 returns-in_err-write_all-clause-bytes g c =

@@ -20,11 +20,11 @@ use Rattle.pim_text.specs.HelloText.{hello_text}
 use Rattle.pim_text.specs.Laws.{MessageTextStates}
 use Rattle.pim_text.specs.Read.{States}
 use Rattle.pim_text.specs.Value.{message_in}
-use Rattle.pim_commands.specs.declared.fault.Fault.{Fault}
-use Rattle.pim_commands.specs.declared.fault.Fault.TheVariants.{Words, File, RoutesTooLong, RoutesRead, RoutesLine, Capture, TooBig, Full}
-use Rattle.pim_commands.specs.declared.fault.Fault.TheVariants.{Frame, Hello, JoinPrune, InputTooLong, InputRead, Output, Memory}
-use Rattle.pim_commands.specs.declared.fault.Fault.TheVariants.{TextTooLong, TextLine, TextFamily}
-use Rattle.pim_commands.specs.Report.{content_faults, content_text, body_report, hello_report, message_report, input_report, Explains, IsMessageFault, IsStated, Reports}
+use Rattle.pim_check.specs.declared.fault.Fault.{Fault}
+use Rattle.pim_check.specs.declared.fault.Fault.TheVariants.{Words, File, RoutesTooLong, RoutesRead, RoutesLine, Capture, TooBig, Full}
+use Rattle.pim_check.specs.declared.fault.Fault.TheVariants.{Frame, Hello, JoinPrune, InputTooLong, InputRead, Output, Memory}
+use Rattle.pim_check.specs.declared.fault.Fault.TheVariants.{TextTooLong, TextLine, TextFamily}
+use Rattle.pim_check.specs.Report.{content_faults, content_text, body_report, hello_report, message_report, input_report, Explains, IsMessageFault, IsStated, Reports}
 
 -- the faults of a body are told as those of its message
 

@@ -12,10 +12,10 @@ use Rattle.pim_text.specs.Spell.{IsTextFault, IsLong}
 use Rattle.pim_text.specs.declared.message.TextFault.TheVariants as of_text
 use Rattle.pim_words.specs.declared.task.Task.{Task}
 use Rattle.pim_words.specs.declared.task.Task.TheVariants.{Build}
-use Rattle.pim_commands.specs.declared.fault.Fault.{Fault}
-use Rattle.pim_commands.specs.declared.fault.Fault.TheVariants.{Frame, Hello, JoinPrune, InputRead, Output, Memory}
-use Rattle.pim_commands.specs.declared.fault.Fault.TheVariants.{TextTooLong, TextLine, TextFamily}
-use Rattle.pim_commands.specs.Report.{input_report}
+use Rattle.pim_check.specs.declared.fault.Fault.{Fault}
+use Rattle.pim_check.specs.declared.fault.Fault.TheVariants.{Frame, Hello, JoinPrune, InputRead, Output, Memory}
+use Rattle.pim_check.specs.declared.fault.Fault.TheVariants.{TextTooLong, TextLine, TextFamily}
+use Rattle.pim_check.specs.Report.{input_report}
 
 -- The program's fault for a fault of building.
 abbrev pub build_fault : BuildFault → Fault

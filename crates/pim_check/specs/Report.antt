@@ -10,9 +10,9 @@ use Rattle.pim_hello.specs.Value.{hello_of}
 use Rattle.pim_hello.specs.Faults.{faults as hello_option_faults}
 use Rattle.pim_jp.specs.Message.{message_of}
 use Rattle.pim_jp.specs.Faults.{faults}
-use Rattle.pim_commands.specs.declared.fault.Fault.{Fault}
-use Rattle.pim_commands.specs.declared.fault.Fault.TheVariants.{Frame, Hello, JoinPrune, InputTooLong, InputRead, Output}
-use Rattle.pim_commands.specs.declared.fault.Fault.TheVariants.{Memory}
+use Rattle.pim_check.specs.declared.fault.Fault.{Fault}
+use Rattle.pim_check.specs.declared.fault.Fault.TheVariants.{Frame, Hello, JoinPrune, InputTooLong, InputRead, Output}
+use Rattle.pim_check.specs.declared.fault.Fault.TheVariants.{Memory}
 use Rattle.pim_text.specs.Text.{type_text}
 use Rattle.pim_text.specs.JoinPruneText.{message_text}
 use Rattle.pim_text.specs.HelloText.{hello_text}

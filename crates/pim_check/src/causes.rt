@@ -1,7 +1,7 @@
 //! The causes of a fault of a capture, and the words of causes.
 
 ghost use Rattle.std.specs.Prelude.{◌≡◌};
-ghost use Rattle.pim_commands.specs.Words.{capture_words, config_words, no_port_words};
+ghost use Rattle.pim_check.specs.Words.{capture_words, config_words, no_port_words};
 
 use pim_words::{ConfigCause, Side};
 

@@ -5,8 +5,8 @@
 
 ghost use Rattle.std.specs.Prelude.{◌≡◌, IfOk, IfSome};
 ghost use Rattle.pim_device.specs.Device.{ConsumesAtMost};
-ghost use Rattle.pim_commands.specs.Building.{build_fault, Builds, IsBuildTask, built_source, built_destination};
-ghost use Rattle.pim_commands.specs.Report.{read_failures_after, write_failures_after};
+ghost use Rattle.pim_check.specs.Building.{build_fault, Builds, IsBuildTask, built_source, built_destination};
+ghost use Rattle.pim_check.specs.Report.{read_failures_after, write_failures_after};
 
 use crate::fault::Fault;
 use pim_addr::{Drain, Failed, Family, Feed, write_all};

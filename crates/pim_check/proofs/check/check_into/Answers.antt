@@ -1,7 +1,7 @@
 use Rattle.std.proofs.Common.{refl}
 use Rattle.std.proofs.lemmas.Result.{err_from_is_err_and}
-use Rattle.pim_commands.proofs.Reports.{refused}
-use Rattle.pim_commands.proofs.check.check_into.Goals as goal
+use Rattle.pim_check.proofs.Reports.{refused}
+use Rattle.pim_check.proofs.check.check_into.Goals as goal
 
 pub returns-in_err-text-clause-report : goal.returns-in_err-text-clause-report
 returns-in_err-text-clause-report g c =

@@ -2,10 +2,10 @@
 
 ghost use Rattle.std.specs.Prelude.{◌≡◌, true, false, option_map};
 ghost use Rattle.pim_device.specs.Device.{AppendsAll, failures_after};
-ghost use Rattle.pim_commands.specs.Telling.{is_shown, is_asked_for, clap_text, own_text, told_text};
-ghost use Rattle.pim_commands.specs.Telling.{IsAnswered, IsTold};
-ghost use Rattle.pim_commands.specs.Words.{fault_text};
-ghost use Rattle.pim_commands.specs.declared.fault.Fault.TheVariants.{Output};
+ghost use Rattle.pim_check.specs.Telling.{is_shown, is_asked_for, clap_text, own_text, told_text};
+ghost use Rattle.pim_check.specs.Telling.{IsAnswered, IsTold};
+ghost use Rattle.pim_check.specs.Words.{fault_text};
+ghost use Rattle.pim_check.specs.declared.fault.Fault.TheVariants.{Output};
 
 use crate::fault::{Fault, fault_line};
 use clap::error::ErrorKind;

@@ -7,9 +7,9 @@ use Rattle.clap.specs.declared.error.kind.ErrorKind.TheVariants.{DisplayHelp, Di
 use Rattle.pim_device.specs.Device.{AppendsFront, top_count}
 use Rattle.pim_words.specs.declared.fault.Fault.{Fault as WordsFault}
 use Rattle.pim_words.specs.declared.fault.Fault.TheVariants.{Clap}
-use Rattle.pim_commands.specs.declared.fault.Fault.{Fault}
-use Rattle.pim_commands.specs.declared.fault.Fault.TheVariants.{Words}
-use Rattle.pim_commands.specs.Words.{fault_text}
+use Rattle.pim_check.specs.declared.fault.Fault.{Fault}
+use Rattle.pim_check.specs.declared.fault.Fault.TheVariants.{Words}
+use Rattle.pim_check.specs.Words.{fault_text}
 
 -- Whether `clap`'s error is a request for help or for the version.
 abbrev pub is_request : ErrorKind → Bool

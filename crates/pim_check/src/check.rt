@@ -10,10 +10,10 @@ ghost use Rattle.pim_hello.specs.Seen.{hello_seen};
 ghost use Rattle.pim_text.specs.HelloText.{hello_text};
 ghost use Rattle.pim_text.specs.Read.{States};
 ghost use Rattle.pim_text.specs.Value.{hello_in};
-ghost use Rattle.pim_commands.specs.Ends.{IsCheckTask, task_source, task_destination};
-ghost use Rattle.pim_commands.specs.Report.{body_report, hello_report, message_report, input_report, read_failures_after};
-ghost use Rattle.pim_commands.specs.Report.{write_failures_after};
-ghost use Rattle.pim_commands.specs.Report.{IsStated, Reports, GivesReport, GivesInput, IsReadFault};
+ghost use Rattle.pim_check.specs.Ends.{IsCheckTask, task_source, task_destination};
+ghost use Rattle.pim_check.specs.Report.{body_report, hello_report, message_report, input_report, read_failures_after};
+ghost use Rattle.pim_check.specs.Report.{write_failures_after};
+ghost use Rattle.pim_check.specs.Report.{IsStated, Reports, GivesReport, GivesInput, IsReadFault};
 
 use crate::fault::Fault;
 use pim_addr::{Drain, Failed, Family, Feed, read_up_to, write_all};

@@ -1,0 +1,7 @@
+-- The definitions of `pim_check`.
+pub mod Words
+pub mod Report
+pub mod Ends
+pub mod Telling
+pub mod Building
+pub mod Unopened
