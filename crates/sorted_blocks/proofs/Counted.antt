@@ -1,29 +1,10 @@
--- What one edit of a list of blocks leaves: how many items, how many beyond half, and that each block is filled.
+-- What one edit of a list of blocks leaves: how many items, and that each block is filled.
 use Rattle.std.proofs.Common.{◌≡◌, ℕ, zero, suc, ◌+◌, ◌-◌, ◌*◌, ◌<◌, ◌≤◌, List, [], ◌∷◌, length, get_or, set, arith, length-append}
 use Rattle.std.specs.List.{insert, remove}
-use Rattle.sorted_blocks.specs.Shape.{joined, beyond}
+use Rattle.sorted_blocks.specs.Shape.{joined}
 use Rattle.sorted_blocks.specs.Sound.{AllFilled}
 
 module _ {A : Type 0} where
-  pub beyond-set : (half : ℕ) (bs : List (List A)) (i : ℕ) (c : List A) → i < length bs → beyond half (set bs i c) + (length (get_or bs i []) - half) ≡ beyond half bs + (length c - half)
-  unfolding beyond
-  beyond-set half [] i c h = absurd (omega arith)
-  beyond-set half (b ∷ bs) zero c h = omega arith
-  beyond-set half (b ∷ bs) (suc i) c h = let r = beyond-set half bs i c (omega arith) in omega (arith, r)
-
-  pub beyond-insert : (half : ℕ) (bs : List (List A)) (i : ℕ) (c : List A) → i ≤ length bs → beyond half (insert bs i c) ≡ beyond half bs + (length c - half)
-  unfolding beyond
-  beyond-insert half [] zero c h = omega arith
-  beyond-insert half [] (suc i) c h = absurd (omega arith)
-  beyond-insert half (b ∷ bs) zero c h = omega arith
-  beyond-insert half (b ∷ bs) (suc i) c h = let r = beyond-insert half bs i c (omega arith) in omega (arith, r)
-
-  pub beyond-remove : (half : ℕ) (bs : List (List A)) (i : ℕ) → i < length bs → beyond half (remove bs i) + (length (get_or bs i []) - half) ≡ beyond half bs
-  unfolding beyond
-  beyond-remove half [] i h = absurd (omega arith)
-  beyond-remove half (b ∷ bs) zero h = omega arith
-  beyond-remove half (b ∷ bs) (suc i) h = let r = beyond-remove half bs i (omega arith) in omega (arith, r)
-
   pub count-set : (bs : List (List A)) (i : ℕ) (c : List A) → i < length bs → length (joined (set bs i c)) + length (get_or bs i []) ≡ length (joined bs) + length c
   count-set [] i c h = absurd (omega arith)
   count-set (b ∷ bs) zero c h = omega (arith, length-append c (joined bs), length-append b (joined bs))
@@ -66,11 +47,6 @@ module _ {A : Type 0} where
   filled-remove half (b ∷ bs) (suc i) f h = (f.0, f.1, filled-remove half bs i f.2 (omega arith))
 
   -- a list of few blocks has few items
-  pub beyond-few : (half : ℕ) (bs : List (List A)) → AllFilled half bs → half ≤ 65536 → beyond half bs ≤ length bs * 65536
-  unfolding beyond AllFilled
-  beyond-few half [] f s = omega arith
-  beyond-few half (b ∷ bs) f s = let r = beyond-few half bs f.2 s in let m = f.1 in omega (arith, r, m)
-
   pub count-few : (half : ℕ) (bs : List (List A)) → AllFilled half bs → half ≤ 65536 → length (joined bs) ≤ length bs * 131072
   unfolding AllFilled
   count-few half [] f s = omega arith

@@ -1,10 +1,9 @@
--- Blocks that go side by side, and what is left of the counts, of the room and of the row of the first items.
+-- Blocks that go side by side, and what is left of the count and of the row of the first items.
 use Rattle.std.proofs.Common.{◌≡◌, ℕ, zero, suc, ◌+◌, ◌-◌, ◌<◌, ◌≤◌, List, [], ◌∷◌, ◌++◌, length, get_or, take, drop, refl, sym, ap, ap₂, ◌∙◌, arith, length-append, length-drop, append_assoc}
 use Rattle.std.proofs.lemmas.List.{drop-drop, drop_all, take_at, length-take-le, take-append-drop}
-use Rattle.sorted_blocks.specs.Shape.{Shape, joined, beyond, firsts, room, cut}
+use Rattle.sorted_blocks.specs.Shape.{joined, firsts, cut}
 use Rattle.sorted_blocks.specs.Sound.{AllFilled, IsSound, IsLed}
-use Rattle.sorted_blocks.proofs.Cuts.{cut_none, length-cut, remove-cut}
-use Rattle.sorted_blocks.proofs.Rooms.{room_gone, room_more}
+use Rattle.sorted_blocks.proofs.Cuts.{length-cut}
 
 module _ {A : Type 0} where
   -- ---- a list is what stands before a run, the run, and what stands behind it
@@ -27,22 +26,9 @@ module _ {A : Type 0} where
 module _ {A : Type 0} where
   -- ---- counts
 
-  beyond-append : (half : ℕ) (bs cs : List (List A)) → beyond half (bs ++ cs) ≡ beyond half bs + beyond half cs
-  unfolding beyond
-  beyond-append half [] cs = omega arith
-  beyond-append half (b ∷ bs) cs = let r = beyond-append half bs cs in omega (arith, r)
-
   count-append : (bs cs : List (List A)) → length (joined (bs ++ cs)) ≡ length (joined bs) + length (joined cs)
   count-append [] cs = omega arith
   count-append (b ∷ bs) cs = let r = count-append bs cs in omega (arith, r, length-append b (joined bs), length-append b (joined (bs ++ cs)))
-
-  pub beyond-cut : (half : ℕ) (bs : List (List A)) (i n : ℕ) → beyond half (cut bs i n) + beyond half (take n (drop i bs)) ≡ beyond half bs
-  unfolding cut
-  beyond-cut half bs i n =
-      let f = take i bs in
-      let m = take n (drop i bs) in
-      let b = drop (i + n) bs in
-      omega (arith, beyond-append half f b, beyond-append half f (m ++ b), beyond-append half m b, ap (beyond half) (run_of bs i n))
 
   pub count-cut : (bs : List (List A)) (i n : ℕ) → length (joined (cut bs i n)) + length (joined (take n (drop i bs))) ≡ length (joined bs)
   unfolding cut
@@ -53,20 +39,10 @@ module _ {A : Type 0} where
       omega (arith, count-append f b, count-append f (m ++ b), count-append m b, ap (λ cs. length (joined cs)) (run_of bs i n))
 
   -- the block that is met next
-  pub beyond-next : (half : ℕ) (bs : List (List A)) (i : ℕ) (b : List A) → i < length bs → b ≡ get_or bs i b → beyond half (drop i bs) ≡ (length b - half) + beyond half (drop (suc i) bs)
-  unfolding beyond
-  beyond-next half [] i b h at = absurd (omega arith)
-  beyond-next half (c ∷ bs) zero b h at = ap (λ d. (length d - half) + beyond half bs) (sym at)
-  beyond-next half (c ∷ bs) (suc i) b h at = beyond-next half bs i b (omega arith) at
-
   pub count-next : (bs : List (List A)) (i : ℕ) (b : List A) → i < length bs → b ≡ get_or bs i b → length (joined (drop i bs)) ≡ length b + length (joined (drop (suc i) bs))
   count-next [] i b h at = absurd (omega arith)
   count-next (c ∷ bs) zero b h at = length-append c (joined bs) ∙ ap (λ d. length d + length (joined bs)) (sym at)
   count-next (c ∷ bs) (suc i) b h at = count-next bs i b (omega arith) at
-
-  pub beyond-none : (half : ℕ) (bs : List (List A)) (i : ℕ) → length bs ≤ i → beyond half (drop i bs) ≡ 0
-  unfolding beyond
-  beyond-none half bs i h = ap (beyond half) (drop_all i bs h)
 
   -- ---- each block is filled
 
@@ -119,8 +95,8 @@ module _ {A : Type 0} where
 
   -- ---- the list is as sound as before
 
-  pub kept_cut : (half : ℕ) (bs : List (List A)) (spare um sm over count : ℕ) → IsSound half bs spare um sm over count → (i n : ℕ) → i + n ≤ length bs → (spare2 um2 sm2 over2 count2 : ℕ) → spare2 ≡ spare + n → um ≤ um2 → sm ≤ sm2 → over2 + beyond half (take n (drop i bs)) ≡ over → count2 + length (joined (take n (drop i bs))) ≡ count → IsSound half (cut bs i n) spare2 um2 sm2 over2 count2
-  kept_cut half bs spare um sm over count s i n h spare2 um2 sm2 over2 count2 p u v o c =
+  pub kept_cut : (half : ℕ) (bs : List (List A)) (spare um sm count : ℕ) → IsSound half bs spare um sm count → (i n : ℕ) → i + n ≤ length bs → (spare2 um2 sm2 count2 : ℕ) → spare2 ≡ spare + n → um ≤ um2 → sm ≤ sm2 → count2 + length (joined (take n (drop i bs))) ≡ count → IsSound half (cut bs i n) spare2 um2 sm2 count2
+  kept_cut half bs spare um sm count s i n h spare2 um2 sm2 count2 p u v c =
       let l = length-cut bs i n h in
       record {
         half_some = s.half_some;
@@ -129,7 +105,6 @@ module _ {A : Type 0} where
         used_room = omega (arith, l, p, u, s.used_room);
         spare_room = omega (arith, l, p, v, s.spare_room);
         few = omega (arith, l, p, s.few);
-        over_is = omega (arith, o, s.over_is, beyond-cut half bs i n);
         count_is = omega (arith, c, s.count_is, count-cut bs i n);
       }
 
@@ -138,14 +113,3 @@ module _ {A : Type 0} where
     row_is = ap (λ xs. cut xs i n) led.row_is ∙ sym (firsts-cut half bs i n f);
     row_room = omega (arith, led.row_room, length-cut bs i n h, p, u);
   }
-
-  -- ---- the room is no less, as it is no less where one block goes
-
-  pub room_cut : (half : ℕ) (s : Shape A) (i n : ℕ) → i + n ≤ length s.blocks → room half s ≤ room half (record { blocks = cut s.blocks i n; spare = s.spare + n })
-  room_cut half s i zero h = room_more half s (record { blocks = cut s.blocks i 0; spare = s.spare + 0 }) (cut_none s.blocks i) (omega arith)
-  room_cut half s i (suc n) h =
-      let t : Shape A = record { blocks = cut s.blocks (suc i) n; spare = s.spare + n } in
-      let first = room_cut half s (suc i) n (omega (arith, h)) in
-      let within : i < length t.blocks = omega (arith, length-cut s.blocks (suc i) n (omega (arith, h)), h) in
-      let next = room_gone half t (record { blocks = cut s.blocks i (suc n); spare = s.spare + suc n }) i within (sym (remove-cut s.blocks i n (omega (arith, h)))) (omega arith) in
-      omega (arith, first, next)

@@ -10,7 +10,6 @@ pub mod Kept
 pub mod LeftOver
 pub mod Moves
 pub mod Orders
-pub mod Rooms
 pub mod Seeking
 pub mod Starts
 pub mod Walking

@@ -1,20 +1,18 @@
--- What each edit does to the list, to its room and to a place.
+-- What each edit does to the list and to a place.
 use Rattle.std.proofs.Common.{◌≡◌, ℕ, suc, ◌+◌, ◌-◌, ◌<◌, ◌≤◌, List, [], ◌∷◌, ◌++◌, length, get_or, set, take, drop, refl, sym, ap, subst, ◌∙◌, arith, length-append, length-drop, add-one, ◌⊎◌, inl, inr}
 use Rattle.std.specs.List.{insert, remove}
 use Rattle.std.proofs.lemmas.List.{length-set, length-take-le, get_or-set_same}
 use Rattle.std.proofs.lemmas.List.Edits.{length-insert, length-remove}
 use Rattle.sorted_blocks.specs.declared.place.Place.{Place}
-use Rattle.sorted_blocks.specs.Shape.{Shape, items, joined, room, cut}
+use Rattle.sorted_blocks.specs.Shape.{Shape, items, joined, cut}
 use Rattle.sorted_blocks.specs.Places.{before, IsPlace, IsItem}
 use Rattle.sorted_blocks.proofs.Cuts.{length-cut}
 use Rattle.sorted_blocks.proofs.Joined.{start, joined-put, joined-take, joined-cut, joined-whole, joined-split, joined-merge, item_at, start-suc, start-all}
 use Rattle.sorted_blocks.proofs.Starts.{start-set, start-split, start-split_suc, at-split, at-split_suc, start-merge, at-merge, start-remove}
-use Rattle.sorted_blocks.proofs.Rooms.{room_set, room_split, room_merge}
 
--- the list is the same, its room no less, and the second place stands in a block where the first one stood
-pub record Moved {A : Type 0} (half : ℕ) (s t : Shape A) (p q : Place) : Type 0 where
+-- the list is the same, and the second place stands in a block where the first one stood
+pub record Moved {A : Type 0} (s t : Shape A) (p q : Place) : Type 0 where
   pub same : items t ≡ items s
-  pub roomy : room half s ≤ room half t
   pub block : q.block < length t.blocks
   pub at : q.at ≤ length (get_or t.blocks q.block [])
   pub stands : before t q ≡ before s p
@@ -72,9 +70,6 @@ module _ {A : Type 0} where
   unfolding before
   put_items s t p x h l e = ap joined e ∙ joined-put s.blocks p.block p.at x h l
 
-  pub put_room : (half : ℕ) (s t : Shape A) (p : Place) (x : A) → p.block < length s.blocks → p.at ≤ length (get_or s.blocks p.block []) → t.blocks ≡ set s.blocks p.block (insert (get_or s.blocks p.block []) p.at x) → t.spare ≡ s.spare → room half s ≤ room half t + 1
-  put_room half s t p x h l e k = room_set half s t p.block (insert (get_or s.blocks p.block []) p.at x) h e k 1 (omega (arith, length-insert (get_or s.blocks p.block []) p.at x l))
-
   pub put_item : (s t : Shape A) (p : Place) (x : A) → p.block < length s.blocks → p.at ≤ length (get_or s.blocks p.block []) → t.blocks ≡ set s.blocks p.block (insert (get_or s.blocks p.block []) p.at x) → IsItem t p
   put_item s t p x h l e =
       let c = insert (get_or s.blocks p.block []) p.at x in
@@ -92,9 +87,6 @@ module _ {A : Type 0} where
   unfolding before
   take_items s t p h l e = ap joined e ∙ joined-take s.blocks p.block p.at h l
 
-  pub take_room : (half : ℕ) (s t : Shape A) (p : Place) → p.block < length s.blocks → p.at < length (get_or s.blocks p.block []) → t.blocks ≡ set s.blocks p.block (remove (get_or s.blocks p.block []) p.at) → t.spare ≡ s.spare → room half s ≤ room half t
-  take_room half s t p h l e k = omega (arith, room_set half s t p.block (remove (get_or s.blocks p.block []) p.at) h e k 0 (omega (arith, length-remove (get_or s.blocks p.block []) p.at l)))
-
   pub take_block : (s t : Shape A) (p : Place) → p.block < length s.blocks → t.blocks ≡ set s.blocks p.block (remove (get_or s.blocks p.block []) p.at) → p.block < length t.blocks
   take_block s t p h e = omega (arith, h, ap length e ∙ length-set s.blocks p.block (remove (get_or s.blocks p.block []) p.at))
 
@@ -108,9 +100,6 @@ module _ {A : Type 0} where
   pub cut_items : (s t : Shape A) (p : Place) (n : ℕ) → p.block < length s.blocks → p.at + n ≤ length (get_or s.blocks p.block []) → t.blocks ≡ set s.blocks p.block (cut (get_or s.blocks p.block []) p.at n) → items t ≡ cut (items s) (before s p) n
   unfolding before
   cut_items s t p n h l e = ap joined e ∙ joined-cut s.blocks p.block p.at n h l
-
-  pub cut_room : (half : ℕ) (s t : Shape A) (p : Place) (n : ℕ) → p.block < length s.blocks → p.at + n ≤ length (get_or s.blocks p.block []) → t.blocks ≡ set s.blocks p.block (cut (get_or s.blocks p.block []) p.at n) → t.spare ≡ s.spare → room half s ≤ room half t
-  cut_room half s t p n h l e k = omega (arith, room_set half s t p.block (cut (get_or s.blocks p.block []) p.at n) h e k 0 (omega (arith, length-cut (get_or s.blocks p.block []) p.at n l)))
 
   pub cut_block : (s t : Shape A) (p : Place) (c : List A) → p.block < length s.blocks → t.blocks ≡ set s.blocks p.block c → p.block < length t.blocks
   cut_block s t p c h e = omega (arith, h, ap length e ∙ length-set s.blocks p.block c)
@@ -139,8 +128,8 @@ module _ {A : Type 0} where
   whole_is s p r h l one e = item_of s p r h l (whole_item (get_or s.blocks p.block []) p.at r one l e)
 
   -- a full block becomes two
-  pub split_stays : (half : ℕ) (s t : Shape A) (p : Place) → p.block < length s.blocks → length (get_or s.blocks p.block []) ≡ half + half → t.blocks ≡ insert (set s.blocks p.block (take half (get_or s.blocks p.block []))) (p.block + 1) (drop half (get_or s.blocks p.block [])) → t.spare + 1 ≡ s.spare → p.at ≤ half → Moved half s t p p
-  split_stays half s t p h full e k l =
+  pub split_stays : (half : ℕ) (s t : Shape A) (p : Place) → p.block < length s.blocks → length (get_or s.blocks p.block []) ≡ half + half → t.blocks ≡ insert (set s.blocks p.block (take half (get_or s.blocks p.block []))) (p.block + 1) (drop half (get_or s.blocks p.block [])) → p.at ≤ half → Moved s t p p
+  split_stays half s t p h full e l =
       let row = get_or s.blocks p.block [] in
       let f = take half row in
       let d = drop half row in
@@ -152,14 +141,13 @@ module _ {A : Type 0} where
       let b = ap (λ bs. start bs p.block) e2 ∙ start-split s.blocks p.block f d h in
       record {
         same = ap joined e2 ∙ joined-split half s.blocks p.block h;
-        roomy = room_split half s t p.block h full e k;
         block = omega (arith, c, h, length-set s.blocks p.block f);
         at = omega (arith, r, n, l);
         stands = omega (arith, b, before_is t p, before_is s p);
       }
 
-  pub split_moves : (half : ℕ) (s t : Shape A) (p : Place) → p.block < length s.blocks → p.at ≤ length (get_or s.blocks p.block []) → length (get_or s.blocks p.block []) ≡ half + half → t.blocks ≡ insert (set s.blocks p.block (take half (get_or s.blocks p.block []))) (p.block + 1) (drop half (get_or s.blocks p.block [])) → t.spare + 1 ≡ s.spare → half ≤ p.at → Moved half s t p (record { block = p.block + 1; at = p.at - half })
-  split_moves half s t p h fits full e k l =
+  pub split_moves : (half : ℕ) (s t : Shape A) (p : Place) → p.block < length s.blocks → p.at ≤ length (get_or s.blocks p.block []) → length (get_or s.blocks p.block []) ≡ half + half → t.blocks ≡ insert (set s.blocks p.block (take half (get_or s.blocks p.block []))) (p.block + 1) (drop half (get_or s.blocks p.block [])) → half ≤ p.at → Moved s t p (record { block = p.block + 1; at = p.at - half })
+  split_moves half s t p h fits full e l =
       let row = get_or s.blocks p.block [] in
       let f = take half row in
       let d = drop half row in
@@ -171,15 +159,14 @@ module _ {A : Type 0} where
       let b = ap (λ i. start t.blocks i) (add-one p.block) ∙ ap (λ bs. start bs (suc p.block)) e2 ∙ start-split_suc s.blocks p.block f d h in
       record {
         same = ap joined e2 ∙ joined-split half s.blocks p.block h;
-        roomy = room_split half s t p.block h full e k;
         block = omega (arith, c, h, length-set s.blocks p.block f);
         at = omega (arith, r, length-drop half row, full, fits);
         stands = omega (arith, b, n, l, before_is t (record { block = p.block + 1; at = p.at - half }), before_is s p);
       }
 
   -- two short neighbours become one
-  pub merge_stays : (half : ℕ) (s t : Shape A) (p : Place) → p.block + 1 < length s.blocks → p.at ≤ length (get_or s.blocks p.block []) → length (get_or s.blocks p.block []) + length (get_or s.blocks (p.block + 1) []) ≤ half → t.blocks ≡ set (remove s.blocks (p.block + 1)) p.block (get_or s.blocks p.block [] ++ get_or s.blocks (p.block + 1) []) → t.spare ≡ s.spare + 1 → Moved half s t p p
-  merge_stays half s t p h l short e k =
+  pub merge_stays : (s t : Shape A) (p : Place) → p.block + 1 < length s.blocks → p.at ≤ length (get_or s.blocks p.block []) → t.blocks ≡ set (remove s.blocks (p.block + 1)) p.block (get_or s.blocks p.block [] ++ get_or s.blocks (p.block + 1) []) → Moved s t p p
+  merge_stays s t p h l e =
       let i = p.block in
       let front = get_or s.blocks i [] in
       let e2 = subst (λ (n : ℕ). t.blocks ≡ set (remove s.blocks n) i (front ++ get_or s.blocks n [])) (add-one i) e in
@@ -190,14 +177,13 @@ module _ {A : Type 0} where
       let b = ap (λ bs. start bs i) e2 ∙ start-merge s.blocks i both h2 in
       record {
         same = ap joined e2 ∙ joined-merge s.blocks i h2;
-        roomy = room_merge half s t i h short e k;
         block = omega (arith, c, h, length-remove s.blocks (suc i) h2);
         at = omega (arith, r, l, length-append front (get_or s.blocks (suc i) []));
         stands = omega (arith, b, before_is t p, before_is s p);
       }
 
-  pub merge_moves : (half : ℕ) (s t : Shape A) (p : Place) (i : ℕ) → i + 1 ≡ p.block → p.block < length s.blocks → p.at ≤ length (get_or s.blocks p.block []) → length (get_or s.blocks i []) + length (get_or s.blocks (i + 1) []) ≤ half → t.blocks ≡ set (remove s.blocks (i + 1)) i (get_or s.blocks i [] ++ get_or s.blocks (i + 1) []) → t.spare ≡ s.spare + 1 → (len : ℕ) → len ≡ length (get_or s.blocks i []) → Moved half s t p (record { block = i; at = len + p.at })
-  merge_moves half s t p i is h l short e k len long =
+  pub merge_moves : (s t : Shape A) (p : Place) (i : ℕ) → i + 1 ≡ p.block → p.block < length s.blocks → p.at ≤ length (get_or s.blocks p.block []) → t.blocks ≡ set (remove s.blocks (i + 1)) i (get_or s.blocks i [] ++ get_or s.blocks (i + 1) []) → (len : ℕ) → len ≡ length (get_or s.blocks i []) → Moved s t p (record { block = i; at = len + p.at })
+  merge_moves s t p i is h l e len long =
       let front = get_or s.blocks i [] in
       let e2 = subst (λ (n : ℕ). t.blocks ≡ set (remove s.blocks n) i (front ++ get_or s.blocks n [])) (add-one i) e in
       let both = front ++ get_or s.blocks (suc i) [] in
@@ -210,7 +196,6 @@ module _ {A : Type 0} where
       let u = ap (λ n. start s.blocks n) is2 in
       record {
         same = ap joined e2 ∙ joined-merge s.blocks i h2;
-        roomy = room_merge half s t i (omega (arith, h2)) short e k;
         block = omega (arith, c, h2, length-remove s.blocks (suc i) h2);
         at = omega (arith, r, l, l2, long, length-append front (get_or s.blocks (suc i) []));
         stands = omega (arith, b, u, long, start-suc s.blocks i (omega (arith, h2)), before_is t (record { block = i; at = len + p.at }), before_is s p);

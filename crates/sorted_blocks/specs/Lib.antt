@@ -1,5 +1,4 @@
 -- The definitions of lists in blocks. None of them is about PIM.
-pub mod Room
 pub mod Shape
 pub mod Sound
 pub mod Found

@@ -57,22 +57,6 @@ module _ {A : Type 0} where
   firsts ([] ∷ blocks) = firsts blocks
   firsts ((item ∷ _) ∷ blocks) = item ∷ firsts blocks
 
-  -- The number of items that exceed `half` in their blocks, summed over the blocks.
-  unfoldable pub beyond : ℕ → List (List A) → ℕ
-  beyond half [] = 0
-  beyond half (block ∷ blocks) = (length block - half) + beyond half blocks
-
-  -- The number of inserts that the blocks in use have used up: the items that exceed `half`. Where
-  -- no block is in use, it is `half`, since the first insert takes a block.
-  abbrev pub used_up : ℕ → List (List A) → ℕ
-  used_up half [] = half
-  used_up half (block ∷ blocks) = beyond half (block ∷ blocks)
-
-  -- The number of inserts that take no memory. Each spare block counts for `half` inserts: a block
-  -- that is split was full, and its halves are full again only after as many inserts.
-  unfoldable pub room : ℕ → Shape A → ℕ
-  room half shape = shape.spare * half - used_up half shape.blocks
-
   -- The number of all blocks, in use and spare.
   abbrev pub block_total : Shape A → ℕ
   block_total shape = length shape.blocks + shape.spare

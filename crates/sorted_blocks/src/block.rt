@@ -31,7 +31,7 @@ impl<T: Copy, const HALF: usize> Model for Block<T, HALF> {
 
     ghost Value = { List T };
 
-    ghost use Rattle.sorted_blocks.specs.Room.{IsRoomy};
+    ghost use Rattle.sorted_blocks.specs.Sound.{IsRoomy};
     ghost use Rattle.std.specs.Prelude.{vec_len, vec_capacity, drop};
 
     ghost view = { λ b. drop b.start b.items.items };

@@ -1,9 +1,9 @@
-//! The list with its public calls, and the bound on the number of its blocks.
+//! The list with its public calls.
 
 ghost use Rattle.std.specs.Prelude.{◌≡◌, ◌+◌, ◌-◌, ◌*◌, ◌<◌, ◌≤◌, [], length, drop, slice_index_or};
 ghost use Rattle.std.specs.Prelude.{OnOk, IsOk, IsTrue, IfSome, IfNone, ◌↔◌};
 ghost use Rattle.std.specs.List.{All, insert, remove};
-ghost use Rattle.sorted_blocks.specs.Shape.{items, room, capacity, cut, Shape};
+ghost use Rattle.sorted_blocks.specs.Shape.{items, capacity, cut, Shape};
 ghost use Rattle.sorted_blocks.specs.Places.{before, IsPlace, IsItem};
 ghost use Rattle.sorted_blocks.specs.Found.{IsFound};
 ghost use Rattle.sorted_blocks.specs.declared.place.Place.{Place};
@@ -53,38 +53,6 @@ impl<T: Copy, const HALF: usize> Blocks<T, HALF> {
         self.store.len()
     }
 
-    /// Returns the number of blocks in use: for n items in blocks of up to B at most 4 n / B + 1.
-    /// The clause is slightly sharper.
-    pub fn block_count(&self) -> usize
-        ensures count { result ≡ length self.now.blocks }
-        ensures few { (result - 1) * (HALF + 1) ≤ 2 * length (items self.now) }
-    {
-        self.store.block_count()
-    }
-
-    /// Returns the number of inserts that take no memory.
-    pub fn room(&self) -> usize
-        ensures room { result ≡ room HALF self.now }
-        ensures half { 1 ≤ HALF }
-    {
-        self.store.room()
-    }
-
-    /// Takes memory for `inserts` inserts: at Ok they succeed, for any blocks that they split. The
-    /// items and all places stay, also on an error, and the room never shrinks.
-    ///
-    /// # Errors
-    /// Memory ran out, or the list would have more than 2^32 blocks.
-    pub fn reserve(&mut self, inserts: usize) -> Result<(), AllocError>
-        ensures ok { OnOk result (inserts ≤ room HALF self.new) }
-        ensures items { items self.new ≡ items self.old }
-        ensures places { (place : Place) → IsPlace self.old place → IsPlace self.new place }
-        ensures before { (place : Place) → before self.new place ≡ before self.old place }
-        ensures room { room HALF self.old ≤ room HALF self.new }
-    {
-        self.store.reserve(inserts)
-    }
-
     /// Returns the number of items that fit without memory, for any inserts and removals in
     /// between. `insert_within`, `remove` and `remove_run` keep it.
     pub fn capacity(&self) -> usize
@@ -124,19 +92,6 @@ impl<T: Copy, const HALF: usize> Blocks<T, HALF> {
         self.store.insert_reserved(place, item)
     }
 
-    /// Inserts an item at this place, within the room, and returns its place. It moves at most the
-    /// items of one block, and on a split a record and an item of each later block.
-    pub fn insert_reserved(&mut self, place: Place, item: T) -> Place
-        requires place { IsPlace self.old place }
-        requires room { 0 < room HALF self.old }
-        ensures items { items self.new ≡ insert (items self.old) (before self.old place) item }
-        ensures room { room HALF self.old ≤ room HALF self.new + 1 }
-        ensures place { IsItem self.new result }
-        ensures before { before self.new result ≡ before self.old place }
-    {
-        self.store.insert_reserved(place, item)
-    }
-
     /// Takes out the item at this place, and returns it with the place of the item that followed.
     /// It moves at most the items of one block. Where blocks merge or go, it also moves the items
     /// of another block, and a record and an item of each later block.
@@ -144,7 +99,6 @@ impl<T: Copy, const HALF: usize> Blocks<T, HALF> {
         requires { IsItem self.old place }
         ensures item { result.0 ≡ slice_index_or (items self.old) (before self.old place) result.0 }
         ensures items { items self.new ≡ remove (items self.old) (before self.old place) }
-        ensures room { room HALF self.old ≤ room HALF self.new }
         ensures capacity { capacity HALF self.new ≡ capacity HALF self.old }
         ensures place { IsPlace self.new result.1 }
         ensures before { before self.new result.1 ≡ before self.old place }
@@ -159,7 +113,6 @@ impl<T: Copy, const HALF: usize> Blocks<T, HALF> {
         requires place { IsPlace self.old place }
         requires within { before self.old place + count ≤ length (items self.old) }
         ensures items { items self.new ≡ cut (items self.old) (before self.old place) count }
-        ensures room { room HALF self.old ≤ room HALF self.new }
         ensures capacity { capacity HALF self.new ≡ capacity HALF self.old }
         ensures place { IsPlace self.new result }
         ensures before { before self.new result ≡ before self.old place }

@@ -6,7 +6,7 @@
 
 ghost use Rattle.std.specs.Prelude.{◌≡◌, ℕ, ◌+◌, ◌-◌, ◌<◌, ◌≤◌, [], ◌∷◌, ◌++◌, length, slice_index_or, IsTrue, ◌↔◌};
 ghost use Rattle.std.specs.List.{insert, remove};
-ghost use Rattle.sorted_blocks.specs.Shape.{items, room, block_total, block_at, together};
+ghost use Rattle.sorted_blocks.specs.Shape.{items, block_total, block_at, together};
 ghost use Rattle.sorted_blocks.specs.Places.{before, IsPlace, IsItem};
 ghost use Rattle.sorted_blocks.specs.Sound.{IsDense, IsDenseIn};
 
@@ -19,7 +19,6 @@ impl<T: Copy, const HALF: usize> Store<T, HALF> {
         requires place { IsPlace self.old place }
         requires spare { 0 < self.old.spare }
         ensures items { items self.new ≡ insert (items self.old) (before self.old place) item }
-        ensures room { room HALF self.old ≤ room HALF self.new + 1 }
         ensures place { IsItem self.new result }
         ensures before { before self.new result ≡ before self.old place }
         ensures total { block_total self.new ≡ block_total self.old }
@@ -40,7 +39,6 @@ impl<T: Copy, const HALF: usize> Store<T, HALF> {
         requires place { IsPlace self.old place }
         requires spare { 0 < self.old.spare }
         ensures items { items self.new ≡ items self.old }
-        ensures room { room HALF self.old ≤ room HALF self.new }
         ensures block { result.block < length self.new.blocks }
         ensures at { result.at ≤ length (block_at self.new.blocks result.block) }
         ensures not_full { length (block_at self.new.blocks result.block) < HALF + HALF }
@@ -66,7 +64,6 @@ impl<T: Copy, const HALF: usize> Store<T, HALF> {
         requires { IsItem self.old place }
         ensures item { result.0 ≡ slice_index_or (items self.old) (before self.old place) result.0 }
         ensures items { items self.new ≡ remove (items self.old) (before self.old place) }
-        ensures room { room HALF self.old ≤ room HALF self.new }
         ensures place { IsPlace self.new result.1 }
         ensures before { before self.new result.1 ≡ before self.old place }
         ensures total { block_total self.new ≡ block_total self.old }
@@ -111,7 +108,6 @@ impl<T: Copy, const HALF: usize> Store<T, HALF> {
         requires block { place.block < length self.old.blocks }
         requires at { place.at ≤ length (block_at self.old.blocks place.block) }
         ensures items { items self.new ≡ items self.old }
-        ensures room { room HALF self.old ≤ room HALF self.new }
         ensures block { result.block < length self.new.blocks }
         ensures at { result.at ≤ length (block_at self.new.blocks result.block) }
         ensures before { before self.new result ≡ before self.old place }
@@ -133,7 +129,6 @@ impl<T: Copy, const HALF: usize> Store<T, HALF> {
         requires block { place.block < length self.old.blocks }
         requires at { place.at ≤ length (block_at self.old.blocks place.block) }
         ensures items { items self.new ≡ items self.old }
-        ensures room { room HALF self.old ≤ room HALF self.new }
         ensures place { IsPlace self.new result }
         ensures before { before self.new result ≡ before self.old place }
         ensures total { block_total self.new ≡ block_total self.old }

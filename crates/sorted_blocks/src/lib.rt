@@ -2,17 +2,13 @@
 //! nothing of PIM, and of its items only that they are `Copy`, since edits copy items.
 //!
 //! Contracts see the list of the items, and a place as the number of items before it.
-//! - `insert_within` and `insert_reserved` are `insert` of std on the list, `remove` is its
-//!   `remove`, and `remove_run` takes out `count` items. Each returns a place with as many items
-//!   before it.
-//! - `reserve(n)` at Ok leaves a room of n inserts. `insert_reserved` lowers the room by at most
-//!   one, and removals never lower it.
+//! - `insert_within` is `insert` of std on the list, `remove` is its `remove`, and `remove_run`
+//!   takes out `count` items. Each returns a place with as many items before it.
 //! - `reserve_capacity(n)` at Ok leaves a capacity for n more items, which `insert_within`,
 //!   `remove` and `remove_run` keep. Below it `insert_within` always succeeds.
-//! - Only the two reserving calls can run out of memory. The list and its places then stay.
+//! - Only `reserve_capacity` can run out of memory. The list and its places then stay.
 //! - `find` and `find_near` return an item that compares equal, or a gap between a lesser and a
 //!   greater item. They require no order of the list.
-//! - The clause of `block_count`: n items are in at most 4 n / B + 1 blocks.
 //!
 //! One long vector would move half of its items for an insert. A tree would cost a node at each
 //! lookup, and memory at each insert. A change costs about log n comparisons and moves the items of
@@ -25,9 +21,9 @@ mod edits;
 mod find;
 mod items;
 mod laws;
+mod memory;
 mod place;
 mod probe;
-mod room;
 mod runs;
 mod store;
 mod walk;

@@ -1,7 +1,7 @@
 //! Removals of several items in a row.
 
 ghost use Rattle.std.specs.Prelude.{◌≡◌, ◌+◌, ◌<◌, ◌≤◌, length, take};
-ghost use Rattle.sorted_blocks.specs.Shape.{items, joined, room, block_total, block_at, cut};
+ghost use Rattle.sorted_blocks.specs.Shape.{items, joined, block_total, block_at, cut};
 ghost use Rattle.sorted_blocks.specs.Places.{before, IsPlace, IsItem};
 ghost use Rattle.sorted_blocks.specs.Sound.{IsDense};
 
@@ -16,7 +16,6 @@ impl<T: Copy, const HALF: usize> Store<T, HALF> {
         requires place { IsPlace self.old place }
         requires within { before self.old place + count ≤ length (items self.old) }
         ensures items { items self.new ≡ cut (items self.old) (before self.old place) count }
-        ensures room { room HALF self.old ≤ room HALF self.new }
         ensures place { IsPlace self.new result }
         ensures before { before self.new result ≡ before self.old place }
         ensures total { block_total self.new ≡ block_total self.old }
@@ -41,7 +40,6 @@ impl<T: Copy, const HALF: usize> Store<T, HALF> {
         ensures some { 1 ≤ result.0 }
         ensures most { result.0 ≤ most }
         ensures items { items self.new ≡ cut (items self.old) (before self.old place) result.0 }
-        ensures room { room HALF self.old ≤ room HALF self.new }
         ensures place { IsPlace self.new result.1 }
         ensures before { before self.new result.1 ≡ before self.old place }
         ensures total { block_total self.new ≡ block_total self.old }
@@ -65,7 +63,6 @@ impl<T: Copy, const HALF: usize> Store<T, HALF> {
         requires within { place.at + count ≤ length (block_at self.old.blocks place.block) }
         requires others { count < length (block_at self.old.blocks place.block) }
         ensures items { items self.new ≡ cut (items self.old) (before self.old place) count }
-        ensures room { room HALF self.old ≤ room HALF self.new }
         ensures place { IsPlace self.new result }
         ensures before { before self.new result ≡ before self.old place }
         ensures total { block_total self.new ≡ block_total self.old }
@@ -80,7 +77,6 @@ impl<T: Copy, const HALF: usize> Store<T, HALF> {
     fn remove_blocks(&mut self, block: usize, count: usize) -> Place
         requires { block + count ≤ length self.old.blocks }
         ensures items { items self.new ≡ joined (cut self.old.blocks block count) }
-        ensures room { room HALF self.old ≤ room HALF self.new }
         ensures place { IsPlace self.new result }
         ensures before { before self.new result ≡ length (joined (take block self.old.blocks)) }
         ensures total { block_total self.new ≡ block_total self.old }

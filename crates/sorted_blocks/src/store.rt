@@ -1,13 +1,12 @@
 //! The blocks in use and the spare ones, with the edits that the calls of the list are made of.
 //!
 //! The first items of the blocks are in one row beside the blocks, so that a search over the blocks
-//! opens none of them. A spare block counts for `HALF` inserts, since a full block that is split
-//! becomes two halves. Spare blocks are freed only with the list.
+//! opens none of them. Spare blocks are freed only with the list.
 
 ghost use Rattle.std.specs.Prelude.{◌≡◌, ◌+◌, ◌-◌, ◌<◌, ◌≤◌, [], ◌∷◌, ◌++◌, length, take, drop, slice_index_or, vec_len, vec_capacity, OnOk, OnErr};
 ghost use Rattle.std.specs.List.{remove};
-ghost use Rattle.sorted_blocks.specs.Shape.{Shape, joined, room, block_at, together, put_into, taken_out, split};
-ghost use Rattle.sorted_blocks.specs.Shape.{merged, block_total, beyond, cut, cut_from};
+ghost use Rattle.sorted_blocks.specs.Shape.{Shape, joined, block_at, together, put_into, taken_out, split};
+ghost use Rattle.sorted_blocks.specs.Shape.{merged, block_total, cut, cut_from};
 ghost use Rattle.sorted_blocks.specs.Sound.{AllFilled};
 ghost use Rattle.sorted_blocks.specs.Sought.{IsLead};
 
@@ -32,8 +31,7 @@ pub(crate) struct Store<T: Copy, const HALF: usize> {
     firsts: Vec<T>,
     /// The spare blocks; with memory for those in use too.
     spare: Vec<Block<T, HALF>>,
-    /// The number of items that exceed `HALF` in their blocks.
-    over: usize,
+    /// The number of items.
     count: usize,
     /// How far ahead the last lookup found its item: a hint for the next one, which no contract
     /// uses.
@@ -50,22 +48,8 @@ impl<T: Copy, const HALF: usize> Model for Store<T, HALF> {
 
     ghost view = { λ b. record { blocks = b.used.items; spare = vec_len b.spare } };
 
-    ghost invariant = { λ b. IsSound HALF b.used.items b.spare.len b.used.cap b.spare.cap b.over b.count
+    ghost invariant = { λ b. IsSound HALF b.used.items b.spare.len b.used.cap b.spare.cap b.count
         × IsLed b.used.items b.spare.len b.firsts.items b.firsts.cap };
-}
-
-/// Returns by how much the excess of a block with `len` items grows with one item more.
-fn grown<const HALF: usize>(len: usize) -> usize
-    ensures { result ≡ (len + 1 - HALF) - (len - HALF) }
-{
-    if len < HALF { 0 } else { 1 }
-}
-
-/// Returns how many of `len` items of a block exceed `HALF`.
-fn excess<const HALF: usize>(len: usize) -> usize
-    ensures { result ≡ len - HALF }
-{
-    len.saturating_sub(HALF)
 }
 
 /// Moves `count` items from `at` on to the end, in order.
@@ -106,7 +90,6 @@ impl<T: Copy, const HALF: usize> Store<T, HALF> {
             used: Vec::new(alloc),
             firsts: Vec::new(alloc),
             spare: Vec::new(alloc),
-            over: 0,
             count: 0,
             stride: Cell::new(1),
         }
@@ -218,10 +201,8 @@ impl<T: Copy, const HALF: usize> Store<T, HALF> {
         ensures spare { self.new.spare ≡ self.old.spare }
     {
         let row = &mut self.used[block];
-        let len = row.len();
         row.put(at, item);
         self.firsts[block] = *row.get(0);
-        self.over += grown::<HALF>(len);
         self.count += 1;
     }
 
@@ -261,7 +242,6 @@ impl<T: Copy, const HALF: usize> Store<T, HALF> {
         if self.used.insert(block + 1, fresh).is_err() {
             unreachable!()
         }
-        self.over -= HALF;
     }
 
     /// Takes an item out of a block that has others.
@@ -274,10 +254,8 @@ impl<T: Copy, const HALF: usize> Store<T, HALF> {
         ensures spare { self.new.spare ≡ self.old.spare }
     {
         let row = &mut self.used[block];
-        let len = row.len();
         let item = row.take_out(at);
         self.firsts[block] = *row.get(0);
-        self.over -= grown::<HALF>(len - 1);
         self.count -= 1;
         item
     }
@@ -308,27 +286,21 @@ impl<T: Copy, const HALF: usize> Store<T, HALF> {
         ensures spare { self.new.spare ≡ self.old.spare }
     {
         let row = &mut self.used[block];
-        let len = row.len();
         row.cut_out(at, count);
         self.firsts[block] = *row.get(0);
-        self.over -= excess::<HALF>(len) - excess::<HALF>(len - count);
         self.count -= count;
     }
 
-    /// Returns the number of items of `count` blocks from this one on, and how many of these items
-    /// exceed `HALF` in their blocks.
-    fn weight(&self, block: usize, count: usize) -> (usize, usize)
+    /// Returns the number of items of `count` blocks from this one on.
+    fn weight(&self, block: usize, count: usize) -> usize
         requires { block + count ≤ length self.now.blocks }
-        ensures items { result.0 ≡ length (joined (take count (drop block self.now.blocks))) }
-        ensures over { result.1 ≡ beyond HALF (take count (drop block self.now.blocks)) }
+        ensures { result ≡ length (joined (take count (drop block self.now.blocks))) }
     {
         let mut items = 0;
-        let mut over = 0;
         for row in &self.used[block..block + count] {
             items += row.len();
-            over += excess::<HALF>(row.len());
         }
-        (items, over)
+        items
     }
 
     /// Removes `count` blocks from this one on with all their items; the blocks become spare. They
@@ -337,13 +309,11 @@ impl<T: Copy, const HALF: usize> Store<T, HALF> {
         requires { block + count ≤ length self.old.blocks }
         ensures blocks { self.new.blocks ≡ cut self.old.blocks block count }
         ensures spare { self.new.spare ≡ self.old.spare + count }
-        ensures room { room HALF self.old ≤ room HALF self.new }
     {
-        let (items, over) = self.weight(block, count);
+        let items = self.weight(block, count);
         turn_to_end(&mut self.used, block, count);
         move_last(&mut self.used, &mut self.spare, count);
         cut_out(&mut self.firsts, block, count);
-        self.over -= over;
         self.count -= items;
     }
 
@@ -360,19 +330,6 @@ impl<T: Copy, const HALF: usize> Store<T, HALF> {
         row.absorb(&behind);
         self.firsts[block] = *row.get(0);
         self.spare.push_reserved(behind);
-    }
-
-    /// Returns the number of inserts that take no memory.
-    pub(crate) fn room(&self) -> usize
-        ensures room { result ≡ room HALF self.now }
-        ensures half { 1 ≤ HALF }
-    {
-        let worth = self.spare.len() * HALF;
-        let count = self.used.len();
-        if count == 0 {
-            return worth.saturating_sub(HALF);
-        }
-        worth.saturating_sub(self.over)
     }
 
     /// Takes memory for one more block. On an error the blocks are unchanged.

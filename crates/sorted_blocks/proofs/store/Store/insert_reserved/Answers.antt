@@ -3,18 +3,12 @@ use Rattle.std.proofs.lemmas.List.{nil_from_length}
 use Rattle.std.specs.List.{insert}
 use Rattle.sorted_blocks.specs.Shape.{items}
 use Rattle.sorted_blocks.specs.Places.{before}
-use Rattle.sorted_blocks.proofs.Rooms.{room_begin}
-use Rattle.sorted_blocks.proofs.Moves.{is_item, before_is, before_none, put_items, put_room, put_item, set_before}
+use Rattle.sorted_blocks.proofs.Moves.{is_item, before_is, before_none, put_items, put_item, set_before}
 use Rattle.sorted_blocks.proofs.Dense.{dense-one, put-dense}
 use Rattle.sorted_blocks.proofs.store.Store.insert_reserved.Goals as goal
 
 pub begin-requires : goal.begin-requires
 begin-requires g c = (lit< tt, (nil_from_length c.args.self.now.blocks (omega (arith, c.block_count.ensures.count, c.if-block_count-eq0.true)), c.requires.spare))
-
-pub returns-then-block_count-eq0-clause-room : goal.returns-then-block_count-eq0-clause-room
-returns-then-block_count-eq0-clause-room g c =
-    let none = nil_from_length c.args.self.now.blocks (omega (arith, c.block_count.ensures.count, c.if-block_count-eq0.true)) in
-    omega (arith, room_begin g.row.HALF c.args.self.now c.begin.new.self c.args.item c.begin.ensures.half none c.begin.ensures.blocks c.begin.ensures.spare)
 
 pub returns-then-block_count-eq0-clause-items : goal.returns-then-block_count-eq0-clause-items
 returns-then-block_count-eq0-clause-items g c =
@@ -38,11 +32,6 @@ returns-clause-items g c =
     let made = c.make_way-place.ensures in
     let p = c.make_way-place.result in
     put_items c.make_way-place.new.self c.put.new.self p c.args.item made.block made.at c.put.ensures.blocks ∙ ap (λ xs. insert xs (before c.make_way-place.new.self p) c.args.item) made.items ∙ ap (λ n. insert (items c.args.self.now) n c.args.item) made.before
-
-pub returns-clause-room : goal.returns-clause-room
-returns-clause-room g c =
-    let made = c.make_way-place.ensures in
-    omega (arith, made.room, put_room g.row.HALF c.make_way-place.new.self c.put.new.self c.make_way-place.result c.args.item made.block made.at c.put.ensures.blocks c.put.ensures.spare)
 
 pub returns-clause-place : goal.returns-clause-place
 returns-clause-place g c =

@@ -6,18 +6,11 @@ use Rattle.sorted_blocks.proofs.store.Store.join_behind.Goals as goal
 
 pub returns-then-are_short-clause-items : goal.returns-then-are_short-clause-items
 returns-then-are_short-clause-items g c =
-    let short = (c.if-are_short.ensures {u = tt}).0 refl in
-    (merge_stays g.row.HALF c.args.self.now c.merge.new.self c.args.place (omega (arith, c.block_count-count.ensures.count, c.if-place-count.true)) c.requires.at short c.merge.ensures.blocks c.merge.ensures.spare).same
-
-pub returns-then-are_short-clause-room : goal.returns-then-are_short-clause-room
-returns-then-are_short-clause-room g c =
-    let short = (c.if-are_short.ensures {u = tt}).0 refl in
-    (merge_stays g.row.HALF c.args.self.now c.merge.new.self c.args.place (omega (arith, c.block_count-count.ensures.count, c.if-place-count.true)) c.requires.at short c.merge.ensures.blocks c.merge.ensures.spare).roomy
+    (merge_stays c.args.self.now c.merge.new.self c.args.place (omega (arith, c.block_count-count.ensures.count, c.if-place-count.true)) c.requires.at c.merge.ensures.blocks).same
 
 pub returns-then-are_short-clause-before : goal.returns-then-are_short-clause-before
 returns-then-are_short-clause-before g c =
-    let short = (c.if-are_short.ensures {u = tt}).0 refl in
-    (merge_stays g.row.HALF c.args.self.now c.merge.new.self c.args.place (omega (arith, c.block_count-count.ensures.count, c.if-place-count.true)) c.requires.at short c.merge.ensures.blocks c.merge.ensures.spare).stands
+    (merge_stays c.args.self.now c.merge.new.self c.args.place (omega (arith, c.block_count-count.ensures.count, c.if-place-count.true)) c.requires.at c.merge.ensures.blocks).stands
 
 pub returns-then-are_short-clause-front : goal.returns-then-are_short-clause-front
 returns-then-are_short-clause-front g c d =

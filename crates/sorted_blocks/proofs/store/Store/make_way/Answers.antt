@@ -18,37 +18,27 @@ split-requires g c =
 pub returns-then-place-clause-items : goal.returns-then-place-clause-items
 returns-then-place-clause-items g c =
     let h = in_block c.args.self.now c.args.place c.requires.place c.requires.some in
-    (split_stays g.row.HALF c.args.self.now c.split.new.self c.args.place h (omega (arith, c.block_len.ensures.len, c.if-block_len.false, c.block_len.ensures.most)) c.split.ensures.blocks c.split.ensures.spare c.if-place.true).same
-
-pub returns-then-place-clause-room : goal.returns-then-place-clause-room
-returns-then-place-clause-room g c =
-    let h = in_block c.args.self.now c.args.place c.requires.place c.requires.some in
-    (split_stays g.row.HALF c.args.self.now c.split.new.self c.args.place h (omega (arith, c.block_len.ensures.len, c.if-block_len.false, c.block_len.ensures.most)) c.split.ensures.blocks c.split.ensures.spare c.if-place.true).roomy
+    (split_stays g.row.HALF c.args.self.now c.split.new.self c.args.place h (omega (arith, c.block_len.ensures.len, c.if-block_len.false, c.block_len.ensures.most)) c.split.ensures.blocks c.if-place.true).same
 
 pub returns-then-place-clause-before : goal.returns-then-place-clause-before
 returns-then-place-clause-before g c =
     let h = in_block c.args.self.now c.args.place c.requires.place c.requires.some in
-    (split_stays g.row.HALF c.args.self.now c.split.new.self c.args.place h (omega (arith, c.block_len.ensures.len, c.if-block_len.false, c.block_len.ensures.most)) c.split.ensures.blocks c.split.ensures.spare c.if-place.true).stands
+    (split_stays g.row.HALF c.args.self.now c.split.new.self c.args.place h (omega (arith, c.block_len.ensures.len, c.if-block_len.false, c.block_len.ensures.most)) c.split.ensures.blocks c.if-place.true).stands
 
 pub returns-clause-items : goal.returns-clause-items
 returns-clause-items g c =
     let h = in_block c.args.self.now c.args.place c.requires.place c.requires.some in
-    (split_moves g.row.HALF c.args.self.now c.split.new.self c.args.place h (at_most c.args.self.now c.args.place c.requires.place) (omega (arith, c.block_len.ensures.len, c.if-block_len.false, c.block_len.ensures.most)) c.split.ensures.blocks c.split.ensures.spare (omega (arith, c.if-place.false))).same
-
-pub returns-clause-room : goal.returns-clause-room
-returns-clause-room g c =
-    let h = in_block c.args.self.now c.args.place c.requires.place c.requires.some in
-    (split_moves g.row.HALF c.args.self.now c.split.new.self c.args.place h (at_most c.args.self.now c.args.place c.requires.place) (omega (arith, c.block_len.ensures.len, c.if-block_len.false, c.block_len.ensures.most)) c.split.ensures.blocks c.split.ensures.spare (omega (arith, c.if-place.false))).roomy
+    (split_moves g.row.HALF c.args.self.now c.split.new.self c.args.place h (at_most c.args.self.now c.args.place c.requires.place) (omega (arith, c.block_len.ensures.len, c.if-block_len.false, c.block_len.ensures.most)) c.split.ensures.blocks (omega (arith, c.if-place.false))).same
 
 pub returns-clause-at : goal.returns-clause-at
 returns-clause-at g c =
     let h = in_block c.args.self.now c.args.place c.requires.place c.requires.some in
-    (split_moves g.row.HALF c.args.self.now c.split.new.self c.args.place h (at_most c.args.self.now c.args.place c.requires.place) (omega (arith, c.block_len.ensures.len, c.if-block_len.false, c.block_len.ensures.most)) c.split.ensures.blocks c.split.ensures.spare (omega (arith, c.if-place.false))).at
+    (split_moves g.row.HALF c.args.self.now c.split.new.self c.args.place h (at_most c.args.self.now c.args.place c.requires.place) (omega (arith, c.block_len.ensures.len, c.if-block_len.false, c.block_len.ensures.most)) c.split.ensures.blocks (omega (arith, c.if-place.false))).at
 
 pub returns-clause-before : goal.returns-clause-before
 returns-clause-before g c =
     let h = in_block c.args.self.now c.args.place c.requires.place c.requires.some in
-    (split_moves g.row.HALF c.args.self.now c.split.new.self c.args.place h (at_most c.args.self.now c.args.place c.requires.place) (omega (arith, c.block_len.ensures.len, c.if-block_len.false, c.block_len.ensures.most)) c.split.ensures.blocks c.split.ensures.spare (omega (arith, c.if-place.false))).stands
+    (split_moves g.row.HALF c.args.self.now c.split.new.self c.args.place h (at_most c.args.self.now c.args.place c.requires.place) (omega (arith, c.block_len.ensures.len, c.if-block_len.false, c.block_len.ensures.most)) c.split.ensures.blocks (omega (arith, c.if-place.false))).stands
 
 pub returns-then-place-clause-dense : goal.returns-then-place-clause-dense
 returns-then-place-clause-dense g c d = rw c.split.ensures.blocks (split-dense g.row.HALF c.args.self.now c.args.place.block c.split.ensures.filled (in_block c.args.self.now c.args.place c.requires.place c.requires.some) c.block_len.ensures.half (omega (arith, c.block_len.ensures.len, c.if-block_len.false, c.block_len.ensures.most)) d)

@@ -26,7 +26,7 @@ invariant_of-self g c =
     let some = (filled-get _ bs (c.args.block + 1) c.self.invariant.0.filled h).0 in
     let led = led_remove _ bs _ _ _ c.self.invariant.0.filled c.self.invariant.1 (c.args.block + 1) h _ _ c.push_reserved.ensures.len (omega (arith, c.remove-first.ensures.capacity)) in
     let filled = filled-remove _ bs (c.args.block + 1) c.self.invariant.0.filled h in
-    rw (items, c.remove-first.ensures.items) (kept_merge _ bs _ _ _ _ _ c.self.invariant.0 c.args.block front back _ h at c.remove-behind.ensures.value few c.absorb.ensures _ _ _ c.push_reserved.ensures.len (omega (arith, c.remove-behind.ensures.capacity)) (omega (arith, c.push_reserved.ensures.capacity)), led_set _ (remove bs (c.args.block + 1)) _ _ _ filled led c.args.block c.absorb.new.self c.get.result.now within (omega (arith, long, there, some)) c.get.ensures)
+    rw (items, c.remove-first.ensures.items) (kept_merge _ bs _ _ _ _ c.self.invariant.0 c.args.block front back _ h at c.remove-behind.ensures.value few c.absorb.ensures _ _ _ c.push_reserved.ensures.len (omega (arith, c.remove-behind.ensures.capacity)) (omega (arith, c.push_reserved.ensures.capacity)), led_set _ (remove bs (c.args.block + 1)) _ _ _ filled led c.args.block c.absorb.new.self c.get.result.now within (omega (arith, long, there, some)) c.get.ensures)
 
 pub remove-first-requires : goal.remove-first-requires
 remove-first-requires g c =

@@ -1,10 +1,10 @@
 use Rattle.std.proofs.Common.{refl, arith}
-use Rattle.sorted_blocks.specs.Shape.{beyond, firsts}
+use Rattle.sorted_blocks.specs.Shape.{firsts}
 use Rattle.sorted_blocks.specs.Sound.{AllFilled}
 use Rattle.sorted_blocks.proofs.store.Store.new.Goals as goal
 
 pub invariant_of-result : goal.invariant_of-result
-unfolding beyond firsts AllFilled
+unfolding firsts AllFilled
 invariant_of-result g c = rw (c.new.ensures.items, c.new-2.ensures.items) (
   record {
     half_some = c.requires.some;
@@ -13,7 +13,6 @@ invariant_of-result g c = rw (c.new.ensures.items, c.new-2.ensures.items) (
     used_room = omega (arith, c.new-3.ensures.len);
     spare_room = omega (arith, c.new-3.ensures.len);
     few = omega (arith, c.new-3.ensures.len);
-    over_is = refl;
     count_is = refl;
   },
   record { row_is = refl; row_room = omega (arith, c.new-3.ensures.len) },

@@ -2,18 +2,13 @@ use Rattle.std.proofs.Common.{◌+◌, ◌<◌, ◌≤◌, [], length, ap, ◌�
 use Rattle.std.proofs.lemmas.List.{get_or_read}
 use Rattle.std.proofs.lemmas.List.Edits.{length-insert}
 use Rattle.sorted_blocks.specs.Shape.{Shape}
-use Rattle.sorted_blocks.proofs.Kept.{kept_set, over_small, count_small}
+use Rattle.sorted_blocks.proofs.Kept.{kept_set, count_small}
 use Rattle.sorted_blocks.proofs.Firsts.{led_set, led_long}
 use Rattle.sorted_blocks.proofs.store.Store.put.Goals as goal
 
 pub overflow_add-self : goal.overflow_add-self
 overflow_add-self g c =
-    let most = over_small _ _ _ _ _ _ _ c.self.invariant.0 in
-    omega (arith, most, c.grown.ensures)
-
-pub overflow_add-self-2 : goal.overflow_add-self-2
-overflow_add-self-2 g c =
-    let most = count_small _ _ _ _ _ _ _ c.self.invariant.0 in
+    let most = count_small _ _ _ _ _ _ c.self.invariant.0 in
     omega (arith, most)
 
 pub invariant_of-self : goal.invariant_of-self
@@ -26,7 +21,7 @@ invariant_of-self g c =
     let at : c.args.at ≤ length row = rw (is_row, e) c.requires.at in
     let fits : length row < g.row.HALF + g.row.HALF = rw (is_row, e) c.requires.not_full in
     let longer = ap length c.put.ensures ∙ length-insert row c.args.at c.args.item at in
-    (kept_set _ bs _ _ _ _ _ c.self.invariant.0 c.args.block row c.put.new.self h c.index_mut-row.ensures.value (omega (arith, longer)) (omega (arith, longer, fits)) _ _ (omega (arith, longer, c.len-len.ensures.len, c.grown.ensures)) (omega (arith, longer)), led_set _ bs _ _ _ c.self.invariant.0.filled c.self.invariant.1 c.args.block c.put.new.self c.get.result.now h (omega (arith, longer)) c.get.ensures)
+    (kept_set _ bs _ _ _ _ c.self.invariant.0 c.args.block row c.put.new.self h c.index_mut-row.ensures.value (omega (arith, longer)) (omega (arith, longer, fits)) _ (omega (arith, longer)), led_set _ bs _ _ _ c.self.invariant.0.filled c.self.invariant.1 c.args.block c.put.new.self c.get.result.now h (omega (arith, longer)) c.get.ensures)
 
 pub index_mut-requires : goal.index_mut-requires
 index_mut-requires g c =

@@ -1,7 +1,6 @@
 use Rattle.sorted_blocks.specs.Sound.{IsDenseIn}
 use Rattle.std.proofs.Common.{◌+◌, length, sym, ◌∙◌, arith, lit<}
-use Rattle.sorted_blocks.proofs.Rooms.{room_gone}
-use Rattle.sorted_blocks.proofs.Moves.{item_block, item_within, item_of, set_before, take_items, take_room, take_block, take_at, whole_items, whole_before, whole_is}
+use Rattle.sorted_blocks.proofs.Moves.{item_block, item_within, item_of, set_before, take_items, take_block, take_at, whole_items, whole_before, whole_is}
 use Rattle.sorted_blocks.proofs.Dense.{dense-remove, front-set, back-set}
 use Rattle.sorted_blocks.proofs.store.Store.remove.Goals as goal
 
@@ -15,10 +14,6 @@ returns-then-block_len-eq1-clause-item g c =
 pub returns-then-block_len-eq1-clause-items : goal.returns-then-block_len-eq1-clause-items
 returns-then-block_len-eq1-clause-items g c =
     whole_items c.args.self.now c.take_whole-item.new.self c.args.place (item_block c.args.self.now c.args.place c.requires) (item_within c.args.self.now c.args.place c.requires) (sym c.block_len.ensures.len ∙ c.if-block_len-eq1.true) c.take_whole-item.ensures.blocks
-
-pub returns-then-block_len-eq1-clause-room : goal.returns-then-block_len-eq1-clause-room
-returns-then-block_len-eq1-clause-room g c =
-    room_gone g.row.HALF c.args.self.now c.take_whole-item.new.self c.args.place.block (item_block c.args.self.now c.args.place c.requires) c.take_whole-item.ensures.blocks c.take_whole-item.ensures.spare
 
 pub returns-then-block_len-eq1-clause-before : goal.returns-then-block_len-eq1-clause-before
 returns-then-block_len-eq1-clause-before g c =
@@ -41,11 +36,6 @@ returns-clause-item g c = item_of c.args.self.now c.args.place c.take_out-item.r
 pub returns-clause-items : goal.returns-clause-items
 returns-clause-items g c =
     c.join_before.ensures.items ∙ c.join_behind-place.ensures.items ∙ take_items c.args.self.now c.take_out-item.new.self c.args.place (item_block c.args.self.now c.args.place c.requires) (item_within c.args.self.now c.args.place c.requires) c.take_out-item.ensures.blocks
-
-pub returns-clause-room : goal.returns-clause-room
-returns-clause-room g c =
-    let first = take_room g.row.HALF c.args.self.now c.take_out-item.new.self c.args.place (item_block c.args.self.now c.args.place c.requires) (item_within c.args.self.now c.args.place c.requires) c.take_out-item.ensures.blocks c.take_out-item.ensures.spare in
-    omega (arith, first, c.join_behind-place.ensures.room, c.join_before.ensures.room)
 
 pub returns-clause-before : goal.returns-clause-before
 returns-clause-before g c =

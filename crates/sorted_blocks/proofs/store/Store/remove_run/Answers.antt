@@ -12,7 +12,6 @@ loop-left-init g c =
     record {
       few = omega arith;
       items = sym (ap (cut xs b) none ∙ cut_none xs b);
-      room = omega arith;
       place = c.requires.place;
       before = refl;
       total = refl;
@@ -39,7 +38,6 @@ loop-left-preserved g c =
       items =
           c.remove_some-gone.ensures.items ∙ ap (λ k. cut (items c.loop-left.self) k gone) at ∙ ap (λ ys. cut ys b gone) kept.items
           ∙ cut_cut xs b (c.args.count - c.loop-left.left) gone (omega (arith, c.requires.within)) ∙ ap (cut xs b) more;
-      room = omega (arith, kept.room, c.remove_some-gone.ensures.room);
       place = c.remove_some-gone.ensures.place;
       before = c.remove_some-gone.ensures.before ∙ at;
       total = c.remove_some-gone.ensures.total ∙ kept.total;

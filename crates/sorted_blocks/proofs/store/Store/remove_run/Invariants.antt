@@ -1,5 +1,5 @@
 use Rattle.std.proofs.Common.{◌≡◌, ◌-◌, ◌≤◌}
-use Rattle.sorted_blocks.specs.Shape.{items, room, block_total, cut}
+use Rattle.sorted_blocks.specs.Shape.{items, block_total, cut}
 use Rattle.sorted_blocks.specs.Places.{before, IsPlace}
 use Rattle.sorted_blocks.specs.Sound.{IsDense}
 use Rattle.sorted_blocks.proofs.store.Store.remove_run.Given as goal
@@ -8,7 +8,6 @@ abbrev pub invariant-loop-left : goal.invariant-loop-left
 invariant-loop-left g l = record {
   few : l.left ≤ l.count;
   items : items l.self ≡ cut (items l.fn.self) (before l.fn.self l.fn.place) (l.count - l.left);
-  room : room g.row.HALF l.fn.self ≤ room g.row.HALF l.self;
   place : IsPlace l.self l.place;
   before : before l.self l.place ≡ before l.fn.self l.fn.place;
   total : block_total l.self ≡ block_total l.fn.self;

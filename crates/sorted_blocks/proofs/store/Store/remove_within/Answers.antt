@@ -2,7 +2,7 @@ use Rattle.sorted_blocks.specs.Shape.{cut, block_at}
 use Rattle.sorted_blocks.specs.Sound.{IsDenseIn}
 use Rattle.std.proofs.Common.{◌+◌, length, ap, ◌∙◌, arith, lit<}
 use Rattle.std.proofs.lemmas.List.{length-set}
-use Rattle.sorted_blocks.proofs.Moves.{item_block, set_before, cut_items, cut_room, cut_block, cut_at}
+use Rattle.sorted_blocks.proofs.Moves.{item_block, set_before, cut_items, cut_block, cut_at}
 use Rattle.sorted_blocks.proofs.Dense.{front-set, back-set}
 use Rattle.sorted_blocks.proofs.store.Store.remove_within.Goals as goal
 
@@ -18,11 +18,6 @@ join_behind-place-requires g c =
 pub returns-clause-items : goal.returns-clause-items
 returns-clause-items g c =
     c.join_before.ensures.items ∙ c.join_behind-place.ensures.items ∙ cut_items c.args.self.now c.cut_out.new.self c.args.place c.args.count (item_block c.args.self.now c.args.place c.requires.item) c.requires.within c.cut_out.ensures.blocks
-
-pub returns-clause-room : goal.returns-clause-room
-returns-clause-room g c =
-    let first = cut_room g.row.HALF c.args.self.now c.cut_out.new.self c.args.place c.args.count (item_block c.args.self.now c.args.place c.requires.item) c.requires.within c.cut_out.ensures.blocks c.cut_out.ensures.spare in
-    omega (arith, first, c.join_behind-place.ensures.room, c.join_before.ensures.room)
 
 pub returns-clause-before : goal.returns-clause-before
 returns-clause-before g c =

@@ -4,19 +4,8 @@ use Rattle.sorted_blocks.proofs.Counted.{filled-set}
 use Rattle.sorted_blocks.proofs.Firsts.{led_set, led_insert, led_long}
 use Rattle.std.proofs.lemmas.Bool.{true≢false}
 use Rattle.sorted_blocks.specs.Shape.{Shape}
-use Rattle.sorted_blocks.proofs.Kept.{kept_split, over_covers}
+use Rattle.sorted_blocks.proofs.Kept.{kept_split}
 use Rattle.sorted_blocks.proofs.store.Store.split.Goals as goal
-
-pub overflow_sub-self : goal.overflow_sub-self
-overflow_sub-self g c =
-    let bs = c.self.inside.used.items in
-    let row = c.index_mut-row.result.now in
-    let e = ap (λ (s : Shape g.row.T.Denot). s.blocks) c.self.view_is in
-    let h : c.args.block < length bs = rw e c.requires.block in
-    let is_row = get_or_read bs c.args.block row h c.index_mut-row.ensures.value [] in
-    let full : length row ≡ g.row.HALF + g.row.HALF = rw (is_row, e) c.requires.full in
-    let over = over_covers _ bs _ _ _ _ _ c.self.invariant.0 c.args.block row h c.index_mut-row.ensures.value in
-    omega (arith, full, over)
 
 pub invariant_of-self : goal.invariant_of-self
 invariant_of-self g c =
@@ -33,7 +22,7 @@ invariant_of-self g c =
     let filled = filled-set _ bs c.args.block c.split_into.new.self c.self.invariant.0.filled (omega (arith, front_long, half)) (omega (arith, front_long)) in
     let row_is = rw (c.is_err.ensures.negation, c.if-is_err.false) at c.insert.ensures.items in
     let put = rw (c.is_err-2.ensures.negation, c.if-is_err-2.false) at c.insert-2.ensures.items in
-    rw (put, row_is) (kept_split _ bs _ _ _ _ _ c.self.invariant.0 c.args.block row _ _ h c.index_mut-row.ensures.value full c.split_into.ensures.front c.split_into.ensures.back _ _ _ c.take_last-fresh.ensures.len c.insert-2.ensures.capacity (omega (arith, c.take_last-fresh.ensures.capacity)), led_insert _ (set bs c.args.block c.split_into.new.self) _ _ _ filled front (c.args.block + 1) c.split_into.new.other c.get-first.result.now (omega (arith, h, length-set bs c.args.block c.split_into.new.self)) (omega (arith, back_long, half)) c.get-first.ensures _ _ c.take_last-fresh.ensures.len c.insert.ensures.capacity)
+    rw (put, row_is) (kept_split _ bs _ _ _ _ c.self.invariant.0 c.args.block row _ _ h c.index_mut-row.ensures.value full c.split_into.ensures.front c.split_into.ensures.back _ _ _ c.take_last-fresh.ensures.len c.insert-2.ensures.capacity (omega (arith, c.take_last-fresh.ensures.capacity)), led_insert _ (set bs c.args.block c.split_into.new.self) _ _ _ filled front (c.args.block + 1) c.split_into.new.other c.get-first.result.now (omega (arith, h, length-set bs c.args.block c.split_into.new.self)) (omega (arith, back_long, half)) c.get-first.ensures _ _ c.take_last-fresh.ensures.len c.insert.ensures.capacity)
 
 pub index_mut-requires : goal.index_mut-requires
 index_mut-requires g c =

@@ -3,7 +3,7 @@ use Rattle.std.proofs.lemmas.List.{get_or_read}
 use Rattle.std.proofs.lemmas.List.Edits.{length-remove}
 use Rattle.sorted_blocks.specs.Shape.{Shape}
 use Rattle.sorted_blocks.proofs.Counted.{filled-get}
-use Rattle.sorted_blocks.proofs.Kept.{kept_set, over_covers, count_covers}
+use Rattle.sorted_blocks.proofs.Kept.{kept_set, count_covers}
 use Rattle.sorted_blocks.proofs.Firsts.{led_set, led_long}
 use Rattle.sorted_blocks.proofs.store.Store.take_out.Goals as goal
 
@@ -13,18 +13,9 @@ overflow_sub-self g c =
     let row = c.index_mut-row.result.now in
     let e = ap (λ (s : Shape g.row.T.Denot). s.blocks) c.self.view_is in
     let h : c.args.block < length bs = rw e c.requires.block in
-    let covers = over_covers _ bs _ _ _ _ _ c.self.invariant.0 c.args.block row h c.index_mut-row.ensures.value in
-    omega (arith, covers, c.len-len.ensures.len, c.grown.ensures)
-
-pub overflow_sub-self-2 : goal.overflow_sub-self-2
-overflow_sub-self-2 g c =
-    let bs = c.self.inside.used.items in
-    let row = c.index_mut-row.result.now in
-    let e = ap (λ (s : Shape g.row.T.Denot). s.blocks) c.self.view_is in
-    let h : c.args.block < length bs = rw e c.requires.block in
     let some = filled-get _ bs c.args.block c.self.invariant.0.filled h in
     let is_row = ap length (get_or_read bs c.args.block row h c.index_mut-row.ensures.value []) in
-    let covers = count_covers _ bs _ _ _ _ _ c.self.invariant.0 c.args.block row h c.index_mut-row.ensures.value in
+    let covers = count_covers _ bs _ _ _ _ c.self.invariant.0 c.args.block row h c.index_mut-row.ensures.value in
     let one = some.0 in
     omega (arith, covers, one, is_row)
 
@@ -40,9 +31,8 @@ invariant_of-self g c =
     let most = (filled-get _ bs c.args.block c.self.invariant.0.filled h).1 in
     let long = ap length is_row in
     let shorter = ap (λ xs. length xs + 1) c.take_out-item.ensures.left ∙ length-remove row c.args.at at in
-    let over = over_covers _ bs _ _ _ _ _ c.self.invariant.0 c.args.block row h c.index_mut-row.ensures.value in
-    let count = count_covers _ bs _ _ _ _ _ c.self.invariant.0 c.args.block row h c.index_mut-row.ensures.value in
-    (kept_set _ bs _ _ _ _ _ c.self.invariant.0 c.args.block row c.take_out-item.new.self h c.index_mut-row.ensures.value (omega (arith, shorter, others)) (omega (arith, shorter, most, long)) _ _ (omega (arith, over, others, shorter, c.len-len.ensures.len, c.grown.ensures)) (omega (arith, shorter, count, others)), led_set _ bs _ _ _ c.self.invariant.0.filled c.self.invariant.1 c.args.block c.take_out-item.new.self c.get.result.now h (omega (arith, shorter, others)) c.get.ensures)
+    let count = count_covers _ bs _ _ _ _ c.self.invariant.0 c.args.block row h c.index_mut-row.ensures.value in
+    (kept_set _ bs _ _ _ _ c.self.invariant.0 c.args.block row c.take_out-item.new.self h c.index_mut-row.ensures.value (omega (arith, shorter, others)) (omega (arith, shorter, most, long)) _ (omega (arith, shorter, count, others)), led_set _ bs _ _ _ c.self.invariant.0.filled c.self.invariant.1 c.args.block c.take_out-item.new.self c.get.result.now h (omega (arith, shorter, others)) c.get.ensures)
 
 pub index_mut-requires : goal.index_mut-requires
 index_mut-requires g c =

@@ -13,7 +13,7 @@ overflow_sub-self g c =
     let h : c.args.block < length bs = rw e c.requires.block in
     let is_row = get_or_read bs c.args.block row h c.remove-row.ensures.value [] in
     let alone : length row ≡ 1 = rw (is_row, e) c.requires.alone in
-    let covers = count_covers _ bs _ _ _ _ _ c.self.invariant.0 c.args.block row h c.remove-row.ensures.value in
+    let covers = count_covers _ bs _ _ _ _ c.self.invariant.0 c.args.block row h c.remove-row.ensures.value in
     omega (arith, covers, alone)
 
 pub invariant_of-self : goal.invariant_of-self
@@ -24,9 +24,8 @@ invariant_of-self g c =
     let h : c.args.block < length bs = rw e c.requires.block in
     let is_row = get_or_read bs c.args.block row h c.remove-row.ensures.value [] in
     let alone : length row ≡ 1 = rw (is_row, e) c.requires.alone in
-    let count = count_covers _ bs _ _ _ _ _ c.self.invariant.0 c.args.block row h c.remove-row.ensures.value in
-    let half = c.self.invariant.0.half_some in
-    rw (c.remove-row.ensures.items, c.remove-first.ensures.items) (kept_remove _ bs _ _ _ _ _ c.self.invariant.0 c.args.block row h c.remove-row.ensures.value _ _ _ _ _ c.push_reserved.ensures.len (omega (arith, c.remove-row.ensures.capacity)) (omega (arith, c.push_reserved.ensures.capacity)) (omega (arith, alone, half)) (omega (arith, alone, count)), led_remove _ bs _ _ _ c.self.invariant.0.filled c.self.invariant.1 c.args.block h _ _ c.push_reserved.ensures.len (omega (arith, c.remove-first.ensures.capacity)))
+    let count = count_covers _ bs _ _ _ _ c.self.invariant.0 c.args.block row h c.remove-row.ensures.value in
+    rw (c.remove-row.ensures.items, c.remove-first.ensures.items) (kept_remove _ bs _ _ _ _ c.self.invariant.0 c.args.block row h c.remove-row.ensures.value _ _ _ _ c.push_reserved.ensures.len (omega (arith, c.remove-row.ensures.capacity)) (omega (arith, c.push_reserved.ensures.capacity)) (omega (arith, alone, count)), led_remove _ bs _ _ _ c.self.invariant.0.filled c.self.invariant.1 c.args.block h _ _ c.push_reserved.ensures.len (omega (arith, c.remove-first.ensures.capacity)))
 
 pub remove-first-requires : goal.remove-first-requires
 remove-first-requires g c =

@@ -1,13 +1,11 @@
-//! Memory for inserts to come. Only `reserve` (for a number of inserts) and `reserve_capacity` (for
-//! a number of items) take memory. Both vectors then have memory for all blocks, so that no edit
-//! takes any.
+//! Memory for items to come. Only `reserve_capacity` takes memory. Both vectors then have memory for
+//! all blocks, so that no edit takes any.
 //!
-//! Each insert may use up room, so that a list of constant length would need new room from time to
-//! time. The capacity depends on the number of all blocks alone, so that a caller that only
-//! replaces items needs no memory.
+//! The capacity depends on the number of all blocks alone, so that a caller that only replaces items
+//! needs no memory.
 
 ghost use Rattle.std.specs.Prelude.{◌≡◌, ◌+◌, ◌≤◌, ◌<◌, length, OnOk, IsOk, IsTrue, ◌↔◌};
-ghost use Rattle.sorted_blocks.specs.Shape.{items, joined, room, capacity};
+ghost use Rattle.sorted_blocks.specs.Shape.{items, joined, capacity};
 ghost use Rattle.sorted_blocks.specs.Places.{before, IsPlace, IsItem};
 ghost use Rattle.sorted_blocks.specs.declared.place.Place.{Place};
 
@@ -15,21 +13,6 @@ use crate::store::Store;
 use std::alloc::AllocError;
 
 impl<T: Copy, const HALF: usize> Store<T, HALF> {
-    /// Takes memory for `inserts` inserts: at Ok they succeed, for any blocks that they split. The
-    /// blocks in use and all places stay, also on an error, and the room never shrinks.
-    pub(crate) fn reserve(&mut self, inserts: usize) -> Result<(), AllocError>
-        ensures ok { OnOk result (inserts ≤ room HALF self.new) }
-        ensures blocks { self.new.blocks ≡ self.old.blocks }
-        ensures items { items self.new ≡ items self.old }
-        ensures places { (place : Place) → IsPlace self.old place → IsPlace self.new place }
-        ensures before { (place : Place) → before self.new place ≡ before self.old place }
-        ensures room { room HALF self.old ≤ room HALF self.new }
-    {
-        while self.room() < inserts {
-            self.add_spare()?;
-        }
-        Ok(())
-    }
     /// Returns the number of items that fit without memory, for any inserts and removals in
     /// between.
     pub(crate) fn capacity(&self) -> usize
