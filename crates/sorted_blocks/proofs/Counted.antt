@@ -1,5 +1,5 @@
 -- What one edit of a list of blocks leaves: how many items, and that each block is filled.
-use Rattle.std.proofs.Common.{◌≡◌, ℕ, zero, suc, ◌+◌, ◌-◌, ◌*◌, ◌<◌, ◌≤◌, List, [], ◌∷◌, length, get_or, set, arith, length-append}
+use Rattle.std.proofs.Common.{◌≡◌, ℕ, zero, suc, ◌+◌, ◌*◌, ◌<◌, ◌≤◌, List, [], ◌∷◌, length, get_or, set, arith, length-append}
 use Rattle.std.specs.List.{insert, remove}
 use Rattle.sorted_blocks.specs.Shape.{joined}
 use Rattle.sorted_blocks.specs.Sound.{AllFilled}

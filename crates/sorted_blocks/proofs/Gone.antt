@@ -1,6 +1,6 @@
 -- Blocks that go side by side, and what is left of the count and of the row of the first items.
 use Rattle.std.proofs.Common.{◌≡◌, ℕ, zero, suc, ◌+◌, ◌-◌, ◌<◌, ◌≤◌, List, [], ◌∷◌, ◌++◌, length, get_or, take, drop, refl, sym, ap, ap₂, ◌∙◌, arith, length-append, length-drop, append_assoc}
-use Rattle.std.proofs.lemmas.List.{drop-drop, drop_all, take_at, length-take-le, take-append-drop}
+use Rattle.std.proofs.lemmas.List.{drop-drop, take_at, length-take-le, take-append-drop}
 use Rattle.sorted_blocks.specs.Shape.{joined, firsts, cut}
 use Rattle.sorted_blocks.specs.Sound.{AllFilled, IsSound, IsLed}
 use Rattle.sorted_blocks.proofs.Cuts.{length-cut}

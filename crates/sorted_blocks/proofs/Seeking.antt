@@ -1,12 +1,45 @@
 -- A search by halves.
-use Rattle.std.proofs.Common.{◌≡◌, ℕ, ◌-◌, ◌<◌, ◌≤◌, List, length, get_or}
+use Rattle.std.proofs.Common.{◌≡◌, ◌≢◌, ℕ, zero, suc, ◌+◌, ◌-◌, ◌*◌, ◌/◌, ◌%◌, ◌<◌, ◌≤◌, List, length, get_or, subst, refl, arith}
 use Rattle.std.specs.declared.cmp.Ordering.{Ordering}
-use Rattle.std.specs.declared.cmp.Ordering.TheVariants.{Less, Greater}
+use Rattle.std.specs.declared.cmp.Ordering.TheVariants.{Less}
+use Rattle.sorted_blocks.specs.Sought.{IsLessAt}
 
--- what stands before `low` is less, and what stands at `high` is greater
-pub record IsBetween {A : Type 0} (order : A → Ordering) (row : List A) (from low high : ℕ) : Type 0 where
+-- what stands before `low` is less, and what stands `left` after it is not
+pub record IsLeft {A : Type 0} (order : A → Ordering) (row : List A) (from low left : ℕ) : Type 0 where
   pub from_low : from ≤ low
-  pub low_high : low ≤ high
-  pub high_end : high ≤ length row
+  pub within : low + left ≤ length row
   pub less : (d : A) → 0 < low → order (get_or row (low - 1) d) ≡ Less
-  pub greater : (d : A) → high < length row → order (get_or row high d) ≡ Greater
+  pub not_less : (d : A) → low + left < length row → order (get_or row (low + left) d) ≢ Less
+
+-- what stands before `low` is less
+pub record IsBehind {A : Type 0} (order : A → Ordering) (row : List A) (from low : ℕ) : Type 0 where
+  pub from_low : from ≤ low
+  pub within : low ≤ length row
+  pub less : (d : A) → 0 < low → order (get_or row (low - 1) d) ≡ Less
+
+module _ {A : Type 0} (order : A → Ordering) (row : List A) where
+  -- the half that is left
+  pub halved : (from low left half less : ℕ) → IsLeft order row from low left → 0 < left → half ≡ left / 2 → less ≤ 1
+      → (less ≡ 1 → IsLessAt order row (low + half)) → ((d : A) → less ≡ 0 → order (get_or row (low + half) d) ≢ Less)
+      → IsLeft order row from (low + (half + 1) * less) (half - (1 - left % 2) * less)
+  halved from low left half zero kept some is most here away =
+      let at : low + (half + 1) * 0 ≡ low = omega arith in
+      let end : half - (1 - left % 2) * 0 ≡ half = omega arith in
+      rw (at, end) (record {
+        from_low = kept.from_low;
+        within = omega (arith, kept.within, is, some);
+        less = kept.less;
+        not_less = λ d h. away d refl;
+      })
+  halved from low left half (suc zero) kept some is most here away =
+      let at : low + (half + 1) * 1 ≡ low + half + 1 = omega arith in
+      let end : half - (1 - left % 2) * 1 ≡ left - half - 1 = omega (arith, is, some) in
+      let before : low + half ≡ low + half + 1 - 1 = omega arith in
+      let behind : low + left ≡ low + half + 1 + (left - half - 1) = omega (arith, is, some) in
+      rw (at, end) (record {
+        from_low = omega (arith, kept.from_low);
+        within = omega (arith, kept.within, behind);
+        less = λ d h. subst (λ (k : ℕ). order (get_or row k d) ≡ Less) before (here refl d);
+        not_less = λ d h. subst (λ (k : ℕ). order (get_or row k d) ≢ Less) behind (kept.not_less d (omega (arith, h, behind)));
+      })
+  halved from low left half (suc (suc less)) kept some is most here away = absurd (omega (arith, most))

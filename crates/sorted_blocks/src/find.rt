@@ -1,14 +1,10 @@
-//! Lookup of an item by the comparison of the caller.
+//! Lookup of an item by the comparison of the caller. No search requires an order of the items.
 //!
-//! No branch of the search depends on an item: the search guesses a place, then checks the item
-//! there and the one before it. So its contract needs no order of the items. Where the check fails,
-//! a binary search decides.
-//!
-//! A lookup near a place first tries the stride: the distance at which the last one found its item.
-//! Items are often sought at even distances. A wrong stride costs a comparison or two, and bounds
-//! the search where the item is nearer.
+//! No branch of a search by halves depends on an item, so that branch prediction cannot fail. A
+//! lookup near a place doubles its steps from there, over the first items of the blocks and then in
+//! a block. So it reads few items, which are near one another in memory.
 
-ghost use Rattle.std.specs.Prelude.{◌≡◌, ℕ, ◌+◌, ◌-◌, ◌<◌, ◌≤◌, List, [], length, slice_index_or, IsTrue, IfSome, IfNone};
+ghost use Rattle.std.specs.Prelude.{◌≡◌, ◌≢◌, ℕ, ◌+◌, ◌-◌, ◌<◌, ◌≤◌, List, [], length, slice_index_or};
 ghost use Rattle.std.specs.List.{All};
 ghost use Rattle.sorted_blocks.specs.Shape.{items, block_at};
 ghost use Rattle.sorted_blocks.specs.Places.{IsItem};
@@ -20,192 +16,70 @@ use crate::probe::Probe;
 use crate::store::Store;
 use std::cmp::Ordering;
 
-/// The number of next blocks that a lookup near a place tries before it searches all blocks.
-const NEAR_BLOCKS: usize = 4;
-
-/// Returns a guess of the place in the row of what is sought: the right place, or the one before
-/// it. It is right where the row has the order of the probe, and the right place is from `from` to
-/// `from + count`.
-///
-/// No branch depends on an item, so that branch prediction cannot fail. The length of the part that
-/// is left is a power of two, and the result of each comparison is shifted into its place.
-fn guess<T: Copy, P: Probe<T>>(probe: &P, row: &[T], from: usize, count: usize) -> usize
+/// Returns 1 where the item at this place of a row is less than what is sought, else 0.
+fn one_if_less<T: Copy, P: Probe<T>>(probe: &P, row: &[T], at: usize) -> usize
     requires can { All (P.can_compare probe.now) row.now }
-    requires within { from + count ≤ length row.now }
-    ensures { result ≤ length row.now }
+    requires at { at < length row.now }
+    ensures most { result ≤ 1 }
+    ensures less { result ≡ 1 → IsLessAt (P.order probe.now) row.now at }
+    ensures not_less { (d : T) → result ≡ 0 → P.order probe.now (slice_index_or row.now at d) ≢ Ordering.Less }
 {
-    if count == 0 {
-        return from;
-    }
-    let mut shift = count.ilog2();
-    let over = count - (1 << shift);
-    let mut base = from;
-    if over > 0 {
-        base += over * usize::from(probe.compare(&row[from + over]).is_lt());
-    }
-    while shift > 0 {
-        shift -= 1;
-        let is_less = probe.compare(&row[base + (1 << shift)]).is_lt();
-        base += usize::from(is_less) << shift;
-    }
-    base
+    usize::from(probe.compare(&row[at]).is_lt())
 }
 
-/// Returns the same guess for an item that is mostly soon after `low`. It doubles its distance each
-/// time. So it reads few items, which are near one another in memory and which the next search from
-/// there reads again.
-fn guess_soon<T: Copy, P: Probe<T>>(probe: &P, row: &[T], low: usize) -> usize
-    requires can { All (P.can_compare probe.now) row.now }
-    requires low { low ≤ length row.now }
-    ensures { result ≤ length row.now }
-{
-    let mut from = low;
-    let mut step = 1usize;
-    while step < row.len() - from {
-        if probe.compare(&row[from + step]).is_ge() {
-            return guess(probe, row, from, step);
-        }
-        from += step;
-        step = step.saturating_mul(2);
-    }
-    guess(probe, row, from, row.len() - from)
-}
-
-/// Returns the same guess for an item that may be about `stride` after `low`, nearer, or soon after
-/// that.
-fn guess_by<T: Copy, P: Probe<T>>(probe: &P, row: &[T], low: usize, stride: usize) -> usize
-    requires can { All (P.can_compare probe.now) row.now }
-    requires low { low ≤ length row.now }
-    ensures { result ≤ length row.now }
-{
-    if stride >= row.len() - low {
-        return guess_soon(probe, row, low);
-    }
-    if probe.compare(&row[low + stride]).is_lt() {
-        return guess_soon(probe, row, low + stride);
-    }
-    guess(probe, row, low, stride)
-}
-
-/// Returns whether the item before this place of a row is less than what is sought; true where
-/// there is none.
-fn is_behind_lesser<T: Copy, P: Probe<T>>(probe: &P, row: &[T], at: usize) -> bool
-    requires can { All (P.can_compare probe.now) row.now }
-    requires at { at ≤ length row.now }
-    ensures { IsTrue result → (d : T) → 0 < at → P.order probe.now (slice_index_or row.now (at - 1) d) ≡ Ordering.Less }
-{
-    if at == 0 {
-        return true;
-    }
-    match probe.compare(&row[at - 1]) {
-        Ordering::Less => true,
-        Ordering::Equal | Ordering::Greater => false,
-    }
-}
-
-/// Returns the place in a row of an item that compares equal, or a gap. The items before `low` are
-/// less.
-fn seek<T: Copy, P: Probe<T>>(probe: &P, row: &[T], low: usize) -> Result<usize, usize>
-    requires can { All (P.can_compare probe.now) row.now }
-    requires low { low ≤ length row.now }
-    requires less { (d : T) → 0 < low → P.order probe.now (slice_index_or row.now (low - 1) d) ≡ Ordering.Less }
-    ensures { IsSought (P.order probe.now) row.now low result }
-{
-    seek_at(probe, row, low, guess(probe, row, 0, row.len()))
-}
-
-/// Returns the same, for an item that is mostly soon after `low` or `stride` after it.
-fn seek_soon<T: Copy, P: Probe<T>>(
+/// Returns the place in a row of an item that compares equal, or a gap, by halves from `low` up to
+/// `high`. The item before `low` is less and the one at `high` is greater, where they are there.
+fn seek<T: Copy, P: Probe<T>>(
     probe: &P,
     row: &[T],
     low: usize,
-    stride: usize,
+    high: usize,
 ) -> Result<usize, usize>
     requires can { All (P.can_compare probe.now) row.now }
-    requires low { low ≤ length row.now }
+    requires low { low ≤ high }
+    requires high { high ≤ length row.now }
     requires less { (d : T) → 0 < low → P.order probe.now (slice_index_or row.now (low - 1) d) ≡ Ordering.Less }
+    requires greater { (d : T) → high < length row.now → P.order probe.now (slice_index_or row.now high d) ≡ Ordering.Greater }
     ensures { IsSought (P.order probe.now) row.now low result }
 {
+    let mut low = low;
+    let mut left = high - low;
+    while left > 0 {
+        let half = left / 2;
+        let is_less = one_if_less(probe, row, low + half);
+        low += (half + 1) * is_less;
+        left = half - (1 - left % 2) * is_less;
+    }
     if low == row.len() {
         return Err(low);
     }
-    if stride < row.len() - low {
-        if probe.compare(&row[low + stride]).is_eq() {
-            return Ok(low + stride);
-        }
-    }
-    seek_at(probe, row, low, guess_by(probe, row, low, stride))
-}
-
-/// Returns the same by a guess: the item is mostly at `at` or right after it. The guess is checked,
-/// so that the result is right for any probe.
-fn seek_at<T: Copy, P: Probe<T>>(
-    probe: &P,
-    row: &[T],
-    low: usize,
-    at: usize,
-) -> Result<usize, usize>
-    requires can { All (P.can_compare probe.now) row.now }
-    requires low { low ≤ length row.now }
-    requires at { at ≤ length row.now }
-    requires less { (d : T) → 0 < low → P.order probe.now (slice_index_or row.now (low - 1) d) ≡ Ordering.Less }
-    ensures { IsSought (P.order probe.now) row.now low result }
-{
-    if at < low {
-        return seek_in_any(probe, row, low);
-    }
-    if at < row.len() && is_behind_lesser(probe, row, at + 1) {
-        return seek_behind(probe, row, low, at + 1);
-    }
-    if is_behind_lesser(probe, row, at) {
-        return seek_behind(probe, row, low, at);
-    }
-    seek_in_any(probe, row, low)
-}
-
-/// Returns the same, for an item that is mostly at `at`; the item before `at` is less, or there is
-/// none.
-fn seek_behind<T: Copy, P: Probe<T>>(
-    probe: &P,
-    row: &[T],
-    low: usize,
-    at: usize,
-) -> Result<usize, usize>
-    requires can { All (P.can_compare probe.now) row.now }
-    requires low { low ≤ at }
-    requires at { at ≤ length row.now }
-    requires before { (d : T) → 0 < at → P.order probe.now (slice_index_or row.now (at - 1) d) ≡ Ordering.Less }
-    requires less { (d : T) → 0 < low → P.order probe.now (slice_index_or row.now (low - 1) d) ≡ Ordering.Less }
-    ensures { IsSought (P.order probe.now) row.now low result }
-{
-    if at == row.len() {
-        return Err(at);
-    }
-    match probe.compare(&row[at]) {
-        Ordering::Less => seek_in_any(probe, row, low),
-        Ordering::Equal => Ok(at),
-        Ordering::Greater => Err(at),
+    match probe.compare(&row[low]) {
+        Ordering::Less => unreachable!(),
+        Ordering::Equal => Ok(low),
+        Ordering::Greater => Err(low),
     }
 }
 
-/// Returns the same by a binary search, for a row in any order.
-fn seek_in_any<T: Copy, P: Probe<T>>(probe: &P, row: &[T], low: usize) -> Result<usize, usize>
+/// Returns the same, up to the end of the row, for an item that is mostly soon after `low`. The
+/// steps are doubled each time.
+fn seek_soon<T: Copy, P: Probe<T>>(probe: &P, row: &[T], low: usize) -> Result<usize, usize>
     requires can { All (P.can_compare probe.now) row.now }
     requires low { low ≤ length row.now }
     requires less { (d : T) → 0 < low → P.order probe.now (slice_index_or row.now (low - 1) d) ≡ Ordering.Less }
     ensures { IsSought (P.order probe.now) row.now low result }
 {
     let mut low = low;
-    let mut high = row.len();
-    while low < high {
-        let middle = low + (high - low) / 2;
-        match probe.compare(&row[middle]) {
-            Ordering::Less => low = middle + 1,
-            Ordering::Equal => return Ok(middle),
-            Ordering::Greater => high = middle,
+    let mut step = 1usize;
+    while step < row.len() - low {
+        let at = low + step;
+        match probe.compare(&row[at]) {
+            Ordering::Less => low = at + 1,
+            Ordering::Equal => return Ok(at),
+            Ordering::Greater => return seek(probe, row, low, at),
         }
+        step = step.saturating_mul(2);
     }
-    Err(low)
+    seek(probe, row, low, row.len())
 }
 
 impl<T: Copy, const HALF: usize> Store<T, HALF> {
@@ -217,10 +91,8 @@ impl<T: Copy, const HALF: usize> Store<T, HALF> {
         requires { All (P.can_compare probe.now) (items self.now) }
         ensures { IsFound (P.order probe.now) self.now result }
     {
-        match self.seek_block(probe) {
-            Ok(block) => Ok(Place { block, at: 0 }),
-            Err(count) => self.find_after(probe, count),
-        }
+        let sought = self.seek_block(probe);
+        self.find_sought(probe, sought)
     }
 
     /// Returns the same, for any place `near`, at which the search begins. It costs a few
@@ -268,7 +140,36 @@ impl<T: Copy, const HALF: usize> Store<T, HALF> {
         requires { All (P.can_compare probe.now) (items self.now) }
         ensures { IsBlockSought (P.order probe.now) self.now.blocks result }
     {
-        seek(probe, self.firsts(), 0)
+        let firsts = self.firsts();
+        seek(probe, firsts, 0, firsts.len())
+    }
+
+    /// Returns the same, for an item that is mostly soon after the first item of the block before
+    /// `low`, which is less.
+    fn seek_block_soon<P: Probe<T>>(&self, probe: &P, low: usize) -> Result<usize, usize>
+        requires can { All (P.can_compare probe.now) (items self.now) }
+        requires some { 0 < low }
+        requires low { low ≤ length self.now.blocks }
+        requires less { IsLessAt (P.order probe.now) (block_at self.now.blocks (low - 1)) 0 }
+        ensures { IsBlockSought (P.order probe.now) self.now.blocks result }
+    {
+        seek_soon(probe, self.firsts(), low)
+    }
+
+    /// Returns the result after a search over the blocks.
+    fn find_sought<P: Probe<T>>(
+        &self,
+        probe: &P,
+        sought: Result<usize, usize>,
+    ) -> Result<Place, Place>
+        requires can { All (P.can_compare probe.now) (items self.now) }
+        requires sought { IsBlockSought (P.order probe.now) self.now.blocks sought }
+        ensures { IsFound (P.order probe.now) self.now result }
+    {
+        match sought {
+            Ok(block) => Ok(Place { block, at: 0 }),
+            Err(count) => self.find_after(probe, count),
+        }
     }
 
     /// Returns the result where `count` blocks begin with a lesser item.
@@ -289,27 +190,27 @@ impl<T: Copy, const HALF: usize> Store<T, HALF> {
         requires row { IsRowLeft (P.order probe.now) self.now.blocks block low }
         ensures { IsFound (P.order probe.now) self.now result }
     {
-        match seek(probe, self.row(block), low) {
+        let row = self.row(block);
+        match seek(probe, row, low, row.len()) {
             Ok(at) => Ok(Place { block, at }),
             Err(at) => Err(Place { block, at }),
         }
     }
 
-    /// Returns the same, for an item that is mostly soon after `low`, or at the stride of the last
-    /// lookup.
+    /// Returns the same, for an item that is mostly soon after `low`.
     fn find_soon<P: Probe<T>>(&self, probe: &P, block: usize, low: usize) -> Result<Place, Place>
         requires can { All (P.can_compare probe.now) (items self.now) }
         requires row { IsRowLeft (P.order probe.now) self.now.blocks block low }
         ensures { IsFound (P.order probe.now) self.now result }
     {
-        match seek_soon(probe, self.row(block), low, self.stride()) {
+        match seek_soon(probe, self.row(block), low) {
             Ok(at) => Ok(Place { block, at }),
             Err(at) => Err(Place { block, at }),
         }
     }
 
-    /// Returns the result after an item that is less than what is sought. It also keeps the stride
-    /// for the next lookup.
+    /// Returns the result after an item that is less than what is sought. It is mostly the next
+    /// item, or the gap before that.
     fn find_behind<P: Probe<T>>(&self, near: Place, probe: &P) -> Result<Place, Place>
         requires can { All (P.can_compare probe.now) (items self.now) }
         requires item { IsItem self.now near }
@@ -329,57 +230,32 @@ impl<T: Copy, const HALF: usize> Store<T, HALF> {
                 Ordering::Greater => return Err(place),
             }
         }
-        let found = self.find_rest(near, probe);
-        self.keep_stride(near, found);
-        found
+        self.find_rest(near, probe)
     }
 
-    /// Returns the result after an item that is less. What is sought is mostly in the same block or
-    /// in one of the next few.
+    /// Returns the result after an item that is less. What is sought is mostly in the same block,
+    /// or in one that comes soon after it.
     fn find_rest<P: Probe<T>>(&self, near: Place, probe: &P) -> Result<Place, Place>
         requires can { All (P.can_compare probe.now) (items self.now) }
         requires item { IsItem self.now near }
         requires less { IsLessAt (P.order probe.now) (block_at self.now.blocks near.block) near.at }
         ensures { IsFound (P.order probe.now) self.now result }
     {
-        let mut near = near;
-        for _block in 0..NEAR_BLOCKS {
-            match self.find_to_next(near, probe) {
-                Some(found) => return found,
-                None => {
-                    near = Place {
-                        block: near.block + 1,
-                        at: 0,
-                    }
-                }
-            }
-        }
-        self.find(probe)
-    }
-
-    /// Returns the result after an item that is less, or `None` where the next block begins with a
-    /// lesser item.
-    fn find_to_next<P: Probe<T>>(&self, near: Place, probe: &P) -> Option<Result<Place, Place>>
-        requires can { All (P.can_compare probe.now) (items self.now) }
-        requires item { IsItem self.now near }
-        requires less { IsLessAt (P.order probe.now) (block_at self.now.blocks near.block) near.at }
-        ensures found { IfSome result (IsFound (P.order probe.now) self.now) }
-        ensures beyond { IfNone result (IsItem self.now (record { block = near.block + 1; at = 0 })
-            × IsLessAt (P.order probe.now) (block_at self.now.blocks (near.block + 1)) 0) }
-        ensures few { near.block < 4294967296 }
-    {
         let _len = self.block_len(near.block);
         let behind = near.block + 1;
         if behind >= self.block_count() {
-            return Some(self.find_soon(probe, near.block, near.at + 1));
+            return self.find_soon(probe, near.block, near.at + 1);
         }
         match probe.compare(self.first_of(behind)) {
-            Ordering::Less => None,
-            Ordering::Equal => Some(Ok(Place {
+            Ordering::Less => {
+                let sought = self.seek_block_soon(probe, behind + 1);
+                self.find_sought(probe, sought)
+            }
+            Ordering::Equal => Ok(Place {
                 block: behind,
                 at: 0,
-            })),
-            Ordering::Greater => Some(self.find_soon(probe, near.block, near.at + 1)),
+            }),
+            Ordering::Greater => self.find_soon(probe, near.block, near.at + 1),
         }
     }
 }

@@ -11,9 +11,7 @@ ghost use Rattle.sorted_blocks.specs.Sound.{AllFilled};
 ghost use Rattle.sorted_blocks.specs.Sought.{IsLead};
 
 use crate::block::{Block, cut_out};
-use crate::place::Place;
 use std::alloc::{AllocError, Global};
-use std::cell::Cell;
 use std::marker::Model;
 
 /// The greatest number of blocks. Past it, taking memory fails. The counts of items then stay far
@@ -33,9 +31,6 @@ pub(crate) struct Store<T: Copy, const HALF: usize> {
     spare: Vec<Block<T, HALF>>,
     /// The number of items.
     count: usize,
-    /// How far ahead the last lookup found its item: a hint for the next one, which no contract
-    /// uses.
-    stride: Cell<usize>,
 }
 
 impl<T: Copy, const HALF: usize> Model for Store<T, HALF> {
@@ -91,7 +86,6 @@ impl<T: Copy, const HALF: usize> Store<T, HALF> {
             firsts: Vec::new(alloc),
             spare: Vec::new(alloc),
             count: 0,
-            stride: Cell::new(1),
         }
     }
 
@@ -156,23 +150,6 @@ impl<T: Copy, const HALF: usize> Store<T, HALF> {
         ensures filled { AllFilled HALF result.now }
     {
         self.used.as_slice()
-    }
-
-    /// Returns how far ahead the next item may be.
-    pub(crate) fn stride(&self) -> usize {
-        self.stride.get()
-    }
-
-    /// Keeps the distance from `from` to the place that a lookup found, as a hint for the next one.
-    /// An item in another block or next to `from` is found without the hint.
-    pub(crate) fn keep_stride(&self, from: Place, found: Result<Place, Place>) {
-        let Ok(place) = found else {
-            return;
-        };
-        let stride = place.at.saturating_sub(from.at);
-        if place.block == from.block && stride > 2 {
-            self.stride.set(stride - 1);
-        }
     }
 
     /// Returns the first items of the blocks in use.

@@ -1,5 +1,5 @@
 use Rattle.sorted_blocks.proofs.Moves.{merge_stays}
-use Rattle.std.proofs.Common.{refl, arith}
+use Rattle.std.proofs.Common.{arith}
 use Rattle.sorted_blocks.proofs.store.Store.join_behind.Goals.{else-place-count-via-then-place-count+else-are_short, else-place-count-via-else-place-count}
 use Rattle.sorted_blocks.proofs.Dense.{not_short, front-merge, back-merge, dense-more}
 use Rattle.sorted_blocks.proofs.store.Store.join_behind.Goals as goal

@@ -1,8 +1,8 @@
-use Rattle.std.proofs.Common.{◌+◌, [], get_or, arith, lit<}
+use Rattle.std.proofs.Common.{◌≡◌, ◌+◌, ◌-◌, [], get_or, arith, lit<}
 use Rattle.std.specs.declared.cmp.Ordering.TheVariants.{Less, Equal, Greater}
-use Rattle.sorted_blocks.proofs.Moves.{item_block, item_within, is_item}
+use Rattle.sorted_blocks.proofs.Moves.{item_block, item_within}
 use Rattle.sorted_blocks.proofs.Finding.{found_equal, rest_left, can_row, reads}
-use Rattle.sorted_blocks.proofs.store.Store.find_to_next.Goals as goal
+use Rattle.sorted_blocks.proofs.store.Store.find_rest.Goals as goal
 
 pub block_len-len-requires : goal.block_len-len-requires
 block_len-len-requires g c = (lit< tt, item_block c.args.self.now c.args.near c.requires.item)
@@ -33,10 +33,12 @@ find_soon-requires-in-Greater g c =
     let l = item_within c.args.self.now c.args.near c.requires.item in
     (lit< tt, (c.requires.can, rest_left (g.P.Probe.order c.args.probe.now) c.args.self.now.blocks c.args.near.block c.args.near.at h l c.requires.less (λ d m. reads (g.P.Probe.order c.args.probe.now) (get_or c.args.self.now.blocks (c.args.near.block + 1) []) 0 c.first_of.result.now Greater c.first_of.ensures.some c.first_of.ensures.item c.in-Greater.ensures d) (λ m. c.first_of.ensures.some)))
 
-pub returns-in-Equal-clause-found : goal.returns-in-Equal-clause-found
-returns-in-Equal-clause-found g c =
+pub returns-in-Equal : goal.returns-in-Equal
+returns-in-Equal g c =
     found_equal (g.P.Probe.order c.args.probe.now) c.args.self.now (record { block = c.args.near.block + 1; at = 0 }) (omega (arith, c.if-behind-block_count.false, c.block_count.ensures.count)) c.first_of.ensures.some (reads (g.P.Probe.order c.args.probe.now) (get_or c.args.self.now.blocks (c.args.near.block + 1) []) 0 c.first_of.result.now Equal c.first_of.ensures.some c.first_of.ensures.item c.in-Equal.ensures)
 
-pub returns-in-Less-clause-beyond : goal.returns-in-Less-clause-beyond
-returns-in-Less-clause-beyond g c =
-    (is_item c.args.self.now (record { block = c.args.near.block + 1; at = 0 }) (omega (arith, c.if-behind-block_count.false, c.block_count.ensures.count)) c.first_of.ensures.some, reads (g.P.Probe.order c.args.probe.now) (get_or c.args.self.now.blocks (c.args.near.block + 1) []) 0 c.first_of.result.now Less c.first_of.ensures.some c.first_of.ensures.item c.in-Less.ensures)
+pub seek_block_soon-sought-requires : goal.seek_block_soon-sought-requires
+seek_block_soon-sought-requires g c =
+    let is : c.args.near.block + 1 + 1 - 1 ≡ c.args.near.block + 1 = omega arith in
+    let less = reads (g.P.Probe.order c.args.probe.now) (get_or c.args.self.now.blocks (c.args.near.block + 1) []) 0 c.first_of.result.now Less c.first_of.ensures.some c.first_of.ensures.item c.in-Less.ensures in
+    (lit< tt, (c.requires.can, (omega arith, (omega (arith, c.if-behind-block_count.false, c.block_count.ensures.count), rw is less))))
