@@ -1,12 +1,11 @@
 -- How many records each port has, and how many (S,G,rpt) ones, while records come and go.
-use Rattle.std.proofs.Common.{◌≡◌, ℕ, zero, suc, ◌+◌, ◌-◌, ◌<◌, ◌≤◌, Bool, true, false, cond, List, [], ◌∷◌, length, take, drop, ◌++◌, get_or, set, replicate, eqb, ltb, ◌&&◌, refl, sym, ap, subst, ◌∙◌, arith}
+use Rattle.std.proofs.Common.{◌≡◌, ℕ, zero, suc, ◌+◌, ◌-◌, ◌<◌, ◌≤◌, Bool, true, false, cond, List, [], ◌∷◌, length, get_or, set, replicate, eqb, ltb, ◌&&◌, refl, sym, ap, subst, ◌∙◌, arith}
 use Rattle.std.specs.Int.{from_bool}
-use Rattle.std.specs.List.{filter, insert, remove, AllByRecursion}
-use Rattle.std.proofs.lemmas.Bool.{eqb-true, eqb-false, ltb-true, ltb-false, and_parts}
+use Rattle.std.specs.List.{filter, insert, remove}
+use Rattle.std.proofs.lemmas.Bool.{eqb-true, eqb-false, ltb-true, ltb-false}
 use Rattle.std.proofs.lemmas.Grind.{get_or-set_at}
-use Rattle.std.proofs.lemmas.List.{get_or-set_other, length-set, length-take-le, length-drop}
+use Rattle.std.proofs.lemmas.List.{get_or-set_other, length-set}
 use Rattle.std.proofs.lemmas.List.Edits.{length-remove}
-use Rattle.sorted_blocks.specs.Shape.{cut}
 use Rattle.sorted_slab.specs.Listed.{Listed}
 use Rattle.pim_down.specs.declared.held.Held.{Held}
 use Rattle.pim_down.specs.declared.key.Key.{Key}
@@ -14,8 +13,7 @@ use Rattle.pim_down.specs.declared.machine.Record.{Record}
 use Rattle.pim_down.specs.Hearing.{is_rpt, is_rpt_on, rpt_count_on}
 use Rattle.pim_down.specs.Records.{count_on}
 use Rattle.pim_down.specs.Seen.{what_seen, record_seen, records_seen}
-use Rattle.pim_down.specs.Store.{IsKept, IsRptOn}
-use Rattle.pim_down.proofs.Cuts.{whole, length_cut}
+use Rattle.pim_down.specs.Store.{IsKept}
 
 -- what each record adds to the count of its port
 module _ {A : Type 0} (weight : Held A → ℕ) (port : ℕ) where
@@ -44,42 +42,6 @@ module _ {A : Type 0} (weight : Held A → ℕ) (port : ℕ) where
   sum_set [] i held d w same = absurd (omega arith)
   sum_set (x ∷ items) zero held d w same = omega (arith, same)
   sum_set (x ∷ items) (suc i) held d w same = let rest = sum_set items i held d (omega arith) same in omega (arith, rest)
-
-  sum_append : (items others : List (Held A)) → sum (items ++ others) ≡ sum items + sum others
-  unfolding sum
-  sum_append [] others = omega arith
-  sum_append (x ∷ items) others = let rest = sum_append items others in omega (arith, rest)
-
-  -- of a run of one port, each of which weighs 1
-  sum_own : (own : ℕ) → ((held : Held A) → IsRptOn own held → (held.key.port ≡ own) × (weight held ≡ 1)) → (run : List (Held A)) → AllByRecursion (IsRptOn own) run → sum run ≡ cond (eqb own port) (length run) 0
-  unfolding sum
-  sum_own own ones [] all = by (eqb own port)
-    where
-      by : (t : Bool) → ◌≡◌ {A = ℕ} 0 (cond t 0 0)
-      by true = refl
-      by false = refl
-  sum_own own ones (x ∷ run) all =
-      let is = ones x all.0 in
-      ap (λ (p : ℕ). cond (eqb p port) (weight x) 0 + sum run) is.0
-      ∙ ap (λ (n : ℕ). cond (eqb own port) n 0 + sum run) is.1
-      ∙ by (eqb own port) (sum_own own ones run all.1)
-    where
-      by : (t : Bool) → sum run ≡ cond t (length run) 0 → cond t 1 0 + sum run ≡ cond t (suc (length run)) 0
-      by true rest = omega (arith, rest)
-      by false rest = omega (arith, rest)
-
-  sum_cut : (own : ℕ) → ((held : Held A) → IsRptOn own held → (held.key.port ≡ own) × (weight held ≡ 1)) → (items : List (Held A)) (i count : ℕ) → i + count ≤ length items → AllByRecursion (IsRptOn own) (take count (drop i items)) → sum (cut items i count) + cond (eqb own port) count 0 ≡ sum items
-  unfolding cut
-  sum_cut own ones items i count within all =
-      let run = take count (drop i items) in
-      let behind = drop (i + count) items in
-      let long : length run ≡ count = length-take-le count (drop i items) (omega (arith, length-drop i items, within)) in
-      let own_sum : sum run ≡ cond (eqb own port) count 0 = sum_own own ones run all ∙ ap (λ (n : ℕ). cond (eqb own port) n 0) long in
-      let is_whole : sum (take i items ++ (run ++ behind)) ≡ sum items = ap sum (whole items i count) in
-      let rest = sum_append (take i items) behind in
-      let parts = sum_append (take i items) (run ++ behind) in
-      let both = sum_append run behind in
-      omega (arith, own_sum, is_whole, rest, parts, both)
 
   pub sum_length : ((held : Held A) → weight held ≤ 1) → (items : List (Held A)) → sum items ≤ length items
   unfolding sum
@@ -117,15 +79,6 @@ module _ {A : Type 0} (bytes_of : A → List ℕ) where
     where
       rest : List (Record (List ℕ))
       rest = filter (λ held. is_rpt_on port held.key) (records_seen bytes_of items)
-
-  -- an (S,G,rpt) record of the port
-  is_one : (own : ℕ) (held : Held A) → IsRptOn own held → (held.key.port ≡ own) × (one held ≡ 1)
-  is_one own held is = (eqb-true held.key.port own (and_parts (eqb held.key.port own) (is_rpt (what_seen bytes_of held.key.what)) (is bytes_of)).0, refl)
-
-  is_one_rpt : (own : ℕ) (held : Held A) → IsRptOn own held → (held.key.port ≡ own) × (one_rpt held ≡ 1)
-  is_one_rpt own held is =
-      let both = and_parts (eqb held.key.port own) (is_rpt (what_seen bytes_of held.key.what)) (is bytes_of) in
-      (eqb-true held.key.port own both.0, ap from_bool both.1)
 
   pub few_rpts : (held : Held A) → one_rpt held ≤ 1
   few_rpts held = by (is_rpt (what_seen bytes_of held.key.what))
@@ -203,20 +156,6 @@ module _ {A : Type 0} (counts : List ℕ) (long : length counts ≡ 64) (weight 
       itself true e = refl
       itself false e = absurd (eqb-false held.key.port held.key.port e refl)
 
-  summed_run_out : (own : ℕ) → ((held : Held A) → IsRptOn own held → (held.key.port ≡ own) × (weight held ≡ 1)) → (i count : ℕ) → i + count ≤ length items → AllByRecursion (IsRptOn own) (take count (drop i items)) → IsSum (set counts own (get_or counts own 0 - count)) weight (cut items i count)
-  summed_run_out own ones i count within all port small =
-      changed_at counts own port (get_or counts own 0 - count) long small
-      ∙ one_less (eqb own port) count (get_or counts own 0) (get_or counts port 0) (sum weight port items) (sum weight port (cut items i count)) (same_count own port) (are port small) (sum_cut weight port own ones items i count within all)
-
-  -- the count of the run that goes
-  summed_run : (own : ℕ) → ((held : Held A) → IsRptOn own held → (held.key.port ≡ own) × (weight held ≡ 1)) → (i count : ℕ) → i + count ≤ length items → AllByRecursion (IsRptOn own) (take count (drop i items)) → own < 64 → count ≤ get_or counts own 0
-  summed_run own ones i count within all small =
-      omega (arith, sum_cut weight own own ones items i count within all, are own small, itself (eqb own own) refl)
-    where
-      itself : (t : Bool) → eqb own own ≡ t → ◌≡◌ {A = ℕ} (cond t count 0) count
-      itself true e = refl
-      itself false e = absurd (eqb-false own own e refl)
-
   summed_set : (i : ℕ) (old held : Held A) → i < length items → old ≡ get_or items i old → held.key.port ≡ old.key.port → weight held ≡ weight old → IsSum counts weight (set items i held)
   summed_set i old held w here same alike port small =
       are port small ∙ sym (sum_set weight port items i held old w (ap (λ (p : ℕ). cond (eqb p port) (weight held) 0) same ∙ ap (λ (n : ℕ). cond (eqb old.key.port port) n 0) alike ∙ ap (λ (h : Held A). share weight port h) here))
@@ -264,26 +203,6 @@ module _ {A : Type 0} (counts rpts : List ℕ) (list new : Listed (Held A)) (lon
 
   pub some_rpt_out : (i : ℕ) (held : Held A) (by : ℕ) → i < length list.items → held ≡ get_or list.items i held → ((bytes_of : A → List ℕ) → by ≡ one_rpt bytes_of held) → held.key.port < 64 → by ≤ get_or rpts held.key.port 0
   some_rpt_out i held by w here is small = summed_some rpts rpts_long (one_rpt (λ _. [])) list.items (rpts_summed (λ _. [])) i held by w here (is (λ _. [])) small
-
-  -- a run of (S,G,rpt) records of one port goes
-  module _ (own i count : ℕ) (within : i + count ≤ length list.items) (all : AllByRecursion (IsRptOn own) (take count (drop i list.items))) where
-    pub run_out : own < 64 → count ≤ get_or counts own 0
-    run_out small = summed_run counts long one list.items (all_summed (λ _. [])) own (is_one (λ _. []) own) i count within all small
-
-    pub rpt_run_out : own < 64 → count ≤ get_or rpts own 0
-    rpt_run_out small = summed_run rpts rpts_long (one_rpt (λ _. [])) list.items (rpts_summed (λ _. [])) own (is_one_rpt (λ _. []) own) i count within all small
-
-    pub kept_run_out : new.items ≡ cut list.items i count → new.capacity ≡ list.capacity
-        → IsKept (set counts own (get_or counts own 0 - count)) (set rpts own (get_or rpts own 0 - count)) new
-    kept_run_out items capacity = record {
-      counted = λ bytes_of port small.
-          summed_run_out counts long one list.items (all_summed bytes_of) own (is_one bytes_of own) i count within all port small
-          ∙ sym (ap (λ xs. count_on port (records_seen bytes_of xs)) items ∙ count_is bytes_of port (cut list.items i count));
-      rpts_counted = λ bytes_of port small.
-          summed_run_out rpts rpts_long (one_rpt bytes_of) list.items (rpts_summed bytes_of) own (is_one_rpt bytes_of own) i count within all port small
-          ∙ sym (ap (λ xs. rpt_count_on port (records_seen bytes_of xs)) items ∙ rpts_are bytes_of port (cut list.items i count));
-      fits = omega (arith, kept.fits, capacity, ap length items, length_cut list.items i count within);
-    }
 
   pub kept_set : (i : ℕ) (old held : Held A) → i < length list.items → old ≡ get_or list.items i old → held.key ≡ old.key → new.items ≡ set list.items i held → new.capacity ≡ list.capacity → IsKept counts rpts new
   kept_set i old held w here same items capacity = record {

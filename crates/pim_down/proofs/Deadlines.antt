@@ -1,9 +1,9 @@
 -- The timers of some records, while records come, go and change.
-use Rattle.std.proofs.Common.{◌≡◌, ℕ, zero, suc, ◌+◌, ◌-◌, ◌*◌, ◌<◌, ◌≤◌, Bool, true, false, not, List, [], ◌∷◌, Option, Some, None, ◌++◌, map, length, take, drop, get_or, set, refl, sym, ap, subst, ◌∙◌, arith}
+use Rattle.std.proofs.Common.{◌≡◌, ℕ, zero, suc, ◌+◌, ◌-◌, ◌*◌, ◌<◌, ◌≤◌, false, List, [], ◌∷◌, Option, Some, None, ◌++◌, map, length, take, drop, get_or, set, refl, sym, ap, subst, ◌∙◌, arith}
 use Rattle.std.specs.declared.cmp.Ordering.{Ordering}
 use Rattle.std.specs.declared.cmp.Ordering.TheVariants.{Less, Equal, Greater}
 use Rattle.std.specs.Ordering.{nat_cmp, ordering_then, is_gt, is_eq}
-use Rattle.std.specs.List.{filter, insert, remove}
+use Rattle.std.specs.List.{insert, remove}
 use Rattle.std.specs.Cmp.{IsTotalOrder}
 use Rattle.std.specs.FinMap.{nat_cmp-IsAntisymmetric}
 use Rattle.std.proofs.lemmas.Cmp.{nat_cmp_total, on_total, then_total}
@@ -22,12 +22,9 @@ use Rattle.pim_down.specs.declared.machine.Record.{Record}
 use Rattle.pim_down.specs.Key.{key_cmp}
 use Rattle.pim_down.specs.Schedule.{placed, without, IsInOrder, timer_rank, deadline_cmp, deadline_seen, end_of, with_end, with_timers, timers_of, Scheduled, IsTimed}
 use Rattle.pim_down.specs.Seen.{timed_seen, key_seen, record_seen, records_seen}
-use Rattle.pim_down.specs.Sweep.{swept}
 use Rattle.pim_down.proofs.Counts.{one_longer}
-use Rattle.pim_down.proofs.Cuts.{first_within, first_at, first_gone}
 use Rattle.pim_down.proofs.Lists.{map_remove}
 use Rattle.pim_down.proofs.Order.{key_total, both_equal, equal_keys}
-use Rattle.pim_down.proofs.Sweeps.{no_longer}
 use Rattle.pim_down.proofs.InOrder.{le_itself, greater_le, in_order_at, placed_swap, order_placed, length_placed, without_placed, length_without, insert_is, remove_is, gap_without}
 
 -- ---- the order
@@ -196,52 +193,6 @@ module _ {A : Type 0} (bytes_of : A → List ℕ) where
   timers_set (x ∷ items) zero held w = refl
   timers_set (x ∷ items) (suc i) held w = ap (with_timers (record_seen bytes_of x)) (timers_set items i held (omega arith)) ∙ timers_swap (record_seen bytes_of x) (record_seen bytes_of held) (timers (remove items i))
 
-  -- ---- a run of records goes
-
-  timers_in : (front behind : List (Held A)) (held : Held A) → timers (front ++ held ∷ behind) ≡ with_timers (record_seen bytes_of held) (timers (front ++ behind))
-  timers_in front behind held =
-      timers_remove (front ++ held ∷ behind) (length front) held (first_within front behind held)
-      ∙ (λ k. with_timers (record_seen bytes_of (first_at front behind held held k)) (timers (first_gone front behind held k)))
-
-  timers_front : (front xs ys : List (Held A)) → timers xs ≡ timers ys → timers (front ++ xs) ≡ timers (front ++ ys)
-  unfolding timers_of
-  timers_front [] xs ys e = e
-  timers_front (x ∷ front) xs ys e = ap (with_timers (record_seen bytes_of x)) (timers_front front xs ys e)
-
-  module _ (test : Held A → Bool) where
-    abbrev pub others : Held A → Bool
-    others held = not (test held)
-
-    parted : (run behind : List (Held A)) → timers (run ++ behind) ≡ timers (filter test run ++ (filter others run ++ behind))
-    unfolding timers_of
-    parted [] behind = refl
-    parted (held ∷ run) behind = by (test held) refl (parted run behind)
-      where
-        by : (t : Bool) → test held ≡ t → timers (run ++ behind) ≡ timers (filter test run ++ (filter others run ++ behind)) → timers (held ∷ (run ++ behind)) ≡ timers (filter test (held ∷ run) ++ (filter others (held ∷ run) ++ behind))
-        by true e rest = rw e (ap (with_timers (record_seen bytes_of held)) rest)
-        by false e rest = rw e (ap (with_timers (record_seen bytes_of held)) rest ∙ sym (timers_in (filter test run) (filter others run ++ behind) held))
-
-    -- those of a run that pass a test, then the others, then what stands behind
-    pub timers_split : (front run behind : List (Held A)) → timers (front ++ (run ++ behind)) ≡ timers (front ++ (filter test run ++ (filter others run ++ behind)))
-    timers_split front run behind = timers_front front _ _ (parted run behind)
-
-    -- one more of those that are left of a run
-    pub timers_passed : (front behind left rest : List (Held A)) (held : Held A) → left ≡ held ∷ rest → test held ≡ true → timers (front ++ (filter test left ++ behind)) ≡ with_timers (record_seen bytes_of held) (timers (front ++ (filter test rest ++ behind)))
-    timers_passed front behind left rest held split e =
-        ap (λ (xs : List (Held A)). timers (front ++ (filter test xs ++ behind))) split
-        ∙ ap (λ (xs : List (Held A)). timers (front ++ (xs ++ behind))) (kept e)
-        ∙ timers_in front (filter test rest ++ behind) held
-      where
-        kept : test held ≡ true → filter test (held ∷ rest) ≡ held ∷ filter test rest
-        kept e = rw e refl
-
-    pub timers_failed : (front behind left rest : List (Held A)) (held : Held A) → left ≡ held ∷ rest → test held ≡ false → timers (front ++ (filter test left ++ behind)) ≡ timers (front ++ (filter test rest ++ behind))
-    timers_failed front behind left rest held split e =
-        ap (λ (xs : List (Held A)). timers (front ++ (filter test xs ++ behind))) split ∙ ap (λ (xs : List (Held A)). timers (front ++ (xs ++ behind))) (kept e)
-      where
-        kept : test held ≡ false → filter test (held ∷ rest) ≡ filter test rest
-        kept e = rw e refl
-
 -- ---- a timer that is taken out
 
 pub stopped : (timer : TimerKind) (key : Key (List ℕ)) (ends : ℕ) (end : Option ℕ) (old new rest : Timers) → end ≡ Some ends → new ≡ without deadline_cmp (record { ends_at = ends; timer = timer; key = key }) old → old ≡ with_end timer key end rest → new ≡ rest
@@ -281,13 +232,6 @@ module _ {A : Type 0} (bytes_of : A → List ℕ) where
     timed_out i held w here items taken capacity = record {
       timers = taken (timers bytes_of (remove rows.items i)) (timed.timers ∙ timers_remove bytes_of rows.items i held w ∙ ap (λ (h : Held A). with_timers (record_seen bytes_of h) (timers bytes_of (remove rows.items i))) (sym here)) ∙ sym (ap (timers bytes_of) items);
       fits = omega (arith, timed.fits, ap length items, length-remove rows.items i w);
-      room = omega (arith, timed.room, capacity);
-    }
-
-    pub timed_swept : (takes : Held A → Bool) (i count : ℕ) → i + count ≤ length rows.items → new.items ≡ swept takes rows.items i count → changed.timers ≡ timers bytes_of (swept takes rows.items i count) → changed.capacity ≡ schedule.capacity → IsTimed bytes_of new changed space
-    timed_swept takes i count within items taken capacity = record {
-      timers = taken ∙ sym (ap (timers bytes_of) items);
-      fits = omega (arith, timed.fits, ap length items, no_longer takes rows.items i count within);
       room = omega (arith, timed.room, capacity);
     }
 

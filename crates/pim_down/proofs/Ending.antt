@@ -1,10 +1,10 @@
 -- End of Message, group by group.
-use Rattle.std.proofs.Common.{◌≡◌, ℕ, zero, suc, ◌+◌, ◌<◌, ◌≤◌, Bool, true, false, cond, ◌&&◌, ◌||◌, not, List, [], ◌∷◌, ◌++◌, Option, Some, None, length, get_or, set, take, drop, eqb, ltb, refl, sym, ap, subst, ◌∙◌, arith}
+use Rattle.std.proofs.Common.{◌≡◌, ℕ, zero, suc, ◌+◌, ◌<◌, ◌≤◌, Bool, true, false, cond, ◌&&◌, ◌||◌, not, List, [], ◌∷◌, ◌++◌, Option, Some, None, length, get_or, set, drop, eqb, ltb, refl, sym, ap, subst, ◌∙◌, arith}
 use Rattle.std.specs.declared.cmp.Ordering.TheVariants.{Less, Equal, Greater}
 use Rattle.std.specs.List.{filter, remove, flat_map, list_any, AllByRecursion}
 use Rattle.std.specs.Cmp.Lexicographic.{pointwise, same_text}
-use Rattle.std.proofs.lemmas.Bool.{false≢true, or_right, and_parts, and_from, ltb-true, ltb-false}
-use Rattle.std.proofs.lemmas.List.{get_or-set_other, length-take-le, length-append, append_assoc}
+use Rattle.std.proofs.lemmas.Bool.{false≢true, or_right, ltb-true, ltb-false}
+use Rattle.std.proofs.lemmas.List.{get_or-set_other}
 use Rattle.std.proofs.lemmas.Grind.{get_or-set_at}
 use Rattle.pim_jp.specs.declared.entry.Entry.{Entry}
 use Rattle.pim_jp.specs.declared.entry.Entry.TheVariants as entry
@@ -24,10 +24,7 @@ use Rattle.pim_down.specs.Hearing.{Event, is_known, entry_events, list_events, s
 use Rattle.pim_down.specs.Sound.{is_temporary, IsSettled}
 use Rattle.pim_down.specs.After.{is_before_rpts}
 use Rattle.pim_down.specs.Running.{is_over, is_over_in, is_group_of, has_star_join, joined_sets, AreOverIn}
-use Rattle.pim_down.specs.Seen.{what_seen, key_seen, record_seen, records_seen}
-use Rattle.pim_down.specs.Store.{IsRptOn}
-use Rattle.pim_down.specs.Sweep.{left_of, swept}
-use Rattle.pim_down.proofs.Cuts.{around, whole, first_within, first_at, first_gone}
+use Rattle.pim_down.specs.Seen.{record_seen, records_seen}
 use Rattle.pim_down.proofs.Order.{equal_keys}
 use Rattle.pim_down.proofs.Each.{end_filter, seen_filter}
 use Rattle.pim_down.proofs.Real.{all_append, all_flat}
@@ -124,12 +121,6 @@ module _ {A : Type 0} (bytes_of : A → List ℕ) (port : ℕ) (group : List ℕ
   abbrev pub over : Held A → Bool
   over held = is_over_in port group (record_seen bytes_of held)
 
-  abbrev pub IsOne : Held A → Type 0
-  IsOne held = is_rpt_of port group (key_seen bytes_of held.key) ≡ true
-
-  abbrev takes : Held A → Bool
-  takes held = is_temporary held.machine.state
-
   abbrev keep : Held A → Bool
   keep held = not (over held)
 
@@ -146,18 +137,6 @@ module _ {A : Type 0} (bytes_of : A → List ℕ) (port : ℕ) (group : List ℕ
   pub over_by : (held : Held A) (t : Bool) → is_rpt_of port group (record_seen bytes_of held).key ≡ true → is_temporary held.machine.state ≡ t → over held ≡ t
   over_by held t e f = ap (λ b. b && is_temporary held.machine.state) e ∙ f
 
-  -- they are (S,G,rpt) records of the port
-  pub one_on : (held : Held A) → IsOne held → IsRptOn port held
-  one_on held is others =
-      let of_port = and_parts (is_rpt_on port (record_seen bytes_of held).key) (pointwise eqb (bytes_of held.key.group) group) is in
-      let both = and_parts (eqb held.key.port port) (is_rpt (what_seen bytes_of held.key.what)) of_port.0 in
-      and_from (eqb held.key.port port) (is_rpt (what_seen others held.key.what)) both.0 (alike held.key.what both.1)
-    where
-      alike : (what : What A) → is_rpt (what_seen bytes_of what) ≡ true → is_rpt (what_seen others what) ≡ true
-      alike Star e = e
-      alike (Source source) e = e
-      alike (Rpt source) e = e
-
   pub ends_none : (items : List (Held A)) (i : ℕ) → IsAscending (records_seen bytes_of items) → ((k : ℕ) (d : Held A) → k < i → k < length items → is_rpt_of port group (record_seen bytes_of (get_or items k d)).key ≡ false) → AreBehind bytes_of port group items i → EndsTo items items i
   ends_none items i a before behind = record {
     kept = refl;
@@ -166,15 +145,16 @@ module _ {A : Type 0} (bytes_of : A → List ℕ) (port : ℕ) (group : List ℕ
     behind = behind;
   }
 
-  ends_one : (old now : List (Held A)) (i : ℕ) (held : Held A) → i < length now → held ≡ get_or now i held → over held ≡ true → EndsTo old now i → EndsTo old (remove now i) i
-  ends_one old now i held w here is to = record {
+  -- a record that ends goes
+  pub ends_gone : (old now new : List (Held A)) (i j : ℕ) (held : Held A) → i < length now → held ≡ get_or now i held → over held ≡ true → new ≡ remove now i → j ≡ i → EndsTo old now i → EndsTo old new j
+  ends_gone old now new i j held w here is items at to = subst (EndsTo old new) (sym at) (subst (λ (xs : List (Held A)). EndsTo old xs i) (sym items) (record {
     kept = filter_remove keep now i held w here (ap not is) ∙ to.kept;
     ended = λ k d lt u. ap over (removed_before now i k d w lt) ∙ to.ended k d lt (omega arith);
     ascending = ascending_remove bytes_of now i w to.ascending;
     behind = λ k d le u. let s = shorter now i w in ap (λ (h : Held A). is_before_rpts port group (record_seen bytes_of h).key) (removed_behind now i k d w le) ∙ to.behind (suc k) d (omega arith) (omega (arith, u, s));
-  }
+  }))
 
-  -- one that stays
+  -- another one stays
   pub ends_past : (old now : List (Held A)) (i j : ℕ) (held : Held A) → held ≡ get_or now i held → over held ≡ false → j ≡ i + 1 → EndsTo old now i → EndsTo old now j
   ends_past old now i j held here stays next to = record {
     kept = to.kept;
@@ -182,39 +162,6 @@ module _ {A : Type 0} (bytes_of : A → List ℕ) (port : ℕ) (group : List ℕ
     ascending = to.ascending;
     behind = λ k d le u. to.behind k d (omega (arith, le, next)) u;
   }
-
-  -- some go and some stay
-  swept_run : (old front run behind : List (Held A)) → AllByRecursion IsOne run → EndsTo old (front ++ (run ++ behind)) (length front) → EndsTo old (front ++ (left_of takes run ++ behind)) (length front + length (left_of takes run))
-  swept_run old front [] behind all to = let same : length front ≡ length front + 0 = omega arith in subst (EndsTo old (front ++ behind)) same to
-  swept_run old front (held ∷ run) behind all to = by (λ front2. swept_run old front2 run behind all.1) (takes held) refl
-    where
-      rest : List (Held A)
-      rest = run ++ behind
-
-      by : ((front2 : List (Held A)) → EndsTo old (front2 ++ (run ++ behind)) (length front2) → EndsTo old (front2 ++ (left_of takes run ++ behind)) (length front2 + length (left_of takes run)))
-          → (t : Bool) → takes held ≡ t → EndsTo old (front ++ (cond (not t) (held ∷ left_of takes run) (left_of takes run) ++ behind)) (length front + length (cond (not t) (held ∷ left_of takes run) (left_of takes run)))
-      by next true e =
-          let fewer = ends_one old (front ++ held ∷ rest) (length front) held (first_within front rest held) (sym (first_at front rest held held)) (over_by held true all.0 e) to in
-          next front (subst (λ (xs : List (Held A)). EndsTo old xs (length front)) (first_gone front rest held) fewer)
-      by next false e =
-          let front2 = front ++ held ∷ [] in
-          let long : length front2 ≡ length front + 1 = length-append front (held ∷ []) in
-          let past = ends_past old (front ++ held ∷ rest) (length front) (length front2) held (sym (first_at front rest held held)) (over_by held false all.0 e) long to in
-          let far : length front2 + length (left_of takes run) ≡ length front + suc (length (left_of takes run)) = omega (arith, long) in
-          subst (λ (n : ℕ). EndsTo old (front ++ held ∷ (left_of takes run ++ behind)) n) far
-          (subst (λ (xs : List (Held A)). EndsTo old xs (length front2 + length (left_of takes run))) (append_assoc front (held ∷ []) (left_of takes run ++ behind))
-          (next front2 (subst (λ (xs : List (Held A)). EndsTo old xs (length front2)) (sym (append_assoc front (held ∷ []) rest)) past)))
-
-  -- a sweep goes through some
-  pub ends_swept : (old now new : List (Held A)) (i j count : ℕ) → i + count ≤ length now → AllByRecursion IsOne (take count (drop i now)) → new ≡ swept takes now i count → j ≡ i + length (left_of takes (take count (drop i now))) → EndsTo old now i → EndsTo old new j
-  unfolding swept
-  ends_swept old now new i j count within all items at to =
-      let front : length (take i now) ≡ i = length-take-le i now (omega (arith, within)) in
-      let before : EndsTo old (around now i count (take count (drop i now))) (length (take i now)) =
-      subst (λ (xs : List (Held A)). EndsTo old xs (length (take i now))) (sym (whole now i count)) (subst (EndsTo old now) (sym front) to) in
-      let after = swept_run old (take i now) (take count (drop i now)) (drop (i + count) now) all before in
-      subst (EndsTo old new) (ap (λ n. n + length (left_of takes (take count (drop i now)))) front ∙ sym at)
-      (subst (λ (xs : List (Held A)). EndsTo old xs (length (take i now) + length (left_of takes (take count (drop i now))))) (sym items) after)
 
   pub ends_all : (old now : List (Held A)) (i : ℕ) → AreOthers bytes_of port group now i → EndsTo old now i → records_seen bytes_of now ≡ filter (λ held. not (is_over_in port group held)) (records_seen bytes_of old)
   ends_all old now i others to =

@@ -3,7 +3,6 @@ use Rattle.std.specs.Prelude.{◌↔◌, IsTrue, option_map}
 use Rattle.std.proofs.Common.{◌≡◌, Bool, false, Some, ℕ, zero, suc, ◌+◌, ◌-◌, ◌<◌, ◌≤◌, List, map, length, get_or, refl, sym, ap, subst, ◌∙◌, arith}
 use Rattle.std.specs.declared.cmp.Ordering.{Ordering}
 use Rattle.std.specs.declared.cmp.Ordering.TheVariants.{Less, Equal, Greater}
-use Rattle.std.specs.Ordering.{is_ne}
 use Rattle.std.specs.List.{slice_get, insert, remove}
 use Rattle.std.proofs.lemmas.Bool.{false≢true}
 use Rattle.std.proofs.lemmas.List.{length-map}
@@ -15,13 +14,11 @@ use Rattle.sorted_blocks.specs.Found.{IsGap, IsEqualAt}
 use Rattle.pim_down.specs.declared.deadline.Deadline.{Deadline}
 use Rattle.pim_down.specs.declared.gap.Gap.{Gap}
 use Rattle.pim_down.specs.Gap.{remaining, IsGone}
-use Rattle.pim_down.specs.Schedule.{placed, without, all_placed, IsInOrder, IsRun, deadline_cmp, deadline_seen, IsScheduled}
+use Rattle.pim_down.specs.Schedule.{placed, without, IsInOrder, deadline_cmp, deadline_seen, IsScheduled}
 use Rattle.pim_down.proofs.Cuts.{cut_none, cut_one, length_cut, cut_at, cut_more, first_of_cut, first_behind_cut}
 use Rattle.pim_down.proofs.Lists.{map_insert}
 use Rattle.pim_down.proofs.InOrder.{order_placed, order_without}
-use Rattle.pim_down.proofs.Deadlines.{deadline_total, same_deadline, seen_remove, same_at, gone_at, none_gone}
-use Rattle.pim_down.proofs.Rpts.{same_default}
-use Rattle.pim_down.proofs.SideBySide.{cut_cut, cut_on, map_cut, order_cut, run_cut}
+use Rattle.pim_down.proofs.Deadlines.{deadline_total, same_deadline, seen_remove, gone_at, none_gone}
 
 -- ---- a gap in a list
 
@@ -52,11 +49,6 @@ module _ {X : Type 0} where
   first_before list gap i lt first = first_of_cut (items list) (before list gap.from) gap.count lt ∙ ap (slice_get (items list)) (sym first)
 
 -- ---- timers
-
-tied : (r : Ordering) → is_ne r ≡ false → r ≡ Equal
-tied Less e = absurd (false≢true (sym e))
-tied Equal e = refl
-tied Greater e = absurd (false≢true (sym e))
 
 module _ {A : Type 0} (bytes_of : A → List ℕ) where
   abbrev seen : List (Deadline A) → List (Deadline (List ℕ))
@@ -114,88 +106,6 @@ module _ {A : Type 0} (bytes_of : A → List ℕ) where
         ∙ seen_remove bytes_of deadline (remaining list old) i
         ∙ gone_at bytes_of deadline (remaining list old) i scheduled.order there)
         (λ _. gone)
-
-    -- ---- a run that begins right behind the gap, or elsewhere where none stands in it
-
-    -- what was found of it: where it begins and ends, and the gap before and behind
-    record IsRunAt (closed : Shape (Deadline A)) (between gap : Gap) (last : Deadline A) (from end count : ℕ) : Type 0 where
-      pub same : remaining closed between ≡ remaining list old
-      pub kept : remaining closed between ≡ cut (items closed) (before closed gap.from) between.count
-      pub apart : before closed gap.from + between.count ≡ from
-      pub more : gap.count ≡ between.count + count
-      pub begins : IsEqualAt order (items closed) from
-      pub ends : IsEqualAt (λ (other : Deadline A). deadline_cmp (deadline_seen bytes_of other) (deadline_seen bytes_of last)) (items closed) end
-      pub far : end ≡ from + (count - 1)
-      pub some : 1 ≤ count
-
-    module _ (closed : Shape (Deadline A)) (between gap : Gap) (last : Deadline A) (from end count : ℕ) (at : IsRunAt closed between gap last from end count) where
-      abbrev i : ℕ
-      i = before closed gap.from
-
-      abbrev raw : List (Deadline A)
-      raw = cut (items closed) i between.count
-
-      all_raw : seen raw ≡ timers
-      all_raw = ap seen (sym at.kept ∙ at.same)
-
-      raw_order : IsInOrder deadline_cmp (seen raw)
-      raw_order = subst (IsInOrder deadline_cmp) (sym all_raw) scheduled.order
-
-      raw_length : length raw + between.count ≡ length (items closed)
-      raw_length = length_cut (items closed) i between.count (omega (arith, at.apart, at.begins.within))
-
-      first_here : IsEqualAt order raw i
-      first_here = record {
-        within = omega (arith, raw_length, at.apart, at.begins.within);
-        equal = λ d. ap order (cut_at (items closed) i between.count d (omega (arith, at.apart, at.begins.within)) ∙ ap (λ m. get_or (items closed) m d) at.apart) ∙ at.begins.equal d;
-      }
-
-      last_here : IsEqualAt (λ (other : Deadline A). deadline_cmp (deadline_seen bytes_of other) (deadline_seen bytes_of last)) raw (i + (count - 1))
-      last_here =
-          let there : i + between.count + (count - 1) ≡ end = omega (arith, at.apart, at.far) in
-          record {
-            within = omega (arith, raw_length, at.apart, at.far, at.ends.within);
-            equal = λ d. ap (λ (other : Deadline A). deadline_cmp (deadline_seen bytes_of other) (deadline_seen bytes_of last)) (cut_on (items closed) i between.count (count - 1) d (omega (arith, at.apart, at.begins.within)) ∙ ap (λ m. get_or (items closed) m d) there) ∙ at.ends.equal d;
-          }
-
-      left_raw : seen (remaining closed gap) ≡ cut (seen raw) i count
-      left_raw =
-          ap (λ n. seen (cut (items closed) i n)) at.more
-          ∙ ap seen (cut_cut (items closed) i between.count count (omega (arith, at.apart, at.begins.within)))
-          ∙ map_cut (deadline_seen bytes_of) raw i count
-
-      within : i + (count - 1) < length (seen raw)
-      within = omega (arith, last_here.within, length-map raw (deadline_seen bytes_of))
-
-      run_scheduled : (0 < gap.count → IsGone closed gap) → IsScheduled bytes_of closed gap
-      run_scheduled gone = record {
-        order = subst (IsInOrder deadline_cmp) (sym left_raw) (order_cut deadline_cmp deadline_total same_deadline (seen raw) i count (omega (arith, within, at.some)) raw_order);
-        gone = gone;
-      }
-
-      run_out : (run rest : List (Deadline (List ℕ))) → IsRun deadline_cmp this (deadline_seen bytes_of last) count run → timers ≡ all_placed deadline_cmp run rest → seen (remaining closed gap) ≡ rest
-      run_out run rest is put =
-          left_raw
-          ∙ run_cut deadline_cmp deadline_total same_deadline (seen raw) this (deadline_seen bytes_of last) count i raw_order within
-          (same_at bytes_of deadline raw i first_here) (same_at bytes_of last raw (i + (count - 1)) last_here) run rest is (all_raw ∙ put)
-
-    pub run_taken : (closed : Shape (Deadline A)) (between gap : Gap) (here last : Deadline A) (from end count : ℕ) (r : Ordering) → remaining closed between ≡ remaining list old → remaining closed between ≡ cut (items closed) (before closed gap.from) between.count → before closed gap.from + between.count ≡ from → gap.count ≡ between.count + count → IsGone closed gap → IsEqualAt order (items closed) from → end < length (items closed) → here ≡ get_or (items closed) end here → r ≡ deadline_cmp (deadline_seen bytes_of here) (deadline_seen bytes_of last) → is_ne r ≡ false → end ≡ from + (count - 1) → 1 ≤ count →
-        IsScheduled bytes_of closed gap × ((run rest : List (Deadline (List ℕ))) → IsRun deadline_cmp this (deadline_seen bytes_of last) count run → timers ≡ all_placed deadline_cmp run rest → seen (remaining closed gap) ≡ rest)
-    run_taken closed between gap here last from end count r same kept apart more gone begins within stands compared tie far some =
-        let at : IsRunAt closed between gap last from end count = record {
-          same = same;
-          kept = kept;
-          apart = apart;
-          more = more;
-          begins = begins;
-          ends = record {
-            within = within;
-            equal = λ d. ap (λ (other : Deadline A). deadline_cmp (deadline_seen bytes_of other) (deadline_seen bytes_of last)) (same_default (items closed) end d here within ∙ sym stands) ∙ sym compared ∙ tied r tie;
-          };
-          far = far;
-          some = some;
-        } in
-        (run_scheduled closed between gap last from end count at (λ _. gone), run_out closed between gap last from end count at)
 
     module _ (closed : Shape (Deadline A)) (is : items closed ≡ remaining list old) where
       ordered : IsInOrder deadline_cmp (seen (items closed))

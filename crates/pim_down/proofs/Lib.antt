@@ -6,7 +6,6 @@ pub mod Searched
 pub mod Map
 pub mod Time
 pub mod Cuts
-pub mod Sweeps
 pub mod Counts
 pub mod Bounds
 pub mod Sought
@@ -43,5 +42,3 @@ pub mod Runs
 pub mod Stops
 pub mod Silence
 pub mod Echo
-pub mod SideBySide
-pub mod AllAtOnce

@@ -14,8 +14,6 @@ pub mod Ends
 pub mod Ordered
 pub mod Places
 pub mod Store
-pub mod Sweep
-pub mod Alike
 pub mod Running
 pub mod Gap
 pub mod Schedule

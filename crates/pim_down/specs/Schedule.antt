@@ -1,9 +1,8 @@
 -- The schedule: the timers that run, in the order in which they fire. They fire by end, at one end
 -- Prune-Pending Timers before Expiry Timers, then by key. This order is a choice of this project.
 use Rattle.std.specs.Prelude.{◌≡◌, ℕ, ◌+◌, ◌-◌, ◌*◌, ◌<◌, ◌≤◌, false, if◌then◌else◌}
-use Rattle.std.specs.Prelude.{List, [], ◌∷◌, map, length, slice_index_or, Option, None, Some}
+use Rattle.std.specs.Prelude.{List, [], ◌∷◌, map, length, Option, None, Some}
 use Rattle.std.specs.declared.cmp.Ordering.{Ordering}
-use Rattle.std.specs.declared.cmp.Ordering.TheVariants.{Less}
 use Rattle.std.specs.List.{slice_get}
 use Rattle.std.specs.Ordering.{nat_cmp, ordering_then, is_eq, is_gt}
 use Rattle.sorted_blocks.specs.Shape.{Shape}
@@ -33,29 +32,6 @@ module _ {X : Type 0} (cmp : X → X → Ordering) where
   unfoldable pub without : X → List X → List X
   without x [] = []
   without x (y ∷ ys) = if is_eq (cmp x y) then ys else y ∷ without x ys
-
-  -- The list with several items put in, one by one.
-  unfoldable pub all_placed : List X → List X → List X
-  all_placed [] rest = rest
-  all_placed (x ∷ xs) rest = placed x (all_placed xs rest)
-
-  -- The item is less than each of these.
-  unfoldable pub IsUnder : X → List X → Type 0
-  IsUnder x [] = Unit {0}
-  IsUnder x (y ∷ ys) = (cmp x y ≡ Less) × IsUnder x ys
-
-  -- The items ascend strictly.
-  unfoldable pub IsRising : List X → Type 0
-  IsRising [] = Unit {0}
-  IsRising (x ∷ xs) = IsUnder x xs × IsRising xs
-
-  -- The list has `count` items, at least one, that ascend strictly from `first` to `last`.
-  pub record IsRun (first last : X) (count : ℕ) (xs : List X) : Type 0 where
-    pub rising : IsRising xs
-    pub long : length xs ≡ count
-    pub some : 1 ≤ count
-    pub begins : (d : X) → slice_index_or xs 0 d ≡ first
-    pub ends : (d : X) → slice_index_or xs (count - 1) d ≡ last
 
   -- The item is greater than none of these.
   unfoldable pub IsLow : X → List X → Type 0

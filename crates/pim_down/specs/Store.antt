@@ -10,7 +10,7 @@ use Rattle.sorted_slab.specs.Listed.{Listed, at, IsPlace as IsListPlace, IsItem}
 use Rattle.pim_down.specs.declared.held.Held.{Held}
 use Rattle.pim_down.specs.declared.key.Key.{Key}
 use Rattle.pim_down.specs.declared.machine.State.{State}
-use Rattle.pim_down.specs.Hearing.{is_rpt_on, rpt_count_on}
+use Rattle.pim_down.specs.Hearing.{rpt_count_on}
 use Rattle.pim_down.specs.Records.{count_on}
 use Rattle.pim_down.specs.Places.{StandsAt, WouldStandAt}
 use Rattle.pim_down.specs.Seen.{records_seen, key_seen}
@@ -24,10 +24,6 @@ pub record IsKept {A : Type 0} (counts rpts : List ℕ) (list : Listed (Held A))
   pub rpts_counted : (bytes_of : A → List ℕ) (port : ℕ) → port < 64 →
       slice_index_or rpts port 0 ≡ rpt_count_on port (records_seen bytes_of list.items)
   pub fits : length list.items ≤ list.capacity
-
--- The record is an (S,G,rpt) one of this port.
-abbrev pub IsRptOn : {A : Type 0} → ℕ → Held A → Type 0
-IsRptOn {A} port held = (bytes_of : A → List ℕ) → is_rpt_on port (key_seen bytes_of held.key) ≡ true
 
 -- The record with its machine in another state, timers unchanged.
 abbrev pub in_state : {A : Type 0} → State → Held A → Held A

@@ -12,11 +12,9 @@ ghost use Rattle.pim_down.specs.Sound.{is_temporary};
 
 use crate::again::is_joined_again;
 use crate::hear::{RptsOf, is_rpt_of};
-use crate::held::Held;
 use crate::key::OfFamily;
 use crate::machine::State;
 use crate::store::Store;
-use crate::sweep::Sweep;
 use pim_addr::Family;
 use pim_jp::JpView;
 
@@ -25,31 +23,6 @@ fn is_temporary(state: State) -> bool
     ensures { result ≡ is_temporary state }
 {
     matches!(state, State::PruneTmp | State::PrunePendingTmp)
-}
-
-/// The (S,G,rpt) machines of a group on a port. The sweep takes those that End of Message removes.
-#[derive(Drop)]
-struct OverIn<F: Family> {
-    port: usize,
-    group: F::Addr,
-}
-
-impl<F: Family> Sweep<F::Addr> for OverIn<F> {
-    ghost use Rattle.pim_down.specs.Hearing.{is_rpt_of};
-    ghost use Rattle.pim_down.specs.Seen.{key_seen};
-    ghost use Rattle.pim_down.specs.Sound.{is_temporary};
-
-    ghost reaches = { λ over held. is_rpt_of over.port (F.bytes_of over.group) (key_seen F.bytes_of held.key) };
-
-    ghost takes = { λ over held. is_temporary held.machine.state };
-
-    fn reaches(&self, held: &Held<F::Addr>) -> bool {
-        is_rpt_of::<F>(&held.key, self.port, self.group)
-    }
-
-    fn takes(&self, held: &Held<F::Addr>) -> bool {
-        is_temporary(held.machine.state)
-    }
 }
 
 /// Applies End of Message to the (S,G,rpt) machines of a group. It visits only these.
@@ -62,14 +35,17 @@ pub(crate) fn end_group<F: Family>(
     ensures { records_seen F.bytes_of records.new.items
         ≡ filter (λ held. not (is_over_in port (F.bytes_of group) held)) (records_seen F.bytes_of records.old.items) }
 {
-    let over = OverIn::<F> { port, group };
     let mut place = records.first_behind(&RptsOf::<F> { port, group });
     while records.is_item(place) {
-        if !over.reaches(records.get(place)) {
+        let held = records.get(place);
+        if !is_rpt_of::<F>(&held.key, port, group) {
             return;
         }
-        let (_count, behind) = records.sweep::<OverIn<F>>(place, port, &over);
-        place = behind;
+        if is_temporary(held.machine.state) {
+            place = records.remove(place);
+        } else {
+            place = records.next(place);
+        }
     }
 }
 

@@ -74,37 +74,6 @@ impl Gap {
         self.count += 1;
     }
 
-    /// Adds `count` timers from the place `from`, right after the gap, up to the one at `last`.
-    pub(crate) fn take_in<T: Copy, const HALF: usize>(
-        &mut self,
-        list: &Blocks<T, HALF>,
-        from: Place,
-        last: Place,
-        count: usize,
-        ending: Ending,
-    )
-        requires gone { 0 < self.old.count → IsGone list.now self.old }
-        requires behind { 0 < self.old.count → from ≡ self.old.behind }
-        requires from { IsPlace list.now from }
-        requires last { IsItem list.now last }
-        requires apart { before list.now last + 1 ≡ before list.now from + count }
-        requires some { 1 ≤ count }
-        ensures gone { IsGone list.now self.new }
-        ensures same { remaining list.now self.old ≡ cut (items list.now) (before list.now self.new.from) self.old.count }
-        ensures apart { before list.now self.new.from + self.old.count ≡ before list.now from }
-        ensures count { self.new.count ≡ self.old.count + count }
-    {
-        item_has_a_place::<T>();
-        place_is_within::<T>();
-        let _most = list.len();
-        if self.count == 0 {
-            self.from = from;
-            self.ending = ending;
-        }
-        self.behind = list.next(last);
-        self.count += count;
-    }
-
     /// The place of the first timer outside the gap, if there is one.
     pub(crate) fn first_outside<T: Copy, const HALF: usize>(&self, list: &Blocks<T, HALF>) -> Place
         requires { 0 < self.now.count → IsGone list.now self.now }

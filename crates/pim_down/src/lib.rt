@@ -26,7 +26,6 @@
 
 mod after;
 mod again;
-mod alike;
 mod blocks;
 mod deadline;
 mod edits;
@@ -53,7 +52,6 @@ mod scattered;
 mod schedule;
 mod step;
 mod store;
-mod sweep;
 mod timers;
 mod walk;
 

@@ -4,22 +4,18 @@
 
 ghost use Rattle.std.specs.Prelude.{◌≡◌, ℕ, List, ◌+◌, ◌-◌, ◌<◌, ◌≤◌, ◌↔◌, [], length, take, drop};
 ghost use Rattle.std.specs.Prelude.{slice_index_or, slice_set, OnOk, IsOk, IsTrue, Bool, true, false};
-ghost use Rattle.std.specs.List.{All, AllByRecursion, insert, remove};
+ghost use Rattle.std.specs.List.{All, insert, remove};
 ghost use Rattle.std.specs.List.Sorted.{IsPartitionedBy, IsPartitionPoint};
-ghost use Rattle.sorted_blocks.specs.Shape.{cut};
 ghost use Rattle.sorted_blocks.specs.declared.place.Place.{Place};
 ghost use Rattle.sorted_slab.specs.Listed.{at, IsPlace, IsItem, IsFound};
 ghost use Rattle.pim_down.specs.declared.held.Held.{Held};
 ghost use Rattle.pim_down.specs.Hearing.{is_rpt, rpt_count_on};
 ghost use Rattle.pim_down.specs.Records.{count_on};
 ghost use Rattle.pim_down.specs.Seen.{what_seen, records_seen};
-ghost use Rattle.pim_down.specs.Store.{IsRptOn};
-ghost use Rattle.pim_down.specs.Sweep.{left_of, swept};
 
 use crate::blocks::HALF_OF_RECORDS;
 use crate::held::{Held, Timed};
 use crate::key::{Key, What};
-use crate::sweep::Sweep;
 use sorted_blocks::{Place, Probe};
 use sorted_slab::{SortedSlab, Walk};
 use std::alloc::{AllocError, Global};
@@ -196,82 +192,6 @@ impl<A: Copy> Rows<A> {
         let rpts = usize::from(is_rpt(&gone.key.what));
         count_out(&mut self.rpts, gone.key.port, rpts);
         self.list.settled(behind)
-    }
-
-    /// Removes `count` records from this place on, all of them (S,G,rpt) records of this port. It
-    /// doesn't visit them. Returns the place of the record after them.
-    pub(crate) fn remove_run(&mut self, place: Place, count: usize, port: usize) -> Place
-        requires place { IsPlace self.old place }
-        requires within { at self.old place + count ≤ length self.old.items }
-        requires own { AllByRecursion (IsRptOn port) (take count (drop (at self.old place) self.old.items)) }
-        ensures items { self.new.items ≡ cut self.old.items (at self.old place) count }
-        ensures capacity { self.new.capacity ≡ self.old.capacity }
-        ensures place { IsPlace self.new result }
-        ensures at { at self.new result ≡ at self.old place }
-        ensures item { at self.new result < length self.new.items → IsItem self.new result }
-    {
-        count_out(&mut self.counts, port, count);
-        count_out(&mut self.rpts, port, count);
-        let behind = self.list.remove_run(place, count);
-        self.list.settled(behind)
-    }
-
-    /// How many records from this place on the sweep takes, up to the first that it doesn't, and at
-    /// most `most`.
-    fn run_from<S: Sweep<A>>(&self, place: Place, most: usize, sweep: &S) -> usize
-        requires place { IsPlace self.now place }
-        requires within { at self.now place < length self.now.items }
-        requires some { 0 < most }
-        requires first { (d : Held A) →
-            S.takes sweep.now (slice_index_or self.now.items (at self.now place) d) ≡ true }
-        ensures some { 1 ≤ result }
-        ensures most { result ≤ most }
-        ensures taken { AllByRecursion (λ held. S.takes sweep.now held ≡ true)
-            (take result (drop (at self.now place) self.now.items)) }
-    {
-        let mut count = 0;
-        for held in self.list.walk(place, most) {
-            if !sweep.takes(held) {
-                return count;
-            }
-            count += 1;
-        }
-        count
-    }
-
-    /// Removes those of `count` records from this place on that the sweep takes, run by run. All of
-    /// them are (S,G,rpt) records of this port. Returns the place of the record after them.
-    pub(crate) fn sweep<S: Sweep<A>>(
-        &mut self,
-        first: Place,
-        count: usize,
-        port: usize,
-        sweep: &S,
-    ) -> Place
-        requires place { IsPlace self.old first }
-        requires item { at self.old first < length self.old.items → IsItem self.old first }
-        requires within { at self.old first + count ≤ length self.old.items }
-        requires own { AllByRecursion (IsRptOn port) (take count (drop (at self.old first) self.old.items)) }
-        ensures items { self.new.items ≡ swept (S.takes sweep.now) self.old.items (at self.old first) count }
-        ensures capacity { self.new.capacity ≡ self.old.capacity }
-        ensures place { IsPlace self.new result }
-        ensures at { at self.new result ≡ at self.old first
-            + length (left_of (S.takes sweep.now) (take count (drop (at self.old first) self.old.items))) }
-        ensures item { at self.new result < length self.new.items → IsItem self.new result }
-    {
-        let mut place = first;
-        let mut left = count;
-        while 0 < left {
-            if sweep.takes(self.get(place)) {
-                let run = self.run_from::<S>(place, left, sweep);
-                place = self.remove_run(place, run, port);
-                left -= run;
-            } else {
-                place = self.next(place);
-                left -= 1;
-            }
-        }
-        place
     }
 
     /// Gives the record at this place another machine; its key stays.

@@ -10,7 +10,7 @@ ghost use Rattle.sorted_blocks.specs.Places.{before, IsPlace, IsItem};
 ghost use Rattle.sorted_blocks.specs.Found.{IsEqualAt};
 ghost use Rattle.pim_down.specs.declared.deadline.Deadline.{Deadline};
 ghost use Rattle.pim_down.specs.Gap.{remaining, IsGone};
-ghost use Rattle.pim_down.specs.Schedule.{deadline_cmp, deadline_seen, placed, without, all_placed, IsInOrder, IsRun};
+ghost use Rattle.pim_down.specs.Schedule.{deadline_cmp, deadline_seen, placed, without, IsInOrder};
 ghost use Rattle.pim_down.specs.Schedule.{with_end, with_timers};
 ghost use Rattle.pim_down.specs.Ends.{pending_end};
 ghost use Rattle.pim_down.specs.Seen.{key_seen, waiting_seen, timed_seen, record_seen};
@@ -142,38 +142,6 @@ fn take_at<T: Copy, const HALF: usize>(
     taken.keep(ending, behind);
 }
 
-/// The place of the first timer of a run. It is right after the gap; if it isn't, the gap is
-/// emptied first.
-fn place_of_first<A: Copy, O: KeyOrder<A>, const HALF: usize>(
-    list: &mut Blocks<Deadline<A>, HALF>,
-    gap: &mut Gap,
-    taken: &mut Taken,
-    first: &Deadline<A>,
-) -> Option<Place>
-    requires { 0 < gap.old.count → IsGone list.old gap.old }
-    ensures remaining { remaining list.new gap.new ≡ remaining list.old gap.old }
-    ensures gone { 0 < gap.new.count → IsGone list.new gap.new }
-    ensures capacity { capacity HALF list.new ≡ capacity HALF list.old }
-    ensures item { IfSome result (IsItem list.new) }
-    ensures first { IfSome result (λ place. IsEqualAt (λ (other : Deadline A).
-        deadline_cmp (deadline_seen O.bytes_of other) (deadline_seen O.bytes_of first.now))
-        (items list.new) (before list.new place)) }
-    ensures behind { IfSome result (λ place. 0 < gap.new.count → place ≡ gap.new.behind) }
-{
-    if is_behind::<A, O, HALF>(list, gap, first) {
-        return Some(gap.behind);
-    }
-    close(list, gap, taken);
-    let wanted: Wanted<A, O> = Wanted {
-        deadline: *first,
-        order: PhantomData,
-    };
-    match list.find_near(taken.of(ending_of(first)), &wanted) {
-        Ok(place) => Some(place),
-        Err(_) => None,
-    }
-}
-
 /// The kind and end of a timer.
 fn ending_of<A>(deadline: &Deadline<A>) -> Ending {
     Ending {
@@ -298,33 +266,6 @@ impl<A: Copy, O: KeyOrder<A>, const HALF: usize> Schedule<A, O, HALF> {
                 is_next,
             );
         }
-    }
-
-    /// Removes the `count` timers from the first to the last, if they are `count` places side by
-    /// side. Returns whether they are. It doesn't look at those between.
-    pub(crate) fn take_run(&mut self, first: &Deadline<A>, last: &Deadline<A>, count: usize) -> bool
-        requires { 1 ≤ count }
-        ensures taken { result ≡ true → (run rest : List (Deadline (List ℕ))) →
-            IsRun deadline_cmp (deadline_seen O.bytes_of first.now) (deadline_seen O.bytes_of last.now) count run →
-            self.old.timers ≡ all_placed deadline_cmp run rest → self.new.timers ≡ rest }
-        ensures left { result ≡ false → self.new.timers ≡ self.old.timers }
-        ensures capacity { self.new.capacity ≡ self.old.capacity }
-    {
-        item_has_a_place::<Deadline<A>>();
-        let (list, gap, taken) = (&mut self.list, &mut self.gap, &mut self.taken);
-        let Some(from) = place_of_first::<A, O, HALF>(list, gap, taken, first) else {
-            return false;
-        };
-        let Some(end) = self.list.onward(from, count - 1) else {
-            return false;
-        };
-        if compare_deadlines::<A, O>(self.list.get(end), last).is_ne() {
-            return false;
-        }
-        let ending = ending_of(first);
-        self.gap.take_in(&self.list, from, end, count, ending);
-        self.last = Some(ending);
-        true
     }
 
     /// Puts in a machine's timer, if it runs.

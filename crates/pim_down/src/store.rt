@@ -3,7 +3,7 @@
 
 ghost use Rattle.std.specs.Prelude.{◌≡◌, ℕ, List, ◌+◌, ◌*◌, ◌<◌, ◌≤◌, ◌↔◌, [], ◌++◌, length, take, drop, option_map};
 ghost use Rattle.std.specs.Prelude.{slice_index_or, slice_set, OnOk, IsOk, IsTrue, true, false};
-ghost use Rattle.std.specs.List.{All, AllByRecursion, filter, insert, remove, slice_get};
+ghost use Rattle.std.specs.List.{All, insert, remove, slice_get};
 ghost use Rattle.std.specs.List.Sorted.{IsPartitionedBy, IsPartitionPoint};
 ghost use Rattle.sorted_blocks.specs.declared.place.Place.{Place};
 ghost use Rattle.sorted_slab.specs.Listed.{at, IsPlace, IsItem, IsFound};
@@ -12,10 +12,8 @@ ghost use Rattle.pim_down.specs.Hearing.{rpt_count_on};
 ghost use Rattle.pim_down.specs.Records.{count_on, IsAscending};
 ghost use Rattle.pim_down.specs.Schedule.{deadline_seen, timers_of};
 ghost use Rattle.pim_down.specs.Seen.{records_seen};
-ghost use Rattle.pim_down.specs.Store.{IsRptOn, in_state};
-ghost use Rattle.pim_down.specs.Sweep.{left_of, swept};
+ghost use Rattle.pim_down.specs.Store.{in_state};
 
-use crate::alike::stop_swept;
 use crate::blocks::{HALF_OF_RECORDS, HALF_OF_TIMERS};
 use crate::deadline::Deadline;
 use crate::held::{Held, Timed};
@@ -23,7 +21,6 @@ use crate::key::KeyOrder;
 use crate::machine::State;
 use crate::rows::{Bound, Rows};
 use crate::schedule::Schedule;
-use crate::sweep::Sweep;
 use sorted_blocks::{Place, Probe};
 use sorted_slab::Walk;
 use std::alloc::{AllocError, Global};
@@ -137,40 +134,6 @@ impl<A: Copy, O: KeyOrder<A>> Store<A, O> {
         let gone = *self.rows.get(place);
         self.schedule.stop_all(&gone);
         self.rows.remove(place)
-    }
-
-    /// Visits the records from this place on, up to the first that the sweep doesn't reach, and at
-    /// most as many as one walk visits. All of them are (S,G,rpt) records of this port. Removes
-    /// those that the sweep takes. Returns how many it visits, and the place of the record after
-    /// them.
-    pub(crate) fn sweep<S: Sweep<A>>(
-        &mut self,
-        place: Place,
-        port: usize,
-        sweep: &S,
-    ) -> (usize, Place)
-        requires place { IsPlace self.old place }
-        requires item { IsItem self.old place }
-        requires first { (d : Held A) →
-            S.reaches sweep.now (slice_index_or self.old.items (at self.old place) d) ≡ true }
-        requires own { (held : Held A) → S.reaches sweep.now held ≡ true → IsRptOn port held }
-        requires ascending { IsAscending (records_seen O.bytes_of self.old.items) }
-        ensures some { 1 ≤ result.0 }
-        ensures within { at self.old place + result.0 ≤ length self.old.items }
-        ensures reached { AllByRecursion (λ held. S.reaches sweep.now held ≡ true)
-            (take result.0 (drop (at self.old place) self.old.items)) }
-        ensures items { self.new.items ≡ swept (S.takes sweep.now) self.old.items (at self.old place) result.0 }
-        ensures capacity { self.new.capacity ≡ self.old.capacity }
-        ensures place { IsPlace self.new result.1 }
-        ensures at { at self.new result.1 ≡ at self.old place
-            + length (left_of (S.takes sweep.now) (take result.0 (drop (at self.old place) self.old.items))) }
-        ensures item { at self.new result.1 < length self.new.items → IsItem self.new result.1 }
-    {
-        let (count, taken) = stop_swept::<A, O, S>(&self.rows, &mut self.schedule, place, sweep);
-        if taken == count {
-            return (count, self.rows.remove_run(place, count, port));
-        }
-        (count, self.rows.sweep::<S>(place, count, port, sweep))
     }
 
     /// Gives the record at this place another machine; its key stays.
