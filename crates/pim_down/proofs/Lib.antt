@@ -1,11 +1,9 @@
 pub mod Order
 pub mod InOrder
 pub mod Deadlines
-pub mod Gaps
 pub mod Searched
 pub mod Map
 pub mod Time
-pub mod Cuts
 pub mod Counts
 pub mod Bounds
 pub mod Sought

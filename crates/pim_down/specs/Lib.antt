@@ -15,7 +15,6 @@ pub mod Ordered
 pub mod Places
 pub mod Store
 pub mod Running
-pub mod Gap
 pub mod Schedule
 pub mod Sound
 pub mod Heard

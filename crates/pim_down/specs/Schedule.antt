@@ -1,21 +1,18 @@
 -- The schedule: the timers that run, in the order in which they fire. They fire by end, at one end
 -- Prune-Pending Timers before Expiry Timers, then by key. This order is a choice of this project.
-use Rattle.std.specs.Prelude.{◌≡◌, ℕ, ◌+◌, ◌-◌, ◌*◌, ◌<◌, ◌≤◌, false, if◌then◌else◌}
-use Rattle.std.specs.Prelude.{List, [], ◌∷◌, map, length, Option, None, Some}
+use Rattle.std.specs.Prelude.{◌≡◌, ℕ, ◌+◌, ◌-◌, ◌*◌, ◌≤◌, false, if◌then◌else◌}
+use Rattle.std.specs.Prelude.{List, [], ◌∷◌, length, Option, None, Some}
 use Rattle.std.specs.declared.cmp.Ordering.{Ordering}
 use Rattle.std.specs.List.{slice_get}
 use Rattle.std.specs.Ordering.{nat_cmp, ordering_then, is_eq, is_gt}
-use Rattle.sorted_blocks.specs.Shape.{Shape}
 use Rattle.sorted_slab.specs.Listed.{Listed}
 use Rattle.pim_down.specs.declared.deadline.Deadline.{Deadline}
 use Rattle.pim_down.specs.declared.deadline.TimerKind.{TimerKind}
 use Rattle.pim_down.specs.declared.deadline.TimerKind.TheVariants.{PendingTimer, ExpiryTimer}
-use Rattle.pim_down.specs.declared.gap.Gap.{Gap}
 use Rattle.pim_down.specs.declared.held.Held.{Held}
 use Rattle.pim_down.specs.declared.key.Key.{Key}
 use Rattle.pim_down.specs.declared.machine.Machine.{Machine}
 use Rattle.pim_down.specs.declared.machine.Record.{Record}
-use Rattle.pim_down.specs.Gap.{remaining, IsGone}
 use Rattle.pim_down.specs.Key.{key_cmp}
 use Rattle.pim_down.specs.Ends.{pending_end, first_end, ends_by}
 use Rattle.pim_down.specs.Seen.{key_seen, records_seen}
@@ -90,12 +87,6 @@ timers_of (held ∷ records) = with_timers held (timers_of records)
 pub record Scheduled : Type 0 where
   pub timers : List (Deadline (List ℕ))
   pub capacity : ℕ
-
--- The invariant of a schedule: the timers that run are in order, and those taken out are side by
--- side in the gap.
-pub record IsScheduled {A : Type 0} (bytes_of : A → List ℕ) (list : Shape (Deadline A)) (gap : Gap) : Type 0 where
-  pub order : IsInOrder deadline_cmp (map (deadline_seen bytes_of) (remaining list gap))
-  pub gone : 0 < gap.count → IsGone list gap
 
 -- The invariant of a store: the schedule has exactly the timers of the records, of which there are
 -- at most `space`. If `space` isn't 0, there is room for two timers of each of `space` records, and

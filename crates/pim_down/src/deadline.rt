@@ -31,19 +31,6 @@ pub(crate) struct Ending {
     pub(crate) ends_at: u64,
 }
 
-impl Ending {
-    /// Stands for no timer.
-    pub(crate) const NONE: Ending = Ending {
-        timer: TimerKind::PendingTimer,
-        ends_at: 0,
-    };
-
-    /// Whether kind and end are equal.
-    pub(crate) fn is_same(&self, other: Ending) -> bool {
-        self.ends_at == other.ends_at && compare_kinds(self.timer, other.timer).is_eq()
-    }
-}
-
 /// Prune-Pending Timers come first.
 fn compare_kinds(a: TimerKind, b: TimerKind) -> Ordering
     ensures { result ≡ nat_cmp (timer_rank a) (timer_rank b) }

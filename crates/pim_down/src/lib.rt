@@ -32,7 +32,6 @@ mod edits;
 mod end;
 mod event;
 mod fault;
-mod gap;
 mod group;
 mod hear;
 mod held;

@@ -2,21 +2,17 @@
 //! first one. Room for the timers of new records is reserved with the records, so that a message
 //! puts timers in without memory.
 
-ghost use Rattle.std.specs.Prelude.{◌≡◌, ℕ, List, ◌+◌, ◌-◌, ◌*◌, ◌<◌, ◌≤◌, [], true, false, length, map, option_map};
-ghost use Rattle.std.specs.Prelude.{OnOk, IfSome};
-ghost use Rattle.std.specs.List.{slice_get, insert, remove};
-ghost use Rattle.sorted_blocks.specs.Shape.{items, capacity};
-ghost use Rattle.sorted_blocks.specs.Places.{before, IsPlace, IsItem};
-ghost use Rattle.sorted_blocks.specs.Found.{IsEqualAt};
+ghost use Rattle.std.specs.Prelude.{◌≡◌, ℕ, List, ◌+◌, ◌-◌, ◌*◌, ◌<◌, ◌≤◌, [], length, map, option_map, OnOk};
+ghost use Rattle.std.specs.List.{slice_get, insert};
+ghost use Rattle.sorted_blocks.specs.Shape.{items};
+ghost use Rattle.sorted_blocks.specs.Places.{before, IsPlace};
 ghost use Rattle.pim_down.specs.declared.deadline.Deadline.{Deadline};
-ghost use Rattle.pim_down.specs.Gap.{remaining, IsGone};
 ghost use Rattle.pim_down.specs.Schedule.{deadline_cmp, deadline_seen, placed, without, IsInOrder};
 ghost use Rattle.pim_down.specs.Schedule.{with_end, with_timers};
 ghost use Rattle.pim_down.specs.Ends.{pending_end};
 ghost use Rattle.pim_down.specs.Seen.{key_seen, waiting_seen, timed_seen, record_seen};
 
 use crate::deadline::{Deadline, Ending, TimerKind, compare_deadlines};
-use crate::gap::{Gap, is_behind};
 use crate::held::{Held, Timed};
 use crate::hints::{Hints, Taken};
 use crate::key::{Key, KeyOrder};
@@ -49,32 +45,27 @@ impl<A: Copy, O: KeyOrder<A>> Probe<Deadline<A>> for Wanted<A, O> {
 /// see them, and how many fit without memory.
 #[derive(Drop)]
 pub(crate) struct Schedule<A: Copy, O: KeyOrder<A>, const HALF: usize> {
-    /// Those in the gap don't run.
     list: Blocks<Deadline<A>, HALF>,
-    gap: Gap,
     /// Where timers were put in last.
     put: Hints,
     /// Where timers were removed last.
     taken: Taken,
-    /// Kind and end of the last timer that was removed, if none was put in since.
-    last: Option<Ending>,
     order: PhantomData<O>,
 }
 
 impl<A: Copy, O: KeyOrder<A>, const HALF: usize> Model for Schedule<A, O, HALF> {
     ghost use Rattle.std.specs.Prelude.{map};
-    ghost use Rattle.sorted_blocks.specs.Shape.{capacity};
-    ghost use Rattle.pim_down.specs.Gap.{remaining};
-    ghost use Rattle.pim_down.specs.Schedule.{Scheduled, deadline_seen, IsScheduled};
+    ghost use Rattle.sorted_blocks.specs.Shape.{items, capacity};
+    ghost use Rattle.pim_down.specs.Schedule.{Scheduled, deadline_cmp, deadline_seen, IsInOrder};
 
     ghost Value = { Scheduled };
 
     ghost view = { λ s. record {
-      timers = map (deadline_seen O.bytes_of) (remaining s.list s.gap);
+      timers = map (deadline_seen O.bytes_of) (items s.list);
       capacity = capacity HALF s.list;
     } };
 
-    ghost invariant = { λ s. IsScheduled O.bytes_of s.list s.gap };
+    ghost invariant = { λ s. IsInOrder deadline_cmp (map (deadline_seen O.bytes_of) (items s.list)) };
 }
 
 /// Where the timer belongs among these.
@@ -101,60 +92,11 @@ fn slot_of<A: Copy, O: KeyOrder<A>, const HALF: usize>(
     }
 }
 
-/// Removes the timers in the gap from the list. The next search for such timers begins there.
-// Inlined, since the gap is mostly empty.
-#[inline(always)]
-fn close<T: Copy, const HALF: usize>(list: &mut Blocks<T, HALF>, gap: &mut Gap, taken: &mut Taken)
-    requires { 0 < gap.old.count → IsGone list.old gap.old }
-    ensures items { items list.new ≡ remaining list.old gap.old }
-    ensures capacity { capacity HALF list.new ≡ capacity HALF list.old }
-    ensures none { gap.new.count ≡ 0 }
-{
-    if gap.count == 0 {
-        return;
-    }
-    let behind = list.remove_run(gap.from, gap.count);
-    taken.keep(gap.ending, behind);
-    gap.count = 0;
-}
-
-/// Removes the timer at this place. If one of the same kind and end was removed right before, more
-/// may follow: then the timer stays in the list as a gap.
-fn take_at<T: Copy, const HALF: usize>(
-    list: &mut Blocks<T, HALF>,
-    gap: &mut Gap,
-    taken: &mut Taken,
-    place: Place,
-    ending: Ending,
-    is_next: bool,
-)
-    requires item { IsItem list.old place }
-    requires none { gap.old.count ≡ 0 }
-    ensures remaining { remaining list.new gap.new ≡ remove (items list.old) (before list.old place) }
-    ensures gone { 0 < gap.new.count → IsGone list.new gap.new }
-    ensures capacity { capacity HALF list.new ≡ capacity HALF list.old }
-{
-    if is_next {
-        *gap = Gap::at(list, place, ending);
-        return;
-    }
-    let (_gone, behind) = list.remove(place);
-    taken.keep(ending, behind);
-}
-
 /// The kind and end of a timer.
 fn ending_of<A>(deadline: &Deadline<A>) -> Ending {
     Ending {
         timer: deadline.timer,
         ends_at: deadline.ends_at,
-    }
-}
-
-/// Whether the last timer is of this kind and end.
-fn is_last(last: Option<Ending>, ending: Ending) -> bool {
-    match last {
-        Some(other) => other.is_same(ending),
-        None => false,
     }
 }
 
@@ -167,10 +109,8 @@ impl<A: Copy, O: KeyOrder<A>, const HALF: usize> Schedule<A, O, HALF> {
     {
         Schedule {
             list: Blocks::new(alloc),
-            gap: Gap::none(),
             put: Hints::new(),
             taken: Taken::new(),
-            last: None,
             order: PhantomData,
         }
     }
@@ -204,7 +144,7 @@ impl<A: Copy, O: KeyOrder<A>, const HALF: usize> Schedule<A, O, HALF> {
         ensures { option_map (deadline_seen O.bytes_of) result ≡ slice_get self.now.timers 0 }
     {
         item_has_a_place::<Deadline<A>>();
-        let place = self.gap.first_outside(&self.list);
+        let place = self.list.first();
         if self.list.is_item(place) {
             Some(*self.list.get(place))
         } else {
@@ -218,53 +158,25 @@ impl<A: Copy, O: KeyOrder<A>, const HALF: usize> Schedule<A, O, HALF> {
         ensures timers { self.new.timers ≡ placed deadline_cmp (deadline_seen O.bytes_of deadline) self.old.timers }
         ensures capacity { self.new.capacity ≡ self.old.capacity }
     {
-        close(&mut self.list, &mut self.gap, &mut self.taken);
         let place = slot_of::<A, O, HALF>(&self.list, self.put.of(deadline.timer), deadline);
         let stands = self.list.insert_within(place, deadline);
         self.put.keep(deadline.timer, stands);
-        self.last = None;
     }
 
-    /// Removes a timer, if it is there. Of timers that are removed one after another, in list
-    /// order, only the first ones are searched.
-    // Inlined, so that timers side by side are removed without a call.
-    #[inline(always)]
+    /// Removes a timer, if it is there.
     fn take(&mut self, deadline: Deadline<A>)
         ensures timers { self.new.timers ≡ without deadline_cmp (deadline_seen O.bytes_of deadline) self.old.timers }
         ensures capacity { self.new.capacity ≡ self.old.capacity }
     {
-        if is_behind::<A, O, HALF>(&self.list, &self.gap, &deadline) {
-            self.gap.grow(&self.list);
-            return;
-        }
-        self.take_elsewhere(deadline);
-    }
-
-    /// Searches a timer and removes it, if it is there.
-    // Inlined, since an argument that is handed on is copied, and read again before it is written.
-    #[inline(always)]
-    fn take_elsewhere(&mut self, deadline: Deadline<A>)
-        ensures timers { self.new.timers ≡ without deadline_cmp (deadline_seen O.bytes_of deadline) self.old.timers }
-        ensures capacity { self.new.capacity ≡ self.old.capacity }
-    {
         place_is_within::<Deadline<A>>();
-        close(&mut self.list, &mut self.gap, &mut self.taken);
+        let ending = ending_of(&deadline);
         let wanted: Wanted<A, O> = Wanted {
             deadline,
             order: PhantomData,
         };
-        let ending = ending_of(&deadline);
-        let is_next = is_last(self.last, ending);
-        self.last = Some(ending);
         if let Ok(place) = self.list.find_near(self.taken.of(ending), &wanted) {
-            take_at(
-                &mut self.list,
-                &mut self.gap,
-                &mut self.taken,
-                place,
-                ending,
-                is_next,
-            );
+            let (_gone, behind) = self.list.remove(place);
+            self.taken.keep(ending, behind);
         }
     }
 
