@@ -15,7 +15,6 @@ use crate::edits::{find_place, place_of, replace_at};
 use crate::hear::join_rpts;
 use crate::key::{Key, OfFamily, What};
 use crate::machine::on_star_join;
-use crate::recent::Recent;
 use crate::store::Store;
 use pim_addr::Family;
 use pim_jp::{Entries, Entry, JpView, Sets};
@@ -31,8 +30,6 @@ pub(crate) struct Stars {
     /// Whether a group may come again. It is only a hint: a wrong one makes Joins(*,G) visit more
     /// machines.
     pub(crate) repeat: bool,
-    /// Where entries of the last pruned list were found.
-    pub(crate) recent: Recent,
 }
 
 impl Stars {
@@ -44,7 +41,6 @@ impl Stars {
             gone: 0,
             last: [false; 256],
             repeat,
-            recent: Recent::new(),
         }
     }
 
@@ -56,14 +52,6 @@ impl Stars {
     {
         self.last[usize::from(self.gone)] = starred;
         self.gone += 1;
-    }
-
-    /// Keeps the place where the entry of this index in the current set was found, if it is of a
-    /// pruned list.
-    pub(crate) fn keep_place(&self, joins: bool, index: usize, place: Place) {
-        if !joins {
-            self.recent.keep(self.gone, index, place);
-        }
     }
 
     /// Returns whether this set had the last Join(*,G) of its group, and clears its flag.
@@ -159,8 +147,6 @@ fn join_pruned<F: Family>(
     port: usize,
     group: F::Addr,
     pruned: Entries<'_, F>,
-    recent: &Recent,
-    set: u8,
 )
     requires { IsAscending (records_seen F.bytes_of records.old.items) }
     ensures ascending { IsAscending (records_seen F.bytes_of records.new.items) }
@@ -172,10 +158,7 @@ fn join_pruned<F: Family>(
         → StayBut port (F.bytes_of group) but (records_seen F.bytes_of records.new.items) }
     ensures capacity { records.new.capacity ≡ records.old.capacity }
 {
-    let mut index = 0usize;
     for entry in pruned {
-        *near = recent.place_of(set, index, *near);
-        index = index.wrapping_add(1);
         match entry {
             Entry::Rpt(source) => join_rpt::<F>(records, near, port, group, source),
             Entry::Star(_) | Entry::Source(_) => {}
@@ -218,15 +201,7 @@ fn join_since<F: Family>(
         if set.group() == group {
             since |= stars.take(this);
             if since {
-                join_pruned::<F>(
-                    records,
-                    near,
-                    port,
-                    group,
-                    set.pruned(),
-                    &stars.recent,
-                    this,
-                );
+                join_pruned::<F>(records, near, port, group, set.pruned());
             }
         }
     }

@@ -44,7 +44,6 @@ mod message;
 mod near;
 mod ordered;
 mod ports;
-mod recent;
 mod rows;
 mod run;
 mod scattered;

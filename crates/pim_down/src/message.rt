@@ -127,15 +127,11 @@ fn hear_list<F: Family>(
     ensures fewer { AreFewer stars.new stars.old }
 {
     let mut starred = false;
-    let mut index = 0usize;
     for entry in entries {
-        let this = index;
-        index = index.wrapping_add(1);
         match event_of::<F>(routes, joins, group, entry) {
             Some(event) => {
                 starred |= is_star_join(&event);
                 act::<F>(records, near, port, start, event, message, stars);
-                stars.keep_place(joins, this, *near);
             }
             None => {}
         }
