@@ -20,7 +20,7 @@ use Rattle.pim_down.specs.declared.machine.Record.{Record}
 use Rattle.pim_down.specs.Key.{key_cmp}
 use Rattle.pim_down.specs.Tables.{Start, greater, on_join, on_prune, on_star_join, rpt_prune_in, on_rpt_prune}
 use Rattle.pim_down.specs.Records.{IsBelow, IsAscending, recorded, at_rank, changed, each_changed}
-use Rattle.pim_down.specs.Hearing.{Event, is_known, entry_events, list_events, set_events, key_of, on_own, is_star_join, is_rpt, is_rpt_on, is_rpt_of, on_rpts, act, act_all, at_end}
+use Rattle.pim_down.specs.Hearing.{Event, is_known, entry_events, list_events, set_events, key_of, on_own, is_star_join, is_rpt_on, is_rpt_of, on_rpts, act, act_all, at_end}
 use Rattle.pim_down.specs.Sound.{is_temporary, IsSettled}
 use Rattle.pim_down.specs.After.{is_before_rpts}
 use Rattle.pim_down.specs.Running.{is_over, is_over_in, is_group_of, has_star_join, joined_sets, AreOverIn}

@@ -1,7 +1,7 @@
 //! The records of all ports, and a schedule of their timers. The schedule always has exactly the
 //! timers of the records: each change of a record puts timers in and removes others.
 
-ghost use Rattle.std.specs.Prelude.{◌≡◌, ℕ, List, ◌+◌, ◌*◌, ◌<◌, ◌≤◌, ◌↔◌, [], ◌++◌, length, take, drop, option_map};
+ghost use Rattle.std.specs.Prelude.{◌≡◌, ℕ, List, ◌+◌, ◌*◌, ◌<◌, ◌≤◌, ◌↔◌, [], length, take, drop, option_map};
 ghost use Rattle.std.specs.Prelude.{slice_index_or, slice_set, OnOk, IsOk, IsTrue, true, false};
 ghost use Rattle.std.specs.List.{All, insert, remove, slice_get};
 ghost use Rattle.std.specs.List.Sorted.{IsPartitionedBy, IsPartitionPoint};
@@ -9,7 +9,7 @@ ghost use Rattle.sorted_blocks.specs.declared.place.Place.{Place};
 ghost use Rattle.sorted_slab.specs.Listed.{at, IsPlace, IsItem, IsFound};
 ghost use Rattle.pim_down.specs.declared.held.Held.{Held};
 ghost use Rattle.pim_down.specs.Hearing.{rpt_count_on};
-ghost use Rattle.pim_down.specs.Records.{count_on, IsAscending};
+ghost use Rattle.pim_down.specs.Records.{count_on};
 ghost use Rattle.pim_down.specs.Schedule.{deadline_seen, timers_of};
 ghost use Rattle.pim_down.specs.Seen.{records_seen};
 ghost use Rattle.pim_down.specs.Store.{in_state};
