@@ -8,6 +8,7 @@ It checks
 - that each must-fail edit fits its file,
 - that each bench compiles,
 - that documents keep their length, and that the files which they name exist,
+- that each JSON line of a trace that a case expects is an object with the members of docs/TRACE.md,
 - the tests of each crate that differs from the commit BASE (HEAD unless given), and of the test crates that name it.
 
 What is wrong is printed as it is found. The last line says how it ended; the status is 0 or 1.
@@ -16,6 +17,7 @@ It depends on the inside of rattle-kit-13f.
 import concurrent.futures
 import glob
 import io
+import json
 import os
 import re
 import shutil
@@ -44,6 +46,24 @@ WORDS = {
     "docs/SPEED.md": 1500,
     "docs/TRACE.md": 1000,
     "docs/WALKTHROUGH.md": 900,
+}
+# The members of the JSON lines of a trace, by their event (docs/TRACE.md): first those of all events, then those of each, and last those within a member.
+OF_ALL = ["ms", "epoch", "port", "event"]
+MEMBERS = {
+    "hello": ["frame", "from", "verdict", "was", "generation"],
+    "packet": ["frame", "from", "verdict", "for", "joined", "pruned"],
+    "transition": ["frame", "from", "by", "what", "group", "source", "was", "now", "et", "ppt", "neighbours", "overrides"],
+    "ignored": ["frame", "from", "group", "names", "rp"],
+    "restarted": ["frame", "was", "generation"],
+    "skipped": ["frame", "why"],
+    "timed-out": ["neighbour", "cause"],
+    "fired": ["timer", "what", "group", "source", "was", "now", "echo", "cause"],
+    "end": ["records", "neighbours", "skipped"],
+}
+WITHIN = {
+    "timed-out": ("cause", ["frame", "ms"]),
+    "fired": ("cause", ["frame", "from", "ms"]),
+    "end": ("skipped", ["cut", "not-ip", "bad-header", "not-pim", "fragment", "family"]),
 }
 NAMED = re.compile(r"(?<![\w./~@-])(?:[\w.*-]+/)+[\w.*-]*")
 FOLDERS = ("benches/", "crates/", "docs/", "examples/", "tools/")
@@ -82,6 +102,30 @@ def document(name):
     paths = [it for it in spans if NAMED.fullmatch(it) and ("." in it or it.endswith("/"))]
     paths += [it for it in NAMED.findall(text) if it.startswith(FOLDERS)]
     return wrong + [f"{name}: no {it}" for it in sorted(set(paths)) if not is_there(it.rstrip("."))]
+
+
+def has_members(line):
+    """Whether a line is a JSON object with the members of its event, each once and in this order."""
+    try:
+        pairs = json.loads(line, object_pairs_hook=list)
+    except ValueError:
+        return False
+    values = dict(pairs)
+    event = values.get("event")
+    name, names = WITHIN.get(event, ("event", None))
+    within = names is None or [it for it, _ in values.get(name) or []] == names
+    return within and [it for it, _ in pairs] == OF_ALL + MEMBERS.get(event, [])
+
+
+def json_lines():
+    """The lines of traces in cases that begin as objects, and aren't ones as they should be."""
+    wrong = []
+    for path in sorted(glob.glob(f"{TOP}/crates/pimtree_cases/data/cases/*.case")):
+        with open(path) as file:
+            for number, line in enumerate(file, 1):
+                if line.startswith("= {") and not has_members(line[2:]):
+                    wrong.append(f"{os.path.relpath(path, TOP)} line {number}: no object as docs/TRACE.md has it")
+    return wrong
 
 
 def benches(folder):
@@ -156,7 +200,7 @@ def main():
     with tempfile.TemporaryDirectory() as folder, concurrent.futures.ThreadPoolExecutor(os.cpu_count()) as pool:
         parts = [pool.submit(tests, it) for it in tested_crates(base)]
         parts += [pool.submit(benches, folder)]
-        parts += [pool.submit(layout, it) for it in crates()] + [pool.submit(edits)]
+        parts += [pool.submit(layout, it) for it in crates()] + [pool.submit(edits), pool.submit(json_lines)]
         parts += [pool.submit(document, it) for it in WORDS]
         for part in concurrent.futures.as_completed(parts):
             for line in part.result():

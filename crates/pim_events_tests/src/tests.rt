@@ -1,3 +1,0 @@
-//! Events and their lines.
-
-mod events;
