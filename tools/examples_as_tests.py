@@ -1,6 +1,5 @@
 #!/usr/bin/env python3
 """Writes the captures of examples/, with their words, reports and traces, as cases of crates/pimtree_cases.
-It also writes the first of them as the stored run of crates/pimtree: args, data/ and stdout.
 
     python3 tools/examples_as_tests.py
 """
@@ -52,14 +51,5 @@ def text():
     return head + files + "".join(cases(name) for name in NAMES)
 
 
-def write(path, data):
-    os.makedirs(os.path.dirname(path), exist_ok=True)
-    with open(path, "wb") as file:
-        file.write(data)
-
-
-PROGRAM = os.path.join(TOP, "crates", "pimtree")
-write(PLACE, text().encode())
-write(os.path.join(PROGRAM, "args"), content(NAMES[0], "words"))
-write(os.path.join(PROGRAM, "data", f"{NAMES[0]}.pcap"), content(NAMES[0], "pcap"))
-write(os.path.join(PROGRAM, "stdout"), content(NAMES[0], "report"))
+with open(PLACE, "w") as file:
+    file.write(text())
