@@ -1,9 +1,10 @@
 //! What is read and written: devices, times, addresses, headers and tables, Hellos and neighbours,
-//! Join/Prune bodies, captures.
+//! Join/Prune bodies, the items of sessions, captures.
 
 mod addr;
 mod capture;
 mod device;
 mod hello;
+mod items;
 mod jp;
 mod times;

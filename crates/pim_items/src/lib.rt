@@ -25,6 +25,3 @@ pub use answers::Answers;
 pub use held_text::Unheld;
 pub use input::Stopped;
 pub use items::{Item, Items, TextItem};
-
-#[cfg(test)]
-mod tests;

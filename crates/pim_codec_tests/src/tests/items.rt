@@ -4,8 +4,8 @@
 ghost use Rattle.std.specs.Prelude.{◌≡◌, ◌+◌, min, None};
 ghost use Rattle.pim_device.specs.Device.{top_count};
 
-use crate::{Answers, Item, Items, Stopped, TextItem, Unheld};
 use pim_device::{Drain, Failed, ScriptedDrain, ScriptedFeed};
+use pim_items::{Answers, Item, Items, Stopped, TextItem, Unheld};
 use std::alloc::{AllocError, Global};
 use std::test::Fail;
 
@@ -49,25 +49,17 @@ fn show_text(
     from: &[u8],
     lines: &[u8],
 ) -> Result<(), AllocError> {
-    if text.has_long_line {
-        return out.extend_from_slice(b"T?;");
-    }
-    out.push(b'T')?;
-    match text.fault {
-        Some(Unheld::Memory) => return out.extend_from_slice(b"M;"),
-        Some(Unheld::TooLong) => out.extend_from_slice(from)?,
-        None => {
-            out.extend_from_slice(from)?;
-            out.push(b'|')?;
-            out.extend_from_slice(lines)?;
-        }
-    }
-    let end = match text.fault {
-        Some(_) => b"!;",
-        None if text.is_sent => b".;",
-        None => b",;",
+    let end: &[u8] = if text.is_sent { b".;" } else { b",;" };
+    let pieces: [&[u8]; 5] = match text.fault {
+        _ if text.has_long_line => [b"T?;", b"", b"", b"", b""],
+        Some(Unheld::Memory) => [b"TM;", b"", b"", b"", b""],
+        Some(Unheld::TooLong) => [b"T", from, b"!;", b"", b""],
+        None => [b"T", from, b"|", lines, end],
     };
-    out.extend_from_slice(end)
+    for piece in pieces {
+        out.extend_from_slice(piece)?;
+    }
+    Ok(())
 }
 
 /// Writes an item as the rows have it.
