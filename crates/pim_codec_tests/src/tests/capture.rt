@@ -1,219 +1,280 @@
 //! Captures that end or fail at any byte, and why records are passed over.
 
-mod ipv6;
 mod merging;
 
 use pim_addr::ScriptedFeed;
 use pim_capture::{Capture, CaptureFault, Event, Ip, Why};
-use std::alloc::{AllocError, Global};
-use std::process::Abort;
+use std::alloc::AllocError;
 use std::test::Fail;
 
-// A capture of two raw IPv4 packets, in the lowest byte first, with microseconds: a Hello and a Join/Prune.
+/// A capture of two raw IPv4 packets, in the lowest byte first, with microseconds: a Hello at 100 s, and 5 ms later a
+/// Join/Prune.
 const CAPTURE: [u8; 140] = [
-    0xd4, 0xc3, 0xb2, 0xa1, 0x02, 0x00, 0x04, 0x00, 0x00, 0x00, 0x00, 0x00, 0x00, 0x00, 0x00, 0x00,
-    0x00, 0x00, 0x04, 0x00, 0x65, 0x00, 0x00, 0x00, 0x64, 0x00, 0x00, 0x00, 0x00, 0x00, 0x00, 0x00,
-    0x1e, 0x00, 0x00, 0x00, 0x1e, 0x00, 0x00, 0x00, 0x45, 0x00, 0x00, 0x1e, 0x00, 0x00, 0x00, 0x00,
-    0x01, 0x67, 0x00, 0x00, 0x0a, 0x00, 0x00, 0x09, 0xe0, 0x00, 0x00, 0x0d, 0x20, 0x00, 0x00, 0x00,
-    0x00, 0x01, 0x00, 0x02, 0xdf, 0xfc, 0x64, 0x00, 0x00, 0x00, 0x88, 0x13, 0x00, 0x00, 0x36, 0x00,
-    0x00, 0x00, 0x36, 0x00, 0x00, 0x00, 0x45, 0x00, 0x00, 0x36, 0x00, 0x00, 0x00, 0x00, 0x01, 0x67,
-    0x00, 0x00, 0x0a, 0x00, 0x00, 0x09, 0xe0, 0x00, 0x00, 0x0d, 0x23, 0x00, 0xc4, 0xd4, 0x01, 0x00,
-    0x0a, 0x00, 0x00, 0x02, 0x00, 0x01, 0x00, 0xd2, 0x01, 0x00, 0x00, 0x20, 0xef, 0x01, 0x01, 0x01,
-    0x00, 0x01, 0x00, 0x00, 0x01, 0x00, 0x07, 0x20, 0x0a, 0x09, 0x09, 0x09,
+    212, 195, 178, 161, 2, 0, 4, 0, 0, 0, 0, 0, 0, 0, 0, 0, 0, 0, 4, 0, 101, 0, 0, 0, 100, 0, 0, 0,
+    0, 0, 0, 0, 30, 0, 0, 0, 30, 0, 0, 0, 69, 0, 0, 30, 0, 0, 0, 0, 1, 103, 0, 0, 10, 0, 0, 9, 224,
+    0, 0, 13, 32, 0, 0, 0, 0, 1, 0, 2, 223, 252, 100, 0, 0, 0, 136, 19, 0, 0, 54, 0, 0, 0, 54, 0,
+    0, 0, 69, 0, 0, 54, 0, 0, 0, 0, 1, 103, 0, 0, 10, 0, 0, 9, 224, 0, 0, 13, 35, 0, 196, 212, 1,
+    0, 10, 0, 0, 2, 0, 1, 0, 210, 1, 0, 0, 32, 239, 1, 1, 1, 0, 1, 0, 0, 1, 0, 7, 32, 10, 9, 9, 9,
 ];
 
-// The same two messages over IPv6.
-const HELLO_V6: [u8; 50] = [
-    0x60, 0x00, 0x00, 0x00, 0x00, 0x0a, 0x67, 0x01, 0xfe, 0x80, 0x00, 0x00, 0x00, 0x00, 0x00, 0x00,
-    0x00, 0x00, 0x00, 0x00, 0x00, 0x00, 0x00, 0x09, 0xff, 0x02, 0x00, 0x00, 0x00, 0x00, 0x00, 0x00,
-    0x00, 0x00, 0x00, 0x00, 0x00, 0x00, 0x00, 0x0d, 0x20, 0x00, 0x00, 0x00, 0x00, 0x01, 0x00, 0x02,
-    0xdf, 0xfc,
+/// The same two messages over IPv6.
+const CAPTURE_V6: [u8; 180] = [
+    212, 195, 178, 161, 2, 0, 4, 0, 0, 0, 0, 0, 0, 0, 0, 0, 0, 0, 4, 0, 101, 0, 0, 0, 100, 0, 0, 0,
+    0, 0, 0, 0, 50, 0, 0, 0, 50, 0, 0, 0, 96, 0, 0, 0, 0, 10, 103, 1, 254, 128, 0, 0, 0, 0, 0, 0,
+    0, 0, 0, 0, 0, 0, 0, 9, 255, 2, 0, 0, 0, 0, 0, 0, 0, 0, 0, 0, 0, 0, 0, 13, 32, 0, 0, 0, 0, 1,
+    0, 2, 223, 252, 100, 0, 0, 0, 136, 19, 0, 0, 74, 0, 0, 0, 74, 0, 0, 0, 96, 0, 0, 0, 0, 34, 103,
+    1, 254, 128, 0, 0, 0, 0, 0, 0, 0, 0, 0, 0, 0, 0, 0, 9, 255, 2, 0, 0, 0, 0, 0, 0, 0, 0, 0, 0, 0,
+    0, 0, 13, 35, 0, 196, 212, 1, 0, 10, 0, 0, 2, 0, 1, 0, 210, 1, 0, 0, 32, 239, 1, 1, 1, 0, 1, 0,
+    0, 1, 0, 7, 32, 10, 9, 9, 9,
 ];
 
-const JOIN_V6: [u8; 74] = [
-    0x60, 0x00, 0x00, 0x00, 0x00, 0x22, 0x67, 0x01, 0xfe, 0x80, 0x00, 0x00, 0x00, 0x00, 0x00, 0x00,
-    0x00, 0x00, 0x00, 0x00, 0x00, 0x00, 0x00, 0x09, 0xff, 0x02, 0x00, 0x00, 0x00, 0x00, 0x00, 0x00,
-    0x00, 0x00, 0x00, 0x00, 0x00, 0x00, 0x00, 0x0d, 0x23, 0x00, 0xc4, 0xd4, 0x01, 0x00, 0x0a, 0x00,
-    0x00, 0x02, 0x00, 0x01, 0x00, 0xd2, 0x01, 0x00, 0x00, 0x20, 0xef, 0x01, 0x01, 0x01, 0x00, 0x01,
-    0x00, 0x00, 0x01, 0x00, 0x07, 0x20, 0x0a, 0x09, 0x09, 0x09,
+/// A capture of one record, of no bytes yet. Behind its header stands an Ethernet frame with a tag of 802.1Q and the Hello
+/// over IPv6.
+const FRAMED: [u8; 108] = [
+    212, 195, 178, 161, 2, 0, 4, 0, 0, 0, 0, 0, 0, 0, 0, 0, 0, 0, 4, 0, 1, 0, 0, 0, 100, 0, 0, 0,
+    207, 7, 0, 0, 0, 0, 0, 0, 0, 0, 0, 0, 51, 51, 0, 0, 0, 13, 2, 0, 0, 0, 0, 9, 129, 0, 0, 5, 134,
+    221, 96, 0, 0, 0, 0, 10, 103, 1, 254, 128, 0, 0, 0, 0, 0, 0, 0, 0, 0, 0, 0, 0, 0, 9, 255, 2, 0,
+    0, 0, 0, 0, 0, 0, 0, 0, 0, 0, 0, 0, 13, 32, 0, 0, 0, 0, 1, 0, 2, 223, 252,
+];
+
+/// The same with the Hello as raw IP.
+const RAW: [u8; 90] = [
+    212, 195, 178, 161, 2, 0, 4, 0, 0, 0, 0, 0, 0, 0, 0, 0, 0, 0, 4, 0, 101, 0, 0, 0, 100, 0, 0, 0,
+    207, 7, 0, 0, 0, 0, 0, 0, 0, 0, 0, 0, 96, 0, 0, 0, 0, 10, 103, 1, 254, 128, 0, 0, 0, 0, 0, 0,
+    0, 0, 0, 0, 0, 0, 0, 9, 255, 2, 0, 0, 0, 0, 0, 0, 0, 0, 0, 0, 0, 0, 0, 13, 32, 0, 0, 0, 0, 1,
+    0, 2, 223, 252,
+];
+
+/// A capture of the Hello over IPv4, at 100,001 ms, and of an empty record.
+const HELLO: [u8; 86] = [
+    212, 195, 178, 161, 2, 0, 4, 0, 0, 0, 0, 0, 0, 0, 0, 0, 0, 0, 4, 0, 101, 0, 0, 0, 100, 0, 0, 0,
+    207, 7, 0, 0, 30, 0, 0, 0, 30, 0, 0, 0, 69, 0, 0, 30, 0, 0, 0, 0, 1, 103, 0, 0, 10, 0, 0, 9,
+    224, 0, 0, 13, 32, 0, 0, 0, 0, 1, 0, 2, 223, 252, 100, 0, 0, 0, 0, 0, 0, 0, 0, 0, 0, 0, 0, 0,
+    0, 0,
 ];
 
 const NEVER: usize = usize::MAX;
 
-const V4_SOURCE: [u8; 4] = [10, 0, 0, 9];
-
-const V4_ALL_ROUTERS: [u8; 4] = [224, 0, 0, 13];
-
-const V6_SOURCE: [u8; 16] = [0xfe, 0x80, 0, 0, 0, 0, 0, 0, 0, 0, 0, 0, 0, 0, 0, 9];
-
-const V6_ALL_ROUTERS: [u8; 16] = [0xff, 2, 0, 0, 0, 0, 0, 0, 0, 0, 0, 0, 0, 0, 0, 13];
-
-fn v4(millis: u64, start: usize, end: usize) -> Event {
+/// A packet over IPv4, from 10.0.0.9 to ALL-PIM-ROUTERS.
+fn v4(millis: u64, payload_end: usize) -> Event {
     Event::Packet {
         millis,
         ip: Ip::V4 {
-            source: V4_SOURCE,
-            destination: V4_ALL_ROUTERS,
-            payload: start..end,
+            source: [10, 0, 0, 9],
+            destination: [224, 0, 0, 13],
+            payload: 20..payload_end,
         },
     }
 }
 
-fn v6(millis: u64, start: usize, end: usize) -> Event {
+/// A packet over IPv6, from fe80::9 to ALL-PIM-ROUTERS.
+fn v6(millis: u64, payload_end: usize) -> Event {
     Event::Packet {
         millis,
         ip: Ip::V6 {
-            source: V6_SOURCE,
-            destination: V6_ALL_ROUTERS,
-            payload: start..end,
+            source: [0xfe, 0x80, 0, 0, 0, 0, 0, 0, 0, 0, 0, 0, 0, 0, 0, 9],
+            destination: [0xff, 2, 0, 0, 0, 0, 0, 0, 0, 0, 0, 0, 0, 0, 0, 13],
+            payload: 40..payload_end,
         },
     }
 }
 
-// Each answer of the capture is the next of these, and the last is for good.
-fn expect(
-    rt: &impl Abort,
+/// Whether the next answer is this event.
+fn tells(capture: &mut Capture<ScriptedFeed<'_>>, buffer: &mut Vec<u8>, event: &Event) -> bool {
+    match capture.next(buffer) {
+        Ok(told) => told == *event,
+        Err(_) => false,
+    }
+}
+
+/// Whether a capture ends, or ends with a fault, and does so for good.
+fn ends(
+    capture: &mut Capture<ScriptedFeed<'_>>,
+    buffer: &mut Vec<u8>,
+    fault: Option<CaptureFault>,
+) -> bool {
+    let later = fault.map(|_| CaptureFault::Failed);
+    for fault in [fault, later, later] {
+        let is_so = match capture.next(buffer) {
+            Ok(told) => fault.is_none() && told == Event::End,
+            Err(told) => Some(told) == fault,
+        };
+        if !is_so {
+            return false;
+        }
+    }
+    true
+}
+
+/// Whether a reader of a capture answers these events, and then its end or this fault.
+fn answers(
     feed: ScriptedFeed<'_>,
     buffer: &mut Vec<u8>,
-    wants: &[Result<Event, CaptureFault>],
-) {
+    events: &[Event],
+    fault: Option<CaptureFault>,
+) -> bool {
     let mut capture = Capture::new(feed);
-    for (i, want) in wants.iter().enumerate() {
-        let answer = capture.next(buffer);
-        assert_eq!(rt; answer, *want, "answer {i}");
+    for event in events {
+        if !tells(&mut capture, buffer, event) {
+            return false;
+        }
     }
-    let after = match wants.last() {
-        Some(Err(_)) => Err(CaptureFault::Failed),
-        _ => Ok(Event::End),
-    };
-    for _ in 0..2 {
-        assert_eq!(rt; capture.next(buffer), after);
+    ends(&mut capture, buffer, fault)
+}
+
+/// The fault of a capture of two packets that is cut to this length, or whose reads fail from there on. Records begin at
+/// the byte 24 and at `first`.
+fn fault_of(bytes: &[u8], first: usize, length: usize, fails: bool) -> Option<CaptureFault> {
+    if fails {
+        Some(CaptureFault::Read)
+    } else if length == 24 || length == first || length == bytes.len() {
+        None
+    } else {
+        Some(CaptureFault::Truncated)
     }
 }
 
-// What comes before the first `length` bytes of the two packets end, and whether they end between two records.
-fn whole(length: usize) -> (usize, bool) {
-    let records = match length {
-        0..70 => 0,
-        70..140 => 1,
-        _ => 2,
+/// At most how many bytes a read gives, and whether reads fail from the length on, or else the bytes end there.
+const WAYS: [(usize, bool); 5] = [(1, false), (7, false), (180, false), (1, true), (180, true)];
+
+/// Whether a capture that is cut in this way answers the packets that are whole before, and then its end.
+fn is_cut(
+    (bytes, first): (&[u8], usize),
+    events: &[Event; 2],
+    buffer: &mut Vec<u8>,
+    length: usize,
+    (most, fails): (usize, bool),
+) -> bool {
+    let (front, _) = bytes.split_at(length.min(bytes.len()));
+    let feed = if fails {
+        ScriptedFeed::new(bytes, most, length)
+    } else {
+        ScriptedFeed::new(front, most, NEVER)
     };
-    (records, matches!(length, 24 | 70 | 140))
+    let (none, _) = events.split_at(0);
+    let (one, _) = events.split_at(1);
+    let whole = if length < first {
+        none
+    } else if length < bytes.len() {
+        one
+    } else {
+        events.as_slice()
+    };
+    answers(feed, buffer, whole, fault_of(bytes, first, length, fails))
 }
 
-#[test]
-fn cut_anywhere(rt: HostRuntime) -> Result<(), Fail> {
-    let mut buffer = Vec::new(rt.alloc());
-    for length in 0..=140 {
-        let (records, between) = whole(length);
-        let wants = [Ok(v4(100_000, 20, 30)), Ok(v4(100_005, 20, 54))];
-        assert!(rt; records <= 2 && length <= 140);
-        for (most, fails_from) in [
-            (1, NEVER),
-            (7, NEVER),
-            (140, NEVER),
-            (1, length),
-            (140, length),
-        ] {
-            let bytes = if fails_from == NEVER {
-                &CAPTURE[..length]
-            } else {
-                &CAPTURE
-            };
-            let mut capture = Capture::new(ScriptedFeed::new(bytes, most, fails_from));
-            for want in &wants[..records] {
-                assert_eq!(rt; capture.next(&mut buffer), *want, "{length} bytes");
+/// The first length at which one of the ways isn't as it should be.
+fn wrong_length(
+    capture: (&[u8], usize),
+    events: &[Event; 2],
+    buffer: &mut Vec<u8>,
+) -> Option<usize> {
+    for length in 0..=capture.0.len() {
+        for way in WAYS {
+            if !is_cut(capture, events, buffer, length, way) {
+                return Some(length);
             }
-            let last = if fails_from != NEVER {
-                Err(CaptureFault::Read)
-            } else if between {
-                Ok(Event::End)
-            } else {
-                Err(CaptureFault::Truncated)
-            };
-            let after = if last.is_ok() {
-                Ok(Event::End)
-            } else {
-                Err(CaptureFault::Failed)
-            };
-            assert_eq!(rt; capture.next(&mut buffer), last, "{length} bytes");
-            assert_eq!(rt; capture.next(&mut buffer), after, "{length} bytes");
-            assert_eq!(rt; capture.next(&mut buffer), after, "{length} bytes");
         }
     }
-    Ok(())
-}
-
-// Builds captures, the lowest byte first, with microseconds.
-#[derive(Drop)]
-struct Builder {
-    bytes: Vec<u8>,
-}
-
-impl Builder {
-    fn new(alloc: Global, link: u32) -> Result<Builder, AllocError> {
-        let mut builder = Builder {
-            bytes: Vec::new(alloc),
-        };
-        for number in [0xa1b2_c3d4, 0x0004_0002, 0, 0, 262_144, link] {
-            builder.number(number)?;
-        }
-        Ok(builder)
-    }
-
-    fn number(&mut self, number: u32) -> Result<(), AllocError> {
-        self.bytes.extend_from_slice(&number.to_le_bytes())
-    }
-
-    // A record of these bytes, so many microseconds after 100 s.
-    fn record(&mut self, micros: u32, packet: &[u8]) -> Result<(), AllocError> {
-        let length = u32::try_from(packet.len()).unwrap_or(u32::MAX);
-        for number in [100, micros, length, length] {
-            self.number(number)?;
-        }
-        self.bytes.extend_from_slice(packet)
-    }
-
-    fn feed(&self) -> ScriptedFeed<'_> {
-        ScriptedFeed::new(self.bytes.as_slice(), 1_000_000, NEVER)
-    }
+    None
 }
 
 #[test]
-fn packets_passed_over(rt: HostRuntime) -> Result<(), Fail> {
+fn cut_anywhere(rt: HostRuntime) {
     let mut buffer = Vec::new(rt.alloc());
-    let changes = [
-        (0, 0x00, Why::NotIp),
-        (0, 0x44, Why::BadHeader),
-        (3, 0x13, Why::BadHeader),
-        (9, 0x06, Why::NotPim),
-        (6, 0x20, Why::Fragment),
-        (7, 0x01, Why::Fragment),
-        (3, 0x1f, Why::Cut),
-    ];
-    for (at, byte, why) in changes {
-        let (front, _) = CAPTURE.split_at(70);
-        let mut packet = Vec::from_slice(rt.alloc(), &front[40..])?;
-        if at < packet.len() {
-            packet[at] = byte;
-        }
-        let mut builder = Builder::new(rt.alloc(), 101)?;
-        builder.record(1_999, &packet)?;
-        builder.record(0, &[])?;
-        let wants = [
-            Ok(Event::Skipped {
-                millis: 100_001,
-                why,
-            }),
-            Ok(Event::Skipped {
-                millis: 100_000,
-                why: Why::Cut,
-            }),
-            Ok(Event::End),
-        ];
-        expect(&rt, builder.feed(), &mut buffer, &wants);
+    let events = [v4(100_000, 30), v4(100_005, 54)];
+    assert_eq!(rt; wrong_length((&CAPTURE, 70), &events, &mut buffer), None);
+    let events = [v6(100_000, 50), v6(100_005, 74)];
+    assert_eq!(rt; wrong_length((&CAPTURE_V6, 90), &events, &mut buffer), None);
+}
+
+/// Whether the only record of a capture is passed over as one that is cut, where it has so many of the bytes behind it.
+fn is_passed_over(bytes: &mut [u8], buffer: &mut Vec<u8>, length: u8) -> bool {
+    let end = 40 + usize::from(length);
+    if end > bytes.len() {
+        return false;
     }
-    Ok(())
+    bytes[32] = length;
+    bytes[36] = length;
+    let skipped = Event::Skipped {
+        millis: 100_001,
+        why: Why::Cut,
+    };
+    let (front, _) = bytes.split_at(end);
+    let feed = ScriptedFeed::new(front, 1_000_000, NEVER);
+    answers(feed, buffer, &[skipped], None)
+}
+
+#[test]
+fn ipv6_frames_cut_anywhere(rt: HostRuntime) {
+    let mut buffer = Vec::new(rt.alloc());
+    let mut framed = FRAMED;
+    for length in 0..68 {
+        assert!(rt; is_passed_over(&mut framed, &mut buffer, length));
+    }
+    let mut raw = RAW;
+    for length in 0..50 {
+        assert!(rt; is_passed_over(&mut raw, &mut buffer, length));
+    }
+}
+
+/// A byte of the Hello's packet that is changed, to which value, and why the packet is passed over then.
+const CHANGES: [(usize, u8, Why); 7] = [
+    (0, 0x00, Why::NotIp),
+    (0, 0x44, Why::BadHeader),
+    (3, 0x13, Why::BadHeader),
+    (9, 0x06, Why::NotPim),
+    (6, 0x20, Why::Fragment),
+    (7, 0x01, Why::Fragment),
+    (3, 0x1f, Why::Cut),
+];
+
+/// Whether the Hello is passed over so, and the empty record after it as one that is cut.
+fn is_skipped(buffer: &mut Vec<u8>, (at, byte, why): (usize, u8, Why)) -> bool {
+    let mut bytes = HELLO;
+    if at >= 30 {
+        return false;
+    }
+    bytes[40 + at] = byte;
+    let first = Event::Skipped {
+        millis: 100_001,
+        why,
+    };
+    let second = Event::Skipped {
+        millis: 100_000,
+        why: Why::Cut,
+    };
+    let feed = ScriptedFeed::new(&bytes, 1_000_000, NEVER);
+    answers(feed, buffer, &[first, second], None)
+}
+
+#[test]
+fn packets_passed_over(rt: HostRuntime) {
+    let mut buffer = Vec::new(rt.alloc());
+    let wrong = CHANGES
+        .iter()
+        .position(|change| !is_skipped(&mut buffer, *change));
+    assert_eq!(rt; wrong, None);
+}
+
+/// Whether the next answer is this packet. Where memory is refused, each later answer has to be that it failed.
+fn is_next(
+    capture: &mut Capture<ScriptedFeed<'_>>,
+    buffer: &mut Vec<u8>,
+    want: &Event,
+) -> Result<bool, AllocError> {
+    match capture.next(buffer) {
+        Ok(event) => Ok(event == *want),
+        Err(CaptureFault::Memory) => {
+            let failed = Err(CaptureFault::Failed);
+            if capture.next(buffer) == failed && capture.next(buffer) == failed {
+                Err(AllocError)
+            } else {
+                Ok(false)
+            }
+        }
+        Err(_) => Ok(false),
+    }
 }
 
 // `tools/each_growth_refused.sh` runs it with each allocation refused in turn. Then it ends with this
@@ -222,16 +283,7 @@ fn packets_passed_over(rt: HostRuntime) -> Result<(), Fail> {
 fn refused_growth(rt: HostRuntime) -> Result<(), Fail> {
     let mut buffer = Vec::new(rt.alloc());
     let mut capture = Capture::new(ScriptedFeed::new(&CAPTURE, 64, NEVER));
-    for want in [v4(100_000, 20, 30), v4(100_005, 20, 54)] {
-        match capture.next(&mut buffer) {
-            Err(fault) => {
-                assert_eq!(rt; fault, CaptureFault::Memory);
-                assert_eq!(rt; capture.next(&mut buffer), Err(CaptureFault::Failed));
-                assert_eq!(rt; capture.next(&mut buffer), Err(CaptureFault::Failed));
-                return Err(Fail::from(AllocError));
-            }
-            Ok(event) => assert_eq!(rt; event, want),
-        }
-    }
+    assert!(rt; is_next(&mut capture, &mut buffer, &v4(100_000, 30))?);
+    assert!(rt; is_next(&mut capture, &mut buffer, &v4(100_005, 54))?);
     Ok(())
 }

@@ -5,7 +5,6 @@ use pim_device::{
 };
 use std::alloc::Global;
 use std::io::{self, Write};
-use std::test::Fail;
 
 /// A reader of no use: it fails in each call.
 #[derive(Drop)]
@@ -31,39 +30,61 @@ impl Write for Stuck {
     }
 }
 
-#[test]
-fn counted_passes_bytes_on(rt: HostRuntime) -> Result<(), Fail> {
+/// Whether a counted reader over one of std's gives its bytes.
+fn gives_bytes() -> bool {
     let mut feed = Counted::new(b"hello".as_slice());
     let mut buffer = [0; 8];
-    assert_eq!(rt; read_up_to(&mut feed, &mut buffer), Ok(5));
-    assert_eq!(rt; &buffer, b"hello\0\0\0");
-    assert_eq!(rt; feed.failures(), 0);
+    let count = read_up_to(&mut feed, &mut buffer);
+    count == Ok(5) && &buffer == b"hello\0\0\0" && feed.failures() == 0
+}
 
-    let mut drain = Counted::new(Vec::new(rt.alloc()));
-    assert_eq!(rt; write_all(&mut drain, b"hel"), Ok(()));
-    assert_eq!(rt; drain.write(b"lo"), Ok(2));
-    assert_eq!(rt; drain.write(b""), Ok(0));
-    assert_eq!(rt; drain.failures(), 0);
-    assert_eq!(rt; drain.get_ref().as_slice(), b"hello".as_slice());
-    assert_eq!(rt; drain.into_inner().as_slice(), b"hello".as_slice());
-    Ok(())
+/// Whether a counted writer over one of std's takes bytes, and gives that one back.
+fn takes_bytes(alloc: Global) -> bool {
+    let mut drain = Counted::new(Vec::new(alloc));
+    let three = write_all(&mut drain, b"hel");
+    let two = drain.write(b"lo");
+    let none = drain.write(b"");
+    let all_taken = three == Ok(()) && two == Ok(2) && none == Ok(0);
+    let is_lent = drain.get_ref().as_slice() == b"hello".as_slice();
+    let failures = drain.failures();
+    let given = drain.into_inner();
+    all_taken && is_lent && failures == 0 && given.as_slice() == b"hello".as_slice()
+}
+
+#[test]
+fn counted_passes_bytes_on(rt: HostRuntime) {
+    assert!(rt; gives_bytes());
+    assert!(rt; takes_bytes(rt.alloc()));
+}
+
+/// Whether each read of a reader that fails is counted.
+fn counts_reads() -> bool {
+    let mut feed = Counted::new(Broken);
+    for failures in 1..4 {
+        let told = feed.read(&mut [0; 4]);
+        if told != Err(Failed) || feed.failures() != failures {
+            return false;
+        }
+    }
+    true
+}
+
+/// Whether each write of a writer that takes nothing is counted, but for a write of nothing.
+fn counts_writes() -> bool {
+    let mut drain = Counted::new(Stuck);
+    for failures in 1..4 {
+        let told = write_all(&mut drain, b"some");
+        if told != Err(Failed) || drain.failures() != failures {
+            return false;
+        }
+    }
+    drain.write(b"") == Ok(0) && drain.failures() == 3
 }
 
 #[test]
 fn counted_counts_failures(rt: HostRuntime) {
-    let mut feed = Counted::new(Broken);
-    for failures in 1..4 {
-        assert_eq!(rt; feed.read(&mut [0; 4]), Err(Failed));
-        assert_eq!(rt; feed.failures(), failures);
-    }
-
-    let mut drain = Counted::new(Stuck);
-    for failures in 1..4 {
-        assert_eq!(rt; write_all(&mut drain, b"some"), Err(Failed));
-        assert_eq!(rt; drain.failures(), failures);
-    }
-    assert_eq!(rt; drain.write(b""), Ok(0));
-    assert_eq!(rt; drain.failures(), 3);
+    assert!(rt; counts_reads());
+    assert!(rt; counts_writes());
 }
 
 /// A scripted reader of 8 bytes that gives at most so many a call and fails from a byte on: whether 6 bytes are read.
@@ -83,15 +104,22 @@ fn is_fed(&(most, fails_from, is_read): &(usize, usize, bool)) -> bool {
     answer == wanted && feed.failures() == u64::from(!is_read)
 }
 
+/// Whether a scripted reader gives two bytes, one, and then none.
+fn is_fed_in_parts() -> bool {
+    let mut feed = ScriptedFeed::new(b"abc", 2, usize::MAX);
+    let mut buffer = [0; 4];
+    for count in [2, 1, 0] {
+        if feed.read(&mut buffer) != Ok(count) {
+            return false;
+        }
+    }
+    &buffer == b"cb\0\0"
+}
+
 #[test]
 fn scripted_feed_fails_from_a_byte_on(rt: HostRuntime) {
     assert_eq!(rt; FEEDS.iter().position(|row| !is_fed(row)), None);
-    let mut feed = ScriptedFeed::new(b"abc", 2, usize::MAX);
-    let mut buffer = [0; 4];
-    assert_eq!(rt; feed.read(&mut buffer), Ok(2));
-    assert_eq!(rt; feed.read(&mut buffer), Ok(1));
-    assert_eq!(rt; feed.read(&mut buffer), Ok(0));
-    assert_eq!(rt; &buffer, b"cb\0\0");
+    assert!(rt; is_fed_in_parts());
 }
 
 /// A scripted writer that takes at most so many bytes a call and fails from a byte on: whether `abcdef` goes out, and the

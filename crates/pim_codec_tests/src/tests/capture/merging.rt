@@ -1,37 +1,15 @@
-//! Merges of small captures, by readers that give few bytes, end early or fail.
+//! Merges of two small captures, of which the first ends early or fails.
 
-use pim_addr::{Feed, ScriptedFeed};
+use super::{CAPTURE, NEVER};
+use pim_addr::ScriptedFeed;
 use pim_capture::CaptureFault;
 use pim_merge::{Merge, MergeFault, Turn};
-use std::alloc::{AllocError, Global};
-use std::process::Abort;
-use std::test::Fail;
+use std::alloc::Global;
 
-const NEVER: usize = usize::MAX;
+/// The capture and the moment of a turn, or why there is none.
+type Told = Result<Option<(usize, u64)>, MergeFault>;
 
-/// The header of a capture of raw IP packets, the lowest byte first, with microseconds.
-const HEADER: [u8; 24] = [
-    0xd4, 0xc3, 0xb2, 0xa1, 2, 0, 4, 0, 0, 0, 0, 0, 0, 0, 0, 0, 0, 0, 4, 0, 101, 0, 0, 0,
-];
-
-/// A record of a Hello at 100 s, and one of a Join/Prune 5 ms later.
-const RECORDS: [u8; 116] = [
-    0x64, 0, 0, 0, 0, 0, 0, 0, 0x1e, 0, 0, 0, 0x1e, 0, 0, 0, 0x45, 0, 0, 0x1e, 0, 0, 0, 0, 1, 0x67,
-    0, 0, 10, 0, 0, 9, 224, 0, 0, 13, 0x20, 0, 0, 0, 0, 1, 0, 2, 0xdf, 0xfc, 0x64, 0, 0, 0, 0x88,
-    0x13, 0, 0, 0x36, 0, 0, 0, 0x36, 0, 0, 0, 0x45, 0, 0, 0x36, 0, 0, 0, 0, 1, 0x67, 0, 0, 10, 0,
-    0, 9, 224, 0, 0, 13, 0x23, 0, 0xc4, 0xd4, 1, 0, 10, 0, 0, 2, 0, 1, 0, 210, 1, 0, 0, 32, 239, 1,
-    1, 1, 0, 1, 0, 0, 1, 0, 7, 32, 10, 9, 9, 9,
-];
-
-/// The capture of both.
-fn both(alloc: Global) -> Result<Vec<u8>, AllocError> {
-    let mut bytes = Vec::from_slice(alloc, &HEADER)?;
-    bytes.extend_from_slice(&RECORDS)?;
-    Ok(bytes)
-}
-
-/// The capture and the moment of a turn.
-fn place(told: Result<Option<Turn>, MergeFault>) -> Result<Option<(usize, u64)>, MergeFault> {
+fn place(told: Result<Option<Turn>, MergeFault>) -> Told {
     match told {
         Ok(Some(turn)) => Ok(Some((turn.capture, turn.moment))),
         Ok(None) => Ok(None),
@@ -39,28 +17,43 @@ fn place(told: Result<Option<Turn>, MergeFault>) -> Result<Option<(usize, u64)>,
     }
 }
 
-/// The next turns are of these captures at these moments, and then it ends so.
-fn expect<R: Feed + Drop>(
-    rt: &impl Abort,
-    merge: &mut Merge<R>,
-    turns: &[(usize, u64)],
-    end: Result<Option<(usize, u64)>, MergeFault>,
-) {
-    for turn in turns {
-        assert_eq!(rt; place(merge.next()), Ok(Some(*turn)));
+/// The end of a merge whose first capture has this fault, or none.
+fn end_of(fault: Option<CaptureFault>) -> Told {
+    match fault {
+        Some(fault) => Err(MergeFault { capture: 0, fault }),
+        None => Ok(None),
     }
-    assert_eq!(rt; place(merge.next()), end);
-    let after = match end {
-        Ok(_) => Ok(None),
-        Err(fault) => Err(MergeFault {
-            capture: fault.capture,
-            fault: CaptureFault::Failed,
-        }),
-    };
-    assert_eq!(rt; place(merge.next()), after);
 }
 
-/// The turns of two such captures, of which the first ends or fails at this byte inside a record.
+/// Whether the next turns are of these captures at these moments, and then it ends so, for good.
+fn goes(
+    merge: &mut Merge<ScriptedFeed<'_>>,
+    turns: &[(usize, u64)],
+    fault: Option<CaptureFault>,
+) -> bool {
+    for turn in turns {
+        if place(merge.next()) != Ok(Some(*turn)) {
+            return false;
+        }
+    }
+    let later = fault.map(|_| CaptureFault::Failed);
+    place(merge.next()) == end_of(fault) && place(merge.next()) == end_of(later)
+}
+
+/// Whether the merge of this first capture and of a whole one goes so.
+fn merges(
+    alloc: Global,
+    first: ScriptedFeed<'_>,
+    turns: &[(usize, u64)],
+    fault: Option<CaptureFault>,
+) -> bool {
+    let mut merge = Merge::new(alloc);
+    let second = ScriptedFeed::new(&CAPTURE, 64, NEVER);
+    let are_added = merge.add(alloc, first).is_ok() && merge.add(alloc, second).is_ok();
+    are_added && goes(&mut merge, turns, fault)
+}
+
+/// The turns before a first capture ends or fails at this byte inside a record.
 fn turns_before(length: usize) -> &'static [(usize, u64)] {
     match length {
         0..70 => &[],
@@ -69,56 +62,38 @@ fn turns_before(length: usize) -> &'static [(usize, u64)] {
     }
 }
 
-#[test]
-fn cut_anywhere(rt: HostRuntime) -> Result<(), Fail> {
-    let alloc = rt.alloc();
-    let whole = both(alloc)?;
-    for length in 0..=whole.len() {
-        let (front, _) = whole.as_slice().split_at(length);
-        let mut merge = Merge::new(alloc);
-        merge.add(alloc, ScriptedFeed::new(front, 7, NEVER))?;
-        merge.add(alloc, ScriptedFeed::new(whole.as_slice(), 64, NEVER))?;
-        let truncated = Err(MergeFault {
-            capture: 0,
-            fault: CaptureFault::Truncated,
-        });
-        match length {
-            24 => expect(&rt, &mut merge, &[(1, 0), (1, 5)], Ok(None)),
-            70 => expect(&rt, &mut merge, &[(0, 0), (1, 0), (1, 5)], Ok(None)),
-            140 => {
-                let turns = [(0, 0), (1, 0), (0, 5), (1, 5)];
-                expect(&rt, &mut merge, &turns, Ok(None));
-            }
-            _ => expect(&rt, &mut merge, turns_before(length), truncated),
-        }
+/// All turns where the first capture is cut to this length, and whether it is cut inside a record.
+fn turns_of(length: usize) -> (&'static [(usize, u64)], bool) {
+    match length {
+        24 => (&[(1, 0), (1, 5)], false),
+        70 => (&[(0, 0), (1, 0), (1, 5)], false),
+        140 => (&[(0, 0), (1, 0), (0, 5), (1, 5)], false),
+        _ => (turns_before(length), true),
     }
-    Ok(())
 }
 
-/// The merge of two such captures, of which reads of the first fail from this byte on.
-fn fails_from(
-    rt: &impl Abort,
-    alloc: Global,
-    whole: &[u8],
-    length: usize,
-) -> Result<(), AllocError> {
-    let mut merge = Merge::new(alloc);
-    merge.add(alloc, ScriptedFeed::new(whole, 7, length))?;
-    merge.add(alloc, ScriptedFeed::new(whole, 64, NEVER))?;
-    let failed = MergeFault {
-        capture: 0,
-        fault: CaptureFault::Read,
-    };
-    expect(rt, &mut merge, turns_before(length), Err(failed));
-    Ok(())
+/// Whether the merge goes as it should where the first capture is cut to this length.
+fn is_cut(alloc: Global, length: usize) -> bool {
+    let (front, _) = CAPTURE.split_at(length.min(140));
+    let (turns, is_inside) = turns_of(length);
+    let fault = is_inside.then_some(CaptureFault::Truncated);
+    merges(alloc, ScriptedFeed::new(front, 7, NEVER), turns, fault)
+}
+
+/// Whether it does where reads of the first capture fail from this byte on.
+fn is_unread(alloc: Global, length: usize) -> bool {
+    let first = ScriptedFeed::new(&CAPTURE, 7, length);
+    merges(alloc, first, turns_before(length), Some(CaptureFault::Read))
 }
 
 #[test]
-fn reads_that_fail(rt: HostRuntime) -> Result<(), Fail> {
-    let alloc = rt.alloc();
-    let whole = both(alloc)?;
-    for length in 0..=whole.len() {
-        fails_from(&rt, alloc, whole.as_slice(), length)?;
-    }
-    Ok(())
+fn cut_anywhere(rt: HostRuntime) {
+    let wrong = (0..=140).find(|length| !is_cut(rt.alloc(), *length));
+    assert_eq!(rt; wrong, None);
+}
+
+#[test]
+fn reads_that_fail(rt: HostRuntime) {
+    let wrong = (0..=140).find(|length| !is_unread(rt.alloc(), *length));
+    assert_eq!(rt; wrong, None);
 }
