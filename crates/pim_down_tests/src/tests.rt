@@ -5,7 +5,6 @@
 
 mod blocks;
 mod bodies;
-mod changes;
 mod courses;
 mod limits;
 mod looks;
