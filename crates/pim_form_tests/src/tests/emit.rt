@@ -1,23 +1,15 @@
-//! What goes out to a device, byte by byte: the group 239.1.1.1 with the RP 10.9.9.9, asked of 10.0.0.2.
+//! What goes out to a device, byte by byte: the group 239.1.1.1 with the RP 10.9.9.9, asked of 10.0.0.2. Ports whose wants
+//! merge are in `emit-ports.case` of `pimtree_cases`, and in its scenarios.
 
 mod long;
-mod many;
 
-use super::state::{GROUP, RP, State, hear, hear_200, source, state4};
+use super::state::{GROUP, State, hear_200, state4};
 use pim_addr::{V4, V6};
 use pim_device::ScriptedDrain;
 use pim_emit::{WriteFault, canonical_messages, write_canonical};
 use pim_form::{Messages, NormalForm, is_toward, pack};
 use std::alloc::Global;
 use std::test::Fail;
-
-const NEXT_GROUP: [u8; 4] = [239, 1, 1, 2];
-
-/// The star but 192.0.2.1, after its length.
-const EXCEPT_A: [u8; 44] = [
-    0, 0x2a, 0x23, 0, 0xfc, 0xb1, 1, 0, 10, 0, 0, 2, 0, 1, 0, 210, 1, 0, 0, 32, 239, 1, 1, 1, 0, 1,
-    0, 1, 1, 0, 7, 32, 10, 9, 9, 9, 1, 0, 5, 32, 192, 0, 2, 1,
-];
 
 /// What is answered where the canonical messages are written to this device; `None` where there is no buffer.
 fn write_to(

@@ -130,7 +130,7 @@ pub(super) fn refused(is_right: bool) -> Result<bool, AllocError> {
 }
 
 /// The source 10.1.0.NUMBER.
-pub(super) fn source(number: u8) -> [u8; 4] {
+fn source(number: u8) -> [u8; 4] {
     [10, 1, 0, number]
 }
 

@@ -25,7 +25,7 @@ fn push_entries(bytes: &mut Vec<u8>, first: u8, last: u8) -> Result<(), AllocErr
 }
 
 /// The two messages of 200 sources, each after its length.
-pub(super) fn messages_of_200(alloc: Global) -> Result<Vec<u8>, AllocError> {
+fn messages_of_200(alloc: Global) -> Result<Vec<u8>, AllocError> {
     let mut bytes = Vec::from_slice(alloc, &FIRST_OF_200)?;
     push_entries(&mut bytes, 1, 181)?;
     bytes.extend_from_slice(&SECOND_OF_200)?;
