@@ -6,7 +6,6 @@ ghost use Rattle.std.specs.Ordering.{nat_cmp};
 
 use sorted_blocks::{Blocks, Items, Place, Probe};
 use std::cmp::Ordering;
-use std::test::Fail;
 
 /// The number that is sought.
 #[derive(Drop)]
@@ -86,33 +85,35 @@ fn next_random(number: u64) -> u64 {
         .wrapping_add(1_442_695_040_888_963_407)
 }
 
-#[test]
-fn goes_beside_a_plain_vector(rt: HostRuntime) -> Result<(), Fail> {
-    let Ok(mut plain) = Vec::with_capacity(rt.alloc(), 512) else {
-        return Ok(());
-    };
-    let mut list: Blocks<u32, 2> = Blocks::new(rt.alloc());
+/// Takes turns with numbers that look random: whether the list goes as the vector.
+fn goes_beside(list: &mut Blocks<u32, 2>, plain: &mut Vec<u32>) -> bool {
     let mut random = 1u64;
     let mut near = Place::START;
     for step in 0..6000u32 {
         random = next_random(random);
         let range = if step % 2000 < 1000 { 128 } else { 16 };
         let number = ((random >> 33) % range) as u32;
-        near = turn(&mut list, &mut plain, near, number);
-        assert!(rt; holds(&list, plain.as_slice()));
+        near = turn(list, plain, near, number);
+        if !holds(list, plain) {
+            return false;
+        }
     }
-    Ok(())
+    true
 }
 
 #[test]
-fn fits_after_removals(rt: HostRuntime) -> Result<(), Fail> {
+fn goes_beside_a_plain_vector(rt: HostRuntime) {
     let mut list: Blocks<u32, 2> = Blocks::new(rt.alloc());
+    let mut plain: Vec<u32> = Vec::new(rt.alloc());
+    assert!(rt; goes_beside(&mut list, &mut plain));
+}
+
+/// Whether a list with room for 60 numbers keeps its room while each comes and goes.
+fn fits(list: &mut Blocks<u32, 2>) -> bool {
     if list.reserve_capacity(60).is_err() {
-        assert!(rt; holds(&list, &[]));
-        return Ok(());
+        return false;
     }
     let capacity = list.capacity();
-    assert!(rt; capacity >= 60);
     let mut random = 1u64;
     for _step in 0..4000u32 {
         random = next_random(random);
@@ -122,13 +123,23 @@ fn fits_after_removals(rt: HostRuntime) -> Result<(), Fail> {
                 let _ = list.remove(place);
             }
             Err(place) => {
-                assert!(rt; list.len() < list.capacity());
+                if list.len() >= list.capacity() {
+                    return false;
+                }
                 let _ = list.insert_within(place, number);
             }
         }
-        assert_eq!(rt; list.capacity(), capacity);
+        if list.capacity() != capacity {
+            return false;
+        }
     }
-    Ok(())
+    capacity >= 60
+}
+
+#[test]
+fn fits_after_removals(rt: HostRuntime) {
+    let mut list: Blocks<u32, 2> = Blocks::new(rt.alloc());
+    assert!(rt; fits(&mut list));
 }
 
 /// Puts a number in that isn't there, where it belongs.
@@ -187,68 +198,74 @@ fn use_an_end<const HALF: usize>(
     }
 }
 
-#[test]
-fn is_a_queue(rt: HostRuntime) -> Result<(), Fail> {
-    let Ok(mut plain) = Vec::with_capacity(rt.alloc(), 40) else {
-        return Ok(());
-    };
-    let mut list: Blocks<u32, 4> = Blocks::new(rt.alloc());
+/// Lets numbers come behind and go in front: whether each is there in its time. The queue is longer by one every hundred
+/// steps.
+fn queues(list: &mut Blocks<u32, 4>, plain: &mut Vec<u32>) -> bool {
     if list.reserve_capacity(40).is_err() {
-        return Ok(());
+        return false;
     }
     for number in 0..4000u32 {
-        // The queue is longer by one every hundred steps.
-        if plain.len() > (number / 100) as usize {
-            assert!(rt; take_first(&mut list, &mut plain));
-            assert!(rt; holds(&list, plain.as_slice()));
+        if plain.len() > (number / 100) as usize && !take_first(list, plain) {
+            return false;
         }
-        if plain.len() < 40 {
-            assert!(rt; put(&mut list, &mut plain, number));
-            assert!(rt; holds(&list, plain.as_slice()));
+        if !holds(list, plain) || plain.len() < 40 && !put(list, plain, number) {
+            return false;
+        }
+        if !holds(list, plain) {
+            return false;
         }
     }
+    empties(list, plain)
+}
+
+/// Takes 40 numbers out in front: whether none is left.
+fn empties(list: &mut Blocks<u32, 4>, plain: &mut Vec<u32>) -> bool {
     for _number in 0..40u32 {
-        assert!(rt; take_first(&mut list, &mut plain));
-        assert!(rt; holds(&list, plain.as_slice()));
+        if !take_first(list, plain) || !holds(list, plain) {
+            return false;
+        }
     }
-    assert_eq!(rt; list.len(), 0);
-    Ok(())
+    list.len() == 0
 }
 
 #[test]
-fn is_emptied_and_filled_at_both_ends(rt: HostRuntime) -> Result<(), Fail> {
-    let Ok(mut plain) = Vec::with_capacity(rt.alloc(), 40) else {
-        return Ok(());
-    };
+fn is_a_queue(rt: HostRuntime) {
+    let mut list: Blocks<u32, 4> = Blocks::new(rt.alloc());
+    let mut plain: Vec<u32> = Vec::new(rt.alloc());
+    assert!(rt; queues(&mut list, &mut plain));
+}
+
+/// Fills and empties a list at both ends: whether it goes as the vector.
+fn uses_ends<const HALF: usize>(
+    list: &mut Blocks<u32, HALF>,
+    plain: &mut Vec<u32>,
+    seed: u64,
+) -> bool {
+    if list.reserve_capacity(40).is_err() {
+        return false;
+    }
+    let mut random = seed;
+    for step in 1..8000u32 {
+        random = next_random(random);
+        if !use_an_end(list, plain, step, random) || !holds(list, plain) {
+            return false;
+        }
+    }
+    true
+}
+
+#[test]
+fn is_emptied_and_filled_at_both_ends(rt: HostRuntime) {
     let mut few: Blocks<u32, 2> = Blocks::new(rt.alloc());
-    if few.reserve_capacity(40).is_err() {
-        return Ok(());
-    }
-    let mut random = 1u64;
-    for step in 1..8000u32 {
-        random = next_random(random);
-        assert!(rt; use_an_end(&mut few, &mut plain, step, random));
-        assert!(rt; holds(&few, plain.as_slice()));
-    }
-    Ok(())
+    let mut plain: Vec<u32> = Vec::new(rt.alloc());
+    assert!(rt; uses_ends(&mut few, &mut plain, 1));
 }
 
 #[test]
-fn is_emptied_and_filled_at_both_ends_of_longer_blocks(rt: HostRuntime) -> Result<(), Fail> {
-    let Ok(mut plain) = Vec::with_capacity(rt.alloc(), 40) else {
-        return Ok(());
-    };
+fn is_emptied_and_filled_at_both_ends_of_longer_blocks(rt: HostRuntime) {
     let mut more: Blocks<u32, 4> = Blocks::new(rt.alloc());
-    if more.reserve_capacity(40).is_err() {
-        return Ok(());
-    }
-    let mut random = 2u64;
-    for step in 1..8000u32 {
-        random = next_random(random);
-        assert!(rt; use_an_end(&mut more, &mut plain, step, random));
-        assert!(rt; holds(&more, plain.as_slice()));
-    }
-    Ok(())
+    let mut plain: Vec<u32> = Vec::new(rt.alloc());
+    assert!(rt; uses_ends(&mut more, &mut plain, 2));
 }
 
 /// Takes so many of the first numbers out at once, or those that there are.
@@ -269,23 +286,27 @@ fn take_firsts<const HALF: usize>(
     was_first && list.is_first(behind)
 }
 
-#[test]
-fn runs_go_at_once(rt: HostRuntime) -> Result<(), Fail> {
-    let mut list: Blocks<u32, 2> = Blocks::new(rt.alloc());
-    let mut plain: Vec<u32> = Vec::new(rt.alloc());
+/// Puts 40 numbers in, and takes more of them out from time to time: whether the others stay.
+fn runs_go(list: &mut Blocks<u32, 2>, plain: &mut Vec<u32>) -> bool {
     if list.reserve_capacity(40).is_err() {
-        assert!(rt; holds(&list, &[]));
-        return Ok(());
+        return false;
     }
     for number in 0..40u32 {
-        if !put(&mut list, &mut plain, number) {
-            return Ok(());
+        if !put(list, plain, number) {
+            return false;
         }
     }
     for count in 0..10usize {
-        assert!(rt; take_firsts(&mut list, &mut plain, count));
-        assert!(rt; holds(&list, plain.as_slice()));
+        if !take_firsts(list, plain, count) || !holds(list, plain) {
+            return false;
+        }
     }
-    assert_eq!(rt; list.len(), 0);
-    Ok(())
+    list.len() == 0
+}
+
+#[test]
+fn runs_go_at_once(rt: HostRuntime) {
+    let mut list: Blocks<u32, 2> = Blocks::new(rt.alloc());
+    let mut plain: Vec<u32> = Vec::new(rt.alloc());
+    assert!(rt; runs_go(&mut list, &mut plain));
 }

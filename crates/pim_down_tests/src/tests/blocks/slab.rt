@@ -3,7 +3,6 @@
 use super::Number;
 use sorted_blocks::Place;
 use sorted_slab::{SortedSlab, Walk};
-use std::test::Fail;
 
 /// Whether these are the items that are left of the walk.
 fn are_left(walk: Walk<'_, u32, 2>, plain: &[u32]) -> bool {
@@ -57,61 +56,71 @@ fn next_number(number: u32) -> u32 {
     number.wrapping_mul(1_664_525).wrapping_add(1_013_904_223)
 }
 
-#[test]
-fn turns_beside_a_vector(rt: HostRuntime) -> Result<(), Fail> {
-    let mut list: SortedSlab<u32, 2> = SortedSlab::new(rt.alloc());
-    let mut plain: Vec<u32> = Vec::new(rt.alloc());
+/// Takes turns with numbers that look random: whether the list goes as the vector. No turn changes its room, and no
+/// memory is wanted for what is left of it.
+fn goes_beside(list: &mut SortedSlab<u32, 2>, plain: &mut Vec<u32>) -> bool {
     if list.reserve(300).is_err() {
-        assert!(rt; list.len() == 0);
-        return Ok(());
+        return false;
     }
     let capacity = list.capacity();
     let mut number = 7u32;
-    let mut near = list.first();
     for step in 0..3_000u32 {
         number = next_number(number);
-        assert!(rt; turn(&mut list, &mut plain, near, (number >> 16) % 300));
-        near = list.first();
-        if step % 100 == 0 {
-            assert!(rt; holds(&list, plain.as_slice()));
+        let first = list.first();
+        if !turn(list, plain, first, (number >> 16) % 300) {
+            return false;
+        }
+        if step % 100 == 0 && !holds(list, plain) {
+            return false;
         }
     }
-    assert!(rt; holds(&list, plain.as_slice()));
-    // No edit changed it, and no memory is wanted for what is left of it.
-    assert_eq!(rt; list.capacity(), capacity);
-    assert!(rt; list.reserve(0).is_ok());
-    Ok(())
+    holds(list, plain) && list.capacity() == capacity && list.reserve(0).is_ok()
 }
 
 #[test]
-fn changes_in_place(rt: HostRuntime) -> Result<(), Fail> {
+fn turns_beside_a_vector(rt: HostRuntime) {
     let mut list: SortedSlab<u32, 2> = SortedSlab::new(rt.alloc());
+    let mut plain: Vec<u32> = Vec::new(rt.alloc());
+    assert!(rt; goes_beside(&mut list, &mut plain));
+}
+
+/// Puts five numbers in, in no order: whether they are there, in order.
+fn is_filled(list: &mut SortedSlab<u32, 2>) -> bool {
     if list.reserve(9).is_err() {
-        assert!(rt; list.len() == 0);
-        return Ok(());
+        return false;
     }
     for number in [50, 10, 30, 20, 40u32] {
         let Err(place) = list.find(&Number(number)) else {
-            return Ok(());
+            return false;
         };
         if list.len() < list.capacity() {
             let _stands = list.insert_within(place, number);
         }
     }
-    assert!(rt; holds(&list, &[10, 20, 30, 40, 50]));
+    holds(list, &[10, 20, 30, 40, 50])
+}
+
+/// Changes 30 to 35: whether it is found so, by a walk too.
+fn is_changed(list: &mut SortedSlab<u32, 2>) -> bool {
     let Ok(place) = list.find(&Number(30)) else {
-        assert!(rt; false);
-        return Ok(());
+        return false;
     };
     list.set(place, 35);
     let Err(before) = list.find(&Number(34)) else {
-        assert!(rt; false);
-        return Ok(());
+        return false;
     };
-    assert!(rt; are_left(list.walk(before, 2), &[35, 40]));
-    assert!(rt; holds(&list, &[10, 20, 35, 40, 50]));
+    are_left(list.walk(before, 2), &[35, 40]) && holds(list, &[10, 20, 35, 40, 50])
+}
+
+/// Takes the first two out at once: whether the others stay.
+fn is_cut(list: &mut SortedSlab<u32, 2>) -> bool {
     let count = list.len().min(2);
     let _behind = list.remove_run(list.first(), count);
-    assert!(rt; holds(&list, &[35, 40, 50]));
-    Ok(())
+    holds(list, &[35, 40, 50])
+}
+
+#[test]
+fn changes_in_place(rt: HostRuntime) {
+    let mut list: SortedSlab<u32, 2> = SortedSlab::new(rt.alloc());
+    assert!(rt; is_filled(&mut list) && is_changed(&mut list) && is_cut(&mut list));
 }
