@@ -7,7 +7,6 @@ use pim_addr::{Routes, V4};
 use pim_down::{HearFault, Key, Machine, Near, Pending, Ports, Record, Timing, What};
 use pim_jp::Entry;
 use std::alloc::{AllocError, Global};
-use std::test::Fail;
 
 /// How many records a port may have: fewer than there would be without a limit, and together more than two blocks hold.
 const LIMIT: usize = 700;
@@ -103,25 +102,41 @@ fn message(alloc: Global, numbers: &mut Numbers) -> Result<Vec<Named>, AllocErro
     Ok(entries)
 }
 
-/// Both hear a message: whether they answer alike.
+/// Both hear this message: whether they answer alike.
+fn answer_alike(
+    alloc: Global,
+    numbers: &mut Numbers,
+    routes: &Routes<V4>,
+    ports: &mut Ports<V4>,
+    slow: &mut Slow,
+    message: &[Named],
+) -> bool {
+    let holdtime = numbers.holdtime();
+    let timing = numbers.timing();
+    let port = usize::from(numbers.byte(2));
+    let Ok(body) = body(alloc, holdtime, message) else {
+        return false;
+    };
+    let told = hear_body(ports, routes, port, &body, timing);
+    match slow.hear(port, message, holdtime, timing) {
+        Ok(None) => told == Some(Ok(())),
+        Ok(Some(needed)) => told == Some(Err(HearFault::Full { needed })),
+        Err(_) => false,
+    }
+}
+
+/// The same of the next message.
 fn hear(
     alloc: Global,
     numbers: &mut Numbers,
     routes: &Routes<V4>,
     ports: &mut Ports<V4>,
     slow: &mut Slow,
-) -> Result<bool, AllocError> {
-    let message = message(alloc, numbers)?;
-    let holdtime = numbers.holdtime();
-    let timing = numbers.timing();
-    let port = usize::from(numbers.byte(2));
-    let body = body(alloc, holdtime, &message)?;
-    let told = hear_body(ports, routes, port, &body, timing);
-    let wanted = match slow.hear(port, &message, holdtime, timing)? {
-        None => Ok(()),
-        Some(needed) => Err(HearFault::Full { needed }),
-    };
-    Ok(told == Some(wanted))
+) -> bool {
+    match message(alloc, numbers) {
+        Ok(message) => answer_alike(alloc, numbers, routes, ports, slow, &message),
+        Err(_) => false,
+    }
 }
 
 /// Both run on: whether they tell alike.
@@ -230,42 +245,44 @@ fn step(
     ports: &mut Ports<V4>,
     slow: &mut Slow,
     near: &mut Near,
-) -> Result<bool, AllocError> {
+) -> bool {
     let goes = if numbers.below(4) == 0 {
         run(numbers, ports, slow)
     } else {
-        hear(alloc, numbers, routes, ports, slow)?
+        hear(alloc, numbers, routes, ports, slow)
     };
-    Ok(goes && is_alike(ports, slow) && answers_alike(numbers, ports, slow, near))
+    goes && is_alike(ports, slow) && answers_alike(numbers, ports, slow, near)
 }
 
 /// The first step after which they differ; each hundredth one compares all records.
-fn first_difference(alloc: Global, seed: u64) -> Result<Option<u32>, AllocError> {
-    let mut numbers = Numbers(seed);
-    let Some(routes) = table(alloc, &ONE_RP) else {
-        return Ok(Some(0));
-    };
-    let mut ports: Ports<V4> = Ports::new(alloc, 2, LIMIT);
-    let mut slow = Slow::new(alloc, LIMIT);
+fn first_difference(
+    alloc: Global,
+    routes: &Routes<V4>,
+    ports: &mut Ports<V4>,
+    slow: &mut Slow,
+) -> Option<u32> {
+    let mut numbers = Numbers(7);
     let mut near = Near::UNKNOWN;
     for number in 1..STEPS {
-        let goes = step(
-            alloc,
-            &mut numbers,
-            &routes,
-            &mut ports,
-            &mut slow,
-            &mut near,
-        )?;
-        if !goes || number % 100 == 0 && !holds_alike(&ports, &slow) {
-            return Ok(Some(number));
+        let goes = step(alloc, &mut numbers, routes, ports, slow, &mut near);
+        if !goes || number % 100 == 0 && !holds_alike(ports, slow) {
+            return Some(number);
         }
     }
-    Ok(None)
+    None
+}
+
+/// The same of two new states under a table.
+fn difference(alloc: Global, routes: &Routes<V4>) -> Option<u32> {
+    let mut ports: Ports<V4> = Ports::new(alloc, 2, LIMIT);
+    let mut slow = Slow::new(alloc, LIMIT);
+    first_difference(alloc, routes, &mut ports, &mut slow)
 }
 
 #[test]
-fn random_runs_go_as_the_slow_list(rt: HostRuntime) -> Result<(), Fail> {
-    assert_eq!(rt; first_difference(rt.alloc(), 7)?, None);
-    Ok(())
+fn random_runs_go_as_the_slow_list(rt: HostRuntime) {
+    match table(rt.alloc(), &ONE_RP) {
+        Some(routes) => assert_eq!(rt; difference(rt.alloc(), &routes), None),
+        None => assert!(rt; false),
+    }
 }
