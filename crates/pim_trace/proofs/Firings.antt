@@ -1,18 +1,32 @@
--- What one timer that fires, and a millisecond that passes, leave of the states of all machines.
-use Rattle.std.proofs.Common.{◌≡◌, ◌∙◌, ℕ, Bool, true, false, List, [], ◌∷◌, ◌++◌, map, Option, None, Some}
-use Rattle.std.proofs.Common.{if◌then◌else◌, refl, sym, ap, subst}
+-- What one timer that fires, and a millisecond that passes, leave of all machines and of what is known of them.
+use Rattle.std.proofs.Common.{◌≡◌, ◌∙◌, ℕ, zero, suc, ◌+◌, ◌-◌, ◌==◌, Bool, true, false, List, [], ◌∷◌, ◌++◌, map}
+use Rattle.std.proofs.Common.{Option, None, Some, option_map, if◌then◌else◌, refl, sym, ap, subst, arith}
 use Rattle.std.specs.declared.cmp.Ordering.TheVariants.{Less}
 use Rattle.std.specs.Ordering.{is_eq}
 use Rattle.std.proofs.lemmas.Bool.{false≢true}
 use Rattle.pim_down.specs.declared.key.Key.{Key}
+use Rattle.pim_down.specs.declared.key.What.{What}
+use Rattle.pim_down.specs.declared.key.What.TheVariants.{Star, Source, Rpt}
 use Rattle.pim_down.specs.declared.machine.Machine.{Machine}
+use Rattle.pim_down.specs.declared.machine.Pending.{Pending}
 use Rattle.pim_down.specs.declared.machine.Record.{Record}
+use Rattle.pim_down.specs.declared.machine.State.TheVariants.{Prune}
 use Rattle.pim_down.specs.declared.step.Firing.{Firing}
+use Rattle.pim_down.specs.declared.step.Timer.{Timer}
+use Rattle.pim_down.specs.declared.step.Timer.TheVariants.{PrunePending, Expiry}
 use Rattle.pim_down.specs.Firing.{ppt_fires, et_fires, et_firing, ppt_firing, firing}
 use Rattle.pim_down.specs.Key.{key_cmp, same_key}
 use Rattle.pim_down.specs.Laws.{KeysAreToldApart}
-use Rattle.pim_down.specs.Records.{IsBelow, IsAscending, machine_at, recorded, state_of_machine, state_of}
-use Rattle.pim_down.specs.Time.{record_after, et_due, ppt_due, on_ppt, first_due, with_first}
+use Rattle.pim_down.specs.Records.{IsBelow, IsAscending, machine_at, recorded, state_of_machine}
+use Rattle.pim_down.specs.Tables.{machine_in}
+use Rattle.pim_down.specs.Time.{expiry_after, pending_after, machine_after, record_after, expiry_due, pending_due}
+use Rattle.pim_down.specs.Time.{et_due, ppt_due, on_ppt, first_due, with_first}
+use Rattle.pim_events.specs.declared.event.Fired.{Fired}
+use Rattle.pim_trace.specs.declared.ledger.Causes.{Causes}
+use Rattle.pim_trace.specs.Causing.{end_of, end_after}
+use Rattle.pim_trace.specs.Ledger.{pending_left}
+use Rattle.pim_trace.specs.Passing.{cause_of}
+use Rattle.pim_trace.proofs.Folding.{Known, knowing, known_of, fired_known}
 
 abbrev Records : Type 0
 Records = List (Record (List ℕ))
@@ -32,19 +46,91 @@ ascending_later passed [] up = tt
 ascending_later passed (held ∷ records) up =
     (below_later passed held.key records up.0, ascending_later passed records up.1)
 
-pub state_later : (passed : ℕ) (key : Key (List ℕ)) (records : Records) →
-    state_of key (map (record_after passed) records) ≡ state_of key records
+-- a timer that isn't due ends at the same moment when a millisecond has passed
+later_end : (ms n : ℕ) → (n == 0) ≡ false → (ms + 1) + (n - 1) ≡ ms + n
+later_end ms zero not_due = absurd (false≢true (sym not_due))
+later_end ms (suc n) not_due = omega arith
+
+known_then : (ms : ℕ) (causes : Causes (List ℕ)) (machine : Machine) → expiry_due machine.expires_in ≡ false →
+    pending_due machine.pending ≡ false →
+    known_of (ms + 1) causes (Some (machine_after 1 machine)) ≡ known_of ms causes (Some machine)
+known_then ms causes machine no_et no_ppt = λ i. Some (record {
+  state = machine.state;
+  ends = λ timer. ends timer i;
+  by = λ timer. cause_of timer causes;
+})
+  where
+    expiry : (e : Option ℕ) → expiry_due e ≡ false →
+        option_map (λ left. (ms + 1) + left) (expiry_after 1 e) ≡ option_map (λ left. ms + left) e
+    expiry None undue = refl
+    expiry (Some n) undue = ap Some (later_end ms n undue)
+
+    pending : (p : Option Pending) → pending_due p ≡ false →
+        option_map (λ left. (ms + 1) + left) (pending_left (pending_after 1 p))
+        ≡ option_map (λ left. ms + left) (pending_left p)
+    pending None undue = refl
+    pending (Some timer) undue = ap Some (later_end ms timer.ends_in undue)
+
+    ends : (timer : Timer) → end_of timer (ms + 1) (Some (machine_after 1 machine)) ≡ end_of timer ms (Some machine)
+    ends Expiry = expiry machine.expires_in no_et
+    ends PrunePending = pending machine.pending no_ppt
+
+none_first : (held : Record (List ℕ)) → ◌≡◌ {A = Option (Record (List ℕ))} None (Some held) → ⊥
+none_first held e = cc
+
+-- nothing is due
+not_first : (due : Record (List ℕ) → Bool) (held : Record (List ℕ)) (records : Records) →
+    first_due due (held ∷ records) ≡ None → (due held ≡ false) × (first_due due records ≡ None)
+unfolding first_due
+not_first due held records e =
+    elim (due held)
+    as (λ b. (if b then Some held else first_due due records) ≡ None → (b ≡ false) × (first_due due records ≡ None)) [
+      | true ↦ λ f. absurd (none_first held (sym f))
+      | false ↦ λ f. (refl, f)
+    ] e
+
+known_later : (key : Key (List ℕ)) (ms : ℕ) (causes : Causes (List ℕ)) (records : Records) →
+    first_due ppt_due records ≡ None → first_due et_due records ≡ None →
+    known_of (ms + 1) causes (machine_at key (map (record_after 1) records))
+    ≡ known_of ms causes (machine_at key records)
 unfolding machine_at
-state_later passed key [] = refl
-state_later passed key (held ∷ records) =
+known_later key ms causes [] no_ppt no_et = refl
+known_later key ms causes (held ∷ records) no_ppt no_et =
+    let ppt = not_first ppt_due held records no_ppt in let et = not_first et_due held records no_et in
     elim (same_key key held.key)
     as (λ b.
-    state_of_machine
-    (if b then Some (record_after passed held).machine else machine_at key (map (record_after passed) records))
-    ≡ state_of_machine (if b then Some held.machine else machine_at key records)) [
-      | true ↦ refl
-      | false ↦ state_later passed key records
+    known_of (ms + 1) causes
+    (if b then Some (record_after 1 held).machine else machine_at key (map (record_after 1) records))
+    ≡ known_of ms causes (if b then Some held.machine else machine_at key records)) [
+      | true ↦ known_then ms causes held.machine et.0 ppt.0
+      | false ↦ known_later key ms causes records ppt.1 et.1
     ]
+
+abbrev FirstFiring : Type 0
+FirstFiring = Option (Firing (List ℕ) × Records)
+
+no_pair : (told : Firing (List ℕ)) (after : Records) → ◌≡◌ {A = FirstFiring} None (Some (told, after)) → ⊥
+no_pair told after e = cc
+
+-- no timer fires, so none is due
+no_et_due : (records : Records) (o : Option (Record (List ℕ))) → et_firing records o ≡ None → o ≡ None
+no_et_due records None e = refl
+no_et_due records (Some held) e = absurd (no_pair (et_fires held) _ (sym e))
+
+none_due : (records : Records) (o : Option (Record (List ℕ))) → ppt_firing records o ≡ None →
+    (o ≡ None) × (first_due et_due records ≡ None)
+none_due records None e = (refl, no_et_due records (first_due et_due records) e)
+none_due records (Some held) e = absurd (no_pair (ppt_fires held) _ (sym e))
+
+-- where no timer fires, a millisecond changes nothing that is known
+pub millisecond_leaves : (key : Key (List ℕ)) (ms : ℕ) (causes : Causes (List ℕ)) (records : Records) →
+    firing records ≡ None →
+    known_of (ms + 1) causes (machine_at key (map (record_after 1) records))
+    ≡ known_of ms causes (machine_at key records)
+unfolding firing
+millisecond_leaves key ms causes records none =
+    let undue = none_due records (first_due ppt_due records) none in
+    known_later key ms causes records undue.0 undue.1
 
 -- ---- the first due record is replaced
 
@@ -52,9 +138,6 @@ module _ (due : Record (List ℕ) → Bool) where
   is_first : (held first : Record (List ℕ)) → ◌≡◌ {A = Option (Record (List ℕ))} (Some first) (Some held) → first
       ≡ held
   is_first held first e = cc
-
-  none_first : (held : Record (List ℕ)) → ◌≡◌ {A = Option (Record (List ℕ))} None (Some held) → ⊥
-  none_first held e = cc
 
   first_above : (key : Key (List ℕ)) (records : Records) (held : Record (List ℕ)) → IsBelow key records →
       first_due due records ≡ Some held → key_cmp key held.key ≡ Less
@@ -180,43 +263,53 @@ module _ (due : Record (List ℕ) → Bool) where
                 let rest = first_itself key records held up.1 f same in (rw other rest.0, rw other rest.1)
           ] e
 
+-- ---- keys
+
+pub turned : KeysAreToldApart → (a b : Key (List ℕ)) → same_key a b ≡ false → same_key b a ≡ false
+turned apart a b other =
+    elim (same_key b a) as (λ t. same_key b a ≡ t → t ≡ false) [
+      | true ↦ λ e. absurd (false≢true (sym other ∙ (apart a b).1.1 (sym ((apart b a).1.0 e))))
+      | false ↦ λ e. refl
+    ] refl
+
 -- ---- a firing
 
--- The records are in key order after the firing, its machine went from the one state to the other, and all others
--- stay.
+-- The machine that a firing leaves.
+abbrev pub left_by : Timer → Record (List ℕ) → Option Machine
+left_by PrunePending held = on_ppt held.key.what held.machine
+left_by Expiry held = None
+
+-- The records are in key order after the firing, it did this to its machine, and all other machines stay.
 pub record Fires (records : Records) (told : Firing (List ℕ)) (after : Records) : Type 0 where
   pub ascending : IsAscending after
+  pub state : told.after ≡ state_of_machine (left_by told.timer told.before)
   pub itself : (key : Key (List ℕ)) → same_key key told.before.key ≡ true →
-      (state_of key records ≡ Some told.before.machine.state) × (state_of key after ≡ told.after)
-  pub others : (key : Key (List ℕ)) → same_key key told.before.key ≡ false → state_of key records ≡ state_of key after
+      (machine_at key records ≡ Some told.before.machine)
+      × (machine_at key after ≡ left_by told.timer told.before)
+  pub others : (key : Key (List ℕ)) → same_key key told.before.key ≡ false →
+      machine_at key records ≡ machine_at key after
 
 module _ (apart : KeysAreToldApart) (records : Records) (up : IsAscending records) where
   fires_first : (due : Record (List ℕ) → Bool) (change : Record (List ℕ) → Option Machine) (held : Record (List ℕ)) →
       first_due due records ≡ Some held → (told : Firing (List ℕ)) → told.before ≡ held →
-      told.after ≡ state_of_machine (change held) →
+      left_by told.timer told.before ≡ change held → told.after ≡ state_of_machine (left_by told.timer told.before) →
       Fires records told (with_first due (λ held. recorded held.key (change held)) records)
-  fires_first due change held first told before after = record {
+  fires_first due change held first told before left state = record {
     ascending = ascending_first due change records up;
+    state = state;
     itself = λ key same.
         let at : same_key key held.key ≡ true =
         subst (λ (r : Record (List ℕ)). same_key key r.key ≡ true) before same in
         let both = first_itself due change apart key records held up first at in
-        let was = ap state_of_machine both.0 ∙ ap (λ (r : Record (List ℕ)). Some r.machine.state) (sym before) in
-        (was, ap state_of_machine both.1 ∙ sym after);
+        (both.0 ∙ ap (λ (r : Record (List ℕ)). Some r.machine) (sym before), both.1 ∙ sym left);
     others = λ key other.
         let at : same_key key held.key ≡ false =
         subst (λ (r : Record (List ℕ)). same_key key r.key ≡ false) before other in
-        ap state_of_machine (sym (first_other due change key records held first at));
+        sym (first_other due change key records held first at);
   }
 
-  abbrev Fired : Type 0
-  Fired = Option (Firing (List ℕ) × Records)
-
-  no_pair : (told : Firing (List ℕ)) (after : Records) → ◌≡◌ {A = Fired} None (Some (told, after)) → ⊥
-  no_pair told after e = cc
-
   pair_of : (told said : Firing (List ℕ)) (left after : Records) →
-      ◌≡◌ {A = Fired} (Some (said, left)) (Some (told, after)) →
+      ◌≡◌ {A = FirstFiring} (Some (said, left)) (Some (told, after)) →
       ◌≡◌ {A = Firing (List ℕ) × Records} (said, left) (told, after)
   pair_of told said left after e = cc
 
@@ -225,16 +318,49 @@ module _ (apart : KeysAreToldApart) (records : Records) (up : IsAscending record
   et_leaves told after None first e = absurd (no_pair told after e)
   et_leaves told after (Some held) first e =
       subst (λ (x : Firing (List ℕ) × Records). Fires records x.0 x.1) (pair_of told (et_fires held) _ after e)
-      (fires_first et_due (λ held. None) held first (et_fires held) refl refl)
+      (fires_first et_due (λ held. None) held first (et_fires held) refl refl refl)
 
   ppt_leaves : (told : Firing (List ℕ)) (after : Records) (o : Option (Record (List ℕ))) →
       first_due ppt_due records ≡ o → ppt_firing records o ≡ Some (told, after) → Fires records told after
   ppt_leaves told after None first e = et_leaves told after (first_due et_due records) refl e
   ppt_leaves told after (Some held) first e =
       subst (λ (x : Firing (List ℕ) × Records). Fires records x.0 x.1) (pair_of told (ppt_fires held) _ after e)
-      (fires_first ppt_due (λ held. on_ppt held.key.what held.machine) held first (ppt_fires held) refl refl)
+      (fires_first ppt_due (λ held. on_ppt held.key.what held.machine) held first (ppt_fires held) refl refl refl)
 
   pub firing_leaves : (told : Firing (List ℕ)) (after : Records) → firing records ≡ Some (told, after) →
       Fires records told after
   unfolding firing
   firing_leaves told after e = ppt_leaves told after (first_due ppt_due records) refl e
+
+-- ---- what is known after a firing
+
+module _ (ms : ℕ) (causes : Causes (List ℕ)) (told : Fired (List ℕ)) (machine : Machine) where
+  abbrev known : Known
+  known = knowing ms causes machine
+
+  gone : told.after ≡ None → None ≡ fired_known told known told.after
+  gone after = sym (ap (fired_known told known) after)
+
+  pruned : told.timer ≡ PrunePending → told.after ≡ Some Prune →
+      known_of ms causes (machine_in Prune machine.expires_in None) ≡ fired_known told known told.after
+  pruned timer after = (λ i. Some (record { state = Prune; ends = λ t. ends t i; by = λ t. cause_of t causes }))
+      ∙ sym (ap (fired_known told known) after)
+    where
+      ends : (t : Timer) → end_of t ms (machine_in Prune machine.expires_in None)
+          ≡ end_after t told (end_of t ms (Some machine))
+      ends Expiry = rw (after, timer) refl
+      ends PrunePending = rw (after, timer) refl
+
+  ppt_left : (what : What (List ℕ)) → told.timer ≡ PrunePending →
+      told.after ≡ state_of_machine (on_ppt what machine) →
+      known_of ms causes (on_ppt what machine) ≡ fired_known told known told.after
+  ppt_left Star timer after = gone after
+  ppt_left (Source source) timer after = gone after
+  ppt_left (Rpt source) timer after = pruned timer after
+
+pub known_left : (ms : ℕ) (causes : Causes (List ℕ)) (told : Fired (List ℕ)) (held : Record (List ℕ)) (timer : Timer) →
+    told.timer ≡ timer → told.after ≡ state_of_machine (left_by timer held) →
+    known_of ms causes (left_by timer held) ≡ fired_known told (knowing ms causes held.machine) told.after
+known_left ms causes told held Expiry is after = gone ms causes told held.machine after
+known_left ms causes told held PrunePending is after =
+    ppt_left ms causes told held.machine held.key.what is after

@@ -1,33 +1,46 @@
--- The events of a packet lead each machine from its state before it to its state after it.
-use Rattle.std.proofs.Common.{◌≡◌, ◌∙◌, ℕ, ◌==◌, Bool, true, false, ◌||◌, List, [], ◌∷◌, map, Option, None, Some}
-use Rattle.std.proofs.Common.{nat_eq, if◌then◌else◌, eqb-true, eq-eqb, refl, sym, ap, subst}
+-- The events of a packet lead each machine from what is known of it before to what is known after.
+use Rattle.std.proofs.Common.{◌≡◌, ◌∙◌, ℕ, zero, suc, ◌+◌, ◌==◌, nat_eq, Bool, true, false, not, ◌||◌, List, [], ◌∷◌}
+use Rattle.std.proofs.Common.{map, Option, None, Some, option_map, unwrap_or, if◌then◌else◌, eqb-true, eq-eqb, refl}
+use Rattle.std.proofs.Common.{sym, ap, subst, arith}
 use Rattle.std.specs.List.{AllByRecursion}
 use Rattle.std.specs.List.Sorted.{IsStrictlySortedBy}
 use Rattle.std.specs.Option.{option_eq}
 use Rattle.std.specs.declared.cmp.Ordering.TheVariants.{Less}
 use Rattle.std.specs.Ordering.{is_eq}
-use Rattle.std.proofs.lemmas.Bool.{false≢true}
+use Rattle.std.proofs.lemmas.Bool.{false≢true, ne_eqb}
 use Rattle.pim_hello.specs.Hello.{Parameters}
 use Rattle.pim_jp.specs.declared.entry.Entry.{Entry}
 use Rattle.pim_jp.specs.declared.entry.Entry.TheVariants as entry
 use Rattle.pim_jp.specs.Message.{GroupSet}
 use Rattle.pim_down.specs.declared.key.Key.{Key}
+use Rattle.pim_down.specs.declared.machine.Machine.{Machine}
+use Rattle.pim_down.specs.declared.machine.Pending.{Pending}
 use Rattle.pim_down.specs.declared.machine.Record.{Record}
 use Rattle.pim_down.specs.declared.machine.State.{State}
 use Rattle.pim_down.specs.declared.machine.State.TheVariants as state
+use Rattle.pim_down.specs.declared.step.Timer.{Timer}
+use Rattle.pim_down.specs.declared.step.Timer.TheVariants.{PrunePending, Expiry}
 use Rattle.pim_down.specs.Hearing.{Event, is_known, hearing}
 use Rattle.pim_down.specs.Key.{key_cmp, same_key}
 use Rattle.pim_down.specs.Laws.{KeysAreToldApart, HearingKeepsTheOrder, HearingLeavesOtherPorts}
-use Rattle.pim_down.specs.Records.{IsAscending, state_of_machine, state_of}
+use Rattle.pim_down.specs.Records.{IsAscending, machine_at, state_of_machine}
 use Rattle.pim_down.specs.Tables.{Start}
 use Rattle.pim_events.specs.declared.event.Cause.{Cause}
+use Rattle.pim_events.specs.declared.event.Transition.{Transition as Changed}
 use Rattle.pim_events.specs.Events.{Occurrence, join_ignored, own_restart}
 use Rattle.pim_transitions.specs.declared.transition.Transition.{Transition}
 use Rattle.pim_transitions.specs.Transitions.{IsTransition, is_told, keys_told, AreTransitions}
-use Rattle.pim_trace.specs.Folding.{states_told}
-use Rattle.pim_trace.specs.Heard.{event_on, ignored_entry, ignored_in, all_ignored, change_of, changes_of, restarts}
-use Rattle.pim_trace.specs.Ledger.{Ledger, with_change}
-use Rattle.pim_trace.proofs.Folding.{Leads, leads_nowhere, leads_past, leads_first, AllQuiet, quiet_flat, LeadsAll}
+use Rattle.pim_trace.specs.declared.ledger.Causes.{Causes}
+use Rattle.pim_trace.specs.Causing.{end_of, sets, packet_of}
+use Rattle.pim_trace.specs.Folding.{names, states_told}
+use Rattle.pim_trace.specs.Heard.{event_on, ignored_entry, ignored_in, all_ignored, change_by, change_of, changes_of}
+use Rattle.pim_trace.specs.Heard.{restarts}
+use Rattle.pim_trace.specs.Ledger.{Ledger, no_cause, both_by, same_expiry, pending_left, same_pending, moved_by, caused}
+use Rattle.pim_trace.specs.Ledger.{causes_of, with_change, with_changes}
+use Rattle.pim_trace.specs.Passing.{cause_of}
+use Rattle.pim_trace.proofs.Firings.{turned}
+use Rattle.pim_trace.proofs.Folding.{Known, known_of, state_in, changed_known, tells_change, LeadsBy, Leads}
+use Rattle.pim_trace.proofs.Folding.{leads_nowhere, leads_past, leads_first, AllQuiet, quiet_flat, known_at, LeadsAll}
 
 -- ---- states are equal, or they aren't
 
@@ -39,13 +52,13 @@ number_in (Some state.Prune) = 3
 number_in (Some state.PruneTmp) = 4
 number_in (Some state.PrunePendingTmp) = 5
 
-state_in : ℕ → Option State
-state_in n =
+state_by : ℕ → Option State
+state_by n =
     if n == 0 then None else (if n == 1 then Some state.Join else (if n == 2 then Some state.PrunePending
     else (if n == 3 then Some state.Prune else (if n == 4 then Some state.PruneTmp else Some state.PrunePendingTmp))))
 
-back : (s : Option State) → state_in (number_in s) ≡ s
-unfolding number_in state_in
+back : (s : Option State) → state_by (number_in s) ≡ s
+unfolding number_in state_by
 back None = refl
 back (Some state.Join) = refl
 back (Some state.PrunePending) = refl
@@ -53,164 +66,302 @@ back (Some state.Prune) = refl
 back (Some state.PruneTmp) = refl
 back (Some state.PrunePendingTmp) = refl
 
--- states that can't differ are equal
-pub never_differ : (a b : Option State) → ((a ≡ b → ⊥) → ⊥) → a ≡ b
-never_differ a b never =
-    elim (number_in a == number_in b) as (λ t. number_in a == number_in b ≡ t → a ≡ b) [
-      | true ↦ λ e. sym (back a) ∙ ap state_in (eqb-true (number_in a) (number_in b) e) ∙ back b
-      | false ↦ λ e. absurd
-          (never (λ same. false≢true (sym e ∙ eq-eqb (number_in a) (number_in b) (ap number_in same))))
-    ] refl
+-- what can't differ is equal
+abbrev CanNotDiffer : {A : Type 0} → A → A → Type 0
+CanNotDiffer {A} a b = (a ≡ b → ⊥) → ⊥
 
-ports_never_differ : (a b : ℕ) → ((a ≡ b → ⊥) → ⊥) → a ≡ b
-ports_never_differ a b never =
+-- a part of what can't differ can't differ
+part : {A B : Type 0} (f : A → B) (a b : A) → CanNotDiffer a b → CanNotDiffer (f a) (f b)
+part f a b never differ = never (λ same. differ (ap f same))
+
+numbers : (a b : ℕ) → CanNotDiffer a b → a ≡ b
+numbers a b never =
     elim (a == b) as (λ t. a == b ≡ t → a ≡ b) [
       | true ↦ λ e. eqb-true a b e
       | false ↦ λ e. absurd (never (λ same. false≢true (sym e ∙ eq-eqb a b same)))
     ] refl
+
+states : (a b : Option State) → CanNotDiffer a b → a ≡ b
+states a b never =
+    sym (back a) ∙ ap state_by (numbers (number_in a) (number_in b) (part number_in a b never)) ∙ back b
+
+bools : (a b : Bool) → CanNotDiffer a b → a ≡ b
+bools true true never = refl
+bools false false never = refl
+bools true false never = absurd (never (λ e. false≢true (sym e)))
+bools false true never = absurd (never (λ e. false≢true e))
+
+options : {A : Type 0} → ((a b : A) → CanNotDiffer a b → a ≡ b) → (a b : Option A) → CanNotDiffer a b → a ≡ b
+options equal None None never = refl
+options equal None (Some b) never = absurd (never (λ e. cc))
+options equal (Some a) None never = absurd (never (λ e. cc))
+options equal (Some a) (Some b) never = ap Some (equal a b (part (λ o. unwrap_or o a) (Some a) (Some b) never))
+
+pendings : (a b : Pending) → CanNotDiffer a b → a ≡ b
+pendings a b never = λ i. record {
+  ends_in = numbers a.ends_in b.ends_in (part (λ (p : Pending). p.ends_in) a b never) i;
+  several = bools a.several b.several (part (λ (p : Pending). p.several) a b never) i;
+}
+
+machines : (a b : Machine) → CanNotDiffer a b → a ≡ b
+machines a b never = λ i. record {
+  state = unwrap_or
+      (states (Some a.state) (Some b.state) (part (λ (m : Machine). Some m.state) a b never) i) a.state;
+  expires_in =
+      options numbers a.expires_in b.expires_in (part (λ (m : Machine). m.expires_in) a b never) i;
+  pending = options pendings a.pending b.pending (part (λ (m : Machine). m.pending) a b never) i;
+}
+
+-- ---- the packets that set the timers of a machine that changed
+
+shifted : (ms a b : ℕ) → nat_eq (ms + a) (ms + b) ≡ nat_eq a b
+shifted ms a b =
+    elim (a == b) as (λ t. a == b ≡ t → (ms + a == ms + b) ≡ t) [
+      | true ↦ λ e. eq-eqb (ms + a) (ms + b) (ap (λ n. ms + n) (eqb-true a b e))
+      | false ↦ λ e. ne_eqb (ms + a) (ms + b)
+          (λ same. let one : a ≡ b = omega (arith, same) in false≢true (sym e ∙ eq-eqb a b one))
+    ] refl
+
+same_end : (ms : ℕ) (a b : Option ℕ) →
+    option_eq nat_eq (option_map (λ left. ms + left) a) (option_map (λ left. ms + left) b) ≡ option_eq nat_eq a b
+same_end ms None None = refl
+same_end ms None (Some b) = refl
+same_end ms (Some a) None = refl
+same_end ms (Some a) (Some b) = shifted ms a b
+
+turned_if : {A : Type 0} (b : Bool) (x y : A) → (if b then x else y) ≡ (if not b then y else x)
+turned_if true x y = refl
+turned_if false x y = refl
+
+same_if : {A : Type 0} (b : Bool) (x : A) → x ≡ (if b then x else x)
+same_if true x = refl
+same_if false x = refl
+
+state_known : (ms : ℕ) (causes : Causes (List ℕ)) (machine : Option Machine) →
+    state_of_machine machine ≡ state_in (known_of ms causes machine)
+state_known ms causes None = refl
+state_known ms causes (Some machine) = refl
+
+module _ (ms : ℕ) (change : Changed (List ℕ)) where
+  abbrev packet : Cause (List ℕ)
+  packet = packet_of ms change
+
+  moved : (causes : Causes (List ℕ)) (was now : Machine) (timer : Timer) →
+      cause_of timer (moved_by packet causes was now)
+      ≡ (if not (option_eq nat_eq (end_of timer ms (Some was)) (end_of timer ms (Some now))) then packet
+      else cause_of timer causes)
+  moved causes was now Expiry =
+      turned_if (same_expiry was now) causes.expiry packet
+      ∙ ap (λ b. if not b then packet else causes.expiry) (sym (same_end ms was.expires_in now.expires_in))
+  moved causes was now PrunePending =
+      turned_if (same_pending was now) causes.pending packet
+      ∙ ap (λ b. if not b then packet else causes.pending)
+      (sym (same_end ms (pending_left was.pending) (pending_left now.pending)))
+
+  both : (timer : Timer) → cause_of timer (both_by packet) ≡ packet
+  both Expiry = refl
+  both PrunePending = refl
+
+  -- what is known of a machine that changed
+  changed_is : (none causes : Causes (List ℕ)) (before after : Option Machine) →
+      change.before ≡ state_of_machine before → change.after ≡ after →
+      known_of ms (unwrap_or (caused packet causes before after) none) after
+      ≡ changed_known ms change (known_of ms causes before) after
+  changed_is none causes before None was is = refl
+  changed_is none causes None (Some now) was is = λ i. Some (record {
+    state = now.state;
+    ends = λ timer. end_of timer ms (Some now);
+    by = λ timer. (both timer ∙ same_if (sets timer ms None change) packet) i;
+  })
+  changed_is none causes (Some held) (Some now) was is = λ i. Some (record {
+    state = now.state;
+    ends = λ timer. end_of timer ms (Some now);
+    by = λ timer.
+        (moved causes held now timer
+        ∙ sym (ap (λ b. if b then packet else cause_of timer causes) (sets_by timer))) i;
+  })
+    where
+      sets_by : (timer : Timer) → sets timer ms (end_of timer ms (Some held)) change
+          ≡ not (option_eq nat_eq (end_of timer ms (Some held)) (end_of timer ms (Some now)))
+      sets_by timer = rw (was, is) refl
 
 -- ---- the machines that a message changed
 
 abbrev Items : Type 0
 Items = List (Transition (List ℕ))
 
-module _ (apart : KeysAreToldApart) (port : ℕ) (packet : Cause (List ℕ)) (ms neighbours : ℕ) where
+module _ (apart : KeysAreToldApart) (port frame : ℕ) (from : List ℕ) (ms neighbours : ℕ) where
+  abbrev by : Cause (List ℕ)
+  by = record { frame = frame; from = from; ms = ms }
+
   abbrev events_for : Ledger → Ledger → Items → List Occurrence
-  events_for at ledger items = map (event_on at ms port) (changes_of ledger packet neighbours items)
+  events_for at ledger items = map (event_on at ms port) (changes_of ledger by neighbours items)
 
   abbrev first_for : Ledger → Ledger → Transition (List ℕ) → Occurrence
-  first_for at ledger item = event_on at ms port (change_of ledger packet neighbours item)
+  first_for at ledger item = event_on at ms port (change_of ledger by neighbours item)
 
-  item_told : (key : Key (List ℕ)) (at ledger : Ledger) (item : Transition (List ℕ)) → item.key.port ≡ port →
-      states_told key (first_for at ledger item)
-      ≡ (if same_key key item.key then Some (state_of_machine item.before, state_of_machine item.after) else None)
-  item_told key at ledger item on =
-      ap (λ (p : ℕ). if same_key key (record { port = p; group = item.key.group; what = item.key.what })
-      then Some (state_of_machine item.before, state_of_machine item.after) else None) (sym on)
+  abbrev known_with : Key (List ℕ) → Ledger → List (Record (List ℕ)) → Option Known
+  known_with key ledger records = known_at key (record { ms = ms; records = records; causes = ledger.causes })
 
-  tells_nothing : (key : Key (List ℕ)) (at ledger : Ledger) (item : Transition (List ℕ)) → item.key.port ≡ port →
-      same_key key item.key ≡ false → states_told key (first_for at ledger item) ≡ None
-  tells_nothing key at ledger item on other =
-      item_told key at ledger item on
-      ∙ ap (λ b. if b then Some (state_of_machine item.before, state_of_machine item.after) else None) other
+  item_named : (key : Key (List ℕ)) (item : Transition (List ℕ)) → item.key.port ≡ port →
+      names key (Some port) item.key.group item.key.what ≡ same_key key item.key
+  item_named key item on =
+      ap (λ (p : ℕ). same_key key (record { port = p; group = item.key.group; what = item.key.what })) (sym on)
 
-  tells_both : (key : Key (List ℕ)) (at ledger : Ledger) (item : Transition (List ℕ)) → item.key.port ≡ port →
-      same_key key item.key ≡ true →
-      states_told key (first_for at ledger item) ≡ Some (state_of_machine item.before, state_of_machine item.after)
-  tells_both key at ledger item on same =
-      item_told key at ledger item on
-      ∙ ap (λ b. if b then Some (state_of_machine item.before, state_of_machine item.after) else None) same
+  item_quiet : (key : Key (List ℕ)) (at ledger : Ledger) (item : Transition (List ℕ)) → item.key.port ≡ port →
+      same_key item.key key ≡ false → states_told key (first_for at ledger item) ≡ None
+  item_quiet key at ledger item on other =
+      ap (λ b. if b then Some (state_of_machine item.before, state_of_machine item.after) else None)
+      (item_named key item on ∙ turned apart item.key key other)
 
-  turned : (a b : Key (List ℕ)) → same_key a b ≡ false → same_key b a ≡ false
-  turned a b other =
-      elim (same_key b a) as (λ t. same_key b a ≡ t → t ≡ false) [
-        | true ↦ λ e. absurd (false≢true (sym other ∙ (apart a b).1.1 (sym ((apart b a).1.0 e))))
-        | false ↦ λ e. refl
-      ] refl
+  neither : (a b : Bool) → (a || b) ≡ false → (a ≡ false) × (b ≡ false)
+  neither true b e = absurd (false≢true (sym e))
+  neither false b e = (refl, e)
 
-  -- items of other machines tell nothing
-  others_lead : (key : Key (List ℕ)) (held : Option State) (at ledger : Ledger) (items : Items) →
+  -- items of other machines tell nothing, and touch nothing
+  others_lead : (key : Key (List ℕ)) (held : Option Known) (at ledger : Ledger) (items : Items) →
       AllByRecursion (λ (item : Transition (List ℕ)). item.key.port ≡ port) items → is_told key items ≡ false →
       Leads key held (events_for at ledger items) held
   unfolding changes_of
   others_lead key held at ledger [] on none = leads_nowhere key held
   others_lead key held at ledger (item ∷ items) on none =
       let parts = neither (same_key item.key key) (is_told key items) none in
-      leads_past key held held (first_for at ledger item) (events_for at (with_change packet item ledger) items)
-      (tells_nothing key at ledger item on.0 (turned item.key key parts.0))
-      (others_lead key held at (with_change packet item ledger) items on.1 parts.1)
-    where
-      neither : (a b : Bool) → (a || b) ≡ false → (a ≡ false) × (b ≡ false)
-      neither true b e = absurd (false≢true (sym e))
-      neither false b e = (refl, e)
+      leads_past key held held (first_for at ledger item) (events_for at (with_change by item ledger) items)
+      (item_quiet key at ledger item on.0 parts.0)
+      (others_lead key held at (with_change by item ledger) items on.1 parts.1)
+
+  others_cause : (key : Key (List ℕ)) (ledger : Ledger) (items : Items) → is_told key items ≡ false →
+      (with_changes by items ledger).causes key ≡ ledger.causes key
+  unfolding with_changes
+  others_cause key ledger [] none = refl
+  others_cause key ledger (item ∷ items) none =
+      let parts = neither (same_key item.key key) (is_told key items) none in
+      others_cause key (with_change by item ledger) items parts.1 ∙ rw parts.0 refl
 
   none_above : (key : Key (List ℕ)) (items : Items) →
       AllByRecursion (λ (other : Key (List ℕ)). key_cmp key other ≡ Less) (keys_told items) →
       is_told key items ≡ false
   none_above key [] above = refl
-  none_above key (item ∷ items) above = rw (turned key item.key (ap is_eq above.0)) (none_above key items above.1)
+  none_above key (item ∷ items) above =
+      rw (turned apart key item.key (ap is_eq above.0)) (none_above key items above.1)
 
   module _ (start : Start) (events : List Event) (before after : List (Record (List ℕ))) where
     abbrev Is : Transition (List ℕ) → Type 0
     Is = IsTransition port start events before after
 
+    -- an item leads its machine on
+    item_leads : (at ledger : Ledger) (item : Transition (List ℕ)) (items : Items) → item.key.port ≡ port → Is item →
+        is_told item.key items ≡ false →
+        LeadsBy item.key (known_with item.key ledger before) (first_for at ledger item)
+        (known_with item.key (with_changes by (item ∷ items) ledger) after)
+    unfolding with_changes
+    item_leads at ledger item items on is none =
+        let change : Changed (List ℕ) = change_by ledger by neighbours item in
+        let no_packet = both_by (no_cause item.key.group) in
+        let same = (apart item.key item.key).1.1 refl in
+        let causes : (with_changes by items (with_change by item ledger)).causes item.key
+        ≡ caused by (causes_of item.key ledger) item.before item.after =
+        others_cause item.key (with_change by item ledger) items none
+        ∙ ap (λ b. if b then caused by (causes_of item.key ledger) item.before item.after
+        else ledger.causes item.key) same in
+        tells_change (record {
+          change = change;
+          what = refl;
+          named = item_named item.key item on ∙ same;
+          was = state_known ms (causes_of item.key ledger) item.before
+              ∙ ap (λ (m : Option Machine). state_in (known_of ms (causes_of item.key ledger) m)) is.was;
+          now = (λ i. known_of ms (unwrap_or (causes i) no_packet) (sym is.is i))
+              ∙ changed_is ms change no_packet (causes_of item.key ledger) item.before item.after refl refl
+              ∙ ap (λ (m : Option Machine).
+              changed_known ms change (known_of ms (causes_of item.key ledger) m) item.after) is.was;
+        })
+
     items_lead : (key : Key (List ℕ)) (at ledger : Ledger) (items : Items) →
         AllByRecursion (λ (item : Transition (List ℕ)). item.key.port ≡ port) items → AllByRecursion Is items →
         IsStrictlySortedBy key_cmp (keys_told items) →
-        Leads key (state_of key before) (events_for at ledger items)
-        (if is_told key items then state_of key after else state_of key before)
-    unfolding changes_of IsStrictlySortedBy
-    items_lead key at ledger [] on each up = leads_nowhere key (state_of key before)
+        Leads key (known_with key ledger before) (events_for at ledger items)
+        (known_with key (with_changes by items ledger) (if is_told key items then after else before))
+    unfolding changes_of with_changes IsStrictlySortedBy
+    items_lead key at ledger [] on each up = leads_nowhere key (known_with key ledger before)
     items_lead key at ledger (item ∷ items) on each up =
+        let next = with_change by item ledger in let last = with_changes by items next in
         elim (same_key item.key key)
         as (λ b. same_key item.key key ≡ b →
-        Leads key (state_of key before) (events_for at ledger (item ∷ items))
-        (if b || is_told key items then state_of key after else state_of key before)) [
+        Leads key (known_with key ledger before) (events_for at ledger (item ∷ items))
+        (known_with key last (if b || is_told key items then after else before))) [
           | true ↦ λ is.
-              let same : item.key ≡ key = (apart item.key key).1.0 is in
-              let told : states_told key (first_for at ledger item) ≡ Some (state_of key before, state_of key after) =
-              tells_both key at ledger item on.0 ((apart key item.key).1.1 (sym same))
-              ∙ (λ i. Some (state_of_machine (each.0.was i), state_of_machine (each.0.is i)))
-              ∙ ap (λ (k : Key (List ℕ)). Some (state_of k before, state_of k after)) same in
-              let rest =
-              others_lead key (state_of key after) at (with_change packet item ledger) items on.1
-              (subst (λ (k : Key (List ℕ)). is_told k items ≡ false) same (none_above item.key items up.0)) in
-              leads_first key (state_of key before) (state_of key after) (state_of key after)
-              (first_for at ledger item) (events_for at (with_change packet item ledger) items) told rest
+              let none = none_above item.key items up.0 in
+              subst
+              (λ (k : Key (List ℕ)).
+              Leads k (known_with k ledger before) (events_for at ledger (item ∷ items)) (known_with k last after))
+              ((apart item.key key).1.0 is)
+              (leads_first item.key (known_with item.key ledger before) (known_with item.key last after)
+              (known_with item.key last after) (first_for at ledger item) (events_for at next items)
+              (item_leads at ledger item items on.0 each.0 none)
+              (others_lead item.key (known_with item.key last after) at next items on.1 none))
           | false ↦ λ is.
-              leads_past key (state_of key before)
-              (if is_told key items then state_of key after else state_of key before) (first_for at ledger item)
-              (events_for at (with_change packet item ledger) items)
-              (tells_nothing key at ledger item on.0 (turned item.key key is))
-              (items_lead key at (with_change packet item ledger) items on.1 each.1 up.1)
+              leads_past key (known_with key ledger before)
+              (known_with key last (if is_told key items then after else before)) (first_for at ledger item)
+              (events_for at next items) (item_quiet key at ledger item on.0 is)
+              (subst
+              (λ (o : Option (Causes (List ℕ))).
+              Leads key (known_of ms (unwrap_or o (both_by (no_cause key.group))) (machine_at key before))
+              (events_for at next items)
+              (known_with key last (if is_told key items then after else before)))
+              (ap (λ b. if b then caused by (causes_of item.key ledger) item.before item.after
+              else ledger.causes key) is) (items_lead key at next items on.1 each.1 up.1))
         ] refl
 
-    -- a machine that isn't told has the same state
+    -- a machine that isn't told stays
     untold_stays : (key : Key (List ℕ)) (items : Items) → AreTransitions port start events before after items →
-        is_told key items ≡ false → state_of key before ≡ state_of key after
+        is_told key items ≡ false → machine_at key before ≡ machine_at key after
     untold_stays key items are none =
-        never_differ (state_of key before) (state_of key after)
-        (λ differ. false≢true (sym none ∙ are.all key (λ same. differ (ap state_of_machine same))))
+        options machines (machine_at key before) (machine_at key after)
+        (λ differ. false≢true (sym none ∙ are.all key differ))
 
     all_lead : (items : Items) → AllByRecursion (λ (item : Transition (List ℕ)). item.key.port ≡ port) items →
         AreTransitions port start events before after items → (at ledger : Ledger) (key : Key (List ℕ)) →
-        Leads key (state_of key before) (events_for at ledger items) (state_of key after)
+        Leads key (known_with key ledger before) (events_for at ledger items)
+        (known_with key (with_changes by items ledger) after)
     all_lead items on are at ledger key =
-        let leads = items_lead key at ledger items on are.each are.ascending in
+        let last = with_changes by items ledger in
         elim (is_told key items)
         as (λ b. is_told key items ≡ b →
-        Leads key (state_of key before) (events_for at ledger items)
-        (if b then state_of key after else state_of key before) →
-        Leads key (state_of key before) (events_for at ledger items) (state_of key after)) [
+        Leads key (known_with key ledger before) (events_for at ledger items)
+        (known_with key last (if b then after else before)) →
+        Leads key (known_with key ledger before) (events_for at ledger items) (known_with key last after)) [
           | true ↦ λ is l. l
           | false ↦ λ is l.
-              subst (λ (s : Option State). Leads key (state_of key before) (events_for at ledger items) s)
-              (untold_stays key items are is) l
-        ] refl leads
+              subst
+              (λ (m : Option Machine).
+              Leads key (known_with key ledger before) (events_for at ledger items)
+              (known_of ms (causes_of key last) m)) (untold_stays key items are is) l
+        ] refl (items_lead key at ledger items on are.each are.ascending)
 
   module _ (leaves : HearingLeavesOtherPorts) (keeps : HearingKeepsTheOrder) (start : Start) (events : List Event)
       (records : List (Record (List ℕ))) (up : IsAscending records) where
-    on_port : (item : Transition (List ℕ)) →
-        IsTransition port start events records (hearing port start events records) item → item.key.port ≡ port
+    abbrev then' : List (Record (List ℕ))
+    then' = hearing port start events records
+
+    on_port : (item : Transition (List ℕ)) → IsTransition port start events records then' item →
+        item.key.port ≡ port
     on_port item is =
-        ports_never_differ item.key.port port
+        numbers item.key.port port
         (λ differ. is.differ (is.was ∙ sym (leaves port start events records item.key up differ) ∙ sym is.is))
 
-    all_on_port : (items : Items) →
-        AllByRecursion (IsTransition port start events records (hearing port start events records)) items →
+    all_on_port : (items : Items) → AllByRecursion (IsTransition port start events records then') items →
         AllByRecursion (λ (item : Transition (List ℕ)). item.key.port ≡ port) items
     all_on_port [] each = tt
     all_on_port (item ∷ items) each = (on_port item each.0, all_on_port items each.1)
 
     -- the transitions of a message lead each machine on
-    pub changes_lead : (items : Items) →
-        AreTransitions port start events records (hearing port start events records) items → (at ledger : Ledger) →
-        LeadsAll records (events_for at ledger items) (hearing port start events records)
+    pub changes_lead : (items : Items) → AreTransitions port start events records then' items →
+        (at ledger : Ledger) →
+        LeadsAll (record { ms = ms; records = records; causes = ledger.causes }) (events_for at ledger items)
+        (record { ms = ms; records = then'; causes = (with_changes by items ledger).causes })
     changes_lead items are at ledger = record {
       ascending = keeps port start events records up;
-      each =
-          all_lead start events records (hearing port start events records) items
-          (all_on_port items are.each) are at ledger;
+      each = all_lead start events records then' items (all_on_port items are.each) are at ledger;
     }
 
 -- ---- what a packet says beside them tells nothing of machines

@@ -1,4 +1,4 @@
--- The events of a packet that a port receives lead each machine from its state before it to its state after it.
+-- The events of a packet that a port receives lead each machine from what is known of it before to what is known after.
 use Rattle.std.proofs.Common.{◌≡◌, ◌∙◌, ℕ, List, [], ◌∷◌, ◌++◌, map, length, slice_index_or, Option, None, Some, refl}
 use Rattle.std.proofs.Common.{sym, ap, subst}
 use Rattle.std.proofs.lemmas.List.{map-append}
@@ -6,6 +6,7 @@ use Rattle.pim_addr.specs.declared.family.AddressFamily.{AddressFamily}
 use Rattle.pim_addr.specs.Faults.{judged}
 use Rattle.pim_frame.specs.Frame.{Content, hello, join_prune, other, content}
 use Rattle.pim_frame.specs.declared.frame.FrameFault.{FrameFault}
+use Rattle.pim_hello.specs.Hello.{Parameters}
 use Rattle.pim_jp.specs.declared.fault.JpFault.{JpFault}
 use Rattle.pim_jp.specs.Faults.{faults as join_prune_faults}
 use Rattle.pim_jp.specs.Message.{Message, message_of}
@@ -13,7 +14,7 @@ use Rattle.pim_down.specs.declared.machine.Record.{Record}
 use Rattle.pim_down.specs.Hearing.{events_of, start_of}
 use Rattle.pim_down.specs.Known.{known_in}
 use Rattle.pim_down.specs.Laws.{KeysAreToldApart, HearingKeepsTheOrder, HearingLeavesOtherPorts}
-use Rattle.pim_down.specs.Records.{IsAscending, state_of}
+use Rattle.pim_down.specs.Records.{IsAscending}
 use Rattle.pim_router.specs.declared.verdict.Verdict.{Verdict}
 use Rattle.pim_router.specs.declared.verdict.Verdict.TheVariants as verdict
 use Rattle.pim_router.specs.declared.verdict.Malformed.TheVariants as malformed
@@ -24,13 +25,14 @@ use Rattle.pim_events.specs.Events.{Happened, Occurrence}
 use Rattle.pim_transitions.specs.declared.transition.Transition.{Transition}
 use Rattle.pim_transitions.specs.Transitions.{AreTransitions}
 use Rattle.pim_trace.specs.Heard.{event_on, greeting, judgment, all_ignored, changes_of, restarts, as_cause}
-use Rattle.pim_trace.specs.Heard.{message_says, applied_says, says, records_after, AreChangesOf, HearsPacket}
-use Rattle.pim_trace.specs.Ledger.{Ledger}
+use Rattle.pim_trace.specs.Heard.{after_own, message_says, applied_says, says, remembers, records_after, AreChangesOf}
+use Rattle.pim_trace.specs.Heard.{HearsPacket}
+use Rattle.pim_trace.specs.Ledger.{Ledger, with_changes}
 use Rattle.pim_trace.specs.Reading.{Read, as_hello, as_message, unread, message_by, message_in, read_by, hello_read}
 use Rattle.pim_trace.specs.Reading.{message_read, packet_read}
-use Rattle.pim_trace.proofs.Folding.{Quiet, AllQuiet, LeadsAll, all_on, all_quiet}
+use Rattle.pim_trace.proofs.Folding.{Quiet, AllQuiet, Place, place, LeadsAll, all_on, all_quiet}
 use Rattle.pim_trace.proofs.FoldedHearing.{changes_lead, quiet_ignored, quiet_restarts}
-use Rattle.pim_trace.proofs.Verdicts.{by_causes, applied_leaves}
+use Rattle.pim_trace.proofs.Verdicts.{by_causes, applied_leaves, packet_moment}
 
 -- ---- packets that are not applied leave the machines
 
@@ -94,78 +96,99 @@ module _ (family : AddressFamily) (packet : Packet) (state : RouterState) where
 module _ (apart : KeysAreToldApart) (keeps : HearingKeepsTheOrder) (leaves : HearingLeavesOtherPorts)
     (family : AddressFamily) (frame : ℕ) (packet : Packet) (ledger : Ledger) (state : RouterState)
     (up : IsAscending state.machines.records) where
-  abbrev records : List (Record (List ℕ))
-  records = state.machines.records
-
-  abbrev then : List (Record (List ℕ))
-  then = (received family packet state).1.machines.records
+  abbrev end : Verdict × RouterState
+  end = received family packet state
 
   abbrev events_of_all : List Happened → List Occurrence
   events_of_all whats = map (event_on ledger state.machines.moment packet.port) whats
 
-  quietly : ((received family packet state).0 ≡ verdict.Applied → message_read family packet ≡ None) →
-      (whats : List Happened) → AllQuiet whats → LeadsAll records (events_of_all whats) then
-  quietly unapplied whats quiet =
-      let same = stays family packet state unapplied in
-      all_quiet records then ledger state.machines.moment packet.port whats (subst IsAscending (sym same) up)
-      (λ key. ap (state_of key) (sym same)) quiet
+  -- The events of a packet lead on, where this is remembered afterwards.
+  abbrev LeadTo : List Happened → Ledger → Type 0
+  LeadTo whats ledger' = LeadsAll (place ledger state) (events_of_all whats) (place ledger' end.1)
+
+  quietly : (end.0 ≡ verdict.Applied → message_read family packet ≡ None) → (whats : List Happened) →
+      AllQuiet whats → (ledger' : Ledger) → ledger'.causes ≡ ledger.causes → LeadTo whats ledger'
+  quietly unapplied whats quiet ledger' same =
+      let moment = packet_moment family packet state in let records = stays family packet state unapplied in
+      subst (λ (at : Place). LeadsAll (place ledger state) (events_of_all whats) at)
+      (λ i. record { ms = sym moment i; records = sym records i; causes = sym same i })
+      (all_quiet (place ledger state) ledger state.machines.moment packet.port whats up quiet)
 
   abbrev applied_whats : Message → List (Transition (List ℕ)) → List Happened
   applied_whats message changes =
       judgment family frame packet verdict.Applied
       ∷ message_says family frame packet state ledger message.sets changes
 
+  abbrev changed_by : List (Transition (List ℕ)) → Ledger
+  changed_by changes = with_changes (as_cause frame packet state) changes ledger
+
   heard_lead : (message : Message) (changes : List (Transition (List ℕ))) →
       AreTransitions packet.port (start_of message.holdtime (timing_on packet.port state))
-      (events_of (known_in family state.routes) message) records
+      (events_of (known_in family state.routes) message) state.machines.records
       (records_after family packet.port state message) changes →
-      LeadsAll records (events_of_all (applied_whats message changes)) (records_after family packet.port state message)
+      LeadsAll (place ledger state) (events_of_all (applied_whats message changes))
+      (record {
+        ms = state.machines.moment;
+        records = records_after family packet.port state message;
+        causes = (changed_by changes).causes;
+      })
   heard_lead message changes are =
       let ignored = all_ignored frame packet.source (known_in family state.routes) message.sets in
       let first = judgment family frame packet verdict.Applied ∷ ignored in
-      let changed =
-      changes_of ledger (as_cause frame packet state) (length (neighbours_on packet.port state).entries) changes in
-      subst (λ (es : List Occurrence). LeadsAll records es (records_after family packet.port state message))
+      let neighbours = length (neighbours_on packet.port state).entries in
+      let changed = changes_of ledger (as_cause frame packet state) neighbours changes in
+      let last : Place = record {
+        ms = state.machines.moment;
+        records = records_after family packet.port state message;
+        causes = (changed_by changes).causes;
+      } in
+      subst (λ (es : List Occurrence). LeadsAll (place ledger state) es last)
       (sym (map-append (event_on ledger state.machines.moment packet.port) first changed))
-      (all_on records records (records_after family packet.port state message) (events_of_all first)
-      (events_of_all changed)
-      (all_quiet records records ledger state.machines.moment packet.port first up (λ key. refl)
+      (all_on (place ledger state) (place ledger state) last (events_of_all first) (events_of_all changed)
+      (all_quiet (place ledger state) ledger state.machines.moment packet.port first up
       ((λ key port. refl), quiet_ignored frame packet.source (known_in family state.routes) message.sets))
-      (changes_lead apart packet.port (as_cause frame packet state) state.machines.moment
-      (length (neighbours_on packet.port state).entries) leaves keeps
+      (changes_lead apart packet.port frame packet.source state.machines.moment neighbours leaves keeps
       (start_of message.holdtime (timing_on packet.port state))
-      (events_of (known_in family state.routes) message) records up changes are ledger ledger))
+      (events_of (known_in family state.routes) message) state.machines.records up changes are ledger ledger))
 
   abbrev Are : Verdict → Option Message → List (Transition (List ℕ)) → Type 0
-  Are v message changes = AreChangesOf family packet state (received family packet state).1 v message changes
+  Are v message changes = AreChangesOf family packet state end.1 v message changes
 
-  applied_lead : (received family packet state).0 ≡ verdict.Applied → (message : Option Message) →
-      message_read family packet ≡ message → (changes : List (Transition (List ℕ))) →
-      Are verdict.Applied message changes →
-      LeadsAll records
-      (events_of_all (judgment family frame packet verdict.Applied
-      ∷ applied_says family frame packet state ledger message changes)) then
+  applied_lead : end.0 ≡ verdict.Applied → (message : Option Message) → message_read family packet ≡ message →
+      (changes : List (Transition (List ℕ))) → Are verdict.Applied message changes →
+      LeadTo
+      (judgment family frame packet verdict.Applied ∷ applied_says family frame packet state ledger message changes)
+      (changed_by changes)
+  unfolding with_changes
   applied_lead is None read changes are =
       quietly (λ applied. read) (judgment family frame packet verdict.Applied ∷ []) ((λ key port. refl), tt)
+      (changed_by changes) (ap (λ items. (changed_by items).causes) are)
   applied_lead is (Some message) read changes are =
-      let left : then ≡ records_after family packet.port state message =
-      ap (λ (s : RouterState). s.machines.records)
-      (applied_leaves family packet state message (reads_as family packet state message read) is) in
-      subst (λ (rs : List (Record (List ℕ))). LeadsAll records (events_of_all (applied_whats message changes)) rs)
-      (sym left)
+      let left = applied_leaves family packet state message (reads_as family packet state message read) is in
+      let records : end.1.machines.records ≡ records_after family packet.port state message =
+      ap (λ (s : RouterState). s.machines.records) left in
+      let moment = packet_moment family packet state in
+      subst
+      (λ (at : Place). LeadsAll (place ledger state) (events_of_all (applied_whats message changes)) at)
+      (λ i. record { ms = sym moment i; records = sym records i; causes = (changed_by changes).causes })
       (heard_lead message changes
       (subst (λ (rs : List (Record (List ℕ))).
       AreTransitions packet.port (start_of message.holdtime (timing_on packet.port state))
-      (events_of (known_in family state.routes) message) records rs changes) left are))
+      (events_of (known_in family state.routes) message) state.machines.records rs changes) records are))
 
   -- another verdict than `Applied`
-  alone : (v : Verdict) → (received family packet state).0 ≡ v → (v ≡ verdict.Applied → ⊥) → (what : Happened) →
-      Quiet what → LeadsAll records (events_of_all (what ∷ [])) then
-  alone v is never what quiet = quietly (λ applied. absurd (never (sym is ∙ applied))) (what ∷ []) (quiet, tt)
+  alone : (v : Verdict) → end.0 ≡ v → (v ≡ verdict.Applied → ⊥) → (what : Happened) → Quiet what →
+      (ledger' : Ledger) → ledger'.causes ≡ ledger.causes → LeadTo (what ∷ []) ledger'
+  alone v is never what quiet ledger' same =
+      quietly (λ applied. absurd (never (sym is ∙ applied))) (what ∷ []) (quiet, tt) ledger' same
 
-  says_lead : (v : Verdict) → (received family packet state).0 ≡ v → (changes : List (Transition (List ℕ))) →
+  own_causes : (said : Option Parameters) → (after_own packet.port said ledger).causes ≡ ledger.causes
+  own_causes None = refl
+  own_causes (Some said) = refl
+
+  says_lead : (v : Verdict) → end.0 ≡ v → (changes : List (Transition (List ℕ))) →
       Are v (message_read family packet) changes →
-      LeadsAll records (events_of_all (says family frame packet state ledger v changes)) then
+      LeadTo (says family frame packet state ledger v changes) (remembers family frame packet state ledger v changes)
   says_lead verdict.Mine is changes are =
       let restarted = restarts frame (slice_index_or ledger.own packet.port None) (hello_read family packet) in
       quietly (λ applied. absurd (never_mine (sym is ∙ applied)))
@@ -173,35 +196,42 @@ module _ (apart : KeysAreToldApart) (keeps : HearingKeepsTheOrder) (leaves : Hea
         (λ key port. refl),
         quiet_restarts frame (slice_index_or ledger.own packet.port None)
             (hello_read family packet),
-      )
+      ) (after_own packet.port (hello_read family packet) ledger) (own_causes (hello_read family packet))
     where
       never_mine : verdict.Mine ≡ verdict.Applied → ⊥
       never_mine e = cc
   says_lead (verdict.Malformed fault) is changes are =
       alone (verdict.Malformed fault) is (λ e. cc) (judgment family frame packet (verdict.Malformed fault))
-      (λ key port. refl)
+      (λ key port. refl) ledger refl
   says_lead (verdict.OtherType type) is changes are =
       alone (verdict.OtherType type) is (λ e. cc) (judgment family frame packet (verdict.OtherType type))
-      (λ key port. refl)
+      (λ key port. refl) ledger refl
   says_lead (verdict.HelloTaken heard) is changes are =
       alone (verdict.HelloTaken heard) is (λ e. cc) (greeting family frame packet state heard) (λ key port. refl)
+      (remembers family frame packet state ledger (verdict.HelloTaken heard) changes) refl
   says_lead verdict.UnknownNeighbour is changes are =
       alone verdict.UnknownNeighbour is (λ e. cc) (judgment family frame packet verdict.UnknownNeighbour)
-      (λ key port. refl)
+      (λ key port. refl) ledger refl
   says_lead verdict.NotForUs is changes are =
-      alone verdict.NotForUs is (λ e. cc) (judgment family frame packet verdict.NotForUs) (λ key port. refl)
+      alone verdict.NotForUs is (λ e. cc) (judgment family frame packet verdict.NotForUs) (λ key port. refl) ledger
+      refl
   says_lead (verdict.Full full) is changes are =
       alone (verdict.Full full) is (λ e. cc) (judgment family frame packet (verdict.Full full)) (λ key port. refl)
+      ledger refl
   says_lead verdict.Applied is changes are = applied_lead is (message_read family packet) refl changes are
 
   pub packet_leads : (events : List Occurrence) (ledger' : Ledger) (after : RouterState) →
       HearsPacket family frame packet ledger state events ledger' after →
-      LeadsAll records events after.machines.records
+      LeadsAll (place ledger state) events (place ledger' after)
   packet_leads events ledger' after h =
-      let same : (received family packet state).1 ≡ after = sym h.after_is in
-      subst (λ (s : RouterState). LeadsAll records events s.machines.records) same
-      (subst (λ (es : List Occurrence). LeadsAll records es then) (sym h.events_are)
-      (says_lead (received family packet state).0 refl h.changes
+      let same : end.1 ≡ after = sym h.after_is in
+      subst (λ (s : RouterState). LeadsAll (place ledger state) events (place ledger' s)) same
+      (subst (λ (l : Ledger). LeadsAll (place ledger state) events (place l end.1)) (sym h.ledger_is)
       (subst
-      (λ (s : RouterState). AreChangesOf family packet state s (received family packet state).0
-      (message_read family packet) h.changes) h.after_is h.are)))
+      (λ (es : List Occurrence).
+      LeadsAll (place ledger state) es
+      (place (remembers family frame packet state ledger end.0 h.changes) end.1)) (sym h.events_are)
+      (says_lead end.0 refl h.changes
+      (subst
+      (λ (s : RouterState). AreChangesOf family packet state s end.0 (message_read family packet) h.changes)
+      h.after_is h.are))))

@@ -1,65 +1,127 @@
--- What lists of events tell of the states of machines, where one follows another.
-use Rattle.std.proofs.Common.{◌≡◌, ◌∙◌, ℕ, List, [], ◌∷◌, ◌++◌, map, Option, None, Some, refl, sym, ap, subst}
+-- What lists of events tell of each machine, where one follows another.
+use Rattle.std.proofs.Common.{◌≡◌, ◌∙◌, ℕ, Bool, true, false, not, ◌&&◌, if◌then◌else◌, List, [], ◌∷◌, ◌++◌, map}
+use Rattle.std.proofs.Common.{Option, None, Some, option_map, unwrap_or, refl, sym, ap, subst}
 use Rattle.std.specs.List.{AllByRecursion, flat_map}
 use Rattle.pim_down.specs.declared.key.Key.{Key}
-use Rattle.pim_down.specs.declared.machine.State.{State}
+use Rattle.pim_down.specs.declared.machine.Machine.{Machine}
 use Rattle.pim_down.specs.declared.machine.Record.{Record}
-use Rattle.pim_down.specs.Records.{IsAscending, state_of}
-use Rattle.pim_events.specs.Events.{Happened, Occurrence}
-use Rattle.pim_trace.specs.Ledger.{Ledger}
+use Rattle.pim_down.specs.declared.machine.State.{State}
+use Rattle.pim_down.specs.declared.step.Timer.{Timer}
+use Rattle.pim_down.specs.Records.{IsAscending, machine_at}
+use Rattle.pim_router.specs.State.{RouterState}
+use Rattle.pim_events.specs.declared.event.Cause.{Cause}
+use Rattle.pim_events.specs.declared.event.Fired.{Fired}
+use Rattle.pim_events.specs.declared.event.Transition.{Transition}
+use Rattle.pim_events.specs.Events.{Happened, Occurrence, machine_changed, timer_fired}
+use Rattle.pim_trace.specs.declared.ledger.Causes.{Causes}
+use Rattle.pim_trace.specs.Ledger.{Ledger, no_cause, both_by}
 use Rattle.pim_trace.specs.Heard.{event_on}
-use Rattle.pim_trace.specs.Folding.{states_by, states_told, state_then, last_told, IsUnbroken}
+use Rattle.pim_trace.specs.Passing.{cause_of}
+use Rattle.pim_trace.specs.Folding.{names, states_by, states_told}
+use Rattle.pim_trace.specs.Causing.{end_of, end_after, sets, packet_of}
+
+-- ---- what is known of a machine
+
+-- The state of a machine that is held, when its timers end, and the packets that set them.
+pub record Known : Type 0 where
+  pub state : State
+  pub ends : Timer → Option ℕ
+  pub by : Timer → Cause (List ℕ)
+
+abbrev pub knowing : ℕ → Causes (List ℕ) → Machine → Known
+knowing ms causes machine = record {
+  state = machine.state;
+  ends = λ timer. end_of timer ms (Some machine);
+  by = λ timer. cause_of timer causes;
+}
+
+abbrev pub known_of : ℕ → Causes (List ℕ) → Option Machine → Option Known
+known_of ms causes machine = option_map (knowing ms causes) machine
+
+abbrev pub state_in : Option Known → Option State
+state_in known = option_map (λ (k : Known). k.state) known
+
+abbrev pub end_in : Timer → Option Known → Option ℕ
+end_in timer None = None
+end_in timer (Some known) = known.ends timer
+
+abbrev pub by_or : Timer → Cause (List ℕ) → Option Known → Cause (List ℕ)
+by_or timer packet None = packet
+by_or timer packet (Some known) = known.by timer
+
+-- What is known after a transition at this moment.
+abbrev pub changed_known : ℕ → Transition (List ℕ) → Option Known → Option Machine → Option Known
+changed_known ms change known None = None
+changed_known ms change known (Some machine) = Some (record {
+  state = machine.state;
+  ends = λ timer. end_of timer ms (Some machine);
+  by = λ timer.
+      if sets timer ms (end_in timer known) change then packet_of ms change else by_or timer (packet_of ms change) known;
+})
+
+-- What is known after a timer fired.
+abbrev pub fired_known : Fired (List ℕ) → Known → Option State → Option Known
+fired_known firing known None = None
+fired_known firing known (Some state) = Some (record {
+  state = state;
+  ends = λ timer. end_after timer firing (known.ends timer);
+  by = known.by;
+})
+
+-- ---- one event
+
+-- An event is a transition of the machine.
+pub record Changes (key : Key (List ℕ)) (from : Option Known) (event : Occurrence) (to : Option Known) : Type 0 where
+  pub change : Transition (List ℕ)
+  pub what : event.what ≡ machine_changed change
+  pub named : names key event.port change.group change.what ≡ true
+  pub was : change.before ≡ state_in from
+  pub now : to ≡ changed_known event.ms change from change.after
+
+-- An event is a firing of the machine's timer.
+pub record Fires (key : Key (List ℕ)) (from : Option Known) (event : Occurrence) (to : Option Known) : Type 0 where
+  pub firing : Fired (List ℕ)
+  pub what : event.what ≡ timer_fired firing
+  pub named : names key event.port firing.group firing.what ≡ true
+  pub held : Known
+  pub was : from ≡ Some held
+  pub before : firing.before ≡ held.state
+  pub cause : firing.cause ≡ held.by firing.timer
+  pub now : to ≡ fired_known firing held firing.after
+
+-- An event leads from what is known to what is known then. It may also tell nothing of the machine.
+pub data LeadsBy (key : Key (List ℕ)) (from : Option Known) (event : Occurrence) (to : Option Known) : Type 0 where
+  tells_nothing : states_told key event ≡ None → to ≡ from → LeadsBy key from event to
+  tells_change : Changes key from event to → LeadsBy key from event to
+  tells_firing : Fires key from event to → LeadsBy key from event to
 
 -- ---- the parts of a list
 
 module _ (key : Key (List ℕ)) where
-  pub last_joined : (held : Option State) (xs ys : List Occurrence) →
-      last_told key held (xs ++ ys) ≡ last_told key (last_told key held xs) ys
-  unfolding last_told
-  last_joined held [] ys = refl
-  last_joined held (x ∷ xs) ys = last_joined (state_then held (states_told key x)) xs ys
+  -- The events lead the machine on.
+  unfoldable pub Leads : Option Known → List Occurrence → Option Known → Type 0
+  Leads from [] to = from ≡ to
+  Leads from (event ∷ events) to = (between : Option Known) × LeadsBy key from event between × Leads between events to
 
-  pub unbroken_joined : (held : Option State) (xs ys : List Occurrence) → IsUnbroken key held xs →
-      IsUnbroken key (last_told key held xs) ys → IsUnbroken key held (xs ++ ys)
-  unfolding last_told IsUnbroken
-  unbroken_joined held [] ys one more = more
-  unbroken_joined held (x ∷ xs) ys one more =
-      (one.0, unbroken_joined (state_then held (states_told key x)) xs ys one.1 more)
+  pub leads_nowhere : (held : Option Known) → Leads held [] held
+  unfolding Leads
+  leads_nowhere held = refl
 
-  -- The events lead the machine from one state to another.
-  pub record Leads (from : Option State) (events : List Occurrence) (to : Option State) : Type 0 where
-    pub unbroken : IsUnbroken key from events
-    pub last : last_told key from events ≡ to
-
-  pub leads_nowhere : (held : Option State) → Leads held [] held
-  unfolding last_told IsUnbroken
-  leads_nowhere held = record { unbroken = tt; last = refl }
-
-  pub leads_on : (from between to : Option State) (xs ys : List Occurrence) → Leads from xs between →
+  pub leads_on : (from between to : Option Known) (xs ys : List Occurrence) → Leads from xs between →
       Leads between ys to → Leads from (xs ++ ys) to
-  leads_on from between to xs ys one more = record {
-    unbroken =
-        unbroken_joined from xs ys one.unbroken
-        (subst (λ (s : Option State). IsUnbroken key s ys) (sym one.last) more.unbroken);
-    last = last_joined from xs ys ∙ ap (λ (s : Option State). last_told key s ys) one.last ∙ more.last;
-  }
+  unfolding Leads
+  leads_on from between to [] ys one more = subst (λ (k : Option Known). Leads k ys to) (sym one) more
+  leads_on from between to (x ∷ xs) ys (next, first, rest) more =
+      (next, first, leads_on next between to xs ys rest more)
 
-  -- an event tells nothing of the machine, or leads it on
-  pub leads_past : (from to : Option State) (x : Occurrence) (xs : List Occurrence) → states_told key x ≡ None →
+  pub leads_first : (from between to : Option Known) (x : Occurrence) (xs : List Occurrence) →
+      LeadsBy key from x between → Leads between xs to → Leads from (x ∷ xs) to
+  unfolding Leads
+  leads_first from between to x xs one more = (between, one, more)
+
+  pub leads_past : (from to : Option Known) (x : Occurrence) (xs : List Occurrence) → states_told key x ≡ None →
       Leads from xs to → Leads from (x ∷ xs) to
-  unfolding last_told IsUnbroken
-  leads_past from to x xs none more = record {
-    unbroken = rw none (tt, more.unbroken);
-    last = rw none more.last;
-  }
-
-  pub leads_first : (from between to : Option State) (x : Occurrence) (xs : List Occurrence) →
-      states_told key x ≡ Some (from, between) → Leads between xs to → Leads from (x ∷ xs) to
-  unfolding last_told IsUnbroken
-  leads_first from between to x xs told more = record {
-    unbroken = rw told (refl, more.unbroken);
-    last = rw told more.last;
-  }
+  leads_past from to x xs none more = leads_first from from to x xs (tells_nothing none refl) more
 
 -- ---- events that tell nothing of machines
 
@@ -79,41 +141,53 @@ pub quiet_flat : {A : Type 0} (f : A → List Happened) → ((x : A) → AllQuie
 quiet_flat f each [] = tt
 quiet_flat f each (x ∷ xs) = quiet_append (f x) (flat_map f xs) (each x) (quiet_flat f each xs)
 
-pub quiet_leads : (key : Key (List ℕ)) (held : Option State) (ledger : Ledger) (ms port : ℕ) (whats : List Happened) →
+pub quiet_leads : (key : Key (List ℕ)) (held : Option Known) (ledger : Ledger) (ms port : ℕ) (whats : List Happened) →
     AllQuiet whats → Leads key held (map (event_on ledger ms port) whats) held
 quiet_leads key held ledger ms port [] all = leads_nowhere key held
 quiet_leads key held ledger ms port (what ∷ whats) all =
     leads_past key held held (event_on ledger ms port what) (map (event_on ledger ms port) whats)
     (all.0 key (Some port)) (quiet_leads key held ledger ms port whats all.1)
 
--- ---- from records to records
+-- ---- from place to place in a run
 
--- The records after the events are in key order. The events lead each machine from its state before them to its
--- state after them.
-pub record LeadsAll (before : List (Record (List ℕ))) (events : List Occurrence)
-    (after : List (Record (List ℕ))) : Type 0 where
-  pub ascending : IsAscending after
-  pub each : (key : Key (List ℕ)) → Leads key (state_of key before) events (state_of key after)
+-- What the router and the trace know of all machines: the moment, the records, and the packets that set the timers.
+pub record Place : Type 0 where
+  pub ms : ℕ
+  pub records : List (Record (List ℕ))
+  pub causes : Key (List ℕ) → Option (Causes (List ℕ))
 
-pub all_nowhere : (records : List (Record (List ℕ))) → IsAscending records → LeadsAll records [] records
-all_nowhere records up = record { ascending = up; each = λ key. leads_nowhere key (state_of key records) }
+abbrev pub place : Ledger → RouterState → Place
+place ledger state =
+    record { ms = state.machines.moment; records = state.machines.records; causes = ledger.causes }
 
-pub all_on : (before between after : List (Record (List ℕ))) (xs ys : List Occurrence) → LeadsAll before xs between →
+abbrev pub causes_at : Key (List ℕ) → Place → Causes (List ℕ)
+causes_at key at = unwrap_or (at.causes key) (both_by (no_cause key.group))
+
+abbrev pub known_at : Key (List ℕ) → Place → Option Known
+known_at key at = known_of at.ms (causes_at key at) (machine_at key at.records)
+
+-- The records after the events are in key order. The events lead each machine from what is known of it before them
+-- to what is known after them.
+pub record LeadsAll (before : Place) (events : List Occurrence) (after : Place) : Type 0 where
+  pub ascending : IsAscending after.records
+  pub each : (key : Key (List ℕ)) → Leads key (known_at key before) events (known_at key after)
+
+pub all_nowhere : (at : Place) → IsAscending at.records → LeadsAll at [] at
+all_nowhere at up = record { ascending = up; each = λ key. leads_nowhere key (known_at key at) }
+
+pub all_on : (before between after : Place) (xs ys : List Occurrence) → LeadsAll before xs between →
     LeadsAll between ys after → LeadsAll before (xs ++ ys) after
 all_on before between after xs ys one more = record {
   ascending = more.ascending;
   each =
-      λ key. leads_on key (state_of key before) (state_of key between) (state_of key after) xs ys (one.each key)
+      λ key. leads_on key (known_at key before) (known_at key between) (known_at key after) xs ys (one.each key)
       (more.each key);
 }
 
--- events that tell nothing of machines, where the state of each machine stays
-pub all_quiet : (before after : List (Record (List ℕ))) (ledger : Ledger) (ms port : ℕ) (whats : List Happened) →
-    IsAscending after → ((key : Key (List ℕ)) → state_of key before ≡ state_of key after) → AllQuiet whats →
-    LeadsAll before (map (event_on ledger ms port) whats) after
-all_quiet before after ledger ms port whats up same quiet = record {
+-- events that tell nothing of machines
+pub all_quiet : (at : Place) (ledger : Ledger) (ms port : ℕ) (whats : List Happened) → IsAscending at.records →
+    AllQuiet whats → LeadsAll at (map (event_on ledger ms port) whats) at
+all_quiet at ledger ms port whats up quiet = record {
   ascending = up;
-  each =
-      λ key. subst (λ (s : Option State). Leads key (state_of key before) (map (event_on ledger ms port) whats) s)
-      (same key) (quiet_leads key (state_of key before) ledger ms port whats quiet);
+  each = λ key. quiet_leads key (known_at key at) ledger ms port whats quiet;
 }

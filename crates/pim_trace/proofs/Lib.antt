@@ -17,6 +17,7 @@ mod Underway
 mod Ending
 mod Counts
 pub mod Folding
+mod Caused
 mod Firings
 mod FoldedTime
 mod FoldedHearing

@@ -22,6 +22,7 @@ use Rattle.pim_router.specs.declared.verdict.Verdict.TheVariants as verdict
 use Rattle.pim_router.specs.Packets.{Packet, received, neighbours_on, timing_on}
 use Rattle.pim_router.specs.State.{RouterState}
 use Rattle.pim_events.specs.declared.event.Cause.{Cause}
+use Rattle.pim_events.specs.declared.event.Transition.{Transition as Change}
 use Rattle.pim_events.specs.Events.{Happened, Occurrence, hello_taken, packet_judged, machine_changed, join_ignored}
 use Rattle.pim_events.specs.Events.{own_restart}
 use Rattle.pim_transitions.specs.declared.transition.Transition.{Transition}
@@ -121,8 +122,8 @@ overridden ledger change =
     then Some (causes_of change.key ledger).pending.frame else None
 
 -- A machine that a message changed. The port has this number of neighbours.
-abbrev pub change_of : Ledger → Cause (List ℕ) → ℕ → Transition (List ℕ) → Happened
-change_of ledger packet neighbours change = machine_changed (record {
+abbrev pub change_by : Ledger → Cause (List ℕ) → ℕ → Transition (List ℕ) → Change (List ℕ)
+change_by ledger packet neighbours change = record {
   frame = packet.frame;
   from = packet.from;
   by = change.by;
@@ -132,7 +133,11 @@ change_of ledger packet neighbours change = machine_changed (record {
   after = change.after;
   neighbours = neighbours;
   overrides = overridden ledger change;
-})
+}
+
+-- What the trace says of it.
+abbrev pub change_of : Ledger → Cause (List ℕ) → ℕ → Transition (List ℕ) → Happened
+change_of ledger packet neighbours change = machine_changed (change_by ledger packet neighbours change)
 
 -- All machines that a message changed, one after the other.
 unfoldable pub changes_of : Ledger → Cause (List ℕ) → ℕ → List (Transition (List ℕ)) → List Happened

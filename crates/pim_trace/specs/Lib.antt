@@ -1,6 +1,6 @@
 -- The definitions of `pim_trace`. `Trace`, `Turn`, `Heard`, `Passing`, `Reading` and `Ledger` say what a
 -- trace is; `Telling` says what a call tells of it; `Read`, `Held`, `Kept` and `Machines` show values of the
--- code; `Underway` serves private functions only. `Folding` has the laws.
+-- code; `Underway` serves private functions only. `Folding` and `Causing` have the laws.
 pub mod Reading
 pub mod Ledger
 pub mod Machines
@@ -13,4 +13,5 @@ pub mod Read
 pub mod Kept
 pub mod Held
 pub mod Folding
+pub mod Causing
 pub mod Underway

@@ -4,12 +4,14 @@ use Rattle.std.specs.Io.KnownBytes.{Appends}
 use Rattle.std.specs.List.{flat_map}
 use Rattle.pim_device.specs.Device.{AppendsFront}
 use Rattle.pim_hello.specs.Neighbours.{Table, passed_to}
+use Rattle.pim_down.specs.declared.step.Firing.{Firing}
 use Rattle.pim_down.specs.declared.step.Timer.{Timer}
 use Rattle.pim_down.specs.declared.step.Timer.TheVariants.{PrunePending, Expiry}
 use Rattle.pim_router.specs.Happening.{Happening, timed_out, timer_fired, Happens, at_moment}
 use Rattle.pim_router.specs.Happening.{gone_of, gone_from, gone_within}
 use Rattle.pim_router.specs.State.{RouterState}
 use Rattle.pim_events.specs.declared.event.Cause.{Cause}
+use Rattle.pim_events.specs.declared.event.Fired.{Fired}
 use Rattle.pim_events.specs.Events.{Occurrence, neighbour_gone}
 use Rattle.pim_events.specs.Events as events
 use Rattle.pim_trace.specs.declared.ledger.Causes.{Causes}
@@ -22,12 +24,9 @@ abbrev pub cause_of : Timer → Causes (List ℕ) → Cause (List ℕ)
 cause_of PrunePending causes = causes.pending
 cause_of Expiry causes = causes.expiry
 
--- The event of what happens at this moment.
-abbrev pub event_of : Ledger → ℕ → Happening → Occurrence
-event_of ledger ms (timed_out port address) =
-    let sent : Sent = sent_or_none (ledger.hellos port address) in
-    event_on ledger ms port (neighbour_gone (record { neighbour = address; frame = sent.frame; ms = sent.ms }))
-event_of ledger ms (timer_fired firing) = event_on ledger ms firing.before.key.port (events.timer_fired (record {
+-- A timer that fired, with the packet that set it.
+abbrev pub fired_by : Ledger → Firing (List ℕ) → Fired (List ℕ)
+fired_by ledger firing = record {
   timer = firing.timer;
   group = firing.before.key.group;
   what = firing.before.key.what;
@@ -35,7 +34,15 @@ event_of ledger ms (timer_fired firing) = event_on ledger ms firing.before.key.p
   after = firing.after;
   echo = firing.echo;
   cause = cause_of firing.timer (causes_of firing.before.key ledger);
-}))
+}
+
+-- The event of what happens at this moment.
+abbrev pub event_of : Ledger → ℕ → Happening → Occurrence
+event_of ledger ms (timed_out port address) =
+    let sent : Sent = sent_or_none (ledger.hellos port address) in
+    event_on ledger ms port (neighbour_gone (record { neighbour = address; frame = sent.frame; ms = sent.ms }))
+event_of ledger ms (timer_fired firing) =
+    event_on ledger ms firing.before.key.port (events.timer_fired (fired_by ledger firing))
 
 -- What is remembered after it: a neighbour that timed out and a machine that ended are forgotten.
 abbrev pub after_happening : Happening → Ledger → Ledger

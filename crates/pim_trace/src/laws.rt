@@ -1,5 +1,6 @@
 //! Laws of the definitions. These functions do nothing; their clauses are the laws.
 
+ghost use Rattle.pim_trace.specs.Causing.{TraceNamesCauses, TurnsNameCauses};
 ghost use Rattle.pim_trace.specs.Folding.{EventsTellTheState, TurnsTellTheState};
 
 /// The events of a trace tell the state of each machine: from that at the start, each event leads
@@ -16,6 +17,27 @@ pub fn events_tell_the_state()
 /// The events of some first turns of a trace tell the state of each machine, too.
 pub fn turns_tell_the_state()
     ensures { TurnsTellTheState }
+{
+    pim_down::keys_are_told_apart();
+    pim_down::firing_says_more();
+    pim_down::hearing_keeps_the_order();
+    pim_down::hearing_leaves_other_ports();
+}
+
+/// The cause of each timer that fires in a trace is the packet of the last event before it that gave
+/// this timer another end, or began its machine. The events alone show it.
+pub fn trace_names_causes()
+    ensures { TraceNamesCauses }
+{
+    pim_down::keys_are_told_apart();
+    pim_down::firing_says_more();
+    pim_down::hearing_keeps_the_order();
+    pim_down::hearing_leaves_other_ports();
+}
+
+/// So it is for each timer that fires in some first turns of a trace.
+pub fn turns_name_causes()
+    ensures { TurnsNameCauses }
 {
     pim_down::keys_are_told_apart();
     pim_down::firing_says_more();

@@ -8,7 +8,8 @@
 //! was read. `specs/Ledger.antt` has it as functions, so that each of its changes is one line.
 //!
 //! Laws: the events tell the state of each machine. The first begins in its state at the start,
-//! each further one where the one before it ended, and the last ends in its state at the end.
+//! each further one where the one before it ended, and the last ends in its state at the end. They
+//! also show the cause of each timer that fires, without a ledger.
 #![tactic(auto)]
 
 mod by_machine;
@@ -23,5 +24,7 @@ mod telling;
 mod trace;
 mod turns;
 
-pub use laws::{events_tell_the_state, turns_tell_the_state};
+pub use laws::{
+    events_tell_the_state, trace_names_causes, turns_name_causes, turns_tell_the_state,
+};
 pub use trace::{TraceFault, trace_into};

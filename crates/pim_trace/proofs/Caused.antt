@@ -1,0 +1,362 @@
+-- What events that lead each machine on say of its states, and of the causes of its firings.
+use Rattle.std.proofs.Common.{◌≡◌, ◌∙◌, ℕ, Bool, true, false, not, ◌&&◌, ◌||◌, if◌then◌else◌, List, [], ◌∷◌, ◌++◌}
+use Rattle.std.proofs.Common.{Option, None, Some, is_some, unwrap_or, refl, sym, ap, subst}
+use Rattle.std.specs.Option.{option_eq}
+use Rattle.std.specs.Prelude.{nat_eq}
+use Rattle.std.proofs.lemmas.Bool.{false≢true}
+use Rattle.pim_down.specs.declared.key.Key.{Key}
+use Rattle.pim_down.specs.declared.machine.Machine.{Machine}
+use Rattle.pim_down.specs.declared.machine.State.{State}
+use Rattle.pim_down.specs.declared.step.Timer.{Timer}
+use Rattle.pim_down.specs.declared.step.Timer.TheVariants.{PrunePending, Expiry}
+use Rattle.pim_down.specs.Laws.{KeysAreToldApart}
+use Rattle.pim_down.specs.Records.{machine_at, state_of_machine, state_of}
+use Rattle.pim_router.specs.State.{RouterState}
+use Rattle.pim_events.specs.declared.event.Cause.{Cause}
+use Rattle.pim_events.specs.declared.event.Fired.{Fired}
+use Rattle.pim_events.specs.declared.event.Transition.{Transition}
+use Rattle.pim_events.specs.Events.{Happened, Occurrence, hello_taken, packet_judged, machine_changed, join_ignored}
+use Rattle.pim_events.specs.Events.{own_restart, record_skipped, neighbour_gone, timer_fired, run_ended}
+use Rattle.pim_trace.specs.declared.ledger.Causes.{Causes}
+use Rattle.pim_trace.specs.Causing.{end_of, end_after, end_then, end_by, sets, packet_of, set_by, last_of, last_set, key_of}
+use Rattle.pim_trace.specs.Causing.{last_setting, FiringsNameTheirCauses}
+use Rattle.pim_trace.specs.Folding.{names, states_by, states_told, state_then, BeginsIn, last_told, IsUnbroken, LeadOn}
+use Rattle.pim_trace.specs.Ledger.{Ledger, no_cause, both_by}
+use Rattle.pim_trace.specs.Passing.{cause_of}
+use Rattle.pim_trace.specs.Trace.{ledger_for}
+use Rattle.pim_trace.proofs.Folding.{Known, knowing, known_of, state_in, end_in, by_or, changed_known, fired_known, Changes}
+use Rattle.pim_trace.proofs.Folding.{Fires, LeadsBy, tells_nothing, tells_change, tells_firing, Leads, place, known_at}
+use Rattle.pim_trace.proofs.Folding.{LeadsAll}
+
+-- ---- states
+
+module _ (key : Key (List ℕ)) where
+  -- what an event tells of the states
+  pub record Tells (from : Option Known) (event : Occurrence) (to : Option Known) : Type 0 where
+    pub begins : BeginsIn (state_in from) (states_told key event)
+    pub ends : state_then (state_in from) (states_told key event) ≡ state_in to
+
+  tells_states : (from to : Option Known) (event : Occurrence) (before after : Option State) →
+      states_told key event ≡ Some (before, after) → before ≡ state_in from → after ≡ state_in to →
+      Tells from event to
+  tells_states from to event before after told was now = record {
+    begins = rw told was;
+    ends = rw told now;
+  }
+
+  changed_state : (ms : ℕ) (change : Transition (List ℕ)) (from : Option Known) (machine : Option Machine) →
+      state_of_machine machine ≡ state_in (changed_known ms change from machine)
+  changed_state ms change from None = refl
+  changed_state ms change from (Some machine) = refl
+
+  fired_state : (firing : Fired (List ℕ)) (held : Known) (after : Option State) →
+      after ≡ state_in (fired_known firing held after)
+  fired_state firing held None = refl
+  fired_state firing held (Some state) = refl
+
+  tells : (from to : Option Known) (event : Occurrence) → LeadsBy key from event to → Tells from event to
+  tells from to event (tells_nothing none same) = record {
+    begins = rw none tt;
+    ends = rw none (ap state_in (sym same));
+  }
+  tells from to event (tells_change c) =
+      let told : states_told key event ≡ Some (c.change.before, state_of_machine c.change.after) =
+      ap (states_by key event.port) c.what
+      ∙ ap (λ b. if b then Some (c.change.before, state_of_machine c.change.after) else None) c.named in
+      tells_states from to event c.change.before (state_of_machine c.change.after) told c.was
+      (changed_state event.ms c.change from c.change.after ∙ ap state_in (sym c.now))
+  tells from to event (tells_firing f) =
+      let told : states_told key event ≡ Some (Some f.firing.before, f.firing.after) =
+      ap (states_by key event.port) f.what
+      ∙ ap (λ b. if b then Some (Some f.firing.before, f.firing.after) else None) f.named in
+      tells_states from to event (Some f.firing.before) f.firing.after told
+      (ap Some f.before ∙ ap state_in (sym f.was))
+      (fired_state f.firing f.held f.firing.after ∙ ap state_in (sym f.now))
+
+  unbroken : (from to : Option Known) (events : List Occurrence) → Leads key from events to →
+      IsUnbroken key (state_in from) events × (last_told key (state_in from) events ≡ state_in to)
+  unfolding Leads IsUnbroken last_told
+  unbroken from to [] leads = (tt, ap state_in leads)
+  unbroken from to (event ∷ events) (between, one, more) =
+      let t = tells from between event one in let rest = unbroken between to events more in
+      subst
+      (λ (s : Option State).
+      (BeginsIn (state_in from) (states_told key event) × IsUnbroken key s events)
+      × (last_told key s events ≡ state_in to)) (sym t.ends) ((t.begins, rest.0), rest.1)
+
+known_state : (ms : ℕ) (causes : Causes (List ℕ)) (machine : Option Machine) →
+    state_in (known_of ms causes machine) ≡ state_of_machine machine
+known_state ms causes None = refl
+known_state ms causes (Some machine) = refl
+
+pub leading : (ledger ledger' : Ledger) (state after : RouterState) (events : List Occurrence) →
+    LeadsAll (place ledger state) events (place ledger' after) → LeadOn state events after
+leading ledger ledger' state after events leads key =
+    let both = unbroken key (known_at key (place ledger state)) (known_at key (place ledger' after)) events
+    (leads.each key) in
+    let before = known_state state.machines.moment _ (machine_at key state.machines.records) in
+    let then' = known_state after.machines.moment _ (machine_at key after.machines.records) in (
+      subst (λ (s : Option State). IsUnbroken key s events) before both.0,
+      subst (λ (s : Option State). last_told key s events ≡ state_of key after.machines.records) before
+          (both.1 ∙ then'),
+    )
+
+-- ---- causes
+
+all_last : (a b c : Option (Cause (List ℕ))) → last_of a (last_of b c) ≡ last_of (last_of a b) c
+all_last a b None = refl
+all_last a b (Some c) = refl
+
+-- `Is` relates the last packet that set a timer, if any, to the cause of its firing.
+module _ (Is : Option (Cause (List ℕ)) → Cause (List ℕ) → Type 0)
+    (itself : (packet : Cause (List ℕ)) → Is (Some packet) packet) (key : Key (List ℕ)) (timer : Timer) where
+  -- of a machine that is held, this packet set the timer last
+  abbrev Set : Option Known → Option (Cause (List ℕ)) → Type 0
+  Set known since = (held : Known) → known ≡ Some held → Is since (held.by timer)
+
+  pub record Sets (from : Option Known) (event : Occurrence) (to : Option Known) (since : Option (Cause (List ℕ))) :
+      Type 0 where
+    pub ends : end_then timer key (end_in timer from) event ≡ end_in timer to
+    pub by : Set to (last_of since (set_by timer key (end_in timer from) event.ms event.port event.what))
+
+  same_known : (a b : Known) → ◌≡◌ {A = Option Known} (Some a) (Some b) → a ≡ b
+  same_known a b e = cc
+
+  no_known : (a : Known) → ◌≡◌ {A = Option Known} None (Some a) → ⊥
+  no_known a e = cc
+
+  -- a transition
+  changed_end : (ms : ℕ) (change : Transition (List ℕ)) (from : Option Known) (machine : Option Machine) →
+      end_of timer ms machine ≡ end_in timer (changed_known ms change from machine)
+  changed_end ms change from None = refl
+  changed_end ms change from (Some machine) = refl
+
+  changed_set : (ms : ℕ) (change : Transition (List ℕ)) (from : Option Known) (since : Option (Cause (List ℕ))) →
+      change.before ≡ state_in from → Set from since → (b : Bool) → sets timer ms (end_in timer from) change ≡ b →
+      Is (last_of since (if b then Some (packet_of ms change) else None))
+      (if b then packet_of ms change else by_or timer (packet_of ms change) from)
+  changed_set ms change from since was set true is = itself (packet_of ms change)
+  changed_set ms change (Some held) since was set false is = set held refl
+  changed_set ms change None since was set false is = absurd (false≢true (sym is ∙ begins))
+    where
+      begins : sets timer ms None change ≡ true
+      begins = rw was refl
+
+  change_sets : (ms : ℕ) (change : Transition (List ℕ)) (from : Option Known) (since : Option (Cause (List ℕ))) →
+      change.before ≡ state_in from → Set from since → (machine : Option Machine) →
+      Set (changed_known ms change from machine)
+      (last_of since (if sets timer ms (end_in timer from) change then Some (packet_of ms change) else None))
+  change_sets ms change from since was set None held e = absurd (no_known held e)
+  change_sets ms change from since was set (Some machine) held e =
+      subst
+      (λ (k : Known).
+      Is (last_of since (if sets timer ms (end_in timer from) change then Some (packet_of ms change) else None))
+      (k.by timer)) (same_known _ held e) (changed_set ms change from since was set _ refl)
+
+  -- a firing
+  fired_end : (firing : Fired (List ℕ)) (held : Known) (after : Option State) → firing.after ≡ after →
+      end_after timer firing (held.ends timer) ≡ end_in timer (fired_known firing held after)
+  fired_end firing held None is = rw is refl
+  fired_end firing held (Some state) is = refl
+
+  fired_set : (firing : Fired (List ℕ)) (held : Known) (since : Option (Cause (List ℕ))) → Set (Some held) since →
+      (after : Option State) → Set (fired_known firing held after) since
+  fired_set firing held since set None other e = absurd (no_known other e)
+  fired_set firing held since set (Some state) other e =
+      subst (λ (k : Known). Is since (k.by timer)) (same_known _ other e) (set held refl)
+
+  -- an event that tells nothing of the machine
+  abbrev Told : Type 0
+  Told = Option (Option State × Option State)
+
+  abbrev told_if : Bool → Option State × Option State → Told
+  told_if b states = if b then Some states else None
+
+  nothing_by : (held : Option ℕ) (ms : ℕ) (port : Option ℕ) (what : Happened) → states_by key port what ≡ None →
+      (end_by timer key held ms port what ≡ held) × (set_by timer key held ms port what ≡ None)
+  nothing_by held ms port (machine_changed change) none =
+      unnamed (names key port change.group change.what) none
+    where
+      unnamed : (b : Bool) → told_if b (change.before, state_of_machine change.after) ≡ None →
+          ((if b then end_of timer ms change.after else held) ≡ held)
+          × ((if b && sets timer ms held change then Some (packet_of ms change) else None) ≡ None)
+      unnamed true e = absurd cc
+      unnamed false e = (refl, refl)
+  nothing_by held ms port (timer_fired firing) none =
+      unnamed (names key port firing.group firing.what) none
+    where
+      unnamed : (b : Bool) → told_if b (Some firing.before, firing.after) ≡ None →
+          ((if b then end_after timer firing held else held) ≡ held) × ◌≡◌ {A = Option (Cause (List ℕ))} None None
+      unnamed true e = absurd cc
+      unnamed false e = (refl, refl)
+  nothing_by held ms port (hello_taken hello) none = (refl, refl)
+  nothing_by held ms port (packet_judged packet) none = (refl, refl)
+  nothing_by held ms port (join_ignored entry) none = (refl, refl)
+  nothing_by held ms port (own_restart restart) none = (refl, refl)
+  nothing_by held ms port (record_skipped skipped) none = (refl, refl)
+  nothing_by held ms port (neighbour_gone over) none = (refl, refl)
+  nothing_by held ms port (run_ended ending) none = (refl, refl)
+
+  sets_on : (from to : Option Known) (event : Occurrence) (since : Option (Cause (List ℕ))) →
+      LeadsBy key from event to → Set from since → Sets from event to since
+  sets_on from to event since (tells_nothing none same) set =
+      let n = nothing_by (end_in timer from) event.ms event.port event.what none in record {
+        ends = n.0 ∙ ap (end_in timer) (sym same);
+        by =
+            subst (λ (o : Option (Cause (List ℕ))). Set to (last_of since o)) (sym n.1)
+            (subst (λ (k : Option Known). Set k since) (sym same) set);
+      }
+  sets_on from to event since (tells_change c) set =
+      let held = end_in timer from in
+      let by : set_by timer key held event.ms event.port event.what
+      ≡ (if sets timer event.ms held c.change then Some (packet_of event.ms c.change) else None) =
+      ap (set_by timer key held event.ms event.port) c.what
+      ∙ ap (λ b. if b && sets timer event.ms held c.change then Some (packet_of event.ms c.change) else None) c.named in
+      record {
+        ends =
+            ap (end_by timer key held event.ms event.port) c.what
+            ∙ ap (λ b. if b then end_of timer event.ms c.change.after else held) c.named
+            ∙ changed_end event.ms c.change from c.change.after ∙ ap (end_in timer) (sym c.now);
+        by =
+            subst (λ (o : Option (Cause (List ℕ))). Set to (last_of since o)) (sym by)
+            (subst
+            (λ (k : Option Known).
+            Set k (last_of since
+            (if sets timer event.ms held c.change then Some (packet_of event.ms c.change) else None))) (sym c.now)
+            (change_sets event.ms c.change from since c.was set c.change.after));
+      }
+  sets_on from to event since (tells_firing f) set =
+      let held = end_in timer from in record {
+        ends =
+            ap (end_by timer key held event.ms event.port) f.what
+            ∙ ap (λ b. if b then end_after timer f.firing held else held) f.named
+            ∙ ap (λ (k : Option Known). end_after timer f.firing (end_in timer k)) f.was
+            ∙ fired_end f.firing f.held f.firing.after refl ∙ ap (end_in timer) (sym f.now);
+        by =
+            subst (λ (o : Option (Cause (List ℕ))). Set to (last_of since o))
+            (sym (ap (set_by timer key held event.ms event.port) f.what))
+            (subst (λ (k : Option Known). Set k since) (sym f.now)
+            (fired_set f.firing f.held since
+            (subst (λ (k : Option Known). Set k since) f.was set) f.firing.after));
+      }
+
+  -- the packet that set the timer last before it fired
+  same_firing : (a b : Fired (List ℕ)) → timer_fired a ≡ timer_fired b → a ≡ b
+  same_firing a b e = cc
+
+  not_changed : (change : Transition (List ℕ)) (firing : Fired (List ℕ)) → machine_changed change ≡ timer_fired firing → ⊥
+  not_changed change firing e = cc
+
+  no_states : (states : Option State × Option State) →
+      ◌≡◌ {A = Option (Option State × Option State)} (Some states) None → ⊥
+  no_states states e = cc
+
+  fired_now : (from to : Option Known) (event : Occurrence) (since : Option (Cause (List ℕ))) → Set from since →
+      LeadsBy key from event to → (firing : Fired (List ℕ)) → event.what ≡ timer_fired firing →
+      names key event.port firing.group firing.what ≡ true → firing.timer ≡ timer → Is since firing.cause
+  fired_now from to event since set (tells_nothing none same) firing what named is =
+      absurd (no_states (Some firing.before, firing.after)
+      (sym (ap (states_by key event.port) what
+      ∙ ap (λ b. if b then Some (Some firing.before, firing.after) else None) named) ∙ none))
+  fired_now from to event since set (tells_change c) firing what named is =
+      absurd (not_changed c.change firing (sym c.what ∙ what))
+  fired_now from to event since set (tells_firing f) firing what named is =
+      let same : f.firing ≡ firing = same_firing f.firing firing (sym f.what ∙ what) in
+      let timers : f.firing.timer ≡ timer = ap (λ (x : Fired (List ℕ)). x.timer) same ∙ is in
+      subst (Is since)
+      (sym (ap f.held.by timers) ∙ sym f.cause ∙ ap (λ (x : Fired (List ℕ)). x.cause) same) (set f.held f.was)
+
+  no_event : (event : Occurrence) (events : List Occurrence) → ◌≡◌ {A = List Occurrence} [] (event ∷ events) → ⊥
+  no_event event events e = cc
+
+  same_first : (a b : Occurrence) (xs ys : List Occurrence) → a ∷ xs ≡ b ∷ ys → (a ≡ b) × (xs ≡ ys)
+  same_first a b xs ys e = (cc, cc)
+
+  pub cause_is : (earlier later events : List Occurrence) (from to : Option Known) (since : Option (Cause (List ℕ)))
+      (event : Occurrence) (firing : Fired (List ℕ)) → Set from since → Leads key from events to →
+      events ≡ earlier ++ event ∷ later → event.what ≡ timer_fired firing →
+      names key event.port firing.group firing.what ≡ true → firing.timer ≡ timer →
+      Is (last_of since (last_set timer key (end_in timer from) earlier)) firing.cause
+  unfolding Leads last_set
+  cause_is [] later [] from to since event firing set leads e what named is = absurd (no_event event later e)
+  cause_is (x ∷ xs) later [] from to since event firing set leads e what named is =
+      absurd (no_event x (xs ++ event ∷ later) e)
+  cause_is [] later (first ∷ more) from to since event firing set (between, one, rest) e what named is =
+      let same = (same_first first event more later e).0 in
+      fired_now from between first since set one firing (ap (λ (o : Occurrence). o.what) same ∙ what)
+      (ap (λ (o : Occurrence). names key o.port firing.group firing.what) same ∙ named) is
+  cause_is (x ∷ xs) later (first ∷ more) from to since event firing set (between, one, rest) e what named is =
+      let same = same_first first x more (xs ++ event ∷ later) e in
+      let s = sets_on from between first since one set in let held = end_in timer from in
+      let by = set_by timer key held first.ms first.port first.what in
+      let now =
+      cause_is xs later more between to (last_of since by) event firing s.by rest same.1 what named is in
+      subst (λ (o : Occurrence). Is (last_of since (last_set timer key held (o ∷ xs))) firing.cause) same.0
+      (subst (λ (o : Option (Cause (List ℕ))). Is o firing.cause)
+      (sym (all_last since by (last_set timer key (end_then timer key held first) xs)))
+      (subst
+      (λ (end : Option ℕ). Is (last_of (last_of since by) (last_set timer key end xs)) firing.cause) (sym s.ends) now))
+
+-- ---- from the start of a run
+
+last_only : (o : Option (Cause (List ℕ))) → last_of None o ≡ o
+last_only None = refl
+last_only (Some packet) = refl
+
+known_end : (timer : Timer) (ms : ℕ) (causes : Causes (List ℕ)) (machine : Option Machine) →
+    end_in timer (known_of ms causes machine) ≡ end_of timer ms machine
+known_end timer ms causes None = refl
+known_end timer ms causes (Some machine) = refl
+
+no_packet : (timer : Timer) (group : List ℕ) (ms : ℕ) (machine : Option Machine) (held : Known) →
+    known_of ms (both_by (no_cause group)) machine ≡ Some held → held.by timer ≡ no_cause group
+no_packet timer group ms None held e = absurd cc
+no_packet timer group ms (Some machine) held e =
+    ap (λ (o : Option Known). by_or timer (no_cause group) o) (sym e) ∙ both timer
+  where
+    both : (timer : Timer) → cause_of timer (both_by (no_cause group)) ≡ no_cause group
+    both Expiry = refl
+    both PrunePending = refl
+
+pub naming : KeysAreToldApart → (state : RouterState) (ledger : Ledger) (after : RouterState)
+    (events : List Occurrence) → LeadsAll (place (ledger_for state) state) events (place ledger after) →
+    FiringsNameTheirCauses state events
+unfolding machine_at
+naming apart state ledger after events leads earlier later event port firing e on what = (
+  subst (λ (o : Option (Cause (List ℕ))). firing.cause ≡ unwrap_or o (no_cause firing.group)) last
+      (cause_is (λ o packet. packet ≡ unwrap_or o (no_cause firing.group)) (λ packet. refl) key firing.timer earlier
+      later events from to None event firing
+      (λ held is. no_packet firing.timer firing.group state.machines.moment machine held is) (leads.each key) e what
+      named refl),
+  λ none. subst (λ (o : Option (Cause (List ℕ))). o ≡ Some firing.cause) last
+      (cause_is (λ o packet. o ≡ Some packet) (λ packet. refl) key firing.timer earlier later events from to None
+      event firing (λ held is. absurd (unheld none held is)) (leads.each key) e what named refl),
+)
+  where
+    key : Key (List ℕ)
+    key = key_of port firing
+
+    machine : Option Machine
+    machine = machine_at key state.machines.records
+
+    from : Option Known
+    from = known_at key (place (ledger_for state) state)
+
+    to : Option Known
+    to = known_at key (place ledger after)
+
+    named : names key event.port firing.group firing.what ≡ true
+    named = ap (λ (o : Option ℕ). names key o firing.group firing.what) on ∙ (apart key key).1.1 refl
+
+    last : last_of None (last_set firing.timer key (end_in firing.timer from) earlier)
+        ≡ last_setting state port firing earlier
+    last = last_only (last_set firing.timer key (end_in firing.timer from) earlier)
+        ∙ ap (λ (end : Option ℕ). last_set firing.timer key end earlier)
+        (known_end firing.timer state.machines.moment (both_by (no_cause key.group)) machine)
+
+    unheld : state.machines.records ≡ [] → (held : Known) → from ≡ Some held → ⊥
+    unheld none held is = absurd (no_held held (sym (ap
+        (λ rs. known_of state.machines.moment (both_by (no_cause key.group)) (machine_at key rs)) none) ∙ is))
+      where
+        no_held : (held : Known) → ◌≡◌ {A = Option Known} None (Some held) → ⊥
+        no_held held e = cc

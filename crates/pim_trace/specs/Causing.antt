@@ -1,0 +1,121 @@
+-- The cause of each timer that fires, as the events before it show it: the packet of the last transition that set
+-- the timer. Nothing is remembered for it; what ends when is read from the events.
+use Rattle.std.specs.Prelude.{◌≡◌, ℕ, ◌+◌, nat_eq, Bool, true, false, not, ◌&&◌, ◌||◌, if◌then◌else◌, List, [], ◌∷◌}
+use Rattle.std.specs.Prelude.{◌++◌, Option, None, Some, is_some, option_map, unwrap_or}
+use Rattle.std.specs.Option.{option_eq}
+use Rattle.pim_addr.specs.declared.family.AddressFamily.{AddressFamily}
+use Rattle.pim_merge.specs.declared.end.End.{End}
+use Rattle.pim_merge.specs.Merge.{Taken}
+use Rattle.pim_merge.specs.Next.{MergeState}
+use Rattle.pim_down.specs.declared.key.Key.{Key}
+use Rattle.pim_down.specs.declared.machine.Machine.{Machine}
+use Rattle.pim_down.specs.declared.step.Timer.{Timer}
+use Rattle.pim_down.specs.declared.step.Timer.TheVariants.{PrunePending, Expiry}
+use Rattle.pim_down.specs.Records.{IsAscending, machine_at}
+use Rattle.pim_router.specs.State.{RouterState}
+use Rattle.pim_events.specs.declared.event.Cause.{Cause}
+use Rattle.pim_events.specs.declared.event.Fired.{Fired}
+use Rattle.pim_events.specs.declared.event.Transition.{Transition}
+use Rattle.pim_events.specs.Events.{Happened, Occurrence, machine_changed, timer_fired}
+use Rattle.pim_trace.specs.Ledger.{Ledger, no_cause, pending_left}
+use Rattle.pim_trace.specs.Folding.{names}
+use Rattle.pim_trace.specs.Trace.{TellsTurns, IsTrace, ledger_for}
+
+-- ---- when a timer ends
+
+-- The time left on this timer of a machine; none if it doesn't run or never ends.
+abbrev pub time_left : Timer → Option Machine → Option ℕ
+time_left timer None = None
+time_left Expiry (Some machine) = machine.expires_in
+time_left PrunePending (Some machine) = pending_left machine.pending
+
+-- The moment at which this timer of a machine ends, where `ms` is the present moment.
+abbrev pub end_of : Timer → ℕ → Option Machine → Option ℕ
+end_of timer ms machine = option_map (λ left. ms + left) (time_left timer machine)
+
+-- They are the same timer.
+abbrev pub same_timer : Timer → Timer → Bool
+same_timer Expiry Expiry = true
+same_timer PrunePending PrunePending = true
+same_timer timer other = false
+
+-- The end of a timer after one of the machine's timers fired, where it was `held`. The timer that fired runs no more,
+-- and a machine that ended has no timer.
+abbrev pub end_after : Timer → Fired (List ℕ) → Option ℕ → Option ℕ
+end_after timer firing held = if is_some firing.after && not (same_timer timer firing.timer) then held else None
+
+-- The end of a timer after what happened on a port, where it was `held`.
+abbrev pub end_by : Timer → Key (List ℕ) → Option ℕ → ℕ → Option ℕ → Happened → Option ℕ
+end_by timer key held ms port (machine_changed change) =
+    if names key port change.group change.what then end_of timer ms change.after else held
+end_by timer key held ms port (timer_fired firing) =
+    if names key port firing.group firing.what then end_after timer firing held else held
+end_by timer key held ms port other = held
+
+-- The end of a timer after an event.
+abbrev pub end_then : Timer → Key (List ℕ) → Option ℕ → Occurrence → Option ℕ
+end_then timer key held event = end_by timer key held event.ms event.port event.what
+
+-- ---- which packet set a timer
+
+-- A transition at this moment begins the machine, or gives the timer another end than `held`.
+abbrev pub sets : Timer → ℕ → Option ℕ → Transition (List ℕ) → Bool
+sets timer ms held change = not (is_some change.before) || not (option_eq nat_eq held (end_of timer ms change.after))
+
+-- The packet of a transition at this moment.
+abbrev pub packet_of : ℕ → Transition (List ℕ) → Cause (List ℕ)
+packet_of ms change = record { frame = change.frame; from = change.from; ms = ms }
+
+-- The packet of what happened on a port, if it set the timer.
+abbrev pub set_by : Timer → Key (List ℕ) → Option ℕ → ℕ → Option ℕ → Happened → Option (Cause (List ℕ))
+set_by timer key held ms port (machine_changed change) =
+    if names key port change.group change.what && sets timer ms held change then Some (packet_of ms change) else None
+set_by timer key held ms port other = None
+
+-- The later of two packets, if there is one, else the earlier.
+abbrev pub last_of : Option (Cause (List ℕ)) → Option (Cause (List ℕ)) → Option (Cause (List ℕ))
+last_of earlier None = earlier
+last_of earlier (Some later) = Some later
+
+-- The packet of the last event that set the timer, which ended at `held` before all of them. `None`: none set it.
+unfoldable pub last_set : Timer → Key (List ℕ) → Option ℕ → List Occurrence → Option (Cause (List ℕ))
+last_set timer key held [] = None
+last_set timer key held (event ∷ events) =
+    last_of (set_by timer key held event.ms event.port event.what)
+    (last_set timer key (end_then timer key held event) events)
+
+-- ---- the laws
+
+-- The machine whose timer fired on a port.
+abbrev pub key_of : ℕ → Fired (List ℕ) → Key (List ℕ)
+key_of port firing = record { port = port; group = firing.group; what = firing.what }
+
+-- The packet of the last of these events that set the timer which then fired on a port. The router was in this state
+-- before them.
+abbrev pub last_setting : RouterState → ℕ → Fired (List ℕ) → List Occurrence → Option (Cause (List ℕ))
+last_setting state port firing events =
+    let key : Key (List ℕ) = key_of port firing in
+    last_set firing.timer key (end_of firing.timer state.machines.moment (machine_at key state.machines.records)) events
+
+-- The cause of each firing is the packet of the last event before it that set the timer. Where the machine was held
+-- at the start, and no event set its timer since, the cause is no packet.
+abbrev pub FiringsNameTheirCauses : RouterState → List Occurrence → Type 0
+FiringsNameTheirCauses state events =
+    (earlier later : List Occurrence) (event : Occurrence) (port : ℕ) (firing : Fired (List ℕ)) →
+    events ≡ earlier ++ event ∷ later → event.port ≡ Some port → event.what ≡ timer_fired firing →
+    (firing.cause ≡ unwrap_or (last_setting state port firing earlier) (no_cause firing.group))
+    × (state.machines.records ≡ [] → last_setting state port firing earlier ≡ Some firing.cause)
+
+-- The firings of a trace name their causes.
+abbrev pub TraceNamesCauses : Type 0
+TraceNamesCauses =
+    (family : AddressFamily) (end : End) (merge : MergeState) (state : RouterState) (events : List Occurrence)
+    (after : RouterState) → IsAscending state.machines.records → IsTrace family end merge state events after →
+    FiringsNameTheirCauses state events
+
+-- So do those of some first turns, such as those before a fault of a capture.
+abbrev pub TurnsNameCauses : Type 0
+TurnsNameCauses =
+    (family : AddressFamily) (turns : List Taken) (state : RouterState) (events : List Occurrence) (ledger : Ledger)
+    (after : RouterState) → IsAscending state.machines.records →
+    TellsTurns family turns (ledger_for state) state events ledger after → FiringsNameTheirCauses state events
