@@ -9,7 +9,6 @@ pub mod Joined
 pub mod Kept
 pub mod LeftOver
 pub mod Moves
-pub mod Orders
 pub mod Seeking
 pub mod Starts
 pub mod Walking

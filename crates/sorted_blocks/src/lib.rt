@@ -30,6 +30,6 @@ mod walk;
 
 pub use blocks::Blocks;
 pub use items::Items;
-pub use laws::{gap_keeps_the_order, item_has_a_place, place_is_within, removal_keeps_the_order};
+pub use laws::{item_has_a_place, place_is_within};
 pub use place::Place;
 pub use probe::Probe;
