@@ -29,12 +29,7 @@ fn one_if_less<T: Copy, P: Probe<T>>(probe: &P, row: &[T], at: usize) -> usize
 
 /// Returns the place in a row of an item that compares equal, or a gap, by halves from `low` up to
 /// `high`. The item before `low` is less and the one at `high` is greater, where they are there.
-fn seek<T: Copy, P: Probe<T>>(
-    probe: &P,
-    row: &[T],
-    low: usize,
-    high: usize,
-) -> Result<usize, usize>
+fn seek<T: Copy, P: Probe<T>>(probe: &P, row: &[T], low: usize, high: usize) -> Result<usize, usize>
     requires can { All (P.can_compare probe.now) row.now }
     requires low { low ≤ high }
     requires high { high ≤ length row.now }
