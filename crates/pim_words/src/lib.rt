@@ -16,8 +16,8 @@
 //! `clap` finds the options and checks the ranges of numbers, so its faults come first. This crate
 //! sets the defaults itself, since `clap` promises defaults for its top command only. It refuses
 //! `--after` beside `--at` itself, since `clap`'s definition covers no options in conflict. It also
-//! judges the value of `--time`: the rule of an option with a list of values holds the list's place
-//! in memory, so no constant command line has such a rule.
+//! judges the value of `--time`. A rule with a list of values holds the list's place in memory, so
+//! no constant command line has such a rule.
 //!
 //! `given_table` makes the route table of an RP and an upstream neighbour. Both must be valid
 //! sources, as those of a plan are.

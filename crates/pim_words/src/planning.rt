@@ -160,8 +160,8 @@ fn plan_by<'a, S: AsStr>(
 /// - `TwoEnds`: both `--after` and `--at` are given.
 /// - `Address` of an option, in the order of the options in help.
 /// - `Word` of the value of `--at`.
-/// - Of a trace: `Word` of the value of `--from`; `Address` and `Word` of the values of `--group`,
-///   in their order, then of those of `--source`; `Word` of the value of `--time`.
+/// - Of a trace: `Word` of the value of `--from`. `Address` and `Word` of the values of `--group`,
+///   in their order. The same of those of `--source`. `Word` of the value of `--time`.
 /// - `Word` and `Address` of the words, in their order.
 /// - `Family`.
 /// - `NoPort` of router a, then of b, in a command with two routers.
