@@ -1,14 +1,12 @@
 -- A Join(*,G) that comes again within a message: which (S,G,rpt) machines it leaves as they are.
-use Rattle.std.proofs.Common.{◌≡◌, ℕ, zero, suc, ◌+◌, ◌<◌, ◌≤◌, Bool, true, false, cond, ◌&&◌, ◌||◌, not, ◌⊎◌, inl, inr, List, [], ◌∷◌, ◌++◌, Option, Some, None, length, map, take, drop, get_or, set, eqb, ltb, refl, sym, ap, subst, ◌∙◌, arith}
+use Rattle.std.proofs.Common.{◌≡◌, ℕ, zero, suc, ◌+◌, ◌<◌, Bool, true, false, cond, ◌&&◌, ◌||◌, ◌⊎◌, inl, inr, List, [], ◌∷◌, ◌++◌, Option, Some, None, length, map, drop, get_or, eqb, refl, sym, ap, subst, ◌∙◌, arith}
 use Rattle.std.specs.Cmp.Lexicographic.{pointwise, same_text}
 use Rattle.std.specs.List.{list_any}
-use Rattle.std.proofs.lemmas.Bool.{false≢true, eq-eqb, ltb-true, ltb-false}
-use Rattle.std.proofs.lemmas.List.{take-append-drop, take_more, drop_more, drop_all, drop-append-le, length-take, get_or-take, get_or-set_other}
+use Rattle.std.proofs.lemmas.Bool.{false≢true, eq-eqb}
+use Rattle.std.proofs.lemmas.List.{take-append-drop}
 use Rattle.pim_jp.specs.declared.entry.Entry.{Entry}
 use Rattle.pim_jp.specs.declared.entry.Entry.TheVariants as entry
 use Rattle.pim_jp.specs.Message.{GroupSet}
-use Rattle.pim_jp.specs.Seen.{entry_seen}
-use Rattle.pim_down.specs.declared.again.Stars.{Stars}
 use Rattle.pim_down.specs.declared.key.What.{What}
 use Rattle.pim_down.specs.declared.key.What.TheVariants.{Star, Source, Rpt}
 use Rattle.pim_down.specs.declared.key.Key.{Key}
@@ -19,16 +17,16 @@ use Rattle.pim_down.specs.declared.machine.Record.{Record}
 use Rattle.pim_down.specs.Key.{same_key}
 use Rattle.pim_down.specs.Tables.{Start, on_star_join, star_join_in}
 use Rattle.pim_down.specs.Records.{IsAscending, machine_at, changed, each_changed}
-use Rattle.pim_down.specs.Hearing.{Event, is_known, entry_events, list_events, is_rpt, is_star, is_star_join, is_rpt_on, is_rpt_of, on_own, on_rpts, key_of, effect, effects, act, act_all}
+use Rattle.pim_down.specs.Hearing.{Event, is_rpt, is_star, is_star_join, is_rpt_on, is_rpt_of, on_own, on_rpts, key_of, effect, act}
 use Rattle.pim_down.specs.Ordered.{entry_of_what, entry_named, StayButNamed}
 use Rattle.pim_down.specs.Places.{WouldStandAt}
 use Rattle.pim_down.specs.Running.{is_group_of, AreOverIn}
 use Rattle.pim_down.specs.Seen.{what_seen}
-use Rattle.pim_down.specs.Stars.{Stays, StayBut, AllStay, rpt_key, is_prune_of, is_pruned_by, is_pruned_in, AreMarked, AreFewer}
+use Rattle.pim_down.specs.Stars.{Stays, StayBut, AllStay, rpt_key, is_prune_of, is_pruned_by}
 use Rattle.pim_down.proofs.Order.{same_keys, same_back}
 use Rattle.pim_down.proofs.Map.{IsAscending-changed, IsAscending-each_changed, at_changed, at_other_changed, at_each_changed}
 use Rattle.pim_down.proofs.OneList.{one_list}
-use Rattle.pim_down.proofs.Act.{at_act, at_all}
+use Rattle.pim_down.proofs.Act.{at_act}
 use Rattle.pim_down.proofs.Rpts.{itself}
 
 -- ---- truth
@@ -113,46 +111,10 @@ effect_met port start event key held star is = by (same_key (key_of port event) 
     by true e = own event.joins event.what star (ap (λ (k : Key (List ℕ)). is_rpt k.what) (same_keys (key_of port event) key e) ∙ rpt_of port event.group key is)
     by false e = other (is_star_join event) (is_rpt_of port event.group key) star is
 
--- ---- an event of a joined list
-
 module _ (port : ℕ) (start : Start) (event : Event) (records : List (Record (List ℕ))) (ascending : IsAscending records) where
-  stay_act : (group : List ℕ) (but : Key (List ℕ) → Bool) → event.joins ≡ true → StayBut port group but records → StayBut port group but (act port start event records)
-  stay_act group but joins stay key is out =
-      subst Stays (sym (at_act port start event records ascending key))
-      (effect_stays port start event key (machine_at key records) (rpt_of port group key is) (λ f. absurd (false≢true (sym f ∙ joins))) (stay key is out))
-
   met_act : is_star_join event ≡ true → AllStay port event.group (act port start event records)
   met_act star key is out =
       subst Stays (sym (at_act port start event records ascending key)) (effect_met port start event key (machine_at key records) star is)
-
-  -- the marks stay right, and with a Join(*,G) each machine of its group stays
-  pub marked_more : (sets : List GroupSet) (new : List (Record (List ℕ))) (old_stars new_stars : Stars) → new ≡ act port start event records → event.joins ≡ true → AreFewer new_stars old_stars → AreMarked port sets old_stars records → AreMarked port sets new_stars new
-  marked_more sets new old_stars new_stars is joins fewer marked i d lt mark =
-      let group = (get_or sets i d).group in
-      let before : StayBut port group (is_pruned_in port (drop i (take old_stars.gone sets))) records = marked i d (omega (arith, lt, fewer.0)) (fewer.1 i mark) in
-      let after = stay_act group (is_pruned_in port (drop i (take old_stars.gone sets))) joins before in
-      subst (λ (rs : List (Record (List ℕ))). StayBut port group (is_pruned_in port (drop i (take new_stars.gone sets))) rs) (sym is)
-      (subst (λ (n : ℕ). StayBut port group (is_pruned_in port (drop i (take n sets))) (act port start event records)) (sym fewer.0) after)
-
-  pub starred_more : (group : List ℕ) (new : List (Record (List ℕ))) (before this : Bool) → new ≡ act port start event records → event.joins ≡ true → event.group ≡ group → this ≡ is_star_join event → (before ≡ true → AllStay port group records) → (before || this) ≡ true → AllStay port group new
-  starred_more group new before this is joins same star so_far now =
-      subst (λ (rs : List (Record (List ℕ))). AllStay port group rs) (sym is) (by before so_far now)
-    where
-      by : (b : Bool) → (b ≡ true → AllStay port group records) → (b || this) ≡ true → AllStay port group (act port start event records)
-      by true all e = stay_act group (λ key. false) joins (all refl)
-      by false all e = subst (λ (g : List ℕ). AllStay port g (act port start event records)) same (met_act (sym star ∙ e))
-
--- an entry's event is of its list and of its group
-pub event_is : (known : List ℕ → Option (List ℕ)) (joins : Bool) (group : List ℕ) (this : Entry (List ℕ)) (event : Event) → event ∷ [] ≡ entry_events known joins group this → (event.joins ≡ joins) × (event.group ≡ group)
-event_is known joins group (entry.Star rp) event e = by (joins && not (is_known (known group) rp)) e
-  where
-    by : (b : Bool) → event ∷ [] ≡ cond b [] (record { joins = joins; group = group; what = Star } ∷ []) → (event.joins ≡ joins) × (event.group ≡ group)
-    by true f = absurd (let n = ap length f in omega (arith, n))
-    by false f = let same : event ≡ record { joins = joins; group = group; what = Star } = cc in (ap (λ (x : Event). x.joins) same, ap (λ (x : Event). x.group) same)
-event_is known joins group (entry.Source s) event e = let same : event ≡ record { joins = joins; group = group; what = Source s } = cc in (ap (λ (x : Event). x.joins) same, ap (λ (x : Event). x.group) same)
-event_is known joins group (entry.Rpt s) event e = let same : event ≡ record { joins = joins; group = group; what = Rpt s } = cc in (ap (λ (x : Event). x.joins) same, ap (λ (x : Event). x.group) same)
-
--- ---- a pruned list
 
 rpt_apart : (port : ℕ) (group : List ℕ) (what : What (List ℕ)) (key : Key (List ℕ)) → is_rpt what ≡ false → is_rpt key.what ≡ true → same_key (record { port = port; group = group; what = what }) key ≡ false
 rpt_apart port group what key other rpt = by (same_key (record { port = port; group = group; what = what }) key) refl
@@ -160,24 +122,6 @@ rpt_apart port group what key other rpt = by (same_key (record { port = port; gr
     by : (b : Bool) → same_key (record { port = port; group = group; what = what }) key ≡ b → same_key (record { port = port; group = group; what = what }) key ≡ false
     by false e = e
     by true e = absurd (false≢true (sym other ∙ ap (λ (k : Key (List ℕ)). is_rpt k.what) (same_keys (record { port = port; group = group; what = what }) key e) ∙ rpt))
-
-abbrev prune_event : List ℕ → What (List ℕ) → Event
-prune_event group what = record { joins = false; group = group; what = what }
-
-pruned_stays : (port : ℕ) (start : Start) (known : List ℕ → Option (List ℕ)) (group : List ℕ) (key : Key (List ℕ)) (pruned : List (Entry (List ℕ))) (held : Option Machine) → is_rpt key.what ≡ true → is_pruned_by port group pruned key ≡ false → Stays held → Stays (effects port start (list_events known false group pruned) key held)
-unfolding effects
-pruned_stays port start known group key [] held rpt none stays = stays
-pruned_stays port start known group key (entry.Star rp ∷ pruned) held rpt none stays =
-    let event = prune_event group Star in
-    pruned_stays port start known group key pruned (effect port start event key held) rpt none (effect_stays port start event key held rpt (λ j. rpt_apart port group Star key refl rpt) stays)
-pruned_stays port start known group key (entry.Source s ∷ pruned) held rpt none stays =
-    let event = prune_event group (Source s) in
-    pruned_stays port start known group key pruned (effect port start event key held) rpt none (effect_stays port start event key held rpt (λ j. rpt_apart port group (Source s) key refl rpt) stays)
-pruned_stays port start known group key (entry.Rpt s ∷ pruned) held rpt none stays =
-    let event = prune_event group (Rpt s) in
-    let this = same_key (rpt_key port group s) key in
-    let others = is_pruned_by port group pruned key in
-    pruned_stays port start known group key pruned (effect port start event key held) rpt (right_of this others none) (effect_stays port start event key held rpt (λ j. left_of this others none) stays)
 
 -- ---- an event of a list of its own
 
@@ -227,9 +171,6 @@ module _ (port : ℕ) (start : Start) (event : Event) (records : List (Record (L
 
 -- ---- a Join(*,G) at its own machine
 
-pub star_joins : (event : Event) → is_star_join event ≡ true → event.joins ≡ true
-star_joins event star = first_of event.joins (is_star event.what) star
-
 -- it leaves the (S,G,rpt) machines
 pub stay_own : (port : ℕ) (group : List ℕ) (but : Key (List ℕ) → Bool) (event : Event) (change : Option Machine → Option Machine) (records new : List (Record (List ℕ))) → is_star_join event ≡ true → new ≡ changed (key_of port event) change records → StayBut port group but records → StayBut port group but new
 stay_own port group but event change records new star is stay key in_group out =
@@ -241,47 +182,6 @@ stay_own port group but event change records new star is stay key in_group out =
     not_rpt Star e = refl
     not_rpt (Source s) e = refl
     not_rpt (Rpt s) e = absurd (false≢true e)
-
-pub marked_own : (port : ℕ) (sets : List GroupSet) (stars : Stars) (event : Event) (change : Option Machine → Option Machine) (records new : List (Record (List ℕ))) → is_star_join event ≡ true → new ≡ changed (key_of port event) change records → AreMarked port sets stars records → AreMarked port sets stars new
-marked_own port sets stars event change records new star is marked i d lt mark =
-    stay_own port (get_or sets i d).group (is_pruned_in port (drop i (take stars.gone sets))) event change records new star is (marked i d lt mark)
-
--- ---- the sets that are gone by
-
-pruned_last : (port : ℕ) (sets : List GroupSet) (this : GroupSet) (key : Key (List ℕ)) → is_pruned_in port (sets ++ this ∷ []) key ≡ false → (is_pruned_in port sets key ≡ false) × (is_pruned_by port this.group this.pruned key ≡ false)
-unfolding is_pruned_in
-pruned_last port [] this key e = (refl, left_of (is_pruned_by port this.group this.pruned key) false e)
-pruned_last port (first ∷ sets) this key e =
-    let here = is_pruned_by port first.group first.pruned key in
-    let behind = is_pruned_in port (sets ++ this ∷ []) key in
-    let more = pruned_last port sets this key (right_of here behind e) in
-    (none_of here (is_pruned_in port sets key) (left_of here behind e) more.0, more.1)
-
--- a set whose events act on what stays
-stay_set : (port : ℕ) (start : Start) (known : List ℕ → Option (List ℕ)) (group : List ℕ) (gone : List GroupSet) (this : GroupSet) (records : List (Record (List ℕ))) → IsAscending records → StayBut port group (is_pruned_in port gone) records → StayBut port group (is_pruned_in port (gone ++ this ∷ [])) (act_all port start (list_events known false this.group this.pruned) records)
-stay_set port start known group gone this records a stay key is out =
-    let parts = pruned_last port gone this key out in
-    let events = list_events known false this.group this.pruned in
-    subst Stays (sym (at_all port start events records a key))
-    (pruned_stays port start known this.group key this.pruned (machine_at key records) (rpt_of port group key is) parts.1 (stay key is parts.0))
-
--- a pruned list of another group names no machine of this one
-of_other : (port : ℕ) (group other : List ℕ) (key : Key (List ℕ)) (pruned : List (Entry (List ℕ))) → (other ≡ group → ⊥) → is_rpt_of port group key ≡ true → is_pruned_by port other pruned key ≡ false
-of_other port group other key [] apart is = refl
-of_other port group other key (entry.Star rp ∷ pruned) apart is = of_other port group other key pruned apart is
-of_other port group other key (entry.Source s ∷ pruned) apart is = of_other port group other key pruned apart is
-of_other port group other key (entry.Rpt s ∷ pruned) apart is =
-    none_of (same_key (rpt_key port other s) key) (is_pruned_by port other pruned key) (by (same_key (rpt_key port other s) key) refl) (of_other port group other key pruned apart is)
-  where
-    by : (b : Bool) → same_key (rpt_key port other s) key ≡ b → same_key (rpt_key port other s) key ≡ false
-    by false e = e
-    by true e =
-        let groups : other ≡ key.group = ap (λ (k : Key (List ℕ)). k.group) (same_keys (rpt_key port other s) key e) in
-        let in_group : key.group ≡ group = same_text key.group group (sym (second_of (is_rpt_on port key) (pointwise eqb key.group group) is)) in
-        absurd (apart (groups ∙ in_group))
-
-pub fewer_then : (new now old : Stars) → AreFewer new now → AreFewer now old → AreFewer new old
-fewer_then new now old a b = (a.0 ∙ b.0, λ i mark. b.1 i (a.1 i mark))
 
 -- the set at a place
 pub record IsSetAt (sets : List GroupSet) (k : ℕ) (this : GroupSet) (rest : List GroupSet) : Type 0 where
@@ -302,62 +202,6 @@ set_at (first ∷ sets) (suc k) this rest e =
 
 pub rest_at : (sets : List GroupSet) (k n : ℕ) (this : GroupSet) (rest : List GroupSet) → n ≡ k + 1 → drop k sets ≡ this ∷ rest → rest ≡ drop n sets
 rest_at sets k n this rest next e = let m : suc k ≡ n = omega (arith, next) in (set_at sets k this rest e).behind ∙ ap (λ i. drop i sets) m
-
--- one more is gone by
-gone_more : (sets : List GroupSet) (i k : ℕ) (this : GroupSet) (rest : List GroupSet) → i ≤ k → IsSetAt sets k this rest → drop i (take (k + 1) sets) ≡ drop i (take k sets) ++ this ∷ []
-gone_more sets i k this rest le at =
-    let n = length-take k sets in
-    ap (drop i) (take_more sets k this at.within ∙ ap (λ (s : GroupSet). take k sets ++ s ∷ []) (at.here this))
-    ∙ drop-append-le i (take k sets) (this ∷ []) (omega (arith, le, n, at.within))
-
-mark_here : (marks : List Bool) (i : ℕ) (mark : Bool) → get_or (set marks i mark) i false ≡ true → mark ≡ true
-mark_here [] zero mark e = absurd (false≢true e)
-mark_here [] (suc i) mark e = absurd (false≢true e)
-mark_here (m ∷ marks) zero mark e = e
-mark_here (m ∷ marks) (suc i) mark e = mark_here marks i mark e
-
-pub unmarked : (marks : List Bool) (k i : ℕ) → get_or (set marks k false) i false ≡ true → get_or marks i false ≡ true
-unmarked [] zero i e = absurd (false≢true e)
-unmarked [] (suc k) i e = absurd (false≢true e)
-unmarked (m ∷ marks) zero zero e = absurd (false≢true e)
-unmarked (m ∷ marks) zero (suc i) e = e
-unmarked (m ∷ marks) (suc k) zero e = e
-unmarked (m ∷ marks) (suc k) (suc i) e = unmarked marks k i e
-
-pub fewer_taken : (new old : Stars) (number : ℕ) → new.gone ≡ old.gone → new.last ≡ set old.last number false → AreFewer new old
-fewer_taken new old number same taken = (same, λ i mark. unmarked old.last number i (sym (ap (λ (m : List Bool). get_or m i false) taken) ∙ mark))
-
-pub none_marked : (port : ℕ) (sets : List GroupSet) (stars : Stars) (records : List (Record (List ℕ))) → stars.gone ≡ 0 → AreMarked port sets stars records
-none_marked port sets stars records none i d lt mark = absurd (omega (arith, lt, none))
-
-module _ (port : ℕ) (start : Start) (known : List ℕ → Option (List ℕ)) (sets : List GroupSet) (this : GroupSet) (records : List (Record (List ℕ))) (ascending : IsAscending records) where
-  -- a set is gone by, whose pruned list comes last
-  pub marked_set : (rest : List GroupSet) (joined pruned passed : Stars) (starred : Bool) (after : List (Record (List ℕ))) → drop joined.gone sets ≡ this ∷ rest → after ≡ act_all port start (list_events known false this.group this.pruned) records → AreMarked port sets joined records → (starred ≡ true → AllStay port this.group records) → AreFewer pruned joined → passed.gone ≡ pruned.gone + 1 → passed.last ≡ set pruned.last pruned.gone starred → AreMarked port sets passed after
-  marked_set rest joined pruned passed starred after split is marked all fewer more marks i d lt mark =
-      let k = joined.gone in
-      let at = set_at sets k this rest split in
-      let next : passed.gone ≡ k + 1 = omega (arith, fewer.0, more) in
-      let group = (get_or sets i d).group in
-      let le : i ≤ k = omega (arith, lt, next) in
-      let before : StayBut port group (is_pruned_in port (drop i (take k sets))) records = by (ltb i k) refl in
-      let then = stay_set port start known group (drop i (take k sets)) this records ascending before in
-      subst (λ (rs : List (Record (List ℕ))). StayBut port group (is_pruned_in port (drop i (take passed.gone sets))) rs) (sym is)
-      (subst (λ (gone : List GroupSet). StayBut port group (is_pruned_in port gone) (act_all port start (list_events known false this.group this.pruned) records)) (sym (ap (λ n. drop i (take n sets)) next ∙ gone_more sets i k this rest le at)) then)
-    where
-      mark_is : get_or (set pruned.last pruned.gone starred) i false ≡ true
-      mark_is = sym (ap (λ (m : List Bool). get_or m i false) marks) ∙ mark
-
-      by : (t : Bool) → ltb i joined.gone ≡ t → StayBut port (get_or sets i d).group (is_pruned_in port (drop i (take joined.gone sets))) records
-      by true e =
-          let less = ltb-true i joined.gone e in
-          let was : get_or pruned.last i false ≡ true = sym (get_or-set_other pruned.last pruned.gone i starred false (λ same. omega (arith, same, less, fewer.0))) ∙ mark_is in
-          marked i d less (fewer.1 i was)
-      by false e =
-          let same : i ≡ joined.gone = omega (arith, ltb-false i joined.gone e, lt, more, fewer.0) in
-          let last : i ≡ pruned.gone = omega (arith, same, fewer.0) in
-          let starred_is : starred ≡ true = mark_here pruned.last pruned.gone starred (subst (λ n. get_or (set pruned.last pruned.gone starred) n false ≡ true) last mark_is) in
-          let here : get_or sets i d ≡ this = ap (λ n. get_or sets n d) same ∙ (set_at sets joined.gone this rest split).here d in
-          λ key in_group out. all starred_is key (subst (λ (s : GroupSet). is_rpt_of port s.group key ≡ true) here in_group) refl
 
 -- ---- a Join(*,G) comes to some machines of its group
 
@@ -430,13 +274,6 @@ module _ (port : ℕ) (group : List ℕ) where
     pub same : joined_all now ≡ joined_all old
     pub stay : (but : Key (List ℕ) → Bool) → StayBut port group (λ key. is_pruned_by port group all key || but key) old → StayBut port group (λ key. is_pruned_by port group left key || but key) now
 
-  pub pruned_begin : (all left : List (Entry (List ℕ))) (records : List (Record (List ℕ))) → left ≡ all → IsAscending records → JoinsPruned all records left records
-  pruned_begin all left records is a = record {
-    ascending = a;
-    same = refl;
-    stay = λ but stay. subst (λ (es : List (Entry (List ℕ))). StayBut port group (λ key. is_pruned_by port group es key || but key) records) (sym is) stay;
-  }
-
   pub pruned_rpt : (all left rest : List (Entry (List ℕ))) (old now new : List (Record (List ℕ))) (source : List ℕ) → left ≡ entry.Rpt source ∷ rest → new ≡ changed (rpt_key port group source) on_star_join now → JoinsPruned all old left now → JoinsPruned all old rest new
   pruned_rpt all left rest old now new source split is to =
       subst (λ (rs : List (Record (List ℕ))). JoinsPruned all old rest rs) (sym is) (record {
@@ -456,11 +293,6 @@ module _ (port : ℕ) (group : List ℕ) where
     stay = λ but stay key in_group out. subst (λ (es : List (Entry (List ℕ))). StayBut port group (λ k. is_pruned_by port group es k || but k) now) split (to.stay but stay) key in_group (ap (λ b. (b || is_pruned_by port group rest key) || but key) (none key) ∙ out);
   }
 
-  -- no Prune(S,G,rpt)
-  pub no_prune : {A : Type 0} (bytes_of : A → List ℕ) (this : Entry A) → ((s : A) × (this ≡ entry.Star s)) ⊎ ((s : A) × (this ≡ entry.Source s)) → (key : Key (List ℕ)) → is_prune_of port group key (entry_seen bytes_of this) ≡ false
-  no_prune bytes_of this (inl star) key = ap (λ e. is_prune_of port group key (entry_seen bytes_of e)) star.1
-  no_prune bytes_of this (inr source) key = ap (λ e. is_prune_of port group key (entry_seen bytes_of e)) source.1
-
   pub no_named_prune : {A : Type 0} (bytes_of : A → List ℕ) (what : What A) → (what ≡ Star) ⊎ ((s : A) × (what ≡ Source s)) → (key : Key (List ℕ)) → is_prune_of port group key (entry_of_what (what_seen bytes_of what)) ≡ false
   no_named_prune bytes_of what (inl star) key = ap (λ w. is_prune_of port group key (entry_of_what (what_seen bytes_of w))) star
   no_named_prune bytes_of what (inr source) key = ap (λ w. is_prune_of port group key (entry_of_what (what_seen bytes_of w))) source.1
@@ -472,101 +304,6 @@ module _ (port : ℕ) (group : List ℕ) where
   pub named_end : (all left : List (Entry (List ℕ))) (old now : List (Record (List ℕ))) → left ≡ [] → JoinsPruned all old left now → StayBut port group (λ key. is_pruned_by port group all key) old → now ≡ joined_all old
   named_end all left old now none to stay =
       sym (all_stay now to.ascending (pruned_end all left old now none to (λ key. false) (λ key is out. stay key is (left_of (is_pruned_by port group all key) false out)))) ∙ to.same
-
-  -- ---- to those pruned since the last one
-
-  -- of the sets these are left to be gone over, from this number on
-  pub record JoinsSince (sets : List GroupSet) (before stars : Stars) (old now : List (Record (List ℕ))) (left : List GroupSet) (number : ℕ) (since : Bool) : Type 0 where
-    pub ascending : IsAscending now
-    pub same : joined_all now ≡ joined_all old
-    pub left_is : left ≡ drop number sets
-    pub within : number ≤ before.gone
-    pub here : since ≡ true → StayBut port group (is_pruned_in port (drop number (take before.gone sets))) now
-    pub ahead : (i : ℕ) (d : GroupSet) → i < before.gone → get_or before.last i false ≡ true → (get_or sets i d).group ≡ group → StayBut port group (is_pruned_in port (drop i (take before.gone sets))) now
-    pub fewer : AreFewer stars before
-
-  pub since_begin : (sets : List GroupSet) (stars : Stars) (records : List (Record (List ℕ))) (left : List GroupSet) → left ≡ sets → IsAscending records → AreMarked port sets stars records → JoinsSince sets stars stars records records left 0 false
-  since_begin sets stars records left is a marked = record {
-    ascending = a;
-    same = refl;
-    left_is = is;
-    within = omega arith;
-    here = λ e. absurd (false≢true e);
-    ahead = λ i d lt mark same. subst (λ (g : List ℕ). StayBut port g (is_pruned_in port (drop i (take stars.gone sets))) records) same (marked i d lt mark);
-    fewer = (refl, λ i mark. mark);
-  }
-
-  module _ (sets : List GroupSet) (before stars : Stars) (old now : List (Record (List ℕ))) (left rest : List GroupSet) (number : ℕ) (since : Bool) (this : GroupSet) (split : left ≡ this ∷ rest) (more : number < before.gone) (to : JoinsSince sets before stars old now left number since) where
-    at_number : IsSetAt sets number this rest
-    at_number = set_at sets number this rest (sym to.left_is ∙ split)
-
-    -- those that are left begin with this one
-    next_gone : drop number (take before.gone sets) ≡ this ∷ drop (number + 1) (take before.gone sets)
-    next_gone =
-        let at = at_number in
-        let n = length-take before.gone sets in
-        drop_more (take before.gone sets) number this (omega (arith, n, more, at.within))
-        ∙ ap (λ (s : GroupSet). s ∷ drop (number + 1) (take before.gone sets)) (get_or-take before.gone sets number this more ∙ at.here this)
-
-    this_or_behind : (key : Key (List ℕ)) → is_pruned_in port (drop number (take before.gone sets)) key ≡ (is_pruned_by port this.group this.pruned key || is_pruned_in port (drop (number + 1) (take before.gone sets)) key)
-    unfolding is_pruned_in
-    this_or_behind key = ap (λ (gone : List GroupSet). is_pruned_in port gone key) next_gone
-
-    next_is : rest ≡ drop (number + 1) sets
-    next_is = rest_at sets number (number + 1) this rest refl (sym to.left_is ∙ split)
-
-    -- a set of another group
-    pub since_other : (this.group ≡ group → ⊥) → JoinsSince sets before stars old now rest (number + 1) since
-    since_other other = record {
-      ascending = to.ascending;
-      same = to.same;
-      left_is = next_is;
-      within = omega (arith, more);
-      here = λ e key in_group out. to.here e key in_group (this_or_behind key ∙ none_of (is_pruned_by port this.group this.pruned key) (is_pruned_in port (drop (number + 1) (take before.gone sets)) key) (of_other port group this.group key this.pruned other in_group) out);
-      ahead = to.ahead;
-      fewer = to.fewer;
-    }
-
-    -- one of this group, where none was marked
-    pub since_none : (then : Stars) (was : Bool) → (since || was) ≡ false → AreFewer then stars → JoinsSince sets before then old now rest (number + 1) (since || was)
-    since_none then was none fewer = record {
-      ascending = to.ascending;
-      same = to.same;
-      left_is = next_is;
-      within = omega (arith, more);
-      here = λ e. absurd (false≢true (sym none ∙ e));
-      ahead = to.ahead;
-      fewer = fewer_then then stars before fewer to.fewer;
-    }
-
-    -- one of this group, where one was marked
-    pub since_this : (then : Stars) (new : List (Record (List ℕ))) (was : Bool) → was ≡ get_or stars.last number false → this.group ≡ group → (since || was) ≡ true → AreFewer then stars → IsAscending new → joined_all new ≡ joined_all now → ((but : Key (List ℕ) → Bool) → StayBut port group (λ key. is_pruned_by port group this.pruned key || but key) now → StayBut port group but new) → JoinsSince sets before then old new rest (number + 1) (since || was)
-    since_this then new was is same_group marked fewer a same stay = record {
-      ascending = a;
-      same = same ∙ to.same;
-      left_is = next_is;
-      within = omega (arith, more);
-      here = λ e. stay (is_pruned_in port (drop (number + 1) (take before.gone sets))) (λ key in_group out. from_here since refl marked key in_group (this_or_behind key ∙ ap (λ (g : List ℕ). is_pruned_by port g this.pruned key || is_pruned_in port (drop (number + 1) (take before.gone sets)) key) same_group ∙ out));
-      ahead = λ i d lt mark of_group. stay (is_pruned_in port (drop i (take before.gone sets))) (λ key in_group out. to.ahead i d lt mark of_group key in_group (right_of (is_pruned_by port group this.pruned key) (is_pruned_in port (drop i (take before.gone sets)) key) out));
-      fewer = fewer_then then stars before fewer to.fewer;
-    }
-      where
-        from_here : (b : Bool) → since ≡ b → (b || was) ≡ true → StayBut port group (is_pruned_in port (drop number (take before.gone sets))) now
-        from_here true e m = to.here e
-        from_here false e m = to.ahead number this more (to.fewer.1 number (sym is ∙ m)) (ap (λ (s : GroupSet). s.group) (at_number.here this) ∙ same_group)
-
-  pub not_yet : (number gone : ℕ) → number ≤ gone → (number ≡ gone → ⊥) → number < gone
-  not_yet number gone le apart = by (ltb number gone) refl
-    where
-      by : (t : Bool) → ltb number gone ≡ t → number < gone
-      by true e = ltb-true number gone e
-      by false e = absurd (apart (let more = ltb-false number gone e in omega (arith, le, more)))
-
-  -- all that are gone by are gone over
-  pub since_all : (sets : List GroupSet) (before stars : Stars) (old now : List (Record (List ℕ))) (left : List GroupSet) (number : ℕ) (since : Bool) → length (take before.gone sets) ≤ number → JoinsSince sets before stars old now left number since → since ≡ true → AllStay port group now
-  unfolding is_pruned_in
-  since_all sets before stars old now left number since past to e key in_group out =
-      to.here e key in_group (ap (λ (gone : List GroupSet). is_pruned_in port gone key) (drop_all number (take before.gone sets) past))
 
 -- to none, where the one that it would come to isn't held
 pub joined_none : (key : Key (List ℕ)) (records : List (Record (List ℕ))) (i : ℕ) → WouldStandAt key records i → changed key on_star_join records ≡ records

@@ -1,11 +1,9 @@
 -- A Join(*,G) that comes again within a message, and the (S,G,rpt) machines that it leaves
 -- unchanged (RFC 7761, 4.5.3). These definitions serve private steps alone.
-use Rattle.std.specs.Prelude.{◌≡◌, ℕ, ◌<◌, Bool, true, false, ◌||◌, List, [], ◌∷◌, Option, take, drop, slice_index_or}
+use Rattle.std.specs.Prelude.{◌≡◌, ℕ, Bool, true, false, List, Option}
 use Rattle.std.specs.List.{list_any}
 use Rattle.pim_jp.specs.declared.entry.Entry.{Entry}
 use Rattle.pim_jp.specs.declared.entry.Entry.TheVariants as entry
-use Rattle.pim_jp.specs.Message.{GroupSet}
-use Rattle.pim_down.specs.declared.again.Stars.{Stars}
 use Rattle.pim_down.specs.declared.key.What.TheVariants.{Rpt}
 use Rattle.pim_down.specs.declared.key.Key.{Key}
 use Rattle.pim_down.specs.declared.machine.Machine.{Machine}
@@ -42,20 +40,3 @@ is_prune_of port group key (entry.Rpt source) = same_key (rpt_key port group sou
 -- A pruned list of the group has a Prune(S,G,rpt) of the key's machine.
 abbrev pub is_pruned_by : ℕ → List ℕ → List (Entry (List ℕ)) → Key (List ℕ) → Bool
 is_pruned_by port group entries key = list_any (is_prune_of port group key) entries
-
--- The pruned list of one of these sets has a Prune(S,G,rpt) of the key's machine.
-unfoldable pub is_pruned_in : ℕ → List GroupSet → Key (List ℕ) → Bool
-is_pruned_in port [] key = false
-is_pruned_in port (set ∷ sets) key = is_pruned_by port set.group set.pruned key || is_pruned_in port sets key
-
--- The flags of the first `gone` sets are right. If a set has its flag, a Join(*,G) of its group
--- changes only machines that were pruned since: by the set, or by a later one among the `gone`
--- sets.
-abbrev pub AreMarked : ℕ → List GroupSet → Stars → List (Record (List ℕ)) → Type 0
-AreMarked port sets stars records = (i : ℕ) (d : GroupSet) → i < stars.gone → slice_index_or stars.last i false ≡ true →
-    StayBut port (slice_index_or sets i d).group (is_pruned_in port (drop i (take stars.gone sets))) records
-
--- Equally many sets are past, and no other set has its flag.
-abbrev pub AreFewer : Stars → Stars → Type 0
-AreFewer new old = (new.gone ≡ old.gone)
-    × ((i : ℕ) → slice_index_or new.last i false ≡ true → slice_index_or old.last i false ≡ true)

@@ -1,7 +1,7 @@
 //! What the events of a message do to the machines of a port. All of a message acts at one moment:
 //! no timer fires while it is heard, and the next run fires those that are due.
 
-ghost use Rattle.std.specs.Prelude.{◌≡◌, ◌≤◌, ◌+◌, ℕ, true, List, length};
+ghost use Rattle.std.specs.Prelude.{◌≡◌, ◌≤◌, ◌+◌, ℕ, List, length};
 ghost use Rattle.pim_jp.specs.Seen.{entry_seen};
 ghost use Rattle.pim_down.specs.Records.{IsAscending, changed, each_changed};
 ghost use Rattle.pim_down.specs.Hearing.{is_known, entry_events, start_of, on_own, is_rpt_of, on_rpts, is_star_join};
@@ -12,9 +12,7 @@ ghost use Rattle.pim_down.specs.Known.{known_in};
 ghost use Rattle.pim_down.specs.Running.{start_after};
 ghost use Rattle.pim_down.specs.Seen.{start_seen, machine_seen, what_seen, key_seen};
 ghost use Rattle.pim_down.specs.Seen.{records_seen, event_seen, events_seen};
-ghost use Rattle.pim_down.specs.Stars.{AreMarked, AreFewer};
 
-use crate::again::{Stars, join_group};
 use crate::edits::{find_place, machine_of, put_machine};
 use crate::event::{Event, Timing};
 use crate::held::{Start, Timed, Waiting};
@@ -23,7 +21,7 @@ use crate::machine::{on_join, on_prune, on_rpt_prune, star_joined};
 use crate::rows::Bound;
 use crate::store::Store;
 use pim_addr::{Family, Routes};
-use pim_jp::{Entry, JpView};
+use pim_jp::Entry;
 use sorted_blocks::Place;
 use std::cmp::Ordering;
 
@@ -207,21 +205,16 @@ pub(crate) fn act<F: Family>(
     port: usize,
     start: Start,
     event: Event<F::Addr>,
-    message: &JpView<'_, F>,
-    stars: &mut Stars,
 )
     requires ascending { IsAscending (records_seen F.bytes_of records.old.items) }
     requires room { length (act port (start_seen start) (event_seen F.bytes_of event)
         (records_seen F.bytes_of records.old.items)) ≤ records.old.capacity }
-    requires marked { event.joins ≡ true
-        → AreMarked port message.now.sets stars.old (records_seen F.bytes_of records.old.items) }
     ensures records { records_seen F.bytes_of records.new.items
         ≡ act port (start_seen start) (event_seen F.bytes_of event) (records_seen F.bytes_of records.old.items) }
     ensures capacity { records.old.capacity ≤ records.new.capacity }
-    ensures fewer { AreFewer stars.new stars.old }
 {
     act_on_own::<F>(records, near, port, start, event);
     if is_star_join(&event) {
-        join_group::<F>(records, near, port, event.group, message, stars);
+        join_rpts::<F>(records, port, event.group);
     }
 }

@@ -3,19 +3,22 @@
 ghost use Rattle.std.specs.Prelude.{◌≡◌, ◌≤◌, ◌<◌, ◌+◌, ℕ, true, false, map, length, slice_index_or, Some};
 ghost use Rattle.std.specs.List.{list_any};
 ghost use Rattle.pim_jp.specs.Message.{GroupSet};
-ghost use Rattle.pim_down.specs.Records.{IsAscending, each_changed};
+ghost use Rattle.pim_down.specs.Records.{IsAscending, changed, each_changed};
 ghost use Rattle.pim_down.specs.Hearing.{list_events, act, act_all, is_star_join, on_rpts, count_new};
 ghost use Rattle.pim_down.specs.Running.{has_star_join};
 ghost use Rattle.pim_down.specs.Known.{known_in};
 ghost use Rattle.pim_down.specs.Ordered.{StayButNamed, IsLast};
 ghost use Rattle.pim_down.specs.Space.{HasRoom};
+ghost use Rattle.pim_down.specs.Stars.{rpt_key};
+ghost use Rattle.pim_down.specs.Tables.{on_star_join};
 ghost use Rattle.pim_down.specs.Seen.{start_seen, records_seen, event_seen};
 
-use crate::again::join_rpt;
+use crate::edits::{find_place, place_of, replace_at};
 use crate::event::Event;
 use crate::hear::{act_on_own, event_of, is_star_join, join_rpts};
 use crate::held::Start;
-use crate::key::{OfFamily, What};
+use crate::key::{Key, OfFamily, What};
+use crate::machine::on_star_join;
 use crate::message::is_new;
 use crate::store::Store;
 use pim_addr::{Family, Routes};
@@ -47,6 +50,37 @@ pub(crate) fn count_events<F: Family>(
         }
     }
     count
+}
+
+/// Applies Join(*,G) to the (S,G,rpt) machine of this source. The search begins near a place, and
+/// leaves the place that it found.
+fn join_rpt<F: Family>(
+    records: &mut Store<F::Addr, OfFamily<F>>,
+    near: &mut Place,
+    port: usize,
+    group: F::Addr,
+    source: F::Addr,
+)
+    requires { IsAscending (records_seen F.bytes_of records.old.items) }
+    ensures records { records_seen F.bytes_of records.new.items
+        ≡ changed (rpt_key port (F.bytes_of group) (F.bytes_of source)) on_star_join
+        (records_seen F.bytes_of records.old.items) }
+    ensures capacity { records.new.capacity ≡ records.old.capacity }
+{
+    let key = Key {
+        port,
+        group,
+        what: What::Rpt(source),
+    };
+    let found = find_place::<F>(records, *near, &key);
+    *near = place_of(found);
+    match found {
+        Ok(place) => {
+            let machine = on_star_join(records.get(place).machine);
+            replace_at(records, place, Some(machine));
+        }
+        Err(_) => {}
+    }
 }
 
 /// Applies Join(*,G) to the (S,G,rpt) machines of its group. It changes only machines that these

@@ -16,9 +16,8 @@ ghost use Rattle.pim_down.specs.Ordered.{AreAlike};
 ghost use Rattle.pim_down.specs.Space.{HasRoom};
 ghost use Rattle.pim_down.specs.Sound.{IsSettled};
 ghost use Rattle.pim_down.specs.Seen.{start_seen, records_seen, event_seen};
-ghost use Rattle.pim_down.specs.Stars.{AllStay, AreMarked, AreFewer};
 
-use crate::again::{Stars, may_repeat};
+use crate::again::may_repeat;
 use crate::edits::{find_place, place_of};
 use crate::end::end_message;
 use crate::event::Event;
@@ -105,33 +104,24 @@ fn hear_list<F: Family>(
     joins: bool,
     group: F::Addr,
     entries: Entries<'_, F>,
-    message: &JpView<'_, F>,
-    stars: &mut Stars,
 ) -> bool
     requires ascending { IsAscending (records_seen F.bytes_of records.old.items) }
     requires room { HasRoom port (start_seen start) records.old.capacity
         (list_events (known_in F.family routes.now) joins (F.bytes_of group) entries)
         (records_seen F.bytes_of records.old.items) }
-    requires marked { joins ≡ true
-        → AreMarked port message.now.sets stars.old (records_seen F.bytes_of records.old.items) }
     ensures records { records_seen F.bytes_of records.new.items ≡ act_all port (start_seen start)
         (list_events (known_in F.family routes.now) joins (F.bytes_of group) entries.entry)
         (records_seen F.bytes_of records.old.items) }
     ensures capacity { records.old.capacity ≤ records.new.capacity }
-    ensures marked { joins ≡ true
-        → AreMarked port message.now.sets stars.new (records_seen F.bytes_of records.new.items) }
-    ensures starred { joins ≡ true → result ≡ true
-        → AllStay port (F.bytes_of group) (records_seen F.bytes_of records.new.items) }
     ensures joined { result ≡ list_any is_star_join
         (list_events (known_in F.family routes.now) joins (F.bytes_of group) entries.entry) }
-    ensures fewer { AreFewer stars.new stars.old }
 {
     let mut starred = false;
     for entry in entries {
         match event_of::<F>(routes, joins, group, entry) {
             Some(event) => {
                 starred |= is_star_join(&event);
-                act::<F>(records, near, port, start, event, message, stars);
+                act::<F>(records, near, port, start, event);
             }
             None => {}
         }
@@ -219,17 +209,14 @@ pub(crate) fn count_sets<F: Family>(
 /// Hears the sets of a message. Returns for each, by its number, whether it had a Join(*,G) whose
 /// RP is RP(G).
 ///
-/// It looks up each entry once, and a Prune(S,G,rpt) once more if a Join(*,G) of its group follows
-/// it. It walks once through the (S,G,rpt) machines of each group that has a Join(*,G). Where a
-/// group may come again, each Join(*,G) takes a step for each set before its own: 32,385 steps at
-/// most, since a message has at most 255 sets.
+/// It looks up each entry once, and walks through the (S,G,rpt) machines of a group at each of its
+/// Joins(*,G).
 pub(crate) fn hear_sets<F: Family>(
     records: &mut Store<F::Addr, OfFamily<F>>,
     port: usize,
     start: Start,
     routes: &Routes<F>,
     message: &JpView<'_, F>,
-    repeat: bool,
 ) -> [bool; 256]
     requires ascending { IsAscending (records_seen F.bytes_of records.old.items) }
     requires room { HasRoom port (start_seen start) records.old.capacity
@@ -243,8 +230,10 @@ pub(crate) fn hear_sets<F: Family>(
     let _most = message.set_count();
     let mut near = Begin::<F>::new();
     let mut joined = [false; 256];
-    let mut stars = Stars::new(repeat);
+    let mut number = 0u8;
     for set in message.sets() {
+        let this = number;
+        number += 1;
         let group = set.group();
         near.meet(group);
         let starred = hear_list::<F>(
@@ -256,8 +245,6 @@ pub(crate) fn hear_sets<F: Family>(
             true,
             group,
             set.joined(),
-            message,
-            &mut stars,
         );
         near.turn(group);
         let _none = hear_list::<F>(
@@ -269,11 +256,8 @@ pub(crate) fn hear_sets<F: Family>(
             false,
             group,
             set.pruned(),
-            message,
-            &mut stars,
         );
-        joined[usize::from(stars.gone)] = starred;
-        stars.pass(starred);
+        joined[usize::from(this)] = starred;
     }
     joined
 }
@@ -349,7 +333,6 @@ fn hear_all<F: Family>(
     routes: &Routes<F>,
     message: &JpView<'_, F>,
     ordered: &Option<Vec<Event<F::Addr>>>,
-    repeat: bool,
 ) -> [bool; 256]
     requires ascending { IsAscending (records_seen F.bytes_of records.old.items) }
     requires alike { IfSome ordered.now (λ events. AreAlike (map (event_seen F.bytes_of) events.items)
@@ -367,7 +350,7 @@ fn hear_all<F: Family>(
             hear_events::<F>(records, port, start, events);
             star_joins::<F>(routes, message)
         }
-        None => hear_sets::<F>(records, port, start, routes, message, repeat),
+        None => hear_sets::<F>(records, port, start, routes, message),
     }
 }
 
@@ -402,8 +385,8 @@ pub(crate) fn hear_message<F: Family>(
     if records.reserve(fresh).is_err() {
         return Err(HearFault::Memory);
     }
+    let joined = hear_all::<F>(records, port, start, routes, message, &ordered);
     let repeat = may_repeat::<F>(message.sets());
-    let joined = hear_all::<F>(records, port, start, routes, message, &ordered, repeat);
     end_message::<F>(records, port, message, &joined, repeat);
     Ok(())
 }

@@ -18,6 +18,7 @@ ghost use Rattle.pim_down.specs.Ordered.{comes_before, source_or_star, source_ke
 ghost use Rattle.pim_down.specs.Ordered.{is_of_rpts_of, StarsComeFirst, AreAlike};
 ghost use Rattle.pim_down.specs.Seen.{what_seen, event_seen};
 
+use crate::again::may_repeat;
 use crate::event::Event;
 use crate::hear::{event_of, is_star_join};
 use crate::key::{What, compare_addresses, compare_whats};
@@ -200,8 +201,8 @@ fn sources_in_key_order<F: Family>(mut events: Vec<Event<F::Addr>>) -> Option<Ve
 }
 
 /// The events of a message in key order. Where a Join(*,G) follows what it acts on, only those of
-/// (S,G) machines are sorted. `None` where the entries are near key order or memory is refused; the
-/// caller then hears them in message order.
+/// (S,G) machines are sorted. `None` where no group comes again and the entries are near key order,
+/// or where memory is refused; the caller then hears them in message order.
 pub(crate) fn in_key_order<F: Family>(
     alloc: Global,
     routes: &Routes<F>,
@@ -210,7 +211,7 @@ pub(crate) fn in_key_order<F: Family>(
     ensures { IfSome result (λ events. AreAlike (map (event_seen F.bytes_of) events.items)
         (events_of (known_in F.family routes.now) message.now)) }
 {
-    if !is_scattered::<F>(message) {
+    if !is_scattered::<F>(message) && !may_repeat::<F>(message.sets()) {
         return None;
     }
     let Ok(events) = events_of::<F>(alloc, routes, message) else {

@@ -6,7 +6,6 @@ use Rattle.pim_down.specs.Seen.{start_seen, records_seen, event_seen}
 use Rattle.pim_down.proofs.Act.{IsAscending-act}
 use Rattle.pim_down.proofs.Ending.{any_more}
 use Rattle.pim_down.proofs.Events.{events_one, room_at, left_at, nothing_left, room_grows}
-use Rattle.pim_down.proofs.Stays.{event_is, marked_more, starred_more, fewer_then}
 use Rattle.pim_down.proofs.message.hear_list.Goals as goal
 
 pub act-requires-clause-room : goal.act-requires-clause-room
@@ -32,27 +31,15 @@ loop-entry-preserved-in-Some-event_of g c =
     let others = list_events known c.args.joins group rest in
     let split = events_one known c.args.joins group c.loop-entry.entry-iterator rest (entry_seen bytes_of c.in-Some.entry) event c.in-Some.ensures.steps c.in-Some-event_of.ensures in
     let space = room_at c.args.port (start_seen c.args.start) c.loop-entry.records.capacity event all others seen split c.loop-entry.invariant.room in
-    let is = event_is known c.args.joins group (entry_seen bytes_of c.in-Some.entry) event c.in-Some-event_of.ensures in
-    let new = records_seen bytes_of c.act.new.records.items in
-    let held = c.loop-entry.invariant in
     record {
       ascending = rw c.act.ensures.records (IsAscending-act c.args.port (start_seen c.args.start) event seen c.loop-entry.invariant.ascending);
       room = rw c.act.ensures.records (room_grows c.args.port (start_seen c.args.start) c.loop-entry.records.capacity c.act.new.records.capacity others (act c.args.port (start_seen c.args.start) event seen) c.act.ensures.capacity space.1);
       left = ap (act_all c.args.port (start_seen c.args.start) others) c.act.ensures.records ∙ sym (left_at c.args.port (start_seen c.args.start) event all others seen split) ∙ c.loop-entry.invariant.left;
       capacity = omega (arith, c.act.ensures.capacity, c.loop-entry.invariant.capacity);
-      marked = λ joins. marked_more c.args.port (start_seen c.args.start) event seen held.ascending c.args.message.now.sets new c.loop-entry.stars c.act.new.stars c.act.ensures.records (is.0 ∙ joins) c.act.ensures.fewer (held.marked joins);
-      starred = λ joins. starred_more c.args.port (start_seen c.args.start) event seen held.ascending group new c.loop-entry.starred c.is_star_join-starred.result c.act.ensures.records (is.0 ∙ joins) is.1 (c.is_star_join-starred.ensures bytes_of) (held.starred joins);
-      joined = any_more is_star_join c.loop-entry.starred c.is_star_join-starred.result event all others split (c.is_star_join-starred.ensures bytes_of) ∙ held.joined;
-      fewer = fewer_then c.act.new.stars c.loop-entry.stars c.args.stars.now c.act.ensures.fewer held.fewer;
+      joined = any_more is_star_join c.loop-entry.starred c.is_star_join-starred.result event all others split (c.is_star_join-starred.ensures bytes_of) ∙ c.loop-entry.invariant.joined;
     }
 
 pub returns-clause-records : goal.returns-clause-records
 returns-clause-records g c =
     let bytes_of = g.F.Family.bytes_of in
     sym (nothing_left c.args.port (start_seen c.args.start) (known_in g.F.Family.family c.args.routes.now) c.args.joins (bytes_of c.args.group) c.loop-entry.entry-iterator (records_seen bytes_of c.loop-entry.records.items) c.in-None.ensures.steps.0) ∙ c.loop-entry.invariant.left
-
-pub act-requires-clause-marked : goal.act-requires-clause-marked
-act-requires-clause-marked g c joins =
-    let bytes_of = g.F.Family.bytes_of in
-    let is = event_is (known_in g.F.Family.family c.args.routes.now) c.args.joins (bytes_of c.args.group) (entry_seen bytes_of c.in-Some.entry) (event_seen bytes_of c.in-Some-event_of.event) c.in-Some-event_of.ensures in
-    c.loop-entry.invariant.marked (sym is.0 ∙ joins)

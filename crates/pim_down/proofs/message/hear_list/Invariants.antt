@@ -1,11 +1,10 @@
-use Rattle.std.proofs.Common.{◌≡◌, ◌≤◌, ◌||◌, true}
+use Rattle.std.proofs.Common.{◌≡◌, ◌≤◌, ◌||◌}
 use Rattle.std.specs.List.{list_any}
 use Rattle.pim_down.specs.Records.{IsAscending}
 use Rattle.pim_down.specs.Hearing.{list_events, act_all, is_star_join}
 use Rattle.pim_down.specs.Space.{HasRoom}
 use Rattle.pim_down.specs.Known.{known_in}
 use Rattle.pim_down.specs.Seen.{start_seen, records_seen}
-use Rattle.pim_down.specs.Stars.{AllStay, AreMarked, AreFewer}
 use Rattle.pim_down.proofs.message.hear_list.Given as goal
 
 -- what the entries that are left leave is what all leave
@@ -15,8 +14,5 @@ invariant-loop-entry g l = record {
   room : HasRoom l.port (start_seen l.start) l.records.capacity (list_events (known_in g.F.Family.family l.routes) l.joins (g.F.Family.bytes_of l.group) l.entry-iterator) (records_seen g.F.Family.bytes_of l.records.items);
   left : act_all l.port (start_seen l.start) (list_events (known_in g.F.Family.family l.routes) l.joins (g.F.Family.bytes_of l.group) l.entry-iterator) (records_seen g.F.Family.bytes_of l.records.items) ≡ act_all l.port (start_seen l.start) (list_events (known_in g.F.Family.family l.routes) l.joins (g.F.Family.bytes_of l.group) l.fn.entries) (records_seen g.F.Family.bytes_of l.fn.records.items);
   capacity : l.fn.records.capacity ≤ l.records.capacity;
-  marked : l.joins ≡ true → AreMarked l.port l.message.sets l.stars (records_seen g.F.Family.bytes_of l.records.items);
-  starred : l.joins ≡ true → l.starred ≡ true → AllStay l.port (g.F.Family.bytes_of l.group) (records_seen g.F.Family.bytes_of l.records.items);
   joined : (l.starred || list_any is_star_join (list_events (known_in g.F.Family.family l.routes) l.joins (g.F.Family.bytes_of l.group) l.entry-iterator)) ≡ list_any is_star_join (list_events (known_in g.F.Family.family l.routes) l.joins (g.F.Family.bytes_of l.group) l.fn.entries);
-  fewer : AreFewer l.stars l.fn.stars;
 }

@@ -8,7 +8,7 @@ use Rattle.pim_down.specs.Stars.{rpt_key}
 use Rattle.pim_down.proofs.Each.{changed_into}
 use Rattle.pim_down.proofs.Sought.{place_ok, place_err, machine_is, replaced_is}
 use Rattle.pim_down.proofs.Stays.{joined_none}
-use Rattle.pim_down.proofs.again.join_rpt.Goals as goal
+use Rattle.pim_down.proofs.listed.join_rpt.Goals as goal
 
 pub returns-in-Ok-clause-records : goal.returns-in-Ok-clause-records
 returns-in-Ok-clause-records g c =
