@@ -302,65 +302,104 @@ const PORT_V6: PortConfig<[u8; 16]> = PortConfig {
 /// fe80::9
 const SENDER_V6: [u8; 16] = [0xfe, 0x80, 0, 0, 0, 0, 0, 0, 0, 0, 0, 0, 0, 0, 0, 9];
 
-#[test]
-fn spoilt_hellos(rt: HostRuntime) {
-    let mut hello = HELLO;
-    let told = spoilt_on::<V4>(rt.alloc(), &[PORT], (SENDER, false), &mut hello);
-    assert_eq!(rt; told, Some((OF_HELLO, 0)));
+/// A message, whether its sender is a neighbour, what is answered when it is spoilt, and how many records the port keeps.
+struct Row {
+    bytes: &'static [u8],
+    greets: bool,
+    told: [Told; 3],
+    kept: usize,
+}
+
+const ROWS: [Row; 5] = [
+    Row {
+        bytes: &HELLO,
+        greets: false,
+        told: OF_HELLO,
+        kept: 0,
+    },
+    Row {
+        bytes: &LISTS,
+        greets: false,
+        told: OF_LISTS,
+        kept: 0,
+    },
+    Row {
+        bytes: &OTHER,
+        greets: false,
+        told: OF_ANOTHER_TYPE,
+        kept: 0,
+    },
+    Row {
+        bytes: &STAR,
+        greets: true,
+        told: OF_STAR,
+        kept: 1,
+    },
+    Row {
+        bytes: &LISTS,
+        greets: true,
+        told: OF_NEIGHBOUR,
+        kept: 3538,
+    },
+];
+
+const ROWS_V6: [Row; 4] = [
+    Row {
+        bytes: &HELLO,
+        greets: false,
+        told: OF_HELLO_V6,
+        kept: 0,
+    },
+    Row {
+        bytes: &LISTS_V6,
+        greets: false,
+        told: OF_LISTS_V6,
+        kept: 0,
+    },
+    Row {
+        bytes: &OTHER,
+        greets: false,
+        told: OF_ANOTHER_TYPE_V6,
+        kept: 0,
+    },
+    Row {
+        bytes: &LISTS_V6,
+        greets: true,
+        told: OF_NEIGHBOUR_V6,
+        kept: 15809,
+    },
+];
+
+/// Whether the port answers so to the message of a row.
+fn answers<F: Family>(
+    alloc: Global,
+    ports: &[PortConfig<F::Addr>],
+    from: F::Addr,
+    row: &Row,
+) -> bool {
+    match Vec::from_slice(alloc, row.bytes) {
+        Ok(mut bytes) => {
+            let told = spoilt_on::<F>(alloc, ports, (from, row.greets), &mut bytes);
+            told == Some((row.told, row.kept))
+        }
+        Err(_) => false,
+    }
 }
 
 #[test]
-fn spoilt_hellos_of_ipv6(rt: HostRuntime) {
-    let mut hello = HELLO;
-    let told = spoilt_on::<V6>(rt.alloc(), &[PORT_V6], (SENDER_V6, false), &mut hello);
-    assert_eq!(rt; told, Some((OF_HELLO_V6, 0)));
+fn spoilt_messages(rt: HostRuntime) {
+    let alloc = rt.alloc();
+    let wrong = ROWS
+        .iter()
+        .position(|row| !answers::<V4>(alloc, &[PORT], SENDER, row));
+    assert_eq!(rt; wrong, None);
 }
 
 #[test]
-fn spoilt_join_prunes(rt: HostRuntime) {
-    let mut lists = LISTS;
-    let told = spoilt_on::<V4>(rt.alloc(), &[PORT], (SENDER, false), &mut lists);
-    assert_eq!(rt; told, Some((OF_LISTS, 0)));
-}
-
-#[test]
-fn spoilt_join_prunes_of_ipv6(rt: HostRuntime) {
-    let mut lists = LISTS_V6;
-    let told = spoilt_on::<V6>(rt.alloc(), &[PORT_V6], (SENDER_V6, false), &mut lists);
-    assert_eq!(rt; told, Some((OF_LISTS_V6, 0)));
-}
-
-#[test]
-fn spoilt_messages_of_another_type(rt: HostRuntime) {
-    let mut other = OTHER;
-    let told = spoilt_on::<V4>(rt.alloc(), &[PORT], (SENDER, false), &mut other);
-    assert_eq!(rt; told, Some((OF_ANOTHER_TYPE, 0)));
-}
-
-#[test]
-fn spoilt_messages_of_another_type_over_ipv6(rt: HostRuntime) {
-    let mut other = OTHER;
-    let told = spoilt_on::<V6>(rt.alloc(), &[PORT_V6], (SENDER_V6, false), &mut other);
-    assert_eq!(rt; told, Some((OF_ANOTHER_TYPE_V6, 0)));
-}
-
-#[test]
-fn spoilt_stars_of_a_neighbour(rt: HostRuntime) {
-    let mut star = STAR;
-    let told = spoilt_on::<V4>(rt.alloc(), &[PORT], (SENDER, true), &mut star);
-    assert_eq!(rt; told, Some((OF_STAR, 1)));
-}
-
-#[test]
-fn spoilt_join_prunes_of_a_neighbour(rt: HostRuntime) {
-    let mut lists = LISTS;
-    let told = spoilt_on::<V4>(rt.alloc(), &[PORT], (SENDER, true), &mut lists);
-    assert_eq!(rt; told, Some((OF_NEIGHBOUR, 3538)));
-}
-
-#[test]
-fn spoilt_join_prunes_of_a_neighbour_over_ipv6(rt: HostRuntime) {
-    let mut lists = LISTS_V6;
-    let told = spoilt_on::<V6>(rt.alloc(), &[PORT_V6], (SENDER_V6, true), &mut lists);
-    assert_eq!(rt; told, Some((OF_NEIGHBOUR_V6, 15809)));
+fn spoilt_messages_of_ipv6(rt: HostRuntime) {
+    let alloc = rt.alloc();
+    let wrong = ROWS_V6
+        .iter()
+        .position(|row| !answers::<V6>(alloc, &[PORT_V6], SENDER_V6, row));
+    assert_eq!(rt; wrong, None);
 }
