@@ -6,3 +6,5 @@ pub mod Stopped
 pub mod Taking
 pub mod Turning
 pub mod Until
+pub mod Contents
+pub mod Advancing

@@ -4,3 +4,5 @@ pub mod Looks
 pub mod Next
 pub mod Ends
 pub mod Laws
+pub mod Content
+pub mod Run

@@ -9,7 +9,8 @@
 //! `Merge::next_by` does the same up to a time. Before the first turn with a later moment it
 //! returns `None` and takes nothing (`IsMergeBy`, the law `merge_by_has_one_end`).
 //! `Merge::moment_at` returns the moment of a time. `End` says when a run over a merge ends, and
-//! `specs/Ends.antt` which turns such a run takes.
+//! `specs/Ends.antt` which turns such a run takes. `Merge::advance` takes the next one, and
+//! `Turn::content` says what its record holds for a router of one address family.
 //! `Merge::add` appends a capture, or leaves the merge unchanged where memory is refused.
 //!
 //! A head is read when the next turn is asked for, not when the one before is taken. So the bytes
@@ -22,13 +23,16 @@
 #![tactic(auto)]
 
 mod clock;
+mod content;
 mod end;
 mod lane;
 mod laws;
 mod merge;
+mod run;
 mod search;
 
 pub use clock::Clock;
+pub use content::{Content, Datagram};
 pub use end::End;
 pub use laws::{merge_by_has_one_end, merge_has_one_end};
 pub use merge::{Merge, MergeFault, Turn};
