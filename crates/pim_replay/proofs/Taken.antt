@@ -1,8 +1,7 @@
 -- What a turn tells, and what it leaves as it was.
-use Rattle.std.proofs.Common.{◌≡◌, ◌≤◌, ◌+◌, ◌∙◌, ℕ, zero, suc, min, Bool, true, false, if◌then◌else◌, ◌==◌, nat_lt, List, [], ◌∷◌, ◌++◌, Option, None, Some, Ok, Err, length, refl, sym, ap, subst, arith, append-nil, length-append}
+use Rattle.std.proofs.Common.{◌≡◌, ◌≤◌, ◌+◌, ◌∙◌, ℕ, zero, suc, min, Bool, true, false, if◌then◌else◌, ◌==◌, nat_lt, List, [], ◌∷◌, ◌++◌, Option, None, Some, Result, Ok, Err, length, refl, sym, ap, subst, arith, append-nil, length-append}
 use Rattle.std.specs.Bool.{⊤}
 use Rattle.std.specs.List.{list_any}
-use Rattle.std.specs.Option.{option_map}
 use Rattle.std.specs.Io.KnownBytes.{Keeps, Appends}
 use Rattle.std.proofs.lemmas.List.{take_all}
 use Rattle.pim_addr.specs.declared.family.AddressFamily.{AddressFamily}
@@ -12,10 +11,10 @@ use Rattle.pim_down.specs.declared.machine.Record.{Record}
 use Rattle.pim_down.specs.declared.step.Step.{Step as Fires}
 use Rattle.pim_down.specs.declared.step.Step.TheVariants as fires
 use Rattle.pim_down.specs.Time.{fired}
-use Rattle.pim_capture.specs.Frame.{Datagram}
-use Rattle.pim_capture.specs.Capture.{Told, packet, skipped, ended}
+use Rattle.pim_capture.specs.Capture.{Told}
 use Rattle.pim_addr.specs.Routes.{RouteTable}
 use Rattle.pim_merge.specs.declared.end.End.{End}
+use Rattle.pim_merge.specs.Content.{Content as Holding, holds, of_other_family, without_packet, no_record, content_in}
 use Rattle.pim_merge.specs.Merge.{Taken}
 use Rattle.pim_merge.specs.Next.{MergeState}
 use Rattle.pim_merge.specs.Ends.{end_moment, clock_of}
@@ -29,22 +28,14 @@ use Rattle.pim_router.specs.Time.{Outcome, rests, moves, tells, turn, turn_of_ti
 use Rattle.pim_report.specs.declared.state_text.Counts.{Counts}
 use Rattle.pim_report.specs.declared.state_text.TextFault.{TextFault}
 use Rattle.pim_report.specs.declared.state_text.TextFault.TheVariants.{Output, Memory}
-use Rattle.pim_replay.specs.declared.turns.Ends.{Ends}
 use Rattle.pim_report.specs.PacketLine.{packet_line}
 use Rattle.pim_replay.specs.Passing.{Passes, PassesTime}
 use Rattle.pim_replay.specs.Report.{TellsTurns, TellsAll}
-use Rattle.pim_addr.specs.Families.{is_same}
-use Rattle.pim_replay.specs.Turn.{TellsTurn, Account, packet_on, line_of, heard, passed_over, packet_taken, taking, ends_seen, ends_in, HearsPacket, TakesRecord, counted, joined, on_the_way}
+use Rattle.pim_replay.specs.Turn.{TellsTurn, Account, packet_on, line_of, heard, passed_over, taken_as, taking, HearsPacket, TakesRecord, counted, joined, on_the_way}
 use Rattle.pim_replay.proofs.Written.{front-longer}
-
-abbrev pub made : ℕ → List ℕ → List ℕ → List ℕ → Packet
-made port source destination bytes = record { port = port; source = source; destination = destination; bytes = bytes }
 
 abbrev pub made_counts : ℕ → ℕ → Counts
 made_counts skipped' refreshes' = record { skipped = skipped'; refreshes = refreshes' }
-
-same_packet : (port : ℕ) (a b c d e f : List ℕ) → a ≡ d → b ≡ e → c ≡ f → made port a b c ≡ made port d e f
-same_packet port a b c d e f p q r = ap (λ l. made port l b c) p ∙ (ap (λ l. made port d l c) q ∙ ap (λ l. made port d e l) r)
 
 -- ---- what was written
 
@@ -78,61 +69,35 @@ line_is family sent state after moment said now is =
     ap (λ m. packet_line family m sent.port sent.source said) now
     ∙ ap (λ (end : Verdict × RouterState). packet_line family state.machines.moment sent.port sent.source end.0) is
 
-if_here : {A : Type 0} (b : Bool) (x y : A) → b ≡ true → (if b then x else y) ≡ x
-if_here true x y e = refl
-if_here false x y e = absurd cc
+-- ---- a record, by what it holds
 
-if_there : {A : Type 0} (b : Bool) (x y : A) → b ≡ false → (if b then x else y) ≡ y
-if_there true x y e = absurd cc
-if_there false x y e = refl
+module _ (family : AddressFamily) (port : ℕ) (state : RouterState) (count : ℕ) (holding : Holding) (said : Told) (is : holding ≡ content_in family said) where
+  abbrev TakesIt : RouterState → Option (List ℕ) → Option (List ℕ) → Result ℕ TextFault → Type 0
+  TakesIt = TakesRecord (taking family port said state) count
 
--- a value that is there only where the test holds
-is_here : {A : Type 0} (b : Bool) (p q : A) → Some p ≡ (if b then Some q else None) → (b ≡ true) × (p ≡ q)
-is_here true p q e = (refl, cc)
-is_here false p q e = absurd cc
+  by_content : (after : RouterState) (old new : Option (List ℕ)) (result : Result ℕ TextFault) → TakesRecord (taken_as family port holding state) count after old new result → TakesIt after old new result
+  by_content after old new result takes = subst (λ h. TakesRecord (taken_as family port h state) count after old new result) is takes
 
-is_gone : {A : Type 0} (b : Bool) (q : A) → None ≡ (if b then Some q else None) → b ≡ false
-is_gone true q e = absurd cc
-is_gone false q e = refl
+  -- it holds no packet of the family
+  pub record_skipped : (taken_as family port holding state ≡ passed_over state) → (old : Option (List ℕ)) → Appends old old [] → TakesIt state old old (Ok (min (count + 1) top_count))
+  record_skipped skips old nothing =
+      by_content state old old (Ok (min (count + 1) top_count)) (subst (λ taken. TakesRecord taken count state old old (Ok (min (count + 1) top_count))) (sym skips) (refl, refl, nothing))
 
-module _ (family : AddressFamily) (port : ℕ) (datagram : Datagram) (state : RouterState) (count : ℕ) where
-  -- a packet of the other family
-  pub other_skipped : {A : Type 0} (bytes_of : A → List ℕ) (ends : Option (Ends A)) (old : Option (List ℕ)) → ends ≡ None → option_map (ends_seen bytes_of) ends ≡ ends_in family datagram
-      → Appends old old [] → TakesRecord (packet_taken family port datagram state) count state old old (Ok (min (count + 1) top_count))
-  other_skipped bytes_of ends old none is nothing =
-      let test : is_same family datagram.family ≡ false = is_gone (is_same family datagram.family) (datagram.source, datagram.destination) (ap (option_map (ends_seen bytes_of)) (sym none) ∙ is) in
-      subst (λ taken. TakesRecord taken count state old old (Ok (min (count + 1) top_count)))
-      (sym (if_there (is_same family datagram.family) (heard family (packet_on port datagram) state) (passed_over state) test)) (refl, refl, nothing)
+  -- it holds one, which was taken
+  pub packet_heard : (sent : Packet) → taken_as family port holding state ≡ heard family sent state → (after : RouterState) (old new : Option (List ℕ)) → count ≤ top_count
+      → HearsPacket family sent state after old new (Ok tt) → TakesIt after old new (Ok count)
+  packet_heard sent hears after old new small h =
+      by_content after old new (Ok count) (subst (λ taken. TakesRecord taken count after old new (Ok count)) (sym hears) (h.0, omega (arith, small), h.1))
 
-  module _ {A : Type 0} (bytes_of : A → List ℕ) (ends : Option (Ends A)) (two : Ends A) (message : List ℕ) (there : ends ≡ Some two)
-      (is : option_map (ends_seen bytes_of) ends ≡ ends_in family datagram) (same : message ≡ datagram.payload) where
-    facts : (is_same family datagram.family ≡ true) × ◌≡◌ {A = List ℕ × List ℕ} (bytes_of two.source, bytes_of two.destination) (datagram.source, datagram.destination)
-    facts = is_here (is_same family datagram.family) (bytes_of two.source, bytes_of two.destination) (datagram.source, datagram.destination) (ap (option_map (ends_seen bytes_of)) (sym there) ∙ is)
-
-    taken_is : heard family (made port (bytes_of two.source) (bytes_of two.destination) message) state ≡ packet_taken family port datagram state
-    taken_is =
-        ap (λ sent. heard family sent state)
-        (same_packet port (bytes_of two.source) (bytes_of two.destination) message datagram.source datagram.destination datagram.payload (ap (λ (p : List ℕ × List ℕ). p.0) facts.1)
-        (ap (λ (p : List ℕ × List ℕ). p.1) facts.1) same)
-        ∙ sym (if_here (is_same family datagram.family) (heard family (packet_on port datagram) state) (passed_over state) facts.0)
-
-    -- a packet of the family that was taken
-    pub packet_heard : (after : RouterState) (old new : Option (List ℕ)) → count ≤ top_count
-        → HearsPacket family (made port (bytes_of two.source) (bytes_of two.destination) message) state after old new (Ok tt)
-        → TakesRecord (packet_taken family port datagram state) count after old new (Ok count)
-    packet_heard after old new small hears =
-        subst (λ taken. TakesRecord taken count after old new (Ok count)) taken_is (hears.0, omega (arith, small), hears.1)
-
-    -- one that wasn't, or whose line wasn't written
-    pub packet_stopped : (after : RouterState) (old new : Option (List ℕ)) (fault : TextFault)
-        → HearsPacket family (made port (bytes_of two.source) (bytes_of two.destination) message) state after old new (Err fault)
-        → TakesRecord (packet_taken family port datagram state) count after old new (Err fault)
-    packet_stopped after old new fault hears = subst (λ taken. TakesRecord taken count after old new (Err fault)) taken_is (stops fault hears)
-      where
-        stops : (fault : TextFault) → HearsPacket family (made port (bytes_of two.source) (bytes_of two.destination) message) state after old new (Err fault)
-            → TakesRecord (heard family (made port (bytes_of two.source) (bytes_of two.destination) message) state) count after old new (Err fault)
-        stops Output h = h
-        stops Memory h = h
+  -- one that wasn't, or whose line wasn't written
+  pub packet_stopped : (sent : Packet) → taken_as family port holding state ≡ heard family sent state → (after : RouterState) (old new : Option (List ℕ)) (fault : TextFault)
+      → HearsPacket family sent state after old new (Err fault) → TakesIt after old new (Err fault)
+  packet_stopped sent hears after old new fault h =
+      by_content after old new (Err fault) (subst (λ taken. TakesRecord taken count after old new (Err fault)) (sym hears) (stops fault h))
+    where
+      stops : (fault : TextFault) → HearsPacket family sent state after old new (Err fault) → TakesRecord (heard family sent state) count after old new (Err fault)
+      stops Output h = h
+      stops Memory h = h
 
 -- ---- a front of a record's lines
 
@@ -221,16 +186,15 @@ unless_stays : (told : List Verdict) (state : RouterState) (taken : Verdict × R
 unless_stays [] state taken p = p
 unless_stays (cause ∷ others) state taken p = stays state
 
-if_stays : (b : Bool) (x y : Account × RouterState) (state : RouterState) → Stays state x.1 → Stays state y.1 → Stays state (if b then x else y).1
-if_stays true x y state p q = p
-if_stays false x y state p q = q
+content_stays : (family : AddressFamily) (port : ℕ) (holding : Holding) (state : RouterState) → Stays state (taken_as family port holding state).1
+content_stays family port (holds source destination payload) state =
+    unless_stays (causes family (packet_on port source destination payload) state) state _ (body_stays family port source state (content payload))
+content_stays family port of_other_family state = stays state
+content_stays family port (without_packet why) state = stays state
+content_stays family port no_record state = stays state
 
 pub record_stays : (family : AddressFamily) (port : ℕ) (said : Told) (state : RouterState) → Stays state (taking family port said state).1
-record_stays family port (packet millis frame datagram) state =
-    if_stays (is_same family datagram.family) (heard family (packet_on port datagram) state) (passed_over state) state
-    (unless_stays (causes family (packet_on port datagram) state) state _ (body_stays family port datagram.source state (content datagram.payload))) (stays state)
-record_stays family port (skipped millis why) state = stays state
-record_stays family port ended state = stays state
+record_stays family port said state = content_stays family port (content_in family said) state
 
 -- all turns and the time behind them leave the table
 turn_keeps_table : (family : AddressFamily) (this : Taken) (account : Account) (state after : RouterState) → TellsTurn family this account state after → after.routes ≡ state.routes
@@ -251,15 +215,11 @@ all_keep_table family end merge account state after all =
     ∙ turns_keep_table family all.taken all.turns state all.between all.tells
 
 -- no Refresh is told of a record
-if_none : (b : Bool) (x y : Account × RouterState) → x.0.refreshes ≡ 0 → y.0.refreshes ≡ 0 → (if b then x else y).0.refreshes ≡ 0
-if_none true x y p q = p
-if_none false x y p q = q
-
-none_refreshed : (family : AddressFamily) (port : ℕ) (said : Told) (state : RouterState) → (taking family port said state).0.refreshes ≡ 0
-none_refreshed family port (packet millis frame datagram) state =
-    if_none (is_same family datagram.family) (heard family (packet_on port datagram) state) (passed_over state) refl refl
-none_refreshed family port (skipped millis why) state = refl
-none_refreshed family port ended state = refl
+none_refreshed : (family : AddressFamily) (port : ℕ) (holding : Holding) (state : RouterState) → (taken_as family port holding state).0.refreshes ≡ 0
+none_refreshed family port (holds source destination payload) state = refl
+none_refreshed family port of_other_family state = refl
+none_refreshed family port (without_packet why) state = refl
+none_refreshed family port no_record state = refl
 
 -- ---- counts
 
@@ -270,4 +230,4 @@ pub turn_counted : (family : AddressFamily) (port : ℕ) (said : Told) (state : 
     → skipped' ≡ min (counts.skipped + (taking family port said state).0.skips) top_count → refreshes' ≡ min (counts.refreshes + passed) top_count
     → made_counts skipped' refreshes' ≡ counted counts (joined (on_the_way way passed) (taking family port said state).0)
 turn_counted family port said state way passed counts skipped' refreshes' p q =
-    let none = none_refreshed family port said state in same_counts skipped' _ refreshes' _ (omega (arith, p)) (omega (arith, q, none))
+    let none = none_refreshed family port (content_in family said) state in same_counts skipped' _ refreshes' _ (omega (arith, p)) (omega (arith, q, none))

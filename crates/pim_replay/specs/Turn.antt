@@ -1,22 +1,18 @@
 -- A turn of a replay: the router runs to the moment of a record, then the port of its capture takes
 -- the record.
-use Rattle.std.specs.Prelude.{◌≡◌, ℕ, ◌+◌, min, if◌then◌else◌, List, [], ◌++◌, Option, None, Some}
+use Rattle.std.specs.Prelude.{◌≡◌, ℕ, ◌+◌, min, List, [], ◌++◌, Option}
 use Rattle.std.specs.Prelude.{Result, Ok, Err}
 use Rattle.std.specs.Io.KnownBytes.{Appends, Keeps}
 use Rattle.pim_addr.specs.declared.family.AddressFamily.{AddressFamily}
 use Rattle.pim_device.specs.Device.{AppendsFront, top_count}
-use Rattle.pim_capture.specs.Frame.{Datagram}
-use Rattle.pim_capture.specs.Capture.{Told, packet, skipped, ended}
-use Rattle.pim_capture.specs.Next.{event_seen}
-use Rattle.pim_merge.specs.declared.merge.Turn.{Turn}
+use Rattle.pim_capture.specs.Capture.{Told}
+use Rattle.pim_merge.specs.Content.{Content, holds, content_in}
 use Rattle.pim_merge.specs.Merge.{Taken}
 use Rattle.pim_router.specs.Packets.{Packet, received}
 use Rattle.pim_router.specs.State.{RouterState}
 use Rattle.pim_report.specs.declared.state_text.Counts.{Counts}
 use Rattle.pim_report.specs.declared.state_text.TextFault.{TextFault}
 use Rattle.pim_report.specs.declared.state_text.TextFault.TheVariants.{Output, Memory}
-use Rattle.pim_replay.specs.declared.turns.Ends.{Ends}
-use Rattle.pim_addr.specs.Families.{is_same}
 use Rattle.pim_report.specs.PacketLine.{packet_line}
 use Rattle.pim_replay.specs.Passing.{PassesTime}
 
@@ -53,14 +49,10 @@ counted counts account = record {
 
 -- ---- taking a record
 
--- The packet that a port gets from a datagram.
-abbrev pub packet_on : ℕ → Datagram → Packet
-packet_on port datagram = record {
-  port = port;
-  source = datagram.source;
-  destination = datagram.destination;
-  bytes = datagram.payload;
-}
+-- The packet that a port gets.
+abbrev pub packet_on : ℕ → List ℕ → List ℕ → List ℕ → Packet
+packet_on port source destination payload =
+    record { port = port; source = source; destination = destination; bytes = payload }
 
 -- The line of a packet that the router takes, with the router's moment and verdict.
 abbrev pub line_of : AddressFamily → Packet → RouterState → List ℕ
@@ -76,17 +68,16 @@ heard family sent state =
 abbrev pub passed_over : RouterState → Account × RouterState
 passed_over state = (record { lines = []; refreshes = 0; skips = 1 }, state)
 
--- A datagram of the router's family is taken as a packet; one of the other family is skipped.
-abbrev pub packet_taken : AddressFamily → ℕ → Datagram → RouterState → Account × RouterState
-packet_taken family port datagram state =
-    if is_same family datagram.family then heard family (packet_on port datagram) state else passed_over state
+-- The account of what a record holds, and the router after it. A packet of the router's family goes
+-- to the port with the number of its capture; any other record is skipped.
+abbrev pub taken_as : AddressFamily → ℕ → Content → RouterState → Account × RouterState
+taken_as family port (holds source destination payload) state =
+    heard family (packet_on port source destination payload) state
+taken_as family port other state = passed_over state
 
--- The account of a record, and the router after it. A packet goes to the port with the number of
--- its capture; any other record is skipped.
+-- The account of a record, and the router after it.
 abbrev pub taking : AddressFamily → ℕ → Told → RouterState → Account × RouterState
-taking family port (packet millis frame datagram) state = packet_taken family port datagram state
-taking family port (skipped millis why) state = passed_over state
-taking family port ended state = passed_over state
+taking family port told state = taken_as family port (content_in family told) state
 
 -- ---- the turn
 
@@ -100,11 +91,6 @@ pub record TellsTurn (family : AddressFamily) (turn : Taken) (account : Account)
   pub passes : PassesTime family turn.moment way refreshes state between
   pub account_is : account ≡ joined (on_the_way way refreshes) (taking family turn.capture turn.told between).0
   pub after_is : after ≡ (taking family turn.capture turn.told between).1
-
--- A turn of the merge as a record, where these are the bytes of its capture.
-abbrev pub turn_seen : List ℕ → Turn → Taken
-turn_seen bytes turn =
-    record { capture = turn.capture; moment = turn.moment; told = event_seen bytes turn.event }
 
 -- ---- what a call returns and writes
 
@@ -146,15 +132,3 @@ abbrev pub failures_by : {A : Type 0} → ℕ → Result A TextFault → ℕ
 failures_by before (Ok done) = before
 failures_by before (Err Output) = min (before + 1) top_count
 failures_by before (Err Memory) = before
-
--- ---- the addresses of a packet
-
--- The source and the destination of a packet, as bytes.
-abbrev pub ends_seen : {A : Type 0} → (A → List ℕ) → Ends A → List ℕ × List ℕ
-ends_seen bytes_of ends = (bytes_of ends.source, bytes_of ends.destination)
-
--- The source and the destination of a datagram of the router's family; nothing for the other
--- family.
-abbrev pub ends_in : AddressFamily → Datagram → Option (List ℕ × List ℕ)
-ends_in family datagram =
-    if is_same family datagram.family then Some (datagram.source, datagram.destination) else None

@@ -4,15 +4,12 @@ use Rattle.std.specs.Io.KnownBytes.{Appends}
 use Rattle.pim_addr.specs.declared.family.AddressFamily.{AddressFamily}
 use Rattle.pim_capture.specs.declared.fault.CaptureFault.{CaptureFault}
 use Rattle.pim_capture.specs.declared.fault.CaptureFault.TheVariants as fault
-use Rattle.pim_capture.specs.Capture.{Answer}
-use Rattle.pim_time.specs.declared.reading.Time.{Time}
-use Rattle.pim_merge.specs.declared.clock.Clock.{Clock}
 use Rattle.pim_merge.specs.declared.end.End.{End}
 use Rattle.pim_merge.specs.declared.merge.MergeFault.{MergeFault}
 use Rattle.pim_merge.specs.Merge.{Taken}
-use Rattle.pim_merge.specs.Lane.{IsComing, failures_of}
 use Rattle.pim_merge.specs.Next.{MergeState}
-use Rattle.pim_merge.specs.Ends.{last_of, clock_of, Takes, AreAll}
+use Rattle.pim_merge.specs.Ends.{clock_of, AreAll}
+use Rattle.pim_merge.specs.Run.{HasTaken}
 use Rattle.pim_router.specs.State.{RouterState}
 use Rattle.pim_replay.specs.declared.replay.ReplayFault.{ReplayFault}
 use Rattle.pim_replay.specs.declared.replay.ReplayFault.TheVariants.{Capture, Output, Memory}
@@ -37,28 +34,16 @@ abbrev pub of_text : TextFault → ReplayFault
 of_text text.Output = Output
 of_text text.Memory = Memory
 
--- These turns were taken. `merge` is the merge after them, and `rest` is what the captures still
--- have to give.
-pub record IsBehind (last : Option Time) (clock : Option Clock) (captures : List (List Answer)) (taken : List Taken)
-    (merge : MergeState) : Type 0 where
-  pub rest : List (List Answer)
-  pub takes_them : Takes last clock captures taken merge.clock rest
-  pub coming : IsComing merge.lanes rest
-
 module _ (family : AddressFamily) (end : End) (merge : MergeState) (state : RouterState) (old : Option (List ℕ)) where
-  -- Some first turns of the merge were taken. Their lines were written, their counts were added,
-  -- and no read has failed.
+  -- Some first turns of the merge were taken. Their lines were written, and their counts were added.
   pub record IsUnderway (merge' : MergeState) (now : RouterState) (new : Option (List ℕ)) (counts : Counts)
       : Type 0 where
     pub taken : List Taken
     pub account : Account
-    pub turns : (captures : List (List Answer)) → IsComing merge.lanes captures →
-        IsBehind (last_of end) merge.clock captures taken merge'
-    pub clock : merge'.clock ≡ clock_of merge.clock taken
+    pub run : HasTaken end merge taken merge'
     pub tells : TellsTurns family taken account state now
     pub written : Appends old new account.lines
     pub is_counted : counts ≡ counted none_yet account
-    pub reads : failures_of merge'.lanes ≡ failures_of merge.lanes
 
   -- All turns of the merge up to the end of the run were taken, their lines were written and their
   -- counts were added.

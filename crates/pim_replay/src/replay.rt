@@ -4,11 +4,10 @@
 //! The caller makes the merge and the router. So it can refuse a configuration before it opens a
 //! file, and open all files before any record is read.
 
-ghost use Rattle.std.specs.Prelude.{◌≡◌, ◌<◌, ◌≤◌, ◌^◌, ℕ, List, Option, length, Some, OnOk, OnErr};
+ghost use Rattle.std.specs.Prelude.{◌≡◌, ◌<◌, ◌≤◌, ℕ, List, Option, length, Some, OnOk, OnErr};
 ghost use Rattle.pim_capture.specs.Next.{latest_moment};
-ghost use Rattle.pim_merge.specs.Lane.{failures_of};
 ghost use Rattle.pim_merge.specs.Next.{MergeState, turns_left};
-ghost use Rattle.pim_merge.specs.Ends.{end_moment, IsBoundedEnd};
+ghost use Rattle.pim_merge.specs.Ends.{IsBoundedEnd};
 ghost use Rattle.pim_router.specs.State.{RouterState};
 ghost use Rattle.pim_replay.specs.Report.{Replays, failures_of_device};
 ghost use Rattle.pim_replay.specs.Underway.{stopped_by, of_text, IsUnderway, Steps, RunsTurns, RunsOn, IfMore};
@@ -74,7 +73,7 @@ fn step<F: Family, R: Feed + Drop, W: Drain>(
     ensures moment { OnOk result (router.new.machines.moment ≤ latest_moment) }
     ensures nearer { IfMore result (turns_left merge.new < turns_left merge.old) }
 {
-    let next = match merge.next_by(end.last()) {
+    let next = match merge.advance(end) {
         Ok(next) => next,
         Err(told) => return Err(stopped_by(told)),
     };
@@ -112,19 +111,6 @@ fn run_turns<F: Family, R: Feed + Drop, W: Drain>(
     Ok(counts)
 }
 
-/// The moment to which a router runs at the end of its run, where all turns before it were taken.
-fn end_moment<F: Family, R: Feed + Drop>(merge: &Merge<R>, router: &Router<'_, F>, end: End) -> u64
-    requires moment { router.now.machines.moment ≤ latest_moment }
-    requires end { IsBoundedEnd end }
-    ensures moment { result ≡ end_moment end merge.now.clock router.now.machines.moment }
-    ensures bound { result ≤ 10 ^ 15 }
-{
-    match end {
-        End::After(after_ms) => router.now() + after_ms,
-        End::At(time) => merge.moment_at(time),
-    }
-}
-
 /// Takes all turns before the end of the run, then lets the time up to it pass. Returns the counts.
 pub(crate) fn run_on<F: Family, R: Feed + Drop, W: Drain>(
     merge: &mut Merge<R>,
@@ -140,7 +126,7 @@ pub(crate) fn run_on<F: Family, R: Feed + Drop, W: Drain>(
     ensures count { W.failures writer.new ≡ failures_of_device (W.failures writer.old) result }
 {
     let counts = run_turns::<F, R, W>(merge, router, end, writer)?;
-    let moment = end_moment::<F, R>(merge, router, end);
+    let moment = merge.end_moment(end, router.now());
     let Ok(refreshes) = pass_time::<F, W>(writer, router, moment, counts.refreshes) else {
         return Err(ReplayFault::Output);
     };

@@ -3,11 +3,14 @@ use Rattle.std.proofs.Common.{◌≡◌, ℕ, List, [], ◌∷◌, refl, sym, su
 use Rattle.pim_addr.specs.declared.family.AddressFamily.{AddressFamily}
 use Rattle.pim_merge.specs.declared.end.End.{End}
 use Rattle.pim_merge.specs.Ends.{end_moment, clock_of}
+use Rattle.pim_merge.specs.Content.{Content, holds, of_other_family, without_packet, no_record, content_in}
 use Rattle.pim_merge.specs.Merge.{Taken}
 use Rattle.pim_merge.specs.Next.{MergeState}
 use Rattle.pim_down.specs.Laws.{KeysAreToldApart, FiringSaysMore, HearingKeepsTheOrder, HearingLeavesOtherPorts}
 use Rattle.pim_down.specs.Records.{IsAscending}
 use Rattle.pim_router.specs.State.{RouterState}
+use Rattle.pim_events.specs.declared.event.Skip.TheVariants.{NoPacket, OtherFamily}
+use Rattle.pim_events.specs.declared.event.Skipping.{Skipping}
 use Rattle.pim_events.specs.Events.{Occurrence, record_skipped}
 use Rattle.pim_trace.specs.Causing.{TraceNamesCauses, TurnsNameCauses}
 use Rattle.pim_trace.specs.Folding.{EventsTellTheState, TurnsTellTheState}
@@ -15,7 +18,7 @@ use Rattle.pim_trace.specs.Heard.{event_on}
 use Rattle.pim_trace.specs.Ledger.{Ledger, frame_of, with_skip}
 use Rattle.pim_trace.specs.Passing.{PassesTime}
 use Rattle.pim_trace.specs.Trace.{TellsTurns, TellsAll, IsTrace, ending, ledger_for}
-use Rattle.pim_trace.specs.Turn.{Content, held, passed_over, no_record, content_in, TakesContent, counting, TellsTurn}
+use Rattle.pim_trace.specs.Turn.{packet_on, Skips, TakesContent, counting, TellsTurn}
 use Rattle.pim_trace.proofs.Caused.{leading, naming}
 use Rattle.pim_trace.proofs.Folding.{leads_nowhere, leads_past, Place, place, known_at, LeadsAll, all_nowhere, all_on}
 use Rattle.pim_trace.proofs.Folding.{all_quiet}
@@ -41,19 +44,28 @@ module _ (given : Given) (family : AddressFamily) where
   same_place ledger ledger' state after events l s leads =
       subst (λ (at : Place). LeadsAll (place ledger state) events at) (λ i. place (sym l i) (sym s i)) leads
 
-  content_leads : (port : ℕ) (content : Content) (ledger ledger' : Ledger) (state after : RouterState)
+  skip_leads : (port : ℕ) (skipping : Skipping) (ledger ledger' : Ledger) (state after : RouterState)
       (events : List Occurrence) → IsAscending state.machines.records →
-      TakesContent family port content ledger state events ledger' after → LeadOn' ledger state events ledger' after
-  content_leads port (held frame sent) ledger ledger' state after events up takes =
-      packet_leads given.apart given.keeps given.leaves family frame sent ledger state up events ledger' after takes
-  content_leads port (passed_over skipping) ledger ledger' state after events up takes =
-      let skipped = event_on ledger state.machines.moment port (record_skipped skipping) ∷ [] in
+      Skips port skipping ledger state events ledger' after → LeadOn' ledger state events ledger' after
+  skip_leads port skipping ledger ledger' state after events up takes =
       subst (λ (l : Ledger). LeadOn' ledger state events l after) (sym takes.1)
       (subst (λ (s : RouterState). LeadOn' ledger state events (with_skip skipping.why ledger) s) (sym takes.2)
       (subst (λ (es : List Occurrence). LeadOn' ledger state es ledger state) (sym takes.0)
       (all_quiet (place ledger state) ledger state.machines.moment port (record_skipped skipping ∷ []) up
       ((λ key on. refl), tt))))
-  content_leads port no_record ledger ledger' state after events up takes =
+
+  content_leads : (port frame : ℕ) (content : Content) (ledger ledger' : Ledger) (state after : RouterState)
+      (events : List Occurrence) → IsAscending state.machines.records →
+      TakesContent family port frame content ledger state events ledger' after →
+      LeadOn' ledger state events ledger' after
+  content_leads port frame (holds source destination payload) ledger ledger' state after events up takes =
+      packet_leads given.apart given.keeps given.leaves family frame (packet_on port source destination payload)
+      ledger state up events ledger' after takes
+  content_leads port frame of_other_family ledger ledger' state after events up takes =
+      skip_leads port (record { frame = frame; why = OtherFamily }) ledger ledger' state after events up takes
+  content_leads port frame (without_packet why) ledger ledger' state after events up takes =
+      skip_leads port (record { frame = frame; why = NoPacket why }) ledger ledger' state after events up takes
+  content_leads port frame no_record ledger ledger' state after events up takes =
       same_place ledger ledger' state after events takes.1 takes.2
       (subst (λ (es : List Occurrence). LeadOn' ledger state es ledger state) (sym takes.0)
       (all_nowhere (place ledger state) up))
@@ -69,9 +81,9 @@ module _ (given : Given) (family : AddressFamily) where
       LeadOn' ledger state events ledger' after
   one_leads turn ledger ledger' state after events up t =
       let way = time_leads turn.moment (counting turn ledger) t.ledger_then state t.between t.way up t.passes in
-      let content = content_in family turn.capture (frame_of turn.capture t.ledger_then) turn.told in
       let of_record =
-      content_leads turn.capture content t.ledger_then ledger' t.between after t.of_record way.ascending t.takes in
+      content_leads turn.capture (frame_of turn.capture t.ledger_then) (content_in family turn.told) t.ledger_then
+      ledger' t.between after t.of_record way.ascending t.takes in
       subst (λ (es : List Occurrence). LeadOn' ledger state es ledger' after) (sym t.events_are)
       (all_on (place ledger state) (place t.ledger_then t.between) (place ledger' after) t.way t.of_record way of_record)
 

@@ -1,11 +1,10 @@
 -- A turn: the time up to it, and then what its record holds.
 use Rattle.std.proofs.Common.{◌≡◌, ◌∙◌, ℕ, Bool, true, false, if◌then◌else◌, List, [], ◌∷◌, ◌++◌, Option, None, Some, Ok, Err, Result, slice_index_or, map, refl, sym, ap, subst}
-use Rattle.std.specs.Option.{option_map}
 use Rattle.std.specs.Io.KnownBytes.{Appends}
 use Rattle.pim_device.specs.Device.{AppendsFront}
 use Rattle.pim_addr.specs.declared.family.AddressFamily.{AddressFamily}
-use Rattle.pim_addr.specs.Families.{is_same}
-use Rattle.pim_capture.specs.Frame.{Datagram}
+use Rattle.pim_capture.specs.Capture.{Told}
+use Rattle.pim_merge.specs.Content.{Content, holds, of_other_family, without_packet, no_record, content_in}
 use Rattle.pim_merge.specs.Merge.{Taken}
 use Rattle.pim_jp.specs.Message.{Message}
 use Rattle.pim_down.specs.Hearing.{events_of, start_of}
@@ -14,74 +13,27 @@ use Rattle.pim_router.specs.declared.verdict.Verdict.{Verdict}
 use Rattle.pim_router.specs.declared.verdict.Verdict.TheVariants as verdict
 use Rattle.pim_router.specs.Packets.{Packet, received, timing_on}
 use Rattle.pim_router.specs.State.{RouterState}
-use Rattle.pim_events.specs.declared.event.Skip.TheVariants.{OtherFamily}
+use Rattle.pim_events.specs.declared.event.Skip.TheVariants.{NoPacket, OtherFamily}
 use Rattle.pim_events.specs.declared.event.Skipping.{Skipping}
 use Rattle.pim_events.specs.Events.{Occurrence, record_skipped}
 use Rattle.pim_transitions.specs.declared.transition.Transition.{Transition}
 use Rattle.pim_transitions.specs.Laws.{TransitionsAreThere}
-use Rattle.pim_trace.specs.declared.turns.Ends.{Ends}
 use Rattle.pim_trace.specs.Heard.{AreChangesOf, event_on, says, remembers}
-use Rattle.pim_trace.specs.Held.{ends_seen, ends_in}
 use Rattle.pim_trace.specs.Ledger.{Ledger, frame_of, with_skip}
 use Rattle.pim_trace.specs.Passing.{PassesTime}
 use Rattle.pim_trace.specs.Reading.{message_read}
 use Rattle.pim_trace.specs.Telling.{HasTold, HasBegun, Tells}
-use Rattle.pim_trace.specs.Turn.{Content, held, passed_over, no_record, packet_on, datagram_in, content_in, Skips, Rests, TakesContent, TakesRecord, counting, TellsTurn}
+use Rattle.pim_trace.specs.Turn.{packet_on, Skips, Rests, TakesContent, TakesRecord, counting, TellsTurn}
 use Rattle.pim_trace.proofs.Pieces.{none_told, one_told, one_begun, told_then, told_begun, begun_longer}
-
--- ---- what a record holds
-
-if_here : {A : Type 0} (b : Bool) (x y : A) → b ≡ true → (if b then x else y) ≡ x
-if_here true x y e = refl
-if_here false x y e = absurd cc
-
-if_there : {A : Type 0} (b : Bool) (x y : A) → b ≡ false → (if b then x else y) ≡ y
-if_there true x y e = absurd cc
-if_there false x y e = refl
-
--- a value that is there only where the test holds
-is_here : {A : Type 0} (b : Bool) (p q : A) → Some p ≡ (if b then Some q else None) → (b ≡ true) × (p ≡ q)
-is_here true p q e = (refl, cc)
-is_here false p q e = absurd cc
-
-is_gone : {A : Type 0} (b : Bool) (q : A) → None ≡ (if b then Some q else None) → b ≡ false
-is_gone true q e = absurd cc
-is_gone false q e = refl
-
-abbrev made : ℕ → List ℕ → List ℕ → List ℕ → Packet
-made port source destination bytes = record { port = port; source = source; destination = destination; bytes = bytes }
-
-same_packet : (port : ℕ) (a b c d e f : List ℕ) → a ≡ d → b ≡ e → c ≡ f → made port a b c ≡ made port d e f
-same_packet port a b c d e f p q r = ap (λ l. made port l b c) p ∙ (ap (λ l. made port d l c) q ∙ ap (λ l. made port d e l) r)
-
-module _ {A : Type 0} (bytes_of : A → List ℕ) (family : AddressFamily) (port frame : ℕ) (datagram : Datagram) (ends : Option (Ends A))
-    (is : option_map (ends_seen bytes_of) ends ≡ ends_in family datagram) where
-  -- a packet of the other family
-  pub of_other : ends ≡ None → passed_over (record { frame = frame; why = OtherFamily }) ≡ datagram_in family port frame datagram
-  of_other none =
-      let test : is_same family datagram.family ≡ false = is_gone (is_same family datagram.family) (datagram.source, datagram.destination) (ap (option_map (ends_seen bytes_of)) (sym none) ∙ is) in
-      sym (if_there (is_same family datagram.family) (held frame (packet_on port datagram)) (passed_over (record { frame = frame; why = OtherFamily })) test)
-
-  -- a packet of the router's family
-  pub of_family : (two : Ends A) (bytes : List ℕ) → ends ≡ Some two → bytes ≡ datagram.payload
-      → held frame (made port (bytes_of two.source) (bytes_of two.destination) bytes) ≡ datagram_in family port frame datagram
-  of_family two bytes there same =
-      let facts : (is_same family datagram.family ≡ true) × ◌≡◌ {A = List ℕ × List ℕ} (bytes_of two.source, bytes_of two.destination) (datagram.source, datagram.destination) =
-      is_here (is_same family datagram.family) (bytes_of two.source, bytes_of two.destination) (datagram.source, datagram.destination) (ap (option_map (ends_seen bytes_of)) (sym there) ∙ is)
-      in
-      ap (λ sent. held frame sent)
-      (same_packet port (bytes_of two.source) (bytes_of two.destination) bytes datagram.source datagram.destination datagram.payload (ap (λ (p : List ℕ × List ℕ). p.0) facts.1)
-      (ap (λ (p : List ℕ × List ℕ). p.1) facts.1) same)
-      ∙ sym (if_here (is_same family datagram.family) (held frame (packet_on port datagram)) (passed_over (record { frame = frame; why = OtherFamily })) facts.0)
 
 -- ---- each record has its events
 
 -- Some events are those of the content, with what is remembered and the router after it.
-pub record HasEvents (family : AddressFamily) (port : ℕ) (content : Content) (ledger : Ledger) (state : RouterState) : Type 0 where
+pub record HasEvents (family : AddressFamily) (port frame : ℕ) (content : Content) (ledger : Ledger) (state : RouterState) : Type 0 where
   pub events : List Occurrence
   pub ledger' : Ledger
   pub after : RouterState
-  pub takes : TakesContent family port content ledger state events ledger' after
+  pub takes : TakesContent family port frame content ledger state events ledger' after
 
 module _ (law : TransitionsAreThere) (family : AddressFamily) where
   record HasChanges (packet : Packet) (state after : RouterState) (told : Verdict) (message : Option Message) : Type 0 where
@@ -101,8 +53,9 @@ module _ (law : TransitionsAreThere) (family : AddressFamily) where
   some_changes packet state after (verdict.Full store) message = record { changes = []; are = refl }
   some_changes packet state after (verdict.HelloTaken heard) message = record { changes = []; are = refl }
 
-  pub some_events : (port : ℕ) (content : Content) (ledger : Ledger) (state : RouterState) → HasEvents family port content ledger state
-  some_events port (held frame packet) ledger state =
+  pub some_events : (port frame : ℕ) (content : Content) (ledger : Ledger) (state : RouterState) → HasEvents family port frame content ledger state
+  some_events port frame (holds source destination payload) ledger state =
+      let packet = packet_on port source destination payload in
       let told = received family packet state in
       let some = some_changes packet state told.1 told.0 (message_read family packet) in
       record {
@@ -111,13 +64,19 @@ module _ (law : TransitionsAreThere) (family : AddressFamily) where
         after = told.1;
         takes = record { changes = some.changes; are = some.are; after_is = refl; events_are = refl; ledger_is = refl };
       }
-  some_events port (passed_over skipping) ledger state = record {
-    events = event_on ledger state.machines.moment port (record_skipped skipping) ∷ [];
-    ledger' = with_skip skipping.why ledger;
+  some_events port frame of_other_family ledger state = record {
+    events = event_on ledger state.machines.moment port (record_skipped (record { frame = frame; why = OtherFamily })) ∷ [];
+    ledger' = with_skip (OtherFamily) ledger;
     after = state;
     takes = (refl, refl, refl);
   }
-  some_events port no_record ledger state = record { events = []; ledger' = ledger; after = state; takes = (refl, refl, refl) }
+  some_events port frame (without_packet why) ledger state = record {
+    events = event_on ledger state.machines.moment port (record_skipped (record { frame = frame; why = NoPacket why })) ∷ [];
+    ledger' = with_skip (NoPacket why) ledger;
+    after = state;
+    takes = (refl, refl, refl);
+  }
+  some_events port frame no_record ledger state = record { events = []; ledger' = ledger; after = state; takes = (refl, refl, refl) }
 
 -- ---- a record that is skipped
 
@@ -142,14 +101,24 @@ module _ (line : Occurrence → List ℕ) (port : ℕ) (skipping : Skipping) (le
     written = one_told line old new (event_at state.machines.moment) (subst (λ (m : ℕ). Appends old new (line (event_at m))) now p);
   }
 
--- nothing was told of what is no record
-pub rest_told : (line : Occurrence → List ℕ) (ledger : Ledger) (state : RouterState) (old : Option (List ℕ)) → HasTold line (Rests ledger state) ledger state old old
-rest_told line ledger state old = record { events = []; are = (refl, refl, refl); written = none_told line old }
+-- ---- the record of a turn
+
+module _ (line : Occurrence → List ℕ) (family : AddressFamily) (port : ℕ) where
+  -- what was told of its content was told of the record
+  pub content_tells : {E : Type 0} (frame : ℕ) (content : Content) (ledger : Ledger) (state : RouterState) → frame ≡ frame_of port ledger → (told : Told) → content ≡ content_in family told
+      → (ledger' : Ledger) (after : RouterState) (old new : Option (List ℕ)) (result : Result (Unit {0}) E) → Tells line (TakesContent family port frame content ledger state) ledger' after old new result
+      → Tells line (TakesRecord family port told ledger state) ledger' after old new result
+  content_tells frame content ledger state numbered told is ledger' after old new result tells =
+      subst (λ (c : Content). Tells line (TakesContent family port (frame_of port ledger) c ledger state) ledger' after old new result) is
+      (subst (λ (n : ℕ). Tells line (TakesContent family port n content ledger state) ledger' after old new result) numbered tells)
+
+  -- nothing was told of what is no record
+  pub rest_tells : (ledger : Ledger) (state : RouterState) (told : Told) → no_record ≡ content_in family told → (old : Option (List ℕ)) → HasTold line (TakesRecord family port told ledger state) ledger state old old
+  rest_tells ledger state told is old =
+      subst (λ (c : Content). HasTold line (TakesContent family port (frame_of port ledger) c ledger state) ledger state old old) is
+      (record { events = []; are = (refl, refl, refl); written = none_told line old })
 
 -- ---- the turn
-
-same_frame : (port : ℕ) (one other : Ledger) → one.frames ≡ other.frames → frame_of port one ≡ frame_of port other
-same_frame port one other same = ap (λ (frames : List ℕ). slice_index_or frames port 0) same
 
 module _ (line : Occurrence → List ℕ) (family : AddressFamily) (turn : Taken) (ledger counted : Ledger) (state : RouterState) (counts : counted ≡ counting turn ledger) where
   -- the time that passed up to the turn
@@ -165,7 +134,7 @@ module _ (line : Occurrence → List ℕ) (family : AddressFamily) (turn : Taken
   -- the device failed on the way
   pub stopped_on_the_way : TransitionsAreThere → (old new : Option (List ℕ)) → HasBegun line Way old new → HasBegun line Tell old new
   stopped_on_the_way law old new way =
-      let rest = some_events law family turn.capture (content_in family turn.capture (frame_of turn.capture way.ledger) turn.told) way.ledger way.after in
+      let rest = some_events law family turn.capture (frame_of turn.capture way.ledger) (content_in family turn.told) way.ledger way.after in
       record {
         events = way.events ++ rest.events;
         ledger = rest.ledger';
@@ -182,16 +151,11 @@ module _ (line : Occurrence → List ℕ) (family : AddressFamily) (turn : Taken
         written = begun_longer line old new way.events rest.events way.written;
       }
 
-  module _ (ledger_then : Ledger) (between : RouterState) (old mid : Option (List ℕ)) (way : HasTold line Way ledger_then between old mid) (frame : ℕ) (numbered : frame ≡ frame_of turn.capture counted)
-      (frames : ledger_then.frames ≡ counted.frames) (content : Content) (holds : content ≡ content_in family turn.capture frame turn.told) where
-    -- what was taken is the record of the turn
-    takes_it : (events : List Occurrence) (ledger' : Ledger) (after : RouterState) → TakesContent family turn.capture content ledger_then between events ledger' after
-        → TakesRecord family turn.capture turn.told ledger_then between events ledger' after
-    takes_it events ledger' after takes =
-        subst (λ (c : Content). TakesContent family turn.capture c ledger_then between events ledger' after)
-        (holds ∙ ap (λ n. content_in family turn.capture n turn.told) (numbered ∙ same_frame turn.capture counted ledger_then (sym frames))) takes
+  module _ (ledger_then : Ledger) (between : RouterState) (old mid : Option (List ℕ)) (way : HasTold line Way ledger_then between old mid) where
+    abbrev Takes : List Occurrence → Ledger → RouterState → Type 0
+    Takes = TakesRecord family turn.capture turn.told ledger_then between
 
-    turn_is : (events : List Occurrence) (ledger' : Ledger) (after : RouterState) → TakesContent family turn.capture content ledger_then between events ledger' after
+    turn_is : (events : List Occurrence) (ledger' : Ledger) (after : RouterState) → Takes events ledger' after
         → Tell (way.events ++ events) ledger' after
     turn_is events ledger' after takes = record {
       way = way.events;
@@ -199,12 +163,12 @@ module _ (line : Occurrence → List ℕ) (family : AddressFamily) (turn : Taken
       ledger_then = ledger_then;
       passes = passes_so way.events ledger_then between way.are;
       of_record = events;
-      takes = takes_it events ledger' after takes;
+      takes = takes;
       events_are = refl;
     }
 
     -- the whole turn was told
-    pub turn_told : (ledger' : Ledger) (after : RouterState) (new : Option (List ℕ)) → HasTold line (TakesContent family turn.capture content ledger_then between) ledger' after mid new
+    pub turn_told : (ledger' : Ledger) (after : RouterState) (new : Option (List ℕ)) → HasTold line Takes ledger' after mid new
         → HasTold line Tell ledger' after old new
     turn_told ledger' after new one = record {
       events = way.events ++ one.events;
@@ -213,7 +177,7 @@ module _ (line : Occurrence → List ℕ) (family : AddressFamily) (turn : Taken
     }
 
     -- a front of what its record tells was told
-    pub turn_begun : (new : Option (List ℕ)) → HasBegun line (TakesContent family turn.capture content ledger_then between) mid new → HasBegun line Tell old new
+    pub turn_begun : (new : Option (List ℕ)) → HasBegun line Takes mid new → HasBegun line Tell old new
     turn_begun new one = record {
       events = way.events ++ one.events;
       ledger = one.ledger;
@@ -222,7 +186,7 @@ module _ (line : Occurrence → List ℕ) (family : AddressFamily) (turn : Taken
       written = told_begun line old mid new way.events one.events way.written one.written;
     }
 
-    pub turn_over : {E : Type 0} (ledger' : Ledger) (after : RouterState) (new : Option (List ℕ)) (result : Result (Unit {0}) E) → Tells line (TakesContent family turn.capture content ledger_then between) ledger' after mid new result
+    pub turn_over : {E : Type 0} (ledger' : Ledger) (after : RouterState) (new : Option (List ℕ)) (result : Result (Unit {0}) E) → Tells line Takes ledger' after mid new result
         → Tells line Tell ledger' after old new result
     turn_over ledger' after new (Ok done) p = turn_told ledger' after new p
     turn_over ledger' after new (Err fault) p = turn_begun new p

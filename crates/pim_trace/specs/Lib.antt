@@ -1,5 +1,5 @@
 -- The definitions of `pim_trace`. `Trace`, `Turn`, `Heard`, `Passing`, `Reading` and `Ledger` say what a
--- trace is; `Telling` says what a call tells of it; `Read`, `Held`, `Kept` and `Machines` show values of the
+-- trace is; `Telling` says what a call tells of it; `Read`, `Kept` and `Machines` show values of the
 -- code; `Underway` serves private functions only. `Folding` and `Causing` have the laws.
 pub mod Reading
 pub mod Ledger
@@ -11,7 +11,6 @@ pub mod Trace
 pub mod Telling
 pub mod Read
 pub mod Kept
-pub mod Held
 pub mod Folding
 pub mod Causing
 pub mod Underway

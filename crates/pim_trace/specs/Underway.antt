@@ -3,16 +3,13 @@ use Rattle.std.specs.Prelude.{◌≡◌, ◌≤◌, ℕ, Bool, true, false, List
 use Rattle.pim_addr.specs.declared.family.AddressFamily.{AddressFamily}
 use Rattle.pim_capture.specs.declared.fault.CaptureFault.{CaptureFault}
 use Rattle.pim_capture.specs.declared.fault.CaptureFault.TheVariants as fault
-use Rattle.pim_capture.specs.Capture.{Answer}
 use Rattle.pim_capture.specs.Next.{latest_moment}
-use Rattle.pim_time.specs.declared.reading.Time.{Time}
-use Rattle.pim_merge.specs.declared.clock.Clock.{Clock}
 use Rattle.pim_merge.specs.declared.end.End.{End}
 use Rattle.pim_merge.specs.declared.merge.MergeFault.{MergeFault}
-use Rattle.pim_merge.specs.Ends.{last_of, clock_of, Takes, AreAll}
+use Rattle.pim_merge.specs.Ends.{clock_of, AreAll}
 use Rattle.pim_merge.specs.Merge.{Taken}
-use Rattle.pim_merge.specs.Lane.{IsComing, failures_of}
 use Rattle.pim_merge.specs.Next.{MergeState}
+use Rattle.pim_merge.specs.Run.{HasTaken}
 use Rattle.pim_report.specs.declared.state_text.TextFault.{TextFault}
 use Rattle.pim_report.specs.declared.state_text.TextFault.TheVariants as text
 use Rattle.pim_router.specs.State.{RouterState}
@@ -44,27 +41,16 @@ pub record AreAlike (merge : MergeState) (ledger : Ledger) (state : RouterState)
   pub own : length ledger.own ≡ length state.ports
   pub moment : state.machines.moment ≤ latest_moment
 
--- These turns were taken. `merge` is the merge after them, and `rest` is what the captures still
--- have to give.
-pub record IsBehind (last : Option Time) (clock : Option Clock) (captures : List (List Answer)) (taken : List Taken)
-    (merge : MergeState) : Type 0 where
-  pub rest : List (List Answer)
-  pub takes_them : Takes last clock captures taken merge.clock rest
-  pub coming : IsComing merge.lanes rest
-
 module _ (line : Occurrence → List ℕ) (family : AddressFamily) (end : End) (merge : MergeState) (state : RouterState)
     (old : Option (List ℕ)) where
-  -- Some first turns of the merge were taken, their events were written, and no read has failed.
+  -- Some first turns of the merge were taken, and their events were written.
   pub record IsUnderway (merge' : MergeState) (ledger : Ledger) (now : RouterState) (new : Option (List ℕ))
       : Type 0 where
     pub taken : List Taken
     pub events : List Occurrence
-    pub turns : (captures : List (List Answer)) → IsComing merge.lanes captures →
-        IsBehind (last_of end) merge.clock captures taken merge'
-    pub clock : merge'.clock ≡ clock_of merge.clock taken
+    pub run : HasTaken end merge taken merge'
     pub tells : TellsTurns family taken (ledger_for state) state events ledger now
     pub written : Wrote line old new events
-    pub reads : failures_of merge'.lanes ≡ failures_of merge.lanes
 
   -- All turns of the merge up to the end of the run were taken, and their events were written.
   pub record HasAll (merge' : MergeState) (ledger : Ledger) (now : RouterState) (new : Option (List ℕ))

@@ -200,20 +200,24 @@ impl<F: Family> Ledger<F> {
         self.skipped
     }
 
-    /// Takes a record of this capture with this time, in milliseconds since 1970. Returns its
-    /// number in its capture.
-    pub(crate) fn open(&mut self, capture: usize, time: u64) -> u64
+    /// Takes a record of this capture with this time, in milliseconds since 1970.
+    pub(crate) fn open(&mut self, capture: usize, time: u64)
         requires { capture < length self.old.frames.items }
-        ensures ledger { ledger_seen F.bytes_of self.new
+        ensures { ledger_seen F.bytes_of self.new
             ≡ opened capture time (ledger_seen F.bytes_of self.old) }
-        ensures frame { result ≡ frame_of capture (ledger_seen F.bytes_of self.new) }
     {
         if self.begin.is_none() {
             self.begin = Some(time);
         }
-        let frame = one_more(self.frames[capture]);
-        self.frames[capture] = frame;
-        frame
+        self.frames[capture] = one_more(self.frames[capture]);
+    }
+
+    /// The number of the last record of this capture that was taken.
+    pub(crate) fn frame(&self, capture: usize) -> u64
+        requires { capture < length self.now.frames.items }
+        ensures { result ≡ frame_of capture (ledger_seen F.bytes_of self.now) }
+    {
+        self.frames[capture]
     }
 
     /// Counts a record that is skipped.

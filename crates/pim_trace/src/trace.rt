@@ -1,10 +1,10 @@
 //! A trace goes over the records of a router's captures and tells each change of each machine, with
 //! its cause.
 
-ghost use Rattle.std.specs.Prelude.{◌≡◌, ◌<◌, ◌≤◌, ◌^◌, ℕ, List, Option, length, OnOk};
+ghost use Rattle.std.specs.Prelude.{◌≡◌, ◌<◌, ◌≤◌, ℕ, List, Option, length, OnOk};
 ghost use Rattle.pim_capture.specs.Next.{latest_moment};
 ghost use Rattle.pim_device.specs.Device.{AppendsAll, failures_after};
-ghost use Rattle.pim_merge.specs.Ends.{end_moment, IsBoundedEnd};
+ghost use Rattle.pim_merge.specs.Ends.{IsBoundedEnd};
 ghost use Rattle.pim_merge.specs.Next.{MergeState, turns_left};
 ghost use Rattle.pim_router.specs.State.{RouterState};
 ghost use Rattle.pim_trace.specs.Kept.{ledger_seen};
@@ -76,7 +76,7 @@ fn step<F: Family, R: Feed + Drop, W, T: Teller<F, W>>(
         (AreAlike merge.new (ledger_seen F.bytes_of ledger.new) router.new) }
     ensures nearer { IfMore result (turns_left merge.new < turns_left merge.old) }
 {
-    let next = match merge.next_by(end.last()) {
+    let next = match merge.advance(end) {
         Ok(next) => next,
         Err(told) => return Err(stopped_by(told)),
     };
@@ -109,19 +109,6 @@ fn run_turns<F: Family, R: Feed + Drop, W, T: Teller<F, W>>(
 {
     while step(teller, device, merge, router, ledger, end)? {}
     Ok(())
-}
-
-/// The moment to which a router runs at the end of its run, where all turns before it were taken.
-fn end_moment<F: Family, R: Feed + Drop>(merge: &Merge<R>, router: &Router<'_, F>, end: End) -> u64
-    requires moment { router.now.machines.moment ≤ latest_moment }
-    requires end { IsBoundedEnd end }
-    ensures moment { result ≡ end_moment end merge.now.clock router.now.machines.moment }
-    ensures bound { result ≤ 10 ^ 15 }
-{
-    match end {
-        End::After(after_ms) => router.now() + after_ms,
-        End::At(time) => merge.moment_at(time),
-    }
 }
 
 /// The number of neighbours of all ports.
@@ -192,7 +179,7 @@ fn trace_with<F: Family, R: Feed + Drop, W, T: Teller<F, W>>(
     ensures count { T.failures device.new ≡ failures_of_device (T.failures device.old) result }
 {
     run_turns(teller, device, merge, router, ledger, end)?;
-    let moment = end_moment(merge, router, end);
+    let moment = merge.end_moment(end, router.now());
     let Ok(()) = pass_time(teller, device, router, ledger, moment) else {
         return Err(TraceFault::Output);
     };

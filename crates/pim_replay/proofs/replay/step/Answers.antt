@@ -4,21 +4,21 @@ use Rattle.pim_replay.proofs.replay.step.Goals as goal
 pub returns-in-Err-clause-told : goal.returns-in-Err-clause-told
 returns-in-Err-clause-told g c start state old w =
     failed g.F.Family.family c.args.end start state old c.args.merge.now c.args.router.now (g.W.Drain.contents c.args.writer.now) c.args.counts w
-    c.next_by.new.self c.in-Err.told c.in-Err.ensures.turn c.in-Err.ensures.cause c.stopped_by.result c.stopped_by.ensures
+    c.advance.new.self c.in-Err.told (c.in-Err.ensures.run start w.taken w.run) c.stopped_by.result c.stopped_by.ensures
 
 pub returns-in_default-clause-told : goal.returns-in_default-clause-told
 returns-in_default-clause-told g c start state old w =
     ended g.F.Family.family c.args.end start state old c.args.merge.now c.args.router.now (g.W.Drain.contents c.args.writer.now) c.args.counts w
-    c.in-Ok.next c.next_by.new.self c.last.result c.last.ensures c.in_default.is c.in-Ok.ensures.turn c.in-Ok.ensures.clock
+    c.in-Ok.next c.advance.new.self c.in_default.is (c.in-Ok.ensures.run start w.taken w.run)
 
 pub returns-in-Ok-take_turn-clause-told : goal.returns-in-Ok-take_turn-clause-told
 returns-in-Ok-take_turn-clause-told g c start state old w =
     stepped g.F.Family.family c.args.end start state old c.args.merge.now c.args.router.now (g.W.Drain.contents c.args.writer.now) c.args.counts w
-    c.next_by.new.self c.in-Ok.next c.in-Some.turn c.bytes-bytes.result.now c.in-Some.is c.bytes-bytes.ensures.bytes c.last.result c.last.ensures c.in-Ok.ensures.turn c.in-Ok.ensures.clock
-    c.take_turn.new.router (g.W.Drain.contents c.take_turn.new.writer) c.in-Ok-take_turn.counts c.in-Ok-take_turn.ensures.told c.in-Ok.ensures.reads
+    c.advance.new.self c.in-Ok.next c.in-Some.turn c.bytes-bytes.result.now c.in-Some.is c.bytes-bytes.ensures.bytes (c.in-Ok.ensures.run start w.taken w.run)
+    c.take_turn.new.router (g.W.Drain.contents c.take_turn.new.writer) c.in-Ok-take_turn.counts c.in-Ok-take_turn.ensures.told
 
 pub returns-in-Err-take_turn-clause-told : goal.returns-in-Err-take_turn-clause-told
 returns-in-Err-take_turn-clause-told g c start state old w =
     turn_stopped g.F.Family.family c.args.end start state old c.args.merge.now c.args.router.now (g.W.Drain.contents c.args.writer.now) c.args.counts w
-    c.next_by.new.self c.in-Ok.next c.in-Some.turn c.bytes-bytes.result.now c.in-Some.is c.bytes-bytes.ensures.bytes c.last.result c.last.ensures c.in-Ok.ensures.turn c.in-Ok.ensures.clock
+    c.advance.new.self c.in-Ok.next c.in-Some.turn c.bytes-bytes.result.now c.in-Some.is c.bytes-bytes.ensures.bytes (c.in-Ok.ensures.run start w.taken w.run)
     c.in-Err-take_turn.fault c.of_text.result c.take_turn.new.router (g.W.Drain.contents c.take_turn.new.writer) c.of_text.ensures c.in-Err-take_turn.ensures.begun

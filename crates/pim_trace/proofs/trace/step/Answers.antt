@@ -5,31 +5,31 @@ use Rattle.pim_trace.proofs.trace.step.Goals as goal
 pub returns-in-Err-clause-told : goal.returns-in-Err-clause-told
 returns-in-Err-clause-told g c start state old w =
     failed (g.T.Teller.line c.args.teller.now) g.F.Family.family c.args.end start state old c.args.merge.now (ledger_seen g.F.Family.bytes_of c.args.ledger.now) c.args.router.now (g.T.Teller.contents c.args.device.now) w
-    c.next_by.new.self c.in-Err.told c.in-Err.ensures.turn c.in-Err.ensures.cause c.stopped_by.result c.stopped_by.ensures
+    c.advance.new.self c.in-Err.told (c.in-Err.ensures.run start w.taken w.run) c.stopped_by.result c.stopped_by.ensures
 
 pub returns-in_default-clause-told : goal.returns-in_default-clause-told
 returns-in_default-clause-told g c start state old w =
     ended (g.T.Teller.line c.args.teller.now) g.F.Family.family c.args.end start state old c.args.merge.now (ledger_seen g.F.Family.bytes_of c.args.ledger.now) c.args.router.now (g.T.Teller.contents c.args.device.now) w
-    c.in-Ok.next c.next_by.new.self c.last.result c.last.ensures c.in_default.is c.in-Ok.ensures.turn c.in-Ok.ensures.clock
+    c.in-Ok.next c.advance.new.self c.in_default.is (c.in-Ok.ensures.run start w.taken w.run)
 
 pub returns-in_default-clause-alike : goal.returns-in_default-clause-alike
 returns-in_default-clause-alike g c =
-    alike_still c.args.merge.now c.next_by.new.self (ledger_seen g.F.Family.bytes_of c.args.ledger.now) c.args.router.now c.requires.alike c.in-Ok.ensures.lanes
+    alike_still c.args.merge.now c.advance.new.self (ledger_seen g.F.Family.bytes_of c.args.ledger.now) c.args.router.now c.requires.alike c.in-Ok.ensures.lanes
 
 pub returns-in-Ok-take_turn-clause-told : goal.returns-in-Ok-take_turn-clause-told
 returns-in-Ok-take_turn-clause-told g c start state old w =
     stepped (g.T.Teller.line c.args.teller.now) g.F.Family.family c.args.end start state old c.args.merge.now (ledger_seen g.F.Family.bytes_of c.args.ledger.now) c.args.router.now (g.T.Teller.contents c.args.device.now) w
-    c.next_by.new.self c.in-Ok.next c.in-Some.turn c.bytes-bytes.result.now c.in-Some.is c.bytes-bytes.ensures.bytes c.last.result c.last.ensures c.in-Ok.ensures.turn c.in-Ok.ensures.clock
-    (ledger_seen g.F.Family.bytes_of c.take_turn.new.ledger) c.take_turn.new.router (g.T.Teller.contents c.take_turn.new.device) c.in-Ok-take_turn.ensures.told c.in-Ok.ensures.reads
+    c.advance.new.self c.in-Ok.next c.in-Some.turn c.bytes-bytes.result.now c.in-Some.is c.bytes-bytes.ensures.bytes (c.in-Ok.ensures.run start w.taken w.run)
+    (ledger_seen g.F.Family.bytes_of c.take_turn.new.ledger) c.take_turn.new.router (g.T.Teller.contents c.take_turn.new.device) c.in-Ok-take_turn.ensures.told
 
 pub returns-in-Ok-take_turn-clause-alike : goal.returns-in-Ok-take_turn-clause-alike
 returns-in-Ok-take_turn-clause-alike g c =
-    alike_more c.args.merge.now c.next_by.new.self (ledger_seen g.F.Family.bytes_of c.args.ledger.now) (ledger_seen g.F.Family.bytes_of c.take_turn.new.ledger) c.args.router.now c.take_turn.new.router c.in-Some.turn.moment
+    alike_more c.args.merge.now c.advance.new.self (ledger_seen g.F.Family.bytes_of c.args.ledger.now) (ledger_seen g.F.Family.bytes_of c.take_turn.new.ledger) c.args.router.now c.take_turn.new.router c.in-Some.turn.moment
     c.requires.alike c.in-Ok.ensures.lanes c.in-Ok-take_turn.ensures.frames c.in-Ok-take_turn.ensures.own c.in-Ok-take_turn.ensures.setup c.in-Ok-take_turn.ensures.reached
     (of_turn _ c.in-Ok.next c.in-Some.turn c.in-Some.is c.in-Ok.ensures.moment)
 
 pub returns-in-Err-take_turn-clause-told : goal.returns-in-Err-take_turn-clause-told
 returns-in-Err-take_turn-clause-told g c start state old w =
     turn_stopped (g.T.Teller.line c.args.teller.now) g.F.Family.family c.args.end start state old c.args.merge.now (ledger_seen g.F.Family.bytes_of c.args.ledger.now) c.args.router.now (g.T.Teller.contents c.args.device.now) w
-    c.next_by.new.self c.in-Ok.next c.in-Some.turn c.bytes-bytes.result.now c.in-Some.is c.bytes-bytes.ensures.bytes c.last.result c.last.ensures c.in-Ok.ensures.turn c.in-Ok.ensures.clock
+    c.advance.new.self c.in-Ok.next c.in-Some.turn c.bytes-bytes.result.now c.in-Some.is c.bytes-bytes.ensures.bytes (c.in-Ok.ensures.run start w.taken w.run)
     c.in-Err-take_turn.fault c.of_text.result (ledger_seen g.F.Family.bytes_of c.take_turn.new.ledger) c.take_turn.new.router (g.T.Teller.contents c.take_turn.new.device) c.of_text.ensures c.in-Err-take_turn.ensures.told
