@@ -1,10 +1,9 @@
 -- What events that lead each machine on say of its states, and of the causes of its firings.
-use Rattle.std.proofs.Common.{◌≡◌, ◌∙◌, ℕ, Bool, true, false, not, ◌&&◌, ◌||◌, if◌then◌else◌, List, [], ◌∷◌, ◌++◌}
-use Rattle.std.proofs.Common.{Option, None, Some, is_some, unwrap_or, refl, sym, ap, subst}
-use Rattle.std.specs.Option.{option_eq}
-use Rattle.std.specs.Prelude.{nat_eq}
+use Rattle.std.proofs.Common.{◌≡◌, ◌∙◌, ℕ, Bool, true, false, not, ◌&&◌, if◌then◌else◌, List, [], ◌∷◌, ◌++◌}
+use Rattle.std.proofs.Common.{Option, None, Some, unwrap_or, refl, sym, ap, subst}
 use Rattle.std.proofs.lemmas.Bool.{false≢true}
 use Rattle.pim_down.specs.declared.key.Key.{Key}
+use Rattle.pim_down.specs.declared.key.What.{What}
 use Rattle.pim_down.specs.declared.machine.Machine.{Machine}
 use Rattle.pim_down.specs.declared.machine.State.{State}
 use Rattle.pim_down.specs.declared.step.Timer.{Timer}
@@ -18,14 +17,15 @@ use Rattle.pim_events.specs.declared.event.Transition.{Transition}
 use Rattle.pim_events.specs.Events.{Happened, Occurrence, hello_taken, packet_judged, machine_changed, join_ignored}
 use Rattle.pim_events.specs.Events.{own_restart, record_skipped, neighbour_gone, timer_fired, run_ended}
 use Rattle.pim_trace.specs.declared.ledger.Causes.{Causes}
-use Rattle.pim_trace.specs.Causing.{end_of, end_after, end_then, end_by, sets, packet_of, set_by, last_of, last_set, key_of}
-use Rattle.pim_trace.specs.Causing.{last_setting, FiringsNameTheirCauses}
+use Rattle.pim_trace.specs.Causing.{end_of, end_after, end_then, end_by, sets, packet_of, set_by, last_of, last_set, key_on}
+use Rattle.pim_trace.specs.Causing.{last_setting, ends_pending, EventsNameTheirPackets}
+use Rattle.pim_trace.specs.Heard.{is_pending}
 use Rattle.pim_trace.specs.Folding.{names, states_by, states_told, state_then, BeginsIn, last_told, IsUnbroken, LeadOn}
 use Rattle.pim_trace.specs.Ledger.{Ledger, no_cause, both_by}
 use Rattle.pim_trace.specs.Passing.{cause_of}
 use Rattle.pim_trace.specs.Trace.{ledger_for}
-use Rattle.pim_trace.proofs.Folding.{Known, knowing, known_of, state_in, end_in, by_or, changed_known, fired_known, Changes}
-use Rattle.pim_trace.proofs.Folding.{Fires, LeadsBy, tells_nothing, tells_change, tells_firing, Leads, place, known_at}
+use Rattle.pim_trace.proofs.Folding.{Known, known_of, state_in, end_in, by_or, pending_frame, changed_known, fired_known}
+use Rattle.pim_trace.proofs.Folding.{LeadsBy, tells_nothing, tells_change, tells_firing, Leads, place, known_at}
 use Rattle.pim_trace.proofs.Folding.{LeadsAll}
 
 -- ---- states
@@ -272,30 +272,70 @@ module _ (Is : Option (Cause (List ℕ)) → Cause (List ℕ) → Type 0)
   same_first : (a b : Occurrence) (xs ys : List Occurrence) → a ∷ xs ≡ b ∷ ys → (a ≡ b) × (xs ≡ ys)
   same_first a b xs ys e = (cc, cc)
 
-  pub cause_is : (earlier later events : List Occurrence) (from to : Option Known) (since : Option (Cause (List ℕ)))
-      (event : Occurrence) (firing : Fired (List ℕ)) → Set from since → Leads key from events to →
-      events ≡ earlier ++ event ∷ later → event.what ≡ timer_fired firing →
-      names key event.port firing.group firing.what ≡ true → firing.timer ≡ timer →
-      Is (last_of since (last_set timer key (end_in timer from) earlier)) firing.cause
+  -- what holds of an event, by what is known just before it
+  pub at_event : (Goal : Option (Cause (List ℕ)) → Type 0) (event : Occurrence) →
+      ((from to : Option Known) (since : Option (Cause (List ℕ))) → Set from since → LeadsBy key from event to →
+      Goal since) → (earlier later events : List Occurrence) (from to : Option Known)
+      (since : Option (Cause (List ℕ))) → Set from since → Leads key from events to →
+      events ≡ earlier ++ event ∷ later → Goal (last_of since (last_set timer key (end_in timer from) earlier))
   unfolding Leads last_set
-  cause_is [] later [] from to since event firing set leads e what named is = absurd (no_event event later e)
-  cause_is (x ∷ xs) later [] from to since event firing set leads e what named is =
-      absurd (no_event x (xs ++ event ∷ later) e)
-  cause_is [] later (first ∷ more) from to since event firing set (between, one, rest) e what named is =
-      let same = (same_first first event more later e).0 in
-      fired_now from between first since set one firing (ap (λ (o : Occurrence). o.what) same ∙ what)
-      (ap (λ (o : Occurrence). names key o.port firing.group firing.what) same ∙ named) is
-  cause_is (x ∷ xs) later (first ∷ more) from to since event firing set (between, one, rest) e what named is =
+  at_event Goal event now [] later [] from to since set leads e = absurd (no_event event later e)
+  at_event Goal event now (x ∷ xs) later [] from to since set leads e = absurd (no_event x (xs ++ event ∷ later) e)
+  at_event Goal event now [] later (first ∷ more) from to since set (between, one, rest) e =
+      now from between since set
+      (subst (λ (o : Occurrence). LeadsBy key from o between) (same_first first event more later e).0 one)
+  at_event Goal event now (x ∷ xs) later (first ∷ more) from to since set (between, one, rest) e =
       let same = same_first first x more (xs ++ event ∷ later) e in
       let s = sets_on from between first since one set in let held = end_in timer from in
       let by = set_by timer key held first.ms first.port first.what in
-      let now =
-      cause_is xs later more between to (last_of since by) event firing s.by rest same.1 what named is in
-      subst (λ (o : Occurrence). Is (last_of since (last_set timer key held (o ∷ xs))) firing.cause) same.0
-      (subst (λ (o : Option (Cause (List ℕ))). Is o firing.cause)
-      (sym (all_last since by (last_set timer key (end_then timer key held first) xs)))
+      let then' = at_event Goal event now xs later more between to (last_of since by) s.by rest same.1 in
+      subst (λ (o : Occurrence). Goal (last_of since (last_set timer key held (o ∷ xs)))) same.0
+      (subst Goal (sym (all_last since by (last_set timer key (end_then timer key held first) xs)))
       (subst
-      (λ (end : Option ℕ). Is (last_of (last_of since by) (last_set timer key end xs)) firing.cause) (sym s.ends) now))
+      (λ (end : Option ℕ). Goal (last_of (last_of since by) (last_set timer key end xs))) (sym s.ends) then'))
+
+-- ---- what a transition overrides
+
+module _ (none : Cause (List ℕ)) (since : Option (Cause (List ℕ))) where
+  -- of a machine that is held, this packet set the Prune-Pending Timer last
+  abbrev SetPending : Option Known → Type 0
+  SetPending known = (held : Known) → known ≡ Some held → held.by PrunePending ≡ unwrap_or since none
+
+  overridden_by : (from : Option Known) (before : Option State) (b : Bool) → before ≡ state_in from →
+      SetPending from →
+      (if is_pending before && b then pending_frame from else None)
+      ≡ (if is_pending before && b then Some (unwrap_or since none).frame else None)
+  overridden_by None before b was set = rw was refl
+  overridden_by (Some held) before b was set =
+      ap (λ (c : Cause (List ℕ)). if is_pending before && b then Some c.frame else None) (set held refl)
+
+  not_fired : (change : Transition (List ℕ)) (firing : Fired (List ℕ)) → timer_fired firing ≡ machine_changed change → ⊥
+  not_fired change firing e = cc
+
+  same_change : (a b : Transition (List ℕ)) → machine_changed a ≡ machine_changed b → a ≡ b
+  same_change a b e = cc
+
+  told_none : (states : Option State × Option State) →
+      ◌≡◌ {A = Option (Option State × Option State)} (Some states) None → ⊥
+  told_none states e = cc
+
+  abbrev Overrides : Transition (List ℕ) → Type 0
+  Overrides change =
+      change.overrides ≡ (if ends_pending change then Some (unwrap_or since none).frame else None)
+
+  overridden_now : (key : Key (List ℕ)) (event : Occurrence) (change : Transition (List ℕ)) →
+      event.what ≡ machine_changed change → names key event.port change.group change.what ≡ true →
+      (from to : Option Known) → SetPending from → LeadsBy key from event to → Overrides change
+  overridden_now key event change what named from to set (tells_nothing nothing same) =
+      absurd (told_none (change.before, state_of_machine change.after)
+      (sym (ap (states_by key event.port) what
+      ∙ ap (λ b. if b then Some (change.before, state_of_machine change.after) else None) named) ∙ nothing))
+  overridden_now key event change what named from to set (tells_change c) =
+      subst Overrides (same_change c.change change (sym c.what ∙ what))
+      (c.overrides
+      ∙ overridden_by from c.change.before (not (is_pending (state_of_machine c.change.after))) c.was set)
+  overridden_now key event change what named from to set (tells_firing f) =
+      absurd (not_fired change f.firing (sym f.what ∙ what))
 
 -- ---- from the start of a run
 
@@ -318,45 +358,81 @@ no_packet timer group ms (Some machine) held e =
     both Expiry = refl
     both PrunePending = refl
 
+module _ (apart : KeysAreToldApart) (state : RouterState) (ledger : Ledger) (after : RouterState)
+    (events : List Occurrence) (leads : LeadsAll (place (ledger_for state) state) events (place ledger after))
+    (earlier later : List Occurrence) (event : Occurrence) (port : ℕ) (group : List ℕ) (what : What (List ℕ))
+    (e : events ≡ earlier ++ event ∷ later) (on : event.port ≡ Some port) (timer : Timer) where
+  abbrev key : Key (List ℕ)
+  key = key_on port group what
+
+  abbrev from : Option Known
+  from = known_at key (place (ledger_for state) state)
+
+  is_named : names key event.port group what ≡ true
+  is_named = ap (λ (o : Option ℕ). names key o group what) on ∙ (apart key key).1.1 refl
+
+  -- what holds of the event, by the packet that set the timer last
+  by_last : (Is : Option (Cause (List ℕ)) → Cause (List ℕ) → Type 0)
+      (itself : (packet : Cause (List ℕ)) → Is (Some packet) packet)
+      (Goal : Option (Cause (List ℕ)) → Type 0) →
+      ((before then' : Option Known) (since : Option (Cause (List ℕ))) →
+      ((held : Known) → before ≡ Some held → Is since (held.by timer)) → LeadsBy key before event then' → Goal since) →
+      ((held : Known) → from ≡ Some held → Is None (held.by timer)) → Goal (last_setting state timer key earlier)
+  by_last Is itself Goal now set =
+      subst Goal
+      (last_only (last_set timer key (end_in timer from) earlier)
+      ∙ ap (λ (end : Option ℕ). last_set timer key end earlier)
+      (known_end timer state.machines.moment (both_by (no_cause group)) (machine_at key state.machines.records)))
+      (at_event Is itself key timer Goal event now earlier later events from (known_at key (place ledger after)) None
+      set (leads.each key) e)
+
+  none_set : (held : Known) → from ≡ Some held → held.by timer ≡ no_cause group
+  none_set held is =
+      no_packet timer group state.machines.moment (machine_at key state.machines.records) held is
+
+  unheld : state.machines.records ≡ [] → (held : Known) → from ≡ Some held → ⊥
+  unfolding machine_at
+  unheld none held is = no_held held (sym (ap
+      (λ rs. known_of state.machines.moment (both_by (no_cause group)) (machine_at key rs)) none) ∙ is)
+    where
+      no_held : (held : Known) → ◌≡◌ {A = Option Known} None (Some held) → ⊥
+      no_held held e = cc
+
 pub naming : KeysAreToldApart → (state : RouterState) (ledger : Ledger) (after : RouterState)
     (events : List Occurrence) → LeadsAll (place (ledger_for state) state) events (place ledger after) →
-    FiringsNameTheirCauses state events
-unfolding machine_at
-naming apart state ledger after events leads earlier later event port firing e on what = (
-  subst (λ (o : Option (Cause (List ℕ))). firing.cause ≡ unwrap_or o (no_cause firing.group)) last
-      (cause_is (λ o packet. packet ≡ unwrap_or o (no_cause firing.group)) (λ packet. refl) key firing.timer earlier
-      later events from to None event firing
-      (λ held is. no_packet firing.timer firing.group state.machines.moment machine held is) (leads.each key) e what
-      named refl),
-  λ none. subst (λ (o : Option (Cause (List ℕ))). o ≡ Some firing.cause) last
-      (cause_is (λ o packet. o ≡ Some packet) (λ packet. refl) key firing.timer earlier later events from to None
-      event firing (λ held is. absurd (unheld none held is)) (leads.each key) e what named refl),
+    EventsNameTheirPackets state events
+naming apart state ledger after events leads = (
+  λ earlier later event port firing e on what. (
+    by_last apart state ledger after events leads earlier later event port firing.group firing.what e on firing.timer
+        (λ o packet. packet ≡ unwrap_or o (no_cause firing.group)) (λ packet. refl)
+        (λ o. firing.cause ≡ unwrap_or o (no_cause firing.group))
+        (λ before then' since set one.
+        fired_now (λ o packet. packet ≡ unwrap_or o (no_cause firing.group)) (λ packet. refl)
+        (key_on port firing.group firing.what) firing.timer before then' event since set one firing what
+        (is_named apart state ledger after events leads earlier later event port firing.group firing.what e on
+        firing.timer) refl)
+        (none_set apart state ledger after events leads earlier later event port firing.group firing.what e on
+        firing.timer),
+    λ none. by_last apart state ledger after events leads earlier later event port firing.group firing.what e on
+        firing.timer (λ o packet. o ≡ Some packet) (λ packet. refl) (λ o. o ≡ Some firing.cause)
+        (λ before then' since set one.
+        fired_now (λ o packet. o ≡ Some packet) (λ packet. refl) (key_on port firing.group firing.what) firing.timer
+        before then' event since set one firing what
+        (is_named apart state ledger after events leads earlier later event port firing.group firing.what e on
+        firing.timer) refl)
+        (λ held is. absurd
+        (unheld apart state ledger after events leads earlier later event port firing.group firing.what e on
+        firing.timer none held is)),
+  ),
+  λ earlier later event port change e on what.
+      by_last apart state ledger after events leads earlier later event port change.group change.what e on PrunePending
+      (λ o packet. packet ≡ unwrap_or o (no_cause change.group)) (λ packet. refl)
+      (λ o. change.overrides
+      ≡ (if ends_pending change then Some (unwrap_or o (no_cause change.group)).frame else None))
+      (λ before then' since set one.
+      overridden_now (no_cause change.group) since (key_on port change.group change.what) event change what
+      (is_named apart state ledger after events leads earlier later event port change.group change.what e on
+      PrunePending) before then' set one)
+      (none_set apart state ledger after events leads earlier later event port change.group change.what e on
+      PrunePending),
 )
-  where
-    key : Key (List ℕ)
-    key = key_of port firing
-
-    machine : Option Machine
-    machine = machine_at key state.machines.records
-
-    from : Option Known
-    from = known_at key (place (ledger_for state) state)
-
-    to : Option Known
-    to = known_at key (place ledger after)
-
-    named : names key event.port firing.group firing.what ≡ true
-    named = ap (λ (o : Option ℕ). names key o firing.group firing.what) on ∙ (apart key key).1.1 refl
-
-    last : last_of None (last_set firing.timer key (end_in firing.timer from) earlier)
-        ≡ last_setting state port firing earlier
-    last = last_only (last_set firing.timer key (end_in firing.timer from) earlier)
-        ∙ ap (λ (end : Option ℕ). last_set firing.timer key end earlier)
-        (known_end firing.timer state.machines.moment (both_by (no_cause key.group)) machine)
-
-    unheld : state.machines.records ≡ [] → (held : Known) → from ≡ Some held → ⊥
-    unheld none held is = absurd (no_held held (sym (ap
-        (λ rs. known_of state.machines.moment (both_by (no_cause key.group)) (machine_at key rs)) none) ∙ is))
-      where
-        no_held : (held : Known) → ◌≡◌ {A = Option Known} None (Some held) → ⊥
-        no_held held e = cc

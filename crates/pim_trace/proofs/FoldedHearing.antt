@@ -1,5 +1,5 @@
 -- The events of a packet lead each machine from what is known of it before to what is known after.
-use Rattle.std.proofs.Common.{◌≡◌, ◌∙◌, ℕ, zero, suc, ◌+◌, ◌==◌, nat_eq, Bool, true, false, not, ◌||◌, List, [], ◌∷◌}
+use Rattle.std.proofs.Common.{◌≡◌, ◌∙◌, ℕ, ◌+◌, ◌==◌, nat_eq, Bool, true, false, not, ◌&&◌, ◌||◌, List, [], ◌∷◌}
 use Rattle.std.proofs.Common.{map, Option, None, Some, option_map, unwrap_or, if◌then◌else◌, eqb-true, eq-eqb, refl}
 use Rattle.std.proofs.Common.{sym, ap, subst, arith}
 use Rattle.std.specs.List.{AllByRecursion}
@@ -31,15 +31,15 @@ use Rattle.pim_events.specs.Events.{Occurrence, join_ignored, own_restart}
 use Rattle.pim_transitions.specs.declared.transition.Transition.{Transition}
 use Rattle.pim_transitions.specs.Transitions.{IsTransition, is_told, keys_told, AreTransitions}
 use Rattle.pim_trace.specs.declared.ledger.Causes.{Causes}
-use Rattle.pim_trace.specs.Causing.{end_of, sets, packet_of}
+use Rattle.pim_trace.specs.Causing.{end_of, sets, packet_of, ends_pending}
 use Rattle.pim_trace.specs.Folding.{names, states_told}
 use Rattle.pim_trace.specs.Heard.{event_on, ignored_entry, ignored_in, all_ignored, change_by, change_of, changes_of}
-use Rattle.pim_trace.specs.Heard.{restarts}
+use Rattle.pim_trace.specs.Heard.{restarts, is_pending}
 use Rattle.pim_trace.specs.Ledger.{Ledger, no_cause, both_by, same_expiry, pending_left, same_pending, moved_by, caused}
 use Rattle.pim_trace.specs.Ledger.{causes_of, with_change, with_changes}
 use Rattle.pim_trace.specs.Passing.{cause_of}
 use Rattle.pim_trace.proofs.Firings.{turned}
-use Rattle.pim_trace.proofs.Folding.{Known, known_of, state_in, changed_known, tells_change, LeadsBy, Leads}
+use Rattle.pim_trace.proofs.Folding.{Known, known_of, state_in, pending_frame, changed_known, tells_change, LeadsBy, Leads}
 use Rattle.pim_trace.proofs.Folding.{leads_nowhere, leads_past, leads_first, AllQuiet, quiet_flat, known_at, LeadsAll}
 
 -- ---- states are equal, or they aren't
@@ -141,6 +141,12 @@ state_known : (ms : ℕ) (causes : Causes (List ℕ)) (machine : Option Machine)
     state_of_machine machine ≡ state_in (known_of ms causes machine)
 state_known ms causes None = refl
 state_known ms causes (Some machine) = refl
+
+overridden_is : (ms : ℕ) (causes : Causes (List ℕ)) (before : Option Machine) (b : Bool) →
+    (if is_pending (state_of_machine before) && b then Some causes.pending.frame else None)
+    ≡ (if is_pending (state_of_machine before) && b then pending_frame (known_of ms causes before) else None)
+overridden_is ms causes None b = refl
+overridden_is ms causes (Some machine) b = refl
 
 module _ (ms : ℕ) (change : Changed (List ℕ)) where
   abbrev packet : Cause (List ℕ)
@@ -270,6 +276,10 @@ module _ (apart : KeysAreToldApart) (port frame : ℕ) (from : List ℕ) (ms nei
           named = item_named item.key item on ∙ same;
           was = state_known ms (causes_of item.key ledger) item.before
               ∙ ap (λ (m : Option Machine). state_in (known_of ms (causes_of item.key ledger) m)) is.was;
+          overrides =
+              overridden_is ms (causes_of item.key ledger) item.before (not (is_pending (state_of_machine item.after)))
+              ∙ ap (λ (m : Option Machine).
+              if ends_pending change then pending_frame (known_of ms (causes_of item.key ledger) m) else None) is.was;
           now = (λ i. known_of ms (unwrap_or (causes i) no_packet) (sym is.is i))
               ∙ changed_is ms change no_packet (causes_of item.key ledger) item.before item.after refl refl
               ∙ ap (λ (m : Option Machine).

@@ -14,7 +14,6 @@ use Rattle.pim_events.specs.declared.event.Skipping.{Skipping}
 use Rattle.pim_events.specs.Events.{Occurrence, record_skipped}
 use Rattle.pim_trace.specs.Causing.{TraceNamesCauses, TurnsNameCauses}
 use Rattle.pim_trace.specs.Folding.{EventsTellTheState, TurnsTellTheState}
-use Rattle.pim_trace.specs.Heard.{event_on}
 use Rattle.pim_trace.specs.Ledger.{Ledger, frame_of, with_skip}
 use Rattle.pim_trace.specs.Passing.{PassesTime}
 use Rattle.pim_trace.specs.Trace.{TellsTurns, TellsAll, IsTrace, ending, ledger_for}

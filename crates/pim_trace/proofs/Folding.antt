@@ -1,12 +1,13 @@
 -- What lists of events tell of each machine, where one follows another.
-use Rattle.std.proofs.Common.{◌≡◌, ◌∙◌, ℕ, Bool, true, false, not, ◌&&◌, if◌then◌else◌, List, [], ◌∷◌, ◌++◌, map}
-use Rattle.std.proofs.Common.{Option, None, Some, option_map, unwrap_or, refl, sym, ap, subst}
+use Rattle.std.proofs.Common.{◌≡◌, ℕ, true, if◌then◌else◌, List, [], ◌∷◌, ◌++◌, map}
+use Rattle.std.proofs.Common.{Option, None, Some, option_map, unwrap_or, refl, sym, subst}
 use Rattle.std.specs.List.{AllByRecursion, flat_map}
 use Rattle.pim_down.specs.declared.key.Key.{Key}
 use Rattle.pim_down.specs.declared.machine.Machine.{Machine}
 use Rattle.pim_down.specs.declared.machine.Record.{Record}
 use Rattle.pim_down.specs.declared.machine.State.{State}
 use Rattle.pim_down.specs.declared.step.Timer.{Timer}
+use Rattle.pim_down.specs.declared.step.Timer.TheVariants.{PrunePending}
 use Rattle.pim_down.specs.Records.{IsAscending, machine_at}
 use Rattle.pim_router.specs.State.{RouterState}
 use Rattle.pim_events.specs.declared.event.Cause.{Cause}
@@ -18,7 +19,7 @@ use Rattle.pim_trace.specs.Ledger.{Ledger, no_cause, both_by}
 use Rattle.pim_trace.specs.Heard.{event_on}
 use Rattle.pim_trace.specs.Passing.{cause_of}
 use Rattle.pim_trace.specs.Folding.{names, states_by, states_told}
-use Rattle.pim_trace.specs.Causing.{end_of, end_after, sets, packet_of}
+use Rattle.pim_trace.specs.Causing.{end_of, end_after, sets, packet_of, ends_pending}
 
 -- ---- what is known of a machine
 
@@ -49,6 +50,10 @@ abbrev pub by_or : Timer → Cause (List ℕ) → Option Known → Cause (List �
 by_or timer packet None = packet
 by_or timer packet (Some known) = known.by timer
 
+-- The frame of the packet that set the Prune-Pending Timer.
+abbrev pub pending_frame : Option Known → Option ℕ
+pending_frame known = option_map (λ (k : Known). (k.by PrunePending).frame) known
+
 -- What is known after a transition at this moment.
 abbrev pub changed_known : ℕ → Transition (List ℕ) → Option Known → Option Machine → Option Known
 changed_known ms change known None = None
@@ -76,6 +81,7 @@ pub record Changes (key : Key (List ℕ)) (from : Option Known) (event : Occurre
   pub what : event.what ≡ machine_changed change
   pub named : names key event.port change.group change.what ≡ true
   pub was : change.before ≡ state_in from
+  pub overrides : change.overrides ≡ (if ends_pending change then pending_frame from else None)
   pub now : to ≡ changed_known event.ms change from change.after
 
 -- An event is a firing of the machine's timer.

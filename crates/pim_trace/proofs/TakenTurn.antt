@@ -1,5 +1,5 @@
 -- A turn: the time up to it, and then what its record holds.
-use Rattle.std.proofs.Common.{◌≡◌, ◌∙◌, ℕ, Bool, true, false, if◌then◌else◌, List, [], ◌∷◌, ◌++◌, Option, None, Some, Ok, Err, Result, slice_index_or, map, refl, sym, ap, subst}
+use Rattle.std.proofs.Common.{◌≡◌, ℕ, List, [], ◌∷◌, ◌++◌, Option, None, Some, Ok, Err, Result, map, refl, subst}
 use Rattle.std.specs.Io.KnownBytes.{Appends}
 use Rattle.pim_device.specs.Device.{AppendsFront}
 use Rattle.pim_addr.specs.declared.family.AddressFamily.{AddressFamily}
@@ -23,7 +23,7 @@ use Rattle.pim_trace.specs.Ledger.{Ledger, frame_of, with_skip}
 use Rattle.pim_trace.specs.Passing.{PassesTime}
 use Rattle.pim_trace.specs.Reading.{message_read}
 use Rattle.pim_trace.specs.Telling.{HasTold, HasBegun, Tells}
-use Rattle.pim_trace.specs.Turn.{packet_on, Skips, Rests, TakesContent, TakesRecord, counting, TellsTurn}
+use Rattle.pim_trace.specs.Turn.{packet_on, Skips, TakesContent, TakesRecord, counting, TellsTurn}
 use Rattle.pim_trace.proofs.Pieces.{none_told, one_told, one_begun, told_then, told_begun, begun_longer}
 
 -- ---- each record has its events

@@ -1,5 +1,5 @@
--- The cause of each timer that fires, as the events before it show it: the packet of the last transition that set
--- the timer. Nothing is remembered for it; what ends when is read from the events.
+-- The packets that events name, as the events before them show them: the cause of a timer that fires is the packet of
+-- the last transition that set it. Nothing is remembered for it; what ends when is read from the events.
 use Rattle.std.specs.Prelude.{◌≡◌, ℕ, ◌+◌, nat_eq, Bool, true, false, not, ◌&&◌, ◌||◌, if◌then◌else◌, List, [], ◌∷◌}
 use Rattle.std.specs.Prelude.{◌++◌, Option, None, Some, is_some, option_map, unwrap_or}
 use Rattle.std.specs.Option.{option_eq}
@@ -8,10 +8,11 @@ use Rattle.pim_merge.specs.declared.end.End.{End}
 use Rattle.pim_merge.specs.Merge.{Taken}
 use Rattle.pim_merge.specs.Next.{MergeState}
 use Rattle.pim_down.specs.declared.key.Key.{Key}
+use Rattle.pim_down.specs.declared.key.What.{What}
 use Rattle.pim_down.specs.declared.machine.Machine.{Machine}
 use Rattle.pim_down.specs.declared.step.Timer.{Timer}
 use Rattle.pim_down.specs.declared.step.Timer.TheVariants.{PrunePending, Expiry}
-use Rattle.pim_down.specs.Records.{IsAscending, machine_at}
+use Rattle.pim_down.specs.Records.{IsAscending, machine_at, state_of_machine}
 use Rattle.pim_router.specs.State.{RouterState}
 use Rattle.pim_events.specs.declared.event.Cause.{Cause}
 use Rattle.pim_events.specs.declared.event.Fired.{Fired}
@@ -19,6 +20,7 @@ use Rattle.pim_events.specs.declared.event.Transition.{Transition}
 use Rattle.pim_events.specs.Events.{Happened, Occurrence, machine_changed, timer_fired}
 use Rattle.pim_trace.specs.Ledger.{Ledger, no_cause, pending_left}
 use Rattle.pim_trace.specs.Folding.{names}
+use Rattle.pim_trace.specs.Heard.{is_pending}
 use Rattle.pim_trace.specs.Trace.{TellsTurns, IsTrace, ledger_for}
 
 -- ---- when a timer ends
@@ -86,16 +88,14 @@ last_set timer key held (event ∷ events) =
 
 -- ---- the laws
 
--- The machine whose timer fired on a port.
-abbrev pub key_of : ℕ → Fired (List ℕ) → Key (List ℕ)
-key_of port firing = record { port = port; group = firing.group; what = firing.what }
+-- The machine on a port.
+abbrev pub key_on : ℕ → List ℕ → What (List ℕ) → Key (List ℕ)
+key_on port group what = record { port = port; group = group; what = what }
 
--- The packet of the last of these events that set the timer which then fired on a port. The router was in this state
--- before them.
-abbrev pub last_setting : RouterState → ℕ → Fired (List ℕ) → List Occurrence → Option (Cause (List ℕ))
-last_setting state port firing events =
-    let key : Key (List ℕ) = key_of port firing in
-    last_set firing.timer key (end_of firing.timer state.machines.moment (machine_at key state.machines.records)) events
+-- The packet of the last of these events that set a timer. The router was in this state before them.
+abbrev pub last_setting : RouterState → Timer → Key (List ℕ) → List Occurrence → Option (Cause (List ℕ))
+last_setting state timer key events =
+    last_set timer key (end_of timer state.machines.moment (machine_at key state.machines.records)) events
 
 -- The cause of each firing is the packet of the last event before it that set the timer. Where the machine was held
 -- at the start, and no event set its timer since, the cause is no packet.
@@ -103,19 +103,39 @@ abbrev pub FiringsNameTheirCauses : RouterState → List Occurrence → Type 0
 FiringsNameTheirCauses state events =
     (earlier later : List Occurrence) (event : Occurrence) (port : ℕ) (firing : Fired (List ℕ)) →
     events ≡ earlier ++ event ∷ later → event.port ≡ Some port → event.what ≡ timer_fired firing →
-    (firing.cause ≡ unwrap_or (last_setting state port firing earlier) (no_cause firing.group))
-    × (state.machines.records ≡ [] → last_setting state port firing earlier ≡ Some firing.cause)
+    let last : Option (Cause (List ℕ)) =
+    last_setting state firing.timer (key_on port firing.group firing.what) earlier in
+    (firing.cause ≡ unwrap_or last (no_cause firing.group))
+    × (state.machines.records ≡ [] → last ≡ Some firing.cause)
 
--- The firings of a trace name their causes.
+-- A transition out of Prune-Pending.
+abbrev pub ends_pending : Transition (List ℕ) → Bool
+ends_pending change = is_pending change.before && not (is_pending (state_of_machine change.after))
+
+-- A transition overrides the packet of the last event before it that set the Prune-Pending Timer, if it leads the
+-- machine out of Prune-Pending. Otherwise it overrides none.
+abbrev pub TransitionsNameTheirPrunes : RouterState → List Occurrence → Type 0
+TransitionsNameTheirPrunes state events =
+    (earlier later : List Occurrence) (event : Occurrence) (port : ℕ) (change : Transition (List ℕ)) →
+    events ≡ earlier ++ event ∷ later → event.port ≡ Some port → event.what ≡ machine_changed change →
+    let last : Option (Cause (List ℕ)) =
+    last_setting state PrunePending (key_on port change.group change.what) earlier in
+    change.overrides ≡ (if ends_pending change then Some (unwrap_or last (no_cause change.group)).frame else None)
+
+-- The packets that events name are those which the events before them show.
+abbrev pub EventsNameTheirPackets : RouterState → List Occurrence → Type 0
+EventsNameTheirPackets state events = FiringsNameTheirCauses state events × TransitionsNameTheirPrunes state events
+
+-- So it is in a trace.
 abbrev pub TraceNamesCauses : Type 0
 TraceNamesCauses =
     (family : AddressFamily) (end : End) (merge : MergeState) (state : RouterState) (events : List Occurrence)
     (after : RouterState) → IsAscending state.machines.records → IsTrace family end merge state events after →
-    FiringsNameTheirCauses state events
+    EventsNameTheirPackets state events
 
--- So do those of some first turns, such as those before a fault of a capture.
+-- So it is in some first turns, such as those before a fault of a capture.
 abbrev pub TurnsNameCauses : Type 0
 TurnsNameCauses =
     (family : AddressFamily) (turns : List Taken) (state : RouterState) (events : List Occurrence) (ledger : Ledger)
     (after : RouterState) → IsAscending state.machines.records →
-    TellsTurns family turns (ledger_for state) state events ledger after → FiringsNameTheirCauses state events
+    TellsTurns family turns (ledger_for state) state events ledger after → EventsNameTheirPackets state events
