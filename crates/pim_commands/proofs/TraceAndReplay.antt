@@ -1,10 +1,8 @@
 -- A trace and a replay of the same captures lead to the same router.
-use Rattle.std.proofs.Common.{◌≡◌, ◌∙◌, ℕ, Bool, true, false, List, [], ◌∷◌, ◌++◌, None, refl, sym, ap, subst, arith}
-use Rattle.std.specs.Prelude.{if◌then◌else◌}
+use Rattle.std.proofs.Common.{◌≡◌, ◌∙◌, ℕ, Bool, List, [], ◌∷◌, ◌++◌, None, refl, sym, ap, subst, arith}
 use Rattle.pim_addr.specs.declared.family.AddressFamily.{AddressFamily}
-use Rattle.pim_addr.specs.Families.{is_same}
-use Rattle.pim_capture.specs.Capture.{Answer, Told, packet, skipped, ended}
-use Rattle.pim_capture.specs.Frame.{Datagram}
+use Rattle.pim_capture.specs.Capture.{Answer, Told}
+use Rattle.pim_merge.specs.Content.{Content, holds, of_other_family, without_packet, no_record, content_in}
 use Rattle.pim_merge.specs.declared.end.End.{End}
 use Rattle.pim_merge.specs.Ends.{last_of, end_moment, clock_of}
 use Rattle.pim_merge.specs.Lane.{IsComing}
@@ -18,7 +16,6 @@ use Rattle.pim_router.specs.Laws.{RunsPastAreTurns, HappeningGoesOn, HappeningHa
 use Rattle.pim_router.specs.Refreshes.{RunsPast}
 use Rattle.pim_router.specs.State.{RouterState}
 use Rattle.pim_events.specs.Events.{Occurrence}
-use Rattle.pim_events.specs.declared.event.Skip.TheVariants.{OtherFamily}
 use Rattle.pim_trace.specs.Ledger.{Ledger, frame_of}
 use Rattle.pim_trace.specs.Passing as trace
 use Rattle.pim_trace.specs.Trace as traces
@@ -57,18 +54,17 @@ module _ (merges : MergeByHasOneEnd) (are_turns : RunsPastAreTurns) (goes_on : H
 
   -- ---- a record
 
-  datagram_by : (b : Bool) (port frame : ℕ) (datagram : Datagram) (ledger ledger' : Ledger) (state after : RouterState) (events : List Occurrence)
-      → turns.TakesContent family port (if b then turns.held frame (turns.packet_on port datagram) else turns.passed_over (record { frame = frame; why = OtherFamily })) ledger state events ledger' after
-      → after ≡ (if b then replayed.heard family (replayed.packet_on port datagram) state else replayed.passed_over state).1
-  datagram_by true port frame datagram ledger ledger' state after events takes = takes.after_is
-  datagram_by false port frame datagram ledger ledger' state after events (said, kept, same) = same
+  content_same : (content : Content) (port frame : ℕ) (ledger ledger' : Ledger) (state after : RouterState) (events : List Occurrence)
+      → turns.TakesContent family port frame content ledger state events ledger' after → after ≡ (replayed.taken_as family port content state).1
+  content_same (holds source destination payload) port frame ledger ledger' state after events takes = takes.after_is
+  content_same of_other_family port frame ledger ledger' state after events (said, kept, same) = same
+  content_same (without_packet why) port frame ledger ledger' state after events (said, kept, same) = same
+  content_same no_record port frame ledger ledger' state after events (said, kept, same) = same
 
   record_same : (port : ℕ) (told : Told) (ledger ledger' : Ledger) (state after : RouterState) (events : List Occurrence)
       → turns.TakesRecord family port told ledger state events ledger' after → after ≡ (replayed.taking family port told state).1
-  record_same port (packet millis bytes datagram) ledger ledger' state after events takes =
-      datagram_by (is_same family datagram.family) port (frame_of port ledger) datagram ledger ledger' state after events takes
-  record_same port (skipped millis why) ledger ledger' state after events (said, kept, same) = same
-  record_same port ended ledger ledger' state after events (said, kept, same) = same
+  record_same port told ledger ledger' state after events takes =
+      content_same (content_in family told) port (frame_of port ledger) ledger ledger' state after events takes
 
   -- ---- turns
 

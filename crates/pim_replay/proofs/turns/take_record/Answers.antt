@@ -1,9 +1,9 @@
-use Rattle.std.proofs.Common.{◌≡◌, ◌∙◌, ap, refl, rules, sym}
+use Rattle.std.proofs.Common.{ap, rules}
 use Rattle.pim_capture.specs.Next.{event_seen}
 use Rattle.pim_merge.specs.Content.{content_seen}
 use Rattle.pim_router.specs.Seen.{packet_seen}
 use Rattle.pim_replay.specs.Turn.{taken_as}
-use Rattle.pim_replay.proofs.Taken.{record_skipped, packet_heard, packet_stopped}
+use Rattle.pim_replay.proofs.Taken.{packet_heard, packet_stopped}
 use Rattle.pim_replay.proofs.turns.take_record.Goals as goal
 
 pub returns-in-Ok-clause-taken : goal.returns-in-Ok-clause-taken
