@@ -59,7 +59,14 @@ fn take_record<F: Family, W: Drain>(
         return Ok(skipped.saturating_add(1));
     };
     let port = turn.capture;
-    match hear_packet::<F, W>(writer, router, port, sent.source, sent.destination, sent.payload) {
+    match hear_packet::<F, W>(
+        writer,
+        router,
+        port,
+        sent.source,
+        sent.destination,
+        sent.payload,
+    ) {
         Ok(()) => Ok(skipped),
         Err(fault) => Err(fault),
     }

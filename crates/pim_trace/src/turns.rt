@@ -87,11 +87,13 @@ fn take_record<F: Family, W, T: Teller<F, W>>(
         }
         Content::OtherFamily => {
             let why = Skip::OtherFamily;
-            skip(teller, device, router, ledger, port, Skipping { frame, why })
+            let skipped = Skipping { frame, why };
+            skip(teller, device, router, ledger, port, skipped)
         }
         Content::Skipped(why) => {
             let why = Skip::NoPacket(why);
-            skip(teller, device, router, ledger, port, Skipping { frame, why })
+            let skipped = Skipping { frame, why };
+            skip(teller, device, router, ledger, port, skipped)
         }
         Content::End => Ok(()),
     }
