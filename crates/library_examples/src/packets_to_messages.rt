@@ -90,7 +90,8 @@ fn act(
 /// Lets time pass until this moment: before each packet, and whenever the daemon wakes up.
 fn run(rt: &HostRuntime, router: &mut Router<'_, V4>, writer: &Writer<V4>, until: u64) -> Result<()>
     requires { until ≤ 10 ^ 15 }
-    ensures moment { OnOk result (router.new.machines.moment ≡ max router.old.machines.moment until) }
+    ensures moment { OnOk result (router.new.machines.moment
+        ≡ max router.old.machines.moment until) }
     ensures setup { setup_of router.new ≡ setup_of router.old }
 {
     loop {

@@ -3,9 +3,12 @@
 
 ghost use Rattle.std.specs.Prelude.{◌≡◌, ◌≤◌, length, take, slice_index, IfOk, Ok, bit_and};
 ghost use Rattle.pim_addr.specs.Faults.{judged, Answers};
-ghost use Rattle.pim_addr.specs.Encoded.{unicast_length, masked_length, group_length, source_length};
-ghost use Rattle.pim_addr.specs.Encoded.{unicast_faults, unicast_address, masked_faults, masked_address};
-ghost use Rattle.pim_addr.specs.Encoded.{group_faults, source_faults, source_value, IsUnicast, IsGroup, IsSource};
+ghost use Rattle.pim_addr.specs.Encoded.{unicast_length, masked_length, group_length};
+ghost use Rattle.pim_addr.specs.Encoded.{source_length};
+ghost use Rattle.pim_addr.specs.Encoded.{unicast_faults, unicast_address, masked_faults};
+ghost use Rattle.pim_addr.specs.Encoded.{masked_address};
+ghost use Rattle.pim_addr.specs.Encoded.{group_faults, source_faults, source_value, IsUnicast};
+ghost use Rattle.pim_addr.specs.Encoded.{IsGroup, IsSource};
 ghost use Rattle.pim_addr.specs.Encoded.{wildcard_bit, rpt_bit, type_bits};
 ghost use Rattle.pim_addr.specs.Seen.{source_seen, bits_kept};
 
@@ -191,7 +194,8 @@ pub fn read_source<F: Family>(bytes: &[u8]) -> Result<SourceAddress<F::Addr>, Ad
     ensures answer { Answers (source_seen F.bytes_of) result
         (judged (source_faults F.family bytes.now) (source_value F.family bytes.now)) }
     ensures spelled { IfOk result
-        (λ s. IsSource F.family (source_seen F.bytes_of s) (take (source_length F.family) bytes.now)) }
+        (λ s. IsSource F.family (source_seen F.bytes_of s)
+        (take (source_length F.family) bytes.now)) }
     ensures bits { IfOk result (λ s. bits_kept s ≡ type_bits (slice_index bytes.now 2)) }
 {
     let address = read_masked::<F>(bytes)?;

@@ -3,8 +3,10 @@
 ghost use Rattle.std.specs.Prelude.{◌≡◌, ◌≤◌, ◌↔◌, ℕ, true, List, length, take, option_map, IsTrue};
 ghost use Rattle.std.specs.Ordering.{nat_cmp};
 ghost use Rattle.std.specs.Cmp.Lexicographic.{slice_cmp};
-ghost use Rattle.pim_addr.specs.Address.{IsAddress, address_length, mask_length, family_byte, is_group, is_source};
-ghost use Rattle.pim_addr.specs.Address.{is_unspecified, number_of, ends_within, last_number, number_after};
+ghost use Rattle.pim_addr.specs.Address.{IsAddress, address_length, mask_length, family_byte};
+ghost use Rattle.pim_addr.specs.Address.{is_group, is_source};
+ghost use Rattle.pim_addr.specs.Address.{is_unspecified, number_of, ends_within, last_number};
+ghost use Rattle.pim_addr.specs.Address.{number_after};
 ghost use Rattle.pim_addr.specs.Address.{NumbersAreInOrder};
 
 use std::fmt::Debug;
@@ -116,13 +118,17 @@ pub trait Family {
 
     ghost put_of_take: { (b : List ℕ) → bytes_of (address_of b) ≡ b };
 
-    ghost order_of_bytes: { (a b : Self.Addr) → Self.Addr.cmp a b ≡ slice_cmp nat_cmp (bytes_of a) (bytes_of b) };
+    ghost order_of_bytes: { (a b : Self.Addr) → Self.Addr.cmp a b
+        ≡ slice_cmp nat_cmp (bytes_of a) (bytes_of b) };
 
-    ghost equality_of_bytes: { (a b : Self.Addr) → IsTrue (Self.Addr.eq a b) ↔ (bytes_of a ≡ bytes_of b) };
+    ghost equality_of_bytes: { (a b : Self.Addr) → IsTrue (Self.Addr.eq a b)
+        ↔ (bytes_of a ≡ bytes_of b) };
 
-    ghost order_of_numbers: { (a b : Self.Number) → Self.Number.cmp a b ≡ nat_cmp (value_of a) (value_of b) };
+    ghost order_of_numbers: { (a b : Self.Number) → Self.Number.cmp a b
+        ≡ nat_cmp (value_of a) (value_of b) };
 
-    ghost equality_of_numbers: { (a b : Self.Number) → IsTrue (Self.Number.eq a b) ↔ (value_of a ≡ value_of b) };
+    ghost equality_of_numbers: { (a b : Self.Number) → IsTrue (Self.Number.eq a b)
+        ↔ (value_of a ≡ value_of b) };
 }
 
 /// IPv4.

@@ -1,11 +1,13 @@
 //! Ranges of addresses, each with the longest row that matches its addresses. They are kept as the
 //! numbers of their last addresses, with the rows in a second list.
 
-ghost use Rattle.std.specs.Prelude.{◌≡◌, ◌<◌, ◌≤◌, ◌+◌, ◌^◌, true, map, length, option_map, vec_len};
+ghost use Rattle.std.specs.Prelude.{◌≡◌, ◌<◌, ◌≤◌, ◌+◌, ◌^◌, true, map, length, option_map};
+ghost use Rattle.std.specs.Prelude.{vec_len};
 ghost use Rattle.std.specs.Prelude.{vec_capacity, Some};
 ghost use Rattle.pim_addr.specs.Address.{mask_length, number_of, ends_within, last_number};
 ghost use Rattle.pim_addr.specs.Routes.{longer_of};
-ghost use Rattle.pim_addr.specs.RouteRows.{row_seen, answers_seen, Rises, before, answer_of, AreRanges, IsStart, IsEnd};
+ghost use Rattle.pim_addr.specs.RouteRows.{row_seen, answers_seen, Rises, before, answer_of};
+ghost use Rattle.pim_addr.specs.RouteRows.{AreRanges, IsStart, IsEnd};
 ghost use Rattle.pim_addr.specs.RouteRows.{KeepAnswers, AnswersBetween};
 
 use crate::below::count_below;
@@ -29,7 +31,8 @@ pub(crate) fn answer_at<F: Family>(
 ) -> Option<Route<F::Addr>>
     requires { AreRanges (map F.value_of ends.now) (answers_seen F.bytes_of answers.now) }
     ensures { option_map (row_seen F.bytes_of) result ≡
-        answer_of (map F.value_of ends.now) (answers_seen F.bytes_of answers.now) (F.value_of number) }
+        answer_of (map F.value_of ends.now) (answers_seen F.bytes_of answers.now)
+        (F.value_of number) }
 {
     let place = ranges_before::<F>(ends, number);
     *answers.get(place)?
@@ -44,8 +47,10 @@ fn end_at<F: Family>(
 )
     requires ends { vec_len ends.old < vec_capacity ends.old }
     requires answers { vec_len answers.old < vec_capacity answers.old }
-    requires ranges { AreRanges (map F.value_of ends.old.items) (answers_seen F.bytes_of answers.old.items) }
-    ensures ranges { AreRanges (map F.value_of ends.new.items) (answers_seen F.bytes_of answers.new.items) }
+    requires ranges { AreRanges (map F.value_of ends.old.items)
+        (answers_seen F.bytes_of answers.old.items) }
+    ensures ranges { AreRanges (map F.value_of ends.new.items)
+        (answers_seen F.bytes_of answers.new.items) }
     ensures end { IsEnd (F.value_of number) (map F.value_of ends.new.items) }
     ensures kept { KeepAnswers
         (map F.value_of ends.old.items) (answers_seen F.bytes_of answers.old.items)
@@ -75,8 +80,10 @@ fn start_at<F: Family>(
 )
     requires ends { vec_len ends.old < vec_capacity ends.old }
     requires answers { vec_len answers.old < vec_capacity answers.old }
-    requires ranges { AreRanges (map F.value_of ends.old.items) (answers_seen F.bytes_of answers.old.items) }
-    ensures ranges { AreRanges (map F.value_of ends.new.items) (answers_seen F.bytes_of answers.new.items) }
+    requires ranges { AreRanges (map F.value_of ends.old.items)
+        (answers_seen F.bytes_of answers.old.items) }
+    ensures ranges { AreRanges (map F.value_of ends.new.items)
+        (answers_seen F.bytes_of answers.new.items) }
     ensures start { IsStart (F.value_of number) (map F.value_of ends.new.items) }
     ensures kept { KeepAnswers
         (map F.value_of ends.old.items) (answers_seen F.bytes_of answers.old.items)
@@ -105,7 +112,8 @@ fn longer<F: Family>(row: Route<F::Addr>, answer: Option<Route<F::Addr>>) -> Rou
 /// Sets the row for all of these ranges, except those with a longer row.
 fn answer_in_all<F: Family>(answers: &mut [Option<Route<F::Addr>>], row: Route<F::Addr>)
     ensures { answers_seen F.bytes_of answers.new ≡
-        map (λ answer. Some (longer_of (row_seen F.bytes_of row) answer)) (answers_seen F.bytes_of answers.old) }
+        map (λ answer. Some (longer_of (row_seen F.bytes_of row) answer))
+        (answers_seen F.bytes_of answers.old) }
 {
     for answer in answers {
         *answer = Some(longer::<F>(row, *answer));
@@ -147,10 +155,12 @@ pub(crate) fn answer_for<F: Family>(
 )
     requires ends { vec_len ends.old + 2 ≤ vec_capacity ends.old }
     requires answers { vec_len answers.old + 2 ≤ vec_capacity answers.old }
-    requires ranges { AreRanges (map F.value_of ends.old.items) (answers_seen F.bytes_of answers.old.items) }
+    requires ranges { AreRanges (map F.value_of ends.old.items)
+        (answers_seen F.bytes_of answers.old.items) }
     requires count { row.length ≤ mask_length F.family }
     requires within { ends_within F.family row.length (F.bytes_of row.prefix) ≡ true }
-    ensures ranges { AreRanges (map F.value_of ends.new.items) (answers_seen F.bytes_of answers.new.items) }
+    ensures ranges { AreRanges (map F.value_of ends.new.items)
+        (answers_seen F.bytes_of answers.new.items) }
     ensures few { length ends.new.items ≤ length ends.old.items + 2 }
     ensures answers { AnswersBetween (number_of (F.bytes_of row.prefix))
         (last_number F.family row.length (F.bytes_of row.prefix)) (row_seen F.bytes_of row)

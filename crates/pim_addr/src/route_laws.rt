@@ -1,6 +1,7 @@
 //! Laws of route tables. The functions have no effect.
 
-ghost use Rattle.pim_addr.specs.RouteLaws.{RowIsAddedAtItsPrefix, RouteMapHasOneList, OrderOfAddingIsFree};
+ghost use Rattle.pim_addr.specs.RouteLaws.{RowIsAddedAtItsPrefix, RouteMapHasOneList};
+ghost use Rattle.pim_addr.specs.RouteLaws.{OrderOfAddingIsFree};
 ghost use Rattle.pim_addr.specs.RouteLaws.{OneRpForAllGroups, OneNeighbourForAll};
 
 /// A law: adding a row sets its own prefix, changes no other, and keeps the rows in order.

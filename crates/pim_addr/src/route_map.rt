@@ -6,7 +6,8 @@
 //! and updates the ranges of its prefix.
 
 ghost use Rattle.std.specs.Prelude.{◌≡◌, ◌↔◌, [], option_map, IsTrue, OnOk, OnErr};
-ghost use Rattle.pim_addr.specs.Routes.{led_to, with_row, room_faults, IsRefusedBy, IsRealRow, IsRouteMap};
+ghost use Rattle.pim_addr.specs.Routes.{led_to, with_row, room_faults, IsRefusedBy, IsRealRow};
+ghost use Rattle.pim_addr.specs.Routes.{IsRouteMap};
 ghost use Rattle.pim_addr.specs.RouteRows.{row_seen};
 
 use crate::family::Family;

@@ -6,7 +6,8 @@
 
 ghost use Rattle.std.specs.Prelude.{◌≡◌, ◌↔◌, ◌&&◌, nat_le, option_map, IsTrue, OnOk, OnErr};
 ghost use Rattle.pim_addr.specs.Address.{is_group};
-ghost use Rattle.pim_addr.specs.Routes.{no_routes, rp_of, via, group_bits, is_group_prefix, rp_faults, via_faults};
+ghost use Rattle.pim_addr.specs.Routes.{no_routes, rp_of, via, group_bits, is_group_prefix};
+ghost use Rattle.pim_addr.specs.Routes.{rp_faults, via_faults};
 ghost use Rattle.pim_addr.specs.Routes.{with_rp, with_via};
 ghost use Rattle.pim_addr.specs.Routes.{IsRefusedBy, IsRouteTable};
 
@@ -50,7 +51,8 @@ fn group_bits<F: Family>() -> u8
 
 /// Returns whether all addresses with this prefix are groups.
 fn is_group_prefix<F: Family>(prefix: F::Addr, bits: u8) -> bool
-    ensures { result ≡ (is_group F.family (F.bytes_of prefix) && nat_le (group_bits F.family) bits) }
+    ensures { result
+        ≡ (is_group F.family (F.bytes_of prefix) && nat_le (group_bits F.family) bits) }
 {
     F::is_group(prefix) && bits >= group_bits::<F>()
 }
@@ -107,9 +109,12 @@ impl<F: Family> Routes<F> {
     /// - `Memory`: memory ran out.
     pub fn add_rp(&mut self, prefix: F::Addr, length: u8, rp: F::Addr) -> Result<(), RouteFault>
         ensures ok { OnOk result
-            (self.new ≡ with_rp (record { bits = length; address = F.bytes_of prefix }) (F.bytes_of rp) self.old) }
+            (self.new
+            ≡ with_rp (record { bits = length; address = F.bytes_of prefix }) (F.bytes_of rp)
+            self.old) }
         ensures err { OnErr result (self.new ≡ self.old) }
-        ensures told { IsRefusedBy (rp_faults F.family (record { bits = length; address = F.bytes_of prefix })
+        ensures told { IsRefusedBy
+            (rp_faults F.family (record { bits = length; address = F.bytes_of prefix })
             (F.bytes_of rp) self.old.rps) result }
     {
         if length > F::FULL {
@@ -143,9 +148,11 @@ impl<F: Family> Routes<F> {
         neighbour: F::Addr,
     ) -> Result<(), RouteFault>
         ensures ok { OnOk result (self.new
-            ≡ with_via (record { bits = length; address = F.bytes_of prefix }) (F.bytes_of neighbour) self.old) }
+            ≡ with_via (record { bits = length; address = F.bytes_of prefix })
+            (F.bytes_of neighbour) self.old) }
         ensures err { OnErr result (self.new ≡ self.old) }
-        ensures told { IsRefusedBy (via_faults F.family (record { bits = length; address = F.bytes_of prefix })
+        ensures told { IsRefusedBy
+            (via_faults F.family (record { bits = length; address = F.bytes_of prefix })
             (F.bytes_of neighbour) self.old.vias) result }
     {
         if length > F::FULL {

@@ -1,9 +1,11 @@
 //! Rows in order: search, insertion and equality.
 
-ghost use Rattle.std.specs.Prelude.{◌≡◌, ◌↔◌, ◌+◌, ◌<◌, ◌≤◌, IsTrue, length, map, OnOk, OnErr, vec_len};
+ghost use Rattle.std.specs.Prelude.{◌≡◌, ◌↔◌, ◌+◌, ◌<◌, ◌≤◌, IsTrue, length, map, OnOk, OnErr};
+ghost use Rattle.std.specs.Prelude.{vec_len};
 ghost use Rattle.std.specs.Prelude.{vec_capacity, Err};
 ghost use Rattle.pim_addr.specs.Routes.{AreInOrder, IsRealRow, with_row};
-ghost use Rattle.pim_addr.specs.RouteRows.{row_seen, rows_seen, answers_seen, Stand, IsGap, IsRowPlace};
+ghost use Rattle.pim_addr.specs.RouteRows.{row_seen, rows_seen, answers_seen, Stand, IsGap};
+ghost use Rattle.pim_addr.specs.RouteRows.{IsRowPlace};
 ghost use Rattle.pim_addr.specs.declared.route_fault.RouteFault.TheVariants.{Memory};
 
 use crate::family::Family;
@@ -54,7 +56,8 @@ pub(crate) fn insert_row<F: Family>(
     requires stand { Stand F.family (rows_seen F.bytes_of rows.old.items)
         (map F.value_of ends.old.items) (answers_seen F.bytes_of answers.old.items) }
     ensures rows { rows_seen F.bytes_of rows.new.items ≡
-        with_row (row_seen F.bytes_of row).0 (row_seen F.bytes_of row).1 (rows_seen F.bytes_of rows.old.items) }
+        with_row (row_seen F.bytes_of row).0 (row_seen F.bytes_of row).1
+        (rows_seen F.bytes_of rows.old.items) }
     ensures stand { Stand F.family (rows_seen F.bytes_of rows.new.items)
         (map F.value_of ends.new.items) (answers_seen F.bytes_of answers.new.items) }
 {

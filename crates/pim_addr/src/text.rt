@@ -1,7 +1,8 @@
 //! The text in which an address is written. Each private writer returns the place after what it
 //! wrote.
 
-ghost use Rattle.std.specs.Prelude.{◌≡◌, ◌+◌, ◌*◌, ◌<◌, ◌≤◌, List, [], ◌∷◌, ◌++◌, length, take, drop, map, decimal};
+ghost use Rattle.std.specs.Prelude.{◌≡◌, ◌+◌, ◌*◌, ◌<◌, ◌≤◌, List, [], ◌∷◌, ◌++◌, length, take};
+ghost use Rattle.std.specs.Prelude.{drop, map, decimal};
 ghost use Rattle.std.specs.List.{join_with_byte};
 ghost use Rattle.std.specs.Char.{digit_char};
 ghost use Rattle.pim_addr.specs.Text.{address_text, hex_pair, hex_groups, separator, Wrote};

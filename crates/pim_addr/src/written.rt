@@ -3,9 +3,11 @@
 
 ghost use Rattle.std.specs.Prelude.{◌≡◌, ◌+◌, ◌∷◌, length};
 ghost use Rattle.pim_addr.specs.Address.{address_length, mask_length, family_byte};
-ghost use Rattle.pim_addr.specs.Encoded.{unicast_length, group_length, source_length, IsUnicast, IsGroup, IsSource};
+ghost use Rattle.pim_addr.specs.Encoded.{unicast_length, group_length, source_length, IsUnicast};
+ghost use Rattle.pim_addr.specs.Encoded.{IsGroup, IsSource};
 ghost use Rattle.pim_addr.specs.Encoded.{wildcard_bit, rpt_bit};
-ghost use Rattle.pim_addr.specs.Canonical.{canonical_unicast, canonical_group, canonical_flags, canonical_source};
+ghost use Rattle.pim_addr.specs.Canonical.{canonical_unicast, canonical_group, canonical_flags};
+ghost use Rattle.pim_addr.specs.Canonical.{canonical_source};
 ghost use Rattle.pim_addr.specs.Canonical.{UnicastReadsBack, GroupReadsBack, SourceReadsBack};
 ghost use Rattle.pim_addr.specs.Seen.{source_seen};
 
@@ -32,7 +34,8 @@ pub fn put_unicast<F: Family>(address: F::Addr, bytes: &mut [u8])
 fn put_masked<F: Family>(third: u8, address: F::Addr, bytes: &mut [u8])
     requires { length bytes.old ≡ 4 + address_length F.family }
     ensures address { length (F.bytes_of address) ≡ address_length F.family }
-    ensures written { bytes.new ≡ family_byte F.family ∷ 0 ∷ third ∷ mask_length F.family ∷ F.bytes_of address }
+    ensures written { bytes.new ≡ family_byte F.family ∷ 0 ∷ third ∷ mask_length F.family
+        ∷ F.bytes_of address }
 {
     let (front, place) = bytes.split_at_mut(4);
     front.copy_from_slice(&[F::AFI, 0, third, F::FULL]);

@@ -1,15 +1,18 @@
 //! The commands on messages to an upstream neighbour: `messages`, `keep`, `change` and `same`.
 
-ghost use Rattle.std.specs.Prelude.{◌≡◌, ◌≢◌, ◌++◌, true, false, ℕ, List, codes, Option, Some, Err, is_some};
+ghost use Rattle.std.specs.Prelude.{◌≡◌, ◌≢◌, ◌++◌, true, false, ℕ, List, codes, Option, Some, Err};
+ghost use Rattle.std.specs.Prelude.{is_some};
 ghost use Rattle.std.specs.Prelude.{IfOk, IfSome, IfNone};
 ghost use Rattle.pim_device.specs.Device.{AppendsAll, failures_after};
 ghost use Rattle.pim_down.specs.Known.{known_in};
 ghost use Rattle.pim_form.specs.Toward.{via_in, is_toward};
 ghost use Rattle.pim_report.specs.MessageText.{messages_text};
 ghost use Rattle.pim_answers.specs.Answered.{Told};
-ghost use Rattle.pim_answers.specs.Asking.{has_other_family, writer_of, same_line, AnswersMessages, AnswersFound};
+ghost use Rattle.pim_answers.specs.Asking.{has_other_family, writer_of, same_line, AnswersMessages};
+ghost use Rattle.pim_answers.specs.Asking.{AnswersFound};
 ghost use Rattle.pim_answers.specs.Asking.{TellsChange, TellsSame, IfUsable, AreCompared};
-ghost use Rattle.pim_answers.specs.AskingSeen.{AreEnds, MakesWriter, form_fault_line, made_text, same_text, SaysBig};
+ghost use Rattle.pim_answers.specs.AskingSeen.{AreEnds, MakesWriter, form_fault_line, made_text};
+ghost use Rattle.pim_answers.specs.AskingSeen.{same_text, SaysBig};
 ghost use Rattle.pim_answers.specs.AskingSeen.{IsAskedNow, IsAskedFor, IsUsed, has_same_tables};
 ghost use Rattle.pim_answers.specs.Kept.{Kept as KeptSeen};
 ghost use Rattle.pim_answers.specs.Lines.{ok_line, fault_line};
@@ -199,8 +202,10 @@ fn write_change<F: Family, W: Drain>(
     answers: &mut W,
 ) -> Result<(), Failed>
     ensures told { (name : List ℕ) → Told
-        (IfUsable F.family router.now writer.now.upstream (TellsChange F.family writer.now router.now)
-        (form_seen F.family F.bytes_of name kept.now)) (W.contents answers.old) (W.contents answers.new) result }
+        (IfUsable F.family router.now writer.now.upstream
+        (TellsChange F.family writer.now router.now)
+        (form_seen F.family F.bytes_of name kept.now)) (W.contents answers.old)
+        (W.contents answers.new) result }
     ensures count { W.failures answers.new ≡ failures_after (W.failures answers.old) result }
 {
     let Some(form) = usable::<F>(kept, router.routes(), writer.upstream()) else {
@@ -219,7 +224,8 @@ fn change_found<F: Family, W: Drain>(
 ) -> Result<(), Failed>
     ensures told { (name : List ℕ) (known : KeptSeen) →
         IsFound F.family F.bytes_of name found.now (Some known) → Told
-        (IfUsable F.family router.now writer.now.upstream (TellsChange F.family writer.now router.now) known)
+        (IfUsable F.family router.now writer.now.upstream
+        (TellsChange F.family writer.now router.now) known)
         (W.contents answers.old) (W.contents answers.new) result }
     ensures count { W.failures answers.new ≡ failures_after (W.failures answers.old) result }
 {
@@ -231,7 +237,8 @@ fn change_found<F: Family, W: Drain>(
 
 /// Whether something is kept under the name.
 fn is_known<F: Family>(found: &Found<'_, F>) -> bool
-    ensures { (name : List ℕ) (kept : Option KeptSeen) → IsFound F.family F.bytes_of name found.now kept →
+    ensures { (name : List ℕ) (kept : Option KeptSeen)
+        → IsFound F.family F.bytes_of name found.now kept →
         result ≡ is_some kept }
 {
     match found {
@@ -330,7 +337,8 @@ fn write_same<F: Family, W: Drain>(
 ) -> Result<(), Failed>
     ensures told { (name : List ℕ) → Told
         (IfUsable F.family router.now writer.now.upstream (TellsSame F.family writer.now router.now)
-        (form_seen F.family F.bytes_of name kept.now)) (W.contents answers.old) (W.contents answers.new) result }
+        (form_seen F.family F.bytes_of name kept.now)) (W.contents answers.old)
+        (W.contents answers.new) result }
     ensures count { W.failures answers.new ≡ failures_after (W.failures answers.old) result }
 {
     let Some(form) = usable::<F>(kept, router.routes(), writer.upstream()) else {
@@ -349,7 +357,8 @@ fn same_found<F: Family, W: Drain>(
 ) -> Result<(), Failed>
     ensures told { (name : List ℕ) (known : KeptSeen) →
         IsFound F.family F.bytes_of name found.now (Some known) → Told
-        (IfUsable F.family router.now writer.now.upstream (TellsSame F.family writer.now router.now) known)
+        (IfUsable F.family router.now writer.now.upstream (TellsSame F.family writer.now router.now)
+        known)
         (W.contents answers.old) (W.contents answers.new) result }
     ensures count { W.failures answers.new ≡ failures_after (W.failures answers.old) result }
 {

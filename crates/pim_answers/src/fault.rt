@@ -116,7 +116,8 @@ pub fn write_ok<W: Drain>(answers: &mut W) -> Result<(), Failed>
 
 /// Writes `ok`, or the line of the fault.
 pub fn write_done<W: Drain>(answers: &mut W, done: Result<(), Fault<'_>>) -> Result<(), Failed>
-    ensures bytes { AppendsAll (W.contents answers.old) (W.contents answers.new) result (done_text done.entry) }
+    ensures bytes { AppendsAll (W.contents answers.old) (W.contents answers.new) result
+        (done_text done.entry) }
     ensures count { W.failures answers.new ≡ failures_after (W.failures answers.old) result }
 {
     match done {

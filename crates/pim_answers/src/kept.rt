@@ -1,11 +1,13 @@
 //! What a session keeps under names: forms of demand that were asked of a neighbour, with the RPs
 //! of their stars. It outlives the router.
 
-ghost use Rattle.std.specs.Prelude.{◌≡◌, ◌++◌, ◌∷◌, [], ℕ, List, map, option_map, is_some, Some, IfOk, OnErr};
+ghost use Rattle.std.specs.Prelude.{◌≡◌, ◌++◌, ◌∷◌, [], ℕ, List, map, option_map, is_some, Some};
+ghost use Rattle.std.specs.Prelude.{IfOk, OnErr};
 ghost use Rattle.pim_addr.specs.declared.family.AddressFamily.TheVariants as family;
 ghost use Rattle.std.specs.List.{position};
 ghost use Rattle.std.specs.Str.{bytes_eq};
-ghost use Rattle.pim_answers.specs.Kept.{kept_as, with_kept, lacks_place, star_of, stars_of, are_same};
+ghost use Rattle.pim_answers.specs.Kept.{kept_as, with_kept, lacks_place, star_of, stars_of};
+ghost use Rattle.pim_answers.specs.Kept.{are_same};
 ghost use Rattle.pim_answers.specs.Kept.{have_their_rps};
 ghost use Rattle.pim_answers.specs.StoreSeen.{star_seen, any_seen, store_seen, IsFound};
 
@@ -59,7 +61,8 @@ pub enum Found<'s, F: Family> {
 
 /// What an IPv4 router finds of a form.
 fn in_ipv4(form: &AnyForm) -> Found<'_, V4>
-    ensures { (name : List ℕ) → IsFound family.Ipv4 (λ (a : List ℕ). a) name result (Some (any_seen name form.now)) }
+    ensures { (name : List ℕ)
+        → IsFound family.Ipv4 (λ (a : List ℕ). a) name result (Some (any_seen name form.now)) }
 {
     match form {
         AnyForm::Ipv4(form) => Found::Form(form),
@@ -69,7 +72,8 @@ fn in_ipv4(form: &AnyForm) -> Found<'_, V4>
 
 /// What an IPv6 router finds of a form.
 fn in_ipv6(form: &AnyForm) -> Found<'_, V6>
-    ensures { (name : List ℕ) → IsFound family.Ipv6 (λ (a : List ℕ). a) name result (Some (any_seen name form.now)) }
+    ensures { (name : List ℕ)
+        → IsFound family.Ipv6 (λ (a : List ℕ). a) name result (Some (any_seen name form.now)) }
 {
     match form {
         AnyForm::Ipv4(_) => Found::Other,
@@ -97,7 +101,8 @@ fn push_star<F: Family>(
     routes: &Routes<F>,
 ) -> Result<(), AllocError>
     ensures { IfOk result (λ _. map (star_seen F.bytes_of) stars.new.items
-        ≡ map (star_seen F.bytes_of) stars.old.items ++ star_of F.family routes.now this.now.group this.now.star []) }
+        ≡ map (star_seen F.bytes_of) stars.old.items
+        ++ star_of F.family routes.now this.now.group this.now.star []) }
 {
     if !this.star() {
         return Ok(());
@@ -159,7 +164,8 @@ impl Store {
 
     /// The place of a name.
     fn place_of(&self, name: &[u8]) -> Option<usize>
-        ensures { result ≡ position (λ entry. bytes_eq entry.name.items name.now) self.now.entries.items }
+        ensures { result
+            ≡ position (λ entry. bytes_eq entry.name.items name.now) self.now.entries.items }
     {
         self.entries
             .iter()
@@ -168,7 +174,9 @@ impl Store {
 
     /// Whether something is kept under a name.
     fn knows(&self, name: &[u8]) -> bool
-        ensures { result ≡ is_some (position (λ entry. bytes_eq entry.name.items name.now) self.now.entries.items) }
+        ensures { result
+            ≡ is_some
+            (position (λ entry. bytes_eq entry.name.items name.now) self.now.entries.items) }
     {
         match self.place_of(name) {
             Some(_) => true,
@@ -178,7 +186,8 @@ impl Store {
 
     /// What is kept under a name, as an IPv4 router finds it.
     pub fn find_ipv4(&self, name: &[u8]) -> Found<'_, V4>
-        ensures { IsFound family.Ipv4 (λ (a : List ℕ). a) name.now result (kept_as name.now (store_seen self.now)) }
+        ensures { IsFound family.Ipv4 (λ (a : List ℕ). a) name.now result
+            (kept_as name.now (store_seen self.now)) }
     {
         match self.get(name) {
             Some(form) => in_ipv4(form),
@@ -188,7 +197,8 @@ impl Store {
 
     /// What is kept under a name, as an IPv6 router finds it.
     pub fn find_ipv6(&self, name: &[u8]) -> Found<'_, V6>
-        ensures { IsFound family.Ipv6 (λ (a : List ℕ). a) name.now result (kept_as name.now (store_seen self.now)) }
+        ensures { IsFound family.Ipv6 (λ (a : List ℕ). a) name.now result
+            (kept_as name.now (store_seen self.now)) }
     {
         match self.get(name) {
             Some(form) => in_ipv6(form),
@@ -198,7 +208,8 @@ impl Store {
 
     /// What is kept under a name.
     fn get(&self, name: &[u8]) -> Option<&AnyForm>
-        ensures { option_map (λ form. any_seen name.now form.now) result ≡ kept_as name.now (store_seen self.now) }
+        ensures { option_map (λ form. any_seen name.now form.now) result
+            ≡ kept_as name.now (store_seen self.now) }
     {
         let place = self.place_of(name)?;
         let entry = &self.entries[place];
@@ -216,7 +227,8 @@ impl Store {
 
     /// Adds a name that is not known.
     fn add(&mut self, alloc: Global, name: &[u8], form: AnyForm) -> Result<(), AllocError>
-        ensures ok { IfOk result (λ _. store_seen self.new ≡ store_seen self.old ++ any_seen name.now form ∷ []) }
+        ensures ok { IfOk result (λ _. store_seen self.new ≡ store_seen self.old
+            ++ any_seen name.now form ∷ []) }
         ensures err { OnErr result (store_seen self.new ≡ store_seen self.old) }
     {
         let mut copy = Vec::new(alloc);
@@ -227,7 +239,8 @@ impl Store {
 
     /// Keeps a form under a name, over what the name held.
     pub fn keep(&mut self, alloc: Global, name: &[u8], form: AnyForm) -> Result<(), AllocError>
-        ensures ok { IfOk result (λ _. store_seen self.new ≡ with_kept (any_seen name.now form) (store_seen self.old)) }
+        ensures ok { IfOk result (λ _. store_seen self.new
+            ≡ with_kept (any_seen name.now form) (store_seen self.old)) }
         ensures err { OnErr result (store_seen self.new ≡ store_seen self.old) }
     {
         let Some(place) = self.place_of(name) else {

@@ -7,8 +7,8 @@
 //!
 //! - `answer_packet` and `answer_from` let a port take a packet now; no timer fires.
 //! - `answer_run` lets time pass, and writes each echo and each refresh.
-//! - `answer_now`, `answer_next`, `answer_state`, `answer_wants` and `answer_neighbours` tell of the
-//!   router and leave it unchanged.
+//! - `answer_now`, `answer_next`, `answer_state`, `answer_wants` and `answer_neighbours` tell of
+//!   the router and leave it unchanged.
 //! - `answer_messages` writes the canonical messages to an upstream neighbour.
 //! - `asked_for` makes the form that `keep` keeps in a `Store`: what is asked of a neighbour.
 //!   `answer_change` writes the messages of the change from it to what is asked now, `answer_same`

@@ -7,7 +7,8 @@ ghost use Rattle.pim_hello.specs.Delays.{delays_seen};
 ghost use Rattle.pim_hello.specs.Kept.{parameters_seen};
 ghost use Rattle.pim_hello.specs.Walk.{neighbour_seen};
 ghost use Rattle.pim_text.specs.HelloText.{number_text, bit, delays_text};
-ghost use Rattle.pim_answers.specs.Neighbours.{option_words, parameters_words, place_words, neighbour_line};
+ghost use Rattle.pim_answers.specs.Neighbours.{option_words, parameters_words, place_words};
+ghost use Rattle.pim_answers.specs.Neighbours.{neighbour_line};
 ghost use Rattle.pim_answers.specs.Neighbours.{neighbours_text};
 
 use itoa::Buffer;

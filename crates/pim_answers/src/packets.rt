@@ -1,6 +1,7 @@
 //! The commands by which a packet arrives: `packet`, and `from` with the text of a message.
 
-ghost use Rattle.std.specs.Prelude.{◌≡◌, ◌<◌, ◌≤◌, ◌^◌, ◌+◌, ◌++◌, ◌∷◌, [], true, false, length, drop, None};
+ghost use Rattle.std.specs.Prelude.{◌≡◌, ◌<◌, ◌≤◌, ◌^◌, ◌+◌, ◌++◌, ◌∷◌, [], true, false, length};
+ghost use Rattle.std.specs.Prelude.{drop, None};
 ghost use Rattle.std.specs.Prelude.{IfOk, IfErr, IfSome, IfNone};
 ghost use Rattle.pim_device.specs.Device.{AppendsAll, failures_after};
 ghost use Rattle.pim_frame.specs.Seal.{IsSealed};
@@ -13,7 +14,8 @@ ghost use Rattle.pim_answers.specs.Families.{differ_from};
 ghost use Rattle.pim_answers.specs.Lines.{ok_line};
 ghost use Rattle.pim_answers.specs.Packets.{Takes, AnswersPacket, addresses_of, type_of};
 ghost use Rattle.pim_answers.specs.Packets.{IsMessageOf, AnswersFrom};
-ghost use Rattle.pim_answers.specs.PacketsSeen.{IsPort, AreEnds, AreEndsOf, has_other_family, IsFillFault};
+ghost use Rattle.pim_answers.specs.PacketsSeen.{IsPort, AreEnds, AreEndsOf, has_other_family};
+ghost use Rattle.pim_answers.specs.PacketsSeen.{IsFillFault};
 
 use crate::fault::{Fault, write_fault, write_ok};
 use pim_addr::{AddressFamily, Drain, Failed, Family};
@@ -86,7 +88,8 @@ fn take<F: Family, W: Drain>(
     requires port { port < length router.old.ports }
     requires bytes { length message.now < 2 ^ 32 }
     ensures answered { Answered (OrMemory router.old
-        (Takes F.family (packet_seen F.bytes_of port ends.source ends.destination message.now) router.old))
+        (Takes F.family (packet_seen F.bytes_of port ends.source ends.destination message.now)
+        router.old))
         (W.contents answers.old) (W.contents answers.new) result (λ _. router.new) }
     ensures count { W.failures answers.new ≡ failures_after (W.failures answers.old) result }
 {
@@ -149,7 +152,8 @@ fn ends_to_all<F: Family>(source: AnyAddress) -> Option<Ends<F::Addr>>
 
 /// The source and the destination of a sender. Without a destination it is ALL-PIM-ROUTERS.
 fn ends_of<F: Family>(sender: &Sender) -> Option<Ends<F::Addr>>
-    ensures ends { IfSome result (AreEndsOf F.family F.bytes_of sender.now.source sender.now.destination) }
+    ensures ends { IfSome result
+        (AreEndsOf F.family F.bytes_of sender.now.source sender.now.destination) }
     ensures same { IfSome result (λ _. differ_from F.family (addresses_of sender.now) ≡ false) }
     ensures other { IfNone result (differ_from F.family (addresses_of sender.now) ≡ true) }
 {
@@ -187,7 +191,8 @@ fn type_of(is_hello: bool) -> MessageType
 
 /// Fills `bytes` with a header's room and the body.
 fn fill(body: &[u8], bytes: &mut Vec<u8>) -> Result<(), AllocError>
-    ensures { IfOk result (λ _. (drop 4 bytes.new.items ≡ body.now) × (length bytes.new.items ≡ 4 + length body.now)) }
+    ensures { IfOk result (λ _. (drop 4 bytes.new.items ≡ body.now)
+        × (length bytes.new.items ≡ 4 + length body.now)) }
 {
     bytes.clear();
     bytes.extend_from_slice(&[0; 4])?;
@@ -202,7 +207,8 @@ fn fill_sealed<F: Family>(
     bytes: &mut Vec<u8>,
 ) -> Result<(), AllocError>
     requires { length spelled.now.body.items ≤ 65532 }
-    ensures sealed { IfOk result (λ _. IsSealed F.family (F.bytes_of ends.source) (F.bytes_of ends.destination)
+    ensures sealed { IfOk result
+        (λ _. IsSealed F.family (F.bytes_of ends.source) (F.bytes_of ends.destination)
         (type_of spelled.now.is_hello) spelled.now.body.items bytes.new.items) }
     ensures short { IfOk result (λ _. length bytes.new.items ≤ 65536) }
 {

@@ -23,7 +23,8 @@ use std::alloc::Global;
 
 /// Writes the line of a moment, or of `never`.
 fn write_moment<W: Drain>(answers: &mut W, moment: Option<u64>) -> Result<(), Failed>
-    ensures bytes { AppendsAll (W.contents answers.old) (W.contents answers.new) result (moment_line moment) }
+    ensures bytes { AppendsAll (W.contents answers.old) (W.contents answers.new) result
+        (moment_line moment) }
     ensures count { W.failures answers.new ≡ failures_after (W.failures answers.old) result }
 {
     let mut digits = Buffer::new();
@@ -65,7 +66,8 @@ pub fn answer_next<F: Family, W: Drain>(
     router: &Router<'_, F>,
     answers: &mut W,
 ) -> Result<(), Failed>
-    ensures told { Told (TellsNext router.now) (W.contents answers.old) (W.contents answers.new) result }
+    ensures told { Told (TellsNext router.now) (W.contents answers.old) (W.contents answers.new)
+        result }
     ensures count { W.failures answers.new ≡ failures_after (W.failures answers.old) result }
 {
     tell_moment(answers, router.ports().next_due())
@@ -125,7 +127,8 @@ pub fn answer_wants<F: Family, W: Drain>(
     router: &Router<'_, F>,
     answers: &mut W,
 ) -> Result<(), Failed>
-    ensures told { Told (TellsWants F.family router.now) (W.contents answers.old) (W.contents answers.new) result }
+    ensures told { Told (TellsWants F.family router.now) (W.contents answers.old)
+        (W.contents answers.new) result }
     ensures count { W.failures answers.new ≡ failures_after (W.failures answers.old) result }
 {
     match NormalForm::of(alloc, router.ports()) {

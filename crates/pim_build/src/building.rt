@@ -5,7 +5,8 @@ ghost use Rattle.pim_addr.specs.Faults.{judged};
 ghost use Rattle.pim_frame.specs.Seal.{IsSealed};
 ghost use Rattle.pim_frame.specs.Seen.{content_of};
 ghost use Rattle.pim_build.specs.Reading.{text_limit};
-ghost use Rattle.pim_build.specs.Building.{kind_of, content_faults, message_faults, IsBuilt, IsBuildFault};
+ghost use Rattle.pim_build.specs.Building.{kind_of, content_faults, message_faults, IsBuilt};
+ghost use Rattle.pim_build.specs.Building.{IsBuildFault};
 
 use crate::fault::{BuildFault, text_fault};
 use pim_addr::{Family, group_reads_back, source_reads_back};
@@ -65,7 +66,8 @@ fn judge_body<F: Family>(body: Body<'_>) -> Result<(), BuildFault>
 /// Checks a message from `src` to `dst` as its receiver does.
 fn judge<F: Family>(src: F::Addr, dst: F::Addr, message: &[u8]) -> Result<(), BuildFault>
     requires { length message.now ≤ 65536 }
-    ensures { result ≡ judged (message_faults F.family (F.bytes_of src) (F.bytes_of dst) message.now) tt }
+    ensures { result
+        ≡ judged (message_faults F.family (F.bytes_of src) (F.bytes_of dst) message.now) tt }
 {
     match open::<F>(src, dst, message) {
         Ok(body) => judge_body::<F>(body),
@@ -90,7 +92,8 @@ pub fn build_message<F: Family>(
     text: &[u8],
 ) -> Result<Vec<u8>, BuildFault>
     requires { length text.now ≤ text_limit }
-    ensures built { IfOk result (λ m. IsBuilt F.family (F.bytes_of src) (F.bytes_of dst) text.now m.items) }
+    ensures built { IfOk result
+        (λ m. IsBuilt F.family (F.bytes_of src) (F.bytes_of dst) text.now m.items) }
     ensures fault { IfErr result (IsBuildFault F.family (F.bytes_of src) (F.bytes_of dst) text.now) }
 {
     reads_back();

@@ -2,7 +2,8 @@
 
 ghost use Rattle.std.specs.Prelude.{◌≡◌, ◌≤◌, ◌<◌, [], length, OnOk, IfOk, IfErr, IfSome, vec_len};
 ghost use Rattle.pim_device.specs.Device.{ConsumesAtMost};
-ghost use Rattle.pim_build.specs.Reading.{text_limit, piece_length, AddsPiece, GivesText, IsPieceFault, IsReadFault};
+ghost use Rattle.pim_build.specs.Reading.{text_limit, piece_length, AddsPiece, GivesText};
+ghost use Rattle.pim_build.specs.Reading.{IsPieceFault, IsReadFault};
 ghost use Rattle.pim_build.specs.Reading.{failures_after_reading};
 
 use crate::fault::BuildFault;
@@ -34,7 +35,8 @@ fn add_piece<R: Feed>(
     ensures piece { length piece.new ≡ length piece.old }
     ensures causes { IfErr result IsPieceFault }
     ensures failed { R.failures reader.new ≡ failures_after_reading (R.failures reader.old) result }
-    ensures taken { ConsumesAtMost (length piece.old) (R.remaining reader.old) (R.remaining reader.new) }
+    ensures taken { ConsumesAtMost (length piece.old) (R.remaining reader.old)
+        (R.remaining reader.new) }
 {
     let Ok(length) = read_up_to(reader, piece) else {
         return Err(BuildFault::Read);
@@ -54,7 +56,8 @@ fn add_pieces<R: Feed>(
 ) -> Result<(), BuildFault>
     requires piece { length piece.old ≡ piece_length }
     requires empty { text.old.items ≡ [] }
-    ensures text { IfSome (R.remaining reader.old) (λ all. GivesText (λ done. text.new.items) all result) }
+    ensures text { IfSome (R.remaining reader.old)
+        (λ all. GivesText (λ done. text.new.items) all result) }
     ensures causes { IfErr result IsReadFault }
     ensures failed { R.failures reader.new ≡ failures_after_reading (R.failures reader.old) result }
     ensures taken { ConsumesAtMost 8454144 (R.remaining reader.old) (R.remaining reader.new) }

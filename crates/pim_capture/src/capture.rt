@@ -5,9 +5,12 @@ ghost use Rattle.pim_device.specs.Device.{ConsumesAtMost};
 ghost use Rattle.std.specs.Option.{option_map};
 ghost use Rattle.pim_capture.specs.declared.capture.State.TheVariants.{Unbegun};
 ghost use Rattle.pim_capture.specs.Capture.{answers};
-ghost use Rattle.pim_capture.specs.Next.{coming, seen, reader_of, state_of, IsNext, IsRefusal, CountsReads};
-ghost use Rattle.pim_capture.specs.Next.{CountsRecord, records_left, most_taken, OnMemory, IsRepeated, StaysOver};
-ghost use Rattle.pim_capture.specs.Next.{PayloadLiesIn, IsBy, latest_moment, named, LacksRoom, FitsRecord};
+ghost use Rattle.pim_capture.specs.Next.{coming, seen, reader_of, state_of, IsNext, IsRefusal};
+ghost use Rattle.pim_capture.specs.Next.{CountsReads};
+ghost use Rattle.pim_capture.specs.Next.{CountsRecord, records_left, most_taken, OnMemory};
+ghost use Rattle.pim_capture.specs.Next.{IsRepeated, StaysOver};
+ghost use Rattle.pim_capture.specs.Next.{PayloadLiesIn, IsBy, latest_moment, named, LacksRoom};
+ghost use Rattle.pim_capture.specs.Next.{FitsRecord};
 
 use crate::event::Event;
 use crate::fault::CaptureFault;
@@ -66,19 +69,25 @@ impl<R: Feed> Capture<R> {
     /// The first fault of the bytes, a failed read, or refused memory. Later calls return `Failed`.
     pub fn next(&mut self, buffer: &mut Vec<u8>) -> Result<Event, CaptureFault>
         // Where the bytes of the reader are known, the results are those of the file, in order.
-        ensures answer { IsRefusal (R.failures (reader_of self.old)) (R.failures (reader_of self.new)) result
-            ⊎ IsNext (coming R.remaining self.old) (seen buffer.new.items result) (coming R.remaining self.new) }
+        ensures answer { IsRefusal (R.failures (reader_of self.old))
+            (R.failures (reader_of self.new)) result
+            ⊎ IsNext (coming R.remaining self.old) (seen buffer.new.items result)
+            (coming R.remaining self.new) }
         ensures reads { CountsReads (records_left (state_of self.old) ≡ 0)
             (R.failures (reader_of self.old)) (R.failures (reader_of self.new)) result }
-        ensures record { CountsRecord result (records_left (state_of self.old)) (records_left (state_of self.new)) }
+        ensures record { CountsRecord result (records_left (state_of self.old))
+            (records_left (state_of self.new)) }
         // A record that is too long is refused before its bytes are read.
         ensures taken { ConsumesAtMost (most_taken 40 result)
             (R.remaining (reader_of self.old)) (R.remaining (reader_of self.new)) }
         // Memory is refused only if the buffer has less room than the next record needs. If the
         // bytes are known, that record's header is whole.
-        ensures memory { OnMemory result (LacksRoom (vec_capacity buffer.old) (named R.remaining self.old)) }
-        ensures length { FitsRecord result (vec_len buffer.old) (vec_len buffer.new) (named R.remaining self.old) }
-        ensures capacity { vec_capacity buffer.new ≡ max (vec_capacity buffer.old) (vec_len buffer.new) }
+        ensures memory { OnMemory result
+            (LacksRoom (vec_capacity buffer.old) (named R.remaining self.old)) }
+        ensures length { FitsRecord result (vec_len buffer.old) (vec_len buffer.new)
+            (named R.remaining self.old) }
+        ensures capacity { vec_capacity buffer.new
+            ≡ max (vec_capacity buffer.old) (vec_len buffer.new) }
         ensures payload { IfOk result (PayloadLiesIn buffer.new.items) }
         ensures moment { IfOk result (IsBy latest_moment) }
         ensures repeated { IsRepeated (state_of self.old) result }

@@ -3,7 +3,8 @@
 //! The buffer is filled with zeros in reserved room, since `resize` of the standard library doesn't
 //! promise that the capacity stays.
 
-ghost use Rattle.std.specs.Prelude.{◌≡◌, ◌≢◌, ◌+◌, ◌-◌, ◌<◌, ◌≤◌, ◌⊎◌, ℕ, length, take, drop, min, max, Ok, Err, IfOk};
+ghost use Rattle.std.specs.Prelude.{◌≡◌, ◌≢◌, ◌+◌, ◌-◌, ◌<◌, ◌≤◌, ◌⊎◌, ℕ, length, take, drop, min};
+ghost use Rattle.std.specs.Prelude.{max, Ok, Err, IfOk};
 ghost use Rattle.std.specs.Prelude.{IfErr, OnOk, OnErr, IsErr, MatchResult, vec_len, vec_capacity};
 ghost use Rattle.std.specs.Option.{option_map};
 ghost use Rattle.pim_device.specs.Device.{ConsumesAtMost};
@@ -11,8 +12,10 @@ ghost use Rattle.pim_capture.specs.declared.event.Event.TheVariants.{End};
 ghost use Rattle.pim_capture.specs.Frame.{judge_frame};
 ghost use Rattle.pim_capture.specs.Capture.{records, millis_of, told_of, most_captured};
 ghost use Rattle.pim_capture.specs.Parts.{BeginsWith, FillsExactly};
-ghost use Rattle.pim_capture.specs.Next.{event_seen, seen, IsNext, IsRefusal, CountsReads, OnMemory, most_taken};
-ghost use Rattle.pim_capture.specs.Next.{PayloadLiesIn, IsBy, latest_moment, length_named, LacksRoom, FitsRecord};
+ghost use Rattle.pim_capture.specs.Next.{event_seen, seen, IsNext, IsRefusal, CountsReads};
+ghost use Rattle.pim_capture.specs.Next.{OnMemory, most_taken};
+ghost use Rattle.pim_capture.specs.Next.{PayloadLiesIn, IsBy, latest_moment, length_named};
+ghost use Rattle.pim_capture.specs.Next.{LacksRoom, FitsRecord};
 
 use crate::event::Event;
 use crate::fault::CaptureFault;
@@ -41,7 +44,8 @@ pub fn begin<R: Feed>(reader: &mut R) -> Result<Format, CaptureFault>
 /// length.
 fn fit(buffer: &mut Vec<u8>, length: usize) -> Result<(), AllocError>
     ensures length { OnOk result (vec_len buffer.new ≡ length) }
-    ensures capacity { OnOk result (vec_capacity buffer.new ≡ max (vec_capacity buffer.old) length) }
+    ensures capacity { OnOk result (vec_capacity buffer.new
+        ≡ max (vec_capacity buffer.old) length) }
     ensures refused { OnErr result (vec_capacity buffer.old < length) }
     ensures same_length { OnErr result (vec_len buffer.new ≡ vec_len buffer.old) }
     ensures same_capacity { OnErr result (vec_capacity buffer.new ≡ vec_capacity buffer.old) }
@@ -61,11 +65,14 @@ fn read_frame<R: Feed>(
     length: usize,
     buffer: &mut Vec<u8>,
 ) -> Result<(), CaptureFault>
-    ensures answer { FillsExactly length (R.remaining reader.old) (R.remaining reader.new) buffer.new.items result }
+    ensures answer { FillsExactly length (R.remaining reader.old) (R.remaining reader.new)
+        buffer.new.items result }
     ensures reads { CountsReads ⊥ (R.failures reader.old) (R.failures reader.new) result }
     ensures memory { OnMemory result (vec_capacity buffer.old < length) }
-    ensures length { (vec_len buffer.new ≡ length) ⊎ (IsErr result × (vec_len buffer.new ≡ vec_len buffer.old)) }
-    ensures capacity { vec_capacity buffer.new ≡ max (vec_capacity buffer.old) (vec_len buffer.new) }
+    ensures length { (vec_len buffer.new ≡ length)
+        ⊎ (IsErr result × (vec_len buffer.new ≡ vec_len buffer.old)) }
+    ensures capacity { vec_capacity buffer.new
+        ≡ max (vec_capacity buffer.old) (vec_len buffer.new) }
     ensures not_long { result ≢ Err CaptureFault.TooLong }
     ensures taken { ConsumesAtMost length (R.remaining reader.old) (R.remaining reader.new) }
 {
@@ -94,7 +101,8 @@ fn millis(format: Format, header: &[u8]) -> u64
 
 /// The event of a record with these bytes.
 fn event_of(millis: u64, link: Link, frame: &[u8]) -> Event
-    ensures event { event_seen frame.now result ≡ told_of millis frame.now (judge_frame link frame.now) }
+    ensures event { event_seen frame.now result
+        ≡ told_of millis frame.now (judge_frame link frame.now) }
     ensures payload { PayloadLiesIn frame.now result }
     ensures moment { IsBy millis result }
     ensures record { result ≢ End }
@@ -113,18 +121,22 @@ pub fn next_record<R: Feed>(
     buffer: &mut Vec<u8>,
 ) -> Result<Event, CaptureFault>
     ensures answer { IsRefusal (R.failures reader.old) (R.failures reader.new) result
-        ⊎ IsNext (option_map (records left format) (R.remaining reader.old)) (seen buffer.new.items result)
+        ⊎ IsNext (option_map (records left format) (R.remaining reader.old))
+        (seen buffer.new.items result)
         (option_map (records (left - 1) format) (R.remaining reader.new)) }
     ensures reads { CountsReads (left ≡ 0) (R.failures reader.old) (R.failures reader.new) result }
     ensures memory { OnMemory result
-        (LacksRoom (vec_capacity buffer.old) (option_map (length_named left format) (R.remaining reader.old))) }
+        (LacksRoom (vec_capacity buffer.old)
+        (option_map (length_named left format) (R.remaining reader.old))) }
     ensures length { FitsRecord result (vec_len buffer.old) (vec_len buffer.new)
         (option_map (length_named left format) (R.remaining reader.old)) }
-    ensures capacity { vec_capacity buffer.new ≡ max (vec_capacity buffer.old) (vec_len buffer.new) }
+    ensures capacity { vec_capacity buffer.new
+        ≡ max (vec_capacity buffer.old) (vec_len buffer.new) }
     ensures payload { IfOk result (PayloadLiesIn buffer.new.items) }
     ensures moment { IfOk result (IsBy latest_moment) }
     ensures record { IfOk result (λ event. event ≡ End ⊎ 0 < left) }
-    ensures taken { ConsumesAtMost (most_taken 16 result) (R.remaining reader.old) (R.remaining reader.new) }
+    ensures taken { ConsumesAtMost (most_taken 16 result) (R.remaining reader.old)
+        (R.remaining reader.new) }
 {
     let mut header = [0; 16];
     let got = read_up_to(reader, &mut header)?;

@@ -53,7 +53,8 @@ pub fn changed<'a, F: Family>(
     told: &NormalForm<F>,
     wanted: &'a NormalForm<F>,
 ) -> Result<Vec<Unit<'a, F::Addr>>, AllocError>
-    ensures { IfOk result (λ units. units_seen F.bytes_of units.items ≡ change told.now wanted.now) }
+    ensures { IfOk result (λ units. units_seen F.bytes_of units.items
+        ≡ change told.now wanted.now) }
 {
     told.is_normal();
     wanted.is_normal();

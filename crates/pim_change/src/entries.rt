@@ -5,7 +5,8 @@ ghost use Rattle.std.specs.List.{flat_map};
 ghost use Rattle.pim_down.specs.Known.{known_in};
 ghost use Rattle.pim_jp.specs.Seen.{entry_seen};
 ghost use Rattle.pim_change.specs.Seen.{telling_seen, tellings_seen};
-ghost use Rattle.pim_change.specs.Told.{rp_entry, kind_joined, kind_pruned, excepted_entries, joined_entries};
+ghost use Rattle.pim_change.specs.Told.{rp_entry, kind_joined, kind_pruned, excepted_entries};
+ghost use Rattle.pim_change.specs.Told.{joined_entries};
 ghost use Rattle.pim_change.specs.Told.{pruned_entries};
 
 use crate::unit::{Kind, Telling, Unit};
@@ -20,7 +21,8 @@ fn push_rp<F: Family>(
     group: F::Addr,
 ) -> Result<(), AllocError>
     ensures { OnOk result (map (entry_seen F.bytes_of) entries.new.items
-        ≡ map (entry_seen F.bytes_of) entries.old.items ++ rp_entry (known_in F.family routes.now (F.bytes_of group))) }
+        ≡ map (entry_seen F.bytes_of) entries.old.items
+        ++ rp_entry (known_in F.family routes.now (F.bytes_of group))) }
 {
     if let Some(address) = routes.rp_of(group) {
         entries.push(Entry::Star(address))?;
@@ -70,7 +72,8 @@ fn push_excepted<F: Family>(
     exceptions: &[F::Addr],
 ) -> Result<(), AllocError>
     ensures { OnOk result (map (entry_seen F.bytes_of) entries.new.items
-        ≡ map (entry_seen F.bytes_of) entries.old.items ++ excepted_entries (map F.bytes_of exceptions.now)) }
+        ≡ map (entry_seen F.bytes_of) entries.old.items
+        ++ excepted_entries (map F.bytes_of exceptions.now)) }
 {
     for &source in exceptions {
         entries.push(Entry::Rpt(source))?;
@@ -87,7 +90,8 @@ fn push_joined<F: Family>(
 ) -> Result<(), AllocError>
     ensures { OnOk result (map (entry_seen F.bytes_of) entries.new.items
         ≡ map (entry_seen F.bytes_of) entries.old.items
-        ++ joined_entries (known_in F.family routes.now (F.bytes_of group)) (telling_seen F.bytes_of telling.now)) }
+        ++ joined_entries (known_in F.family routes.now (F.bytes_of group))
+        (telling_seen F.bytes_of telling.now)) }
 {
     match telling {
         Telling::JoinStar(_) => push_rp::<F>(entries, routes, group),
@@ -105,7 +109,8 @@ fn push_pruned<F: Family>(
 ) -> Result<(), AllocError>
     ensures { OnOk result (map (entry_seen F.bytes_of) entries.new.items
         ≡ map (entry_seen F.bytes_of) entries.old.items
-        ++ pruned_entries (known_in F.family routes.now (F.bytes_of group)) (telling_seen F.bytes_of telling.now)) }
+        ++ pruned_entries (known_in F.family routes.now (F.bytes_of group))
+        (telling_seen F.bytes_of telling.now)) }
 {
     match telling {
         Telling::JoinStar(exceptions) => push_excepted::<F>(entries, exceptions),

@@ -1,6 +1,7 @@
 //! Laws of the definitions. Nothing in this module is to be called.
 
-ghost use Rattle.pim_change.specs.Laws.{EqualFormsChangeNothing, ChangeIsRead, ChangeMessagesAreShort};
+ghost use Rattle.pim_change.specs.Laws.{EqualFormsChangeNothing, ChangeIsRead};
+ghost use Rattle.pim_change.specs.Laws.{ChangeMessagesAreShort};
 ghost use Rattle.pim_change.specs.Laws.{AddressesAreInOrder, ChangeHasMessagesUnlessTooBig};
 ghost use Rattle.pim_change.specs.Laws.{NewStarsAloneAreTooBig};
 

@@ -4,19 +4,22 @@
 //! enough to be sealed. The laws on lengths can't show this, since they are about legal messages,
 //! and the forms may have stars without an RP.
 
-ghost use Rattle.std.specs.Prelude.{◌≡◌, ◌≤◌, ◌<◌, ◌^◌, ◌+◌, ◌++◌, ◌∷◌, true, length, map, take, drop, OnOk, IfOk};
+ghost use Rattle.std.specs.Prelude.{◌≡◌, ◌≤◌, ◌<◌, ◌^◌, ◌+◌, ◌++◌, ◌∷◌, true, length, map, take};
+ghost use Rattle.std.specs.Prelude.{drop, OnOk, IfOk};
 ghost use Rattle.std.specs.List.{AllByRecursion, flat_map};
 ghost use Rattle.pim_down.specs.Known.{known_in};
 ghost use Rattle.pim_frame.specs.Frame.{all_routers};
 ghost use Rattle.pim_frame.specs.Seal.{IsSealed};
 ghost use Rattle.pim_frame.specs.declared.frame.MessageType.TheVariants.{JoinPrune};
-ghost use Rattle.pim_jp.specs.Canonical.{canonical_set, canonical_set_length, canonical_sets_length};
+ghost use Rattle.pim_jp.specs.Canonical.{canonical_set, canonical_set_length};
+ghost use Rattle.pim_jp.specs.Canonical.{canonical_sets_length};
 ghost use Rattle.pim_jp.specs.Canonical.{canonical_head, canonical_head_length};
 ghost use Rattle.pim_jp.specs.Seen.{set_seen};
 ghost use Rattle.pim_form.specs.Packing.{fits};
 ghost use Rattle.pim_change.specs.Seen.{tellings_seen, units_seen};
 ghost use Rattle.pim_change.specs.Change.{Telling, unit_of};
-ghost use Rattle.pim_change.specs.Told.{IsShort, tellings_of, told_set, told_sets, set_size, grouped, weights, TellsRun};
+ghost use Rattle.pim_change.specs.Told.{IsShort, tellings_of, told_set, told_sets, set_size};
+ghost use Rattle.pim_change.specs.Told.{grouped, weights, TellsRun};
 
 use crate::entries::{push_all_joined, push_all_pruned};
 use crate::unit::Unit;
@@ -37,7 +40,8 @@ fn append_entries<F: Family>(
     requires joined { length joined.now < 2 ^ 16 }
     requires pruned { length pruned.now < 2 ^ 16 }
     ensures appended { OnOk result (bytes.new.items
-        ≡ bytes.old.items ++ canonical_set F.family (set_seen F.bytes_of group joined.now pruned.now)) }
+        ≡ bytes.old.items
+        ++ canonical_set F.family (set_seen F.bytes_of group joined.now pruned.now)) }
     ensures longer { OnOk result (length bytes.new.items ≡ length bytes.old.items
         + canonical_set_length F.family (length joined.now) (length pruned.now)) }
 {
@@ -74,8 +78,10 @@ fn append_set<F: Family>(
 /// The number of units at the front that are of this group.
 fn front_length<F: Family>(units: &[Unit<'_, F::Addr>], group: F::Addr) -> usize
     ensures within { result ≤ length units.now }
-    ensures cut { (telling : Telling) → grouped (unit_of (F.bytes_of group) telling ∷ units_seen F.bytes_of units.now)
-        ≡ tellings_of (F.bytes_of group) (telling ∷ tellings_seen F.bytes_of (take result units.now))
+    ensures cut { (telling : Telling)
+        → grouped (unit_of (F.bytes_of group) telling ∷ units_seen F.bytes_of units.now)
+        ≡ tellings_of (F.bytes_of group) (telling
+        ∷ tellings_seen F.bytes_of (take result units.now))
         ∷ grouped (units_seen F.bytes_of (drop result units.now)) }
 {
     for (index, unit) in units.iter().enumerate() {
@@ -95,10 +101,13 @@ fn append_sets<F: Family>(
 ) -> Result<u8, AllocError>
     requires short { AllByRecursion IsShort
         (told_sets (known_in F.family routes.now) (units_seen F.bytes_of units.now)) }
-    requires groups { length (told_sets (known_in F.family routes.now) (units_seen F.bytes_of units.now)) ≤ 255 }
-    ensures appended { OnOk result (bytes.new.items ≡ bytes.old.items ++ flat_map (canonical_set F.family)
+    requires groups { length
+        (told_sets (known_in F.family routes.now) (units_seen F.bytes_of units.now)) ≤ 255 }
+    ensures appended { OnOk result (bytes.new.items ≡ bytes.old.items
+        ++ flat_map (canonical_set F.family)
         (told_sets (known_in F.family routes.now) (units_seen F.bytes_of units.now))) }
-    ensures longer { OnOk result (length bytes.new.items ≡ length bytes.old.items + canonical_sets_length F.family
+    ensures longer { OnOk result (length bytes.new.items ≡ length bytes.old.items
+        + canonical_sets_length F.family
         (told_sets (known_in F.family routes.now) (units_seen F.bytes_of units.now))) }
     ensures counted { IfOk result (λ count.
         count ≡ length (told_sets (known_in F.family routes.now) (units_seen F.bytes_of units.now))) }

@@ -80,7 +80,8 @@ pub fn triggered<F: Family>(
     writer: &Writer<F>,
     routes: &Routes<F>,
 ) -> Result<Messages, FormFault<F>>
-    ensures change { IfOk result (λ messages. TellChange F.family writer.now (known_in F.family routes.now)
+    ensures change { IfOk result
+        (λ messages. TellChange F.family writer.now (known_in F.family routes.now)
         told.now wanted.now messages) }
     ensures too_big { option_map F.bytes_of (told_too_big result)
         ≡ too_big F.family writer.now.budget (change told.now wanted.now) }

@@ -3,8 +3,10 @@
 //! A unit is weighed as a unit of a form, so that the definitions of pim_form for packing serve
 //! changes, too.
 
-ghost use Rattle.std.specs.Prelude.{◌≡◌, ◌≤◌, ◌<◌, ◌+◌, ◌*◌, true, not, None, List, length, take, drop};
-ghost use Rattle.pim_form.specs.Units.{WantUnit, empty_message_size, empty_set_size, entry_size, unit_entries};
+ghost use Rattle.std.specs.Prelude.{◌≡◌, ◌≤◌, ◌<◌, ◌+◌, ◌*◌, true, not, None, List, length, take};
+ghost use Rattle.std.specs.Prelude.{drop};
+ghost use Rattle.pim_form.specs.Units.{WantUnit, empty_message_size, empty_set_size, entry_size};
+ghost use Rattle.pim_form.specs.Units.{unit_entries};
 ghost use Rattle.pim_form.specs.Units.{run_groups, run_entries, is_of_group};
 ghost use Rattle.pim_form.specs.Packing.{fits, StopsBefore};
 ghost use Rattle.pim_change.specs.Seen.{telling_seen, unit_seen, units_seen};
@@ -23,7 +25,8 @@ const MOST_GROUPS: usize = 255;
 fn message_size<F: Family>(groups: usize, entries: usize) -> usize
     requires groups { groups ≤ 255 }
     requires entries { entries ≤ 200000 }
-    ensures { result ≡ empty_message_size F.family + groups * empty_set_size F.family + entries * entry_size F.family }
+    ensures { result ≡ empty_message_size F.family + groups * empty_set_size F.family
+        + entries * entry_size F.family }
 {
     let head = head_length::<F>() + 4;
     let set = group_length::<F>() + 4;
@@ -45,7 +48,8 @@ fn has_room<F: Family>(groups: usize, entries: usize, budget: usize) -> bool
 /// The number of entries of a unit that fits a message of this budget alone.
 fn entry_count<F: Family>(unit: &Unit<'_, F::Addr>, budget: usize) -> usize
     requires most { budget ≤ 65000 }
-    requires fits { telling_fits F.family budget (F.bytes_of unit.now.group) (telling_seen F.bytes_of unit.now.telling)
+    requires fits { telling_fits F.family budget (F.bytes_of unit.now.group)
+        (telling_seen F.bytes_of unit.now.telling)
         ≡ true }
     ensures count { result ≡ unit_entries (weight (unit_seen F.bytes_of unit.now)) }
     ensures small { result ≤ 65000 }
@@ -60,7 +64,9 @@ fn entry_count<F: Family>(unit: &Unit<'_, F::Addr>, budget: usize) -> usize
 /// Whether a unit of this group begins a group set, after the units before this index.
 fn begins_set<F: Family>(units: &[Unit<'_, F::Addr>], index: usize, group: F::Addr) -> bool
     requires { index < length units.now }
-    ensures { result ≡ not (is_of_group (last_group None (weights (units_seen F.bytes_of (take index units.now))))
+    ensures { result
+        ≡ not
+        (is_of_group (last_group None (weights (units_seen F.bytes_of (take index units.now))))
         (F.bytes_of group)) }
 {
     if index == 0 {
@@ -78,8 +84,10 @@ pub(crate) fn run_length<F: Family>(units: &[Unit<'_, F::Addr>], budget: usize) 
     requires alone { too_big F.family budget (units_seen F.bytes_of units.now) ≡ None }
     ensures within { result ≤ length units.now }
     ensures some { 0 < result }
-    ensures fits { fits F.family budget (weights (units_seen F.bytes_of (take result units.now))) ≡ true }
-    ensures stops { StopsBefore F.family budget (weights (units_seen F.bytes_of (take result units.now)))
+    ensures fits { fits F.family budget (weights (units_seen F.bytes_of (take result units.now)))
+        ≡ true }
+    ensures stops { StopsBefore F.family budget
+        (weights (units_seen F.bytes_of (take result units.now)))
         (weights (units_seen F.bytes_of (drop result units.now))) }
 {
     let mut groups = 0;

@@ -20,7 +20,8 @@ fn push_each<'a, F: Family>(
     kind: Kind,
     sources: &[F::Addr],
 ) -> Result<(), AllocError>
-    ensures { OnOk result (units_seen F.bytes_of units.new.items ≡ units_seen F.bytes_of units.old.items
+    ensures { OnOk result (units_seen F.bytes_of units.new.items
+        ≡ units_seen F.bytes_of units.old.items
         ++ about (F.bytes_of group) (map (told kind) (map F.bytes_of sources.now))) }
 {
     for &source in sources {
@@ -40,8 +41,10 @@ fn push_lacking<'a, F: Family>(
 ) -> Result<(), AllocError>
     requires one { AreAscending (map F.bytes_of one.now) }
     requires other { AreAscending (map F.bytes_of other.now) }
-    ensures { OnOk result (units_seen F.bytes_of units.new.items ≡ units_seen F.bytes_of units.old.items
-        ++ about (F.bytes_of group) (map (told kind) (lacking (map F.bytes_of one.now) (map F.bytes_of other.now)))) }
+    ensures { OnOk result (units_seen F.bytes_of units.new.items
+        ≡ units_seen F.bytes_of units.old.items
+        ++ about (F.bytes_of group)
+        (map (told kind) (lacking (map F.bytes_of one.now) (map F.bytes_of other.now)))) }
 {
     let (mut left, mut right) = (one, other);
     while let Some((a, left_behind)) = left.split_first() {
@@ -69,7 +72,8 @@ fn push_star_join<'a, F: Family>(
     units: &mut Vec<Unit<'a, F::Addr>>,
     new: &GroupView<'a, F>,
 ) -> Result<(), AllocError>
-    ensures { OnOk result (units_seen F.bytes_of units.new.items ≡ units_seen F.bytes_of units.old.items
+    ensures { OnOk result (units_seen F.bytes_of units.new.items
+        ≡ units_seen F.bytes_of units.old.items
         ++ about new.now.group (star_change None new.now.star)) }
 {
     if new.star() {
@@ -87,7 +91,8 @@ fn push_star_prune<'a, F: Family>(
     units: &mut Vec<Unit<'a, F::Addr>>,
     old: &GroupView<'_, F>,
 ) -> Result<(), AllocError>
-    ensures { OnOk result (units_seen F.bytes_of units.new.items ≡ units_seen F.bytes_of units.old.items
+    ensures { OnOk result (units_seen F.bytes_of units.new.items
+        ≡ units_seen F.bytes_of units.old.items
         ++ about old.now.group (star_change old.now.star None)) }
 {
     if old.star() {
@@ -108,7 +113,8 @@ fn push_exceptions<'a, F: Family>(
 ) -> Result<(), AllocError>
     requires old { is_some old.now.star ≡ true }
     requires new { is_some new.now.star ≡ true }
-    ensures { OnOk result (units_seen F.bytes_of units.new.items ≡ units_seen F.bytes_of units.old.items
+    ensures { OnOk result (units_seen F.bytes_of units.new.items
+        ≡ units_seen F.bytes_of units.old.items
         ++ about old.now.group (star_change old.now.star new.now.star)) }
 {
     old.is_normal();
@@ -127,7 +133,8 @@ fn push_star<'a, F: Family>(
     new: &GroupView<'a, F>,
 ) -> Result<(), AllocError>
     requires { old.now.group ≡ new.now.group }
-    ensures { OnOk result (units_seen F.bytes_of units.new.items ≡ units_seen F.bytes_of units.old.items
+    ensures { OnOk result (units_seen F.bytes_of units.new.items
+        ≡ units_seen F.bytes_of units.old.items
         ++ about new.now.group (star_change old.now.star new.now.star)) }
 {
     if !old.star() {
@@ -144,7 +151,8 @@ pub(crate) fn push_new<'a, F: Family>(
     units: &mut Vec<Unit<'a, F::Addr>>,
     new: &GroupView<'a, F>,
 ) -> Result<(), AllocError>
-    ensures { OnOk result (units_seen F.bytes_of units.new.items ≡ units_seen F.bytes_of units.old.items
+    ensures { OnOk result (units_seen F.bytes_of units.new.items
+        ≡ units_seen F.bytes_of units.old.items
         ++ about new.now.group (group_change (unwanted new.now.group) new.now)) }
 {
     push_star_join::<F>(units, new)?;
@@ -156,7 +164,8 @@ pub(crate) fn push_old<'a, F: Family>(
     units: &mut Vec<Unit<'a, F::Addr>>,
     old: &GroupView<'_, F>,
 ) -> Result<(), AllocError>
-    ensures { OnOk result (units_seen F.bytes_of units.new.items ≡ units_seen F.bytes_of units.old.items
+    ensures { OnOk result (units_seen F.bytes_of units.new.items
+        ≡ units_seen F.bytes_of units.old.items
         ++ about old.now.group (group_change old.now (unwanted old.now.group))) }
 {
     push_star_prune::<F>(units, old)?;
@@ -170,7 +179,8 @@ pub(crate) fn push_both<'a, F: Family>(
     new: &GroupView<'a, F>,
 ) -> Result<(), AllocError>
     requires { old.now.group ≡ new.now.group }
-    ensures { OnOk result (units_seen F.bytes_of units.new.items ≡ units_seen F.bytes_of units.old.items
+    ensures { OnOk result (units_seen F.bytes_of units.new.items
+        ≡ units_seen F.bytes_of units.old.items
         ++ about new.now.group (group_change old.now new.now)) }
 {
     old.is_normal();

@@ -5,7 +5,8 @@
 
 ghost use Rattle.std.specs.Prelude.{◌≡◌, IfOk, IfSome};
 ghost use Rattle.pim_device.specs.Device.{ConsumesAtMost};
-ghost use Rattle.pim_check.specs.Building.{build_fault, Builds, IsBuildTask, built_source, built_destination};
+ghost use Rattle.pim_check.specs.Building.{build_fault, Builds, IsBuildTask, built_source};
+ghost use Rattle.pim_check.specs.Building.{built_destination};
 ghost use Rattle.pim_check.specs.Report.{read_failures_after, write_failures_after};
 
 use crate::fault::Fault;
@@ -54,9 +55,11 @@ pub fn build_into<F: Family, R: Feed, W: Drain>(
     dst: F::Addr,
 ) -> Result<u8, Fault<'static>>
     ensures builds { IfSome (R.remaining reader.old) (λ input.
-        Builds F.family (F.bytes_of src) (F.bytes_of dst) input (W.contents writer.old) (W.contents writer.new) result) }
+        Builds F.family (F.bytes_of src) (F.bytes_of dst) input (W.contents writer.old)
+        (W.contents writer.new) result) }
     ensures status { IfOk result (λ status. status ≡ 0) }
-    ensures input_read { R.failures reader.new ≡ read_failures_after (R.failures reader.old) result }
+    ensures input_read { R.failures reader.new
+        ≡ read_failures_after (R.failures reader.old) result }
     ensures output { W.failures writer.new ≡ write_failures_after (W.failures writer.old) result }
     ensures taken { ConsumesAtMost 8454144 (R.remaining reader.old) (R.remaining reader.new) }
 {
@@ -80,10 +83,12 @@ pub fn build_task<F: Family, R: Feed, W: Drain>(
 ) -> Result<u8, Fault<'static>>
     requires { IsBuildTask task.now }
     ensures builds { IfSome (R.remaining reader.old) (λ input.
-        Builds F.family (built_source F.bytes_of task.now) (built_destination F.bytes_of task.now) input
+        Builds F.family (built_source F.bytes_of task.now) (built_destination F.bytes_of task.now)
+        input
         (W.contents writer.old) (W.contents writer.new) result) }
     ensures status { IfOk result (λ status. status ≡ 0) }
-    ensures input_read { R.failures reader.new ≡ read_failures_after (R.failures reader.old) result }
+    ensures input_read { R.failures reader.new
+        ≡ read_failures_after (R.failures reader.old) result }
     ensures output { W.failures writer.new ≡ write_failures_after (W.failures writer.old) result }
     ensures taken { ConsumesAtMost 8454144 (R.remaining reader.old) (R.remaining reader.new) }
 {

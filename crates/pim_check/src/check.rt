@@ -11,7 +11,8 @@ ghost use Rattle.pim_text.specs.HelloText.{hello_text};
 ghost use Rattle.pim_text.specs.Read.{States};
 ghost use Rattle.pim_text.specs.Value.{hello_in};
 ghost use Rattle.pim_check.specs.Ends.{IsCheckTask, task_source, task_destination};
-ghost use Rattle.pim_check.specs.Report.{body_report, hello_report, message_report, input_report, read_failures_after};
+ghost use Rattle.pim_check.specs.Report.{body_report, hello_report, message_report, input_report};
+ghost use Rattle.pim_check.specs.Report.{read_failures_after};
 ghost use Rattle.pim_check.specs.Report.{write_failures_after};
 ghost use Rattle.pim_check.specs.Report.{IsStated, Reports, GivesReport, GivesInput, IsReadFault};
 
@@ -72,7 +73,8 @@ fn report_join_prune<F: Family>(alloc: Global, body: &[u8]) -> Result<Vec<u8>, F
 
 /// Writes the text of a Hello.
 fn text_of_hello<F: Family>(alloc: Global, hello: &Hello<'_, F>) -> Result<Vec<u8>, Fault<'static>>
-    ensures text { IfOk result (λ text. text.items ≡ hello_text F.family (hello_seen F.family hello.now)) }
+    ensures text { IfOk result (λ text. text.items
+        ≡ hello_text F.family (hello_seen F.family hello.now)) }
     ensures memory { IfErr result (λ fault. fault ≡ Fault.Memory) }
     ensures states { States (hello_text F.family (hello_seen F.family hello.now))
         (hello_in F.family (hello_seen F.family hello.now)) }
@@ -139,9 +141,11 @@ pub fn check_into<F: Family, R: Feed, W: Drain>(
     ensures report { IfSome (R.remaining reader.old) (λ input.
         Reports (input_report F.family (F.bytes_of src) (F.bytes_of dst) input)
         (W.contents writer.old) (W.contents writer.new) result) }
-    ensures states { IfOk result (λ status. IfSome (R.remaining reader.old) (λ input. IsStated F.family (content input))) }
+    ensures states { IfOk result
+        (λ status. IfSome (R.remaining reader.old) (λ input. IsStated F.family (content input))) }
     ensures status { IfOk result (λ status. status ≡ 0) }
-    ensures input_read { R.failures reader.new ≡ read_failures_after (R.failures reader.old) result }
+    ensures input_read { R.failures reader.new
+        ≡ read_failures_after (R.failures reader.old) result }
     ensures output { W.failures writer.new ≡ write_failures_after (W.failures writer.old) result }
     ensures taken { ConsumesAtMost 65537 (R.remaining reader.old) (R.remaining reader.new) }
 {
@@ -165,11 +169,15 @@ pub fn check_task<F: Family, R: Feed, W: Drain>(
 ) -> Result<u8, Fault<'static>>
     requires { IsCheckTask task.now }
     ensures report { IfSome (R.remaining reader.old) (λ input.
-        Reports (input_report F.family (task_source F.bytes_of task.now) (task_destination F.bytes_of task.now) input)
+        Reports
+        (input_report F.family (task_source F.bytes_of task.now)
+        (task_destination F.bytes_of task.now) input)
         (W.contents writer.old) (W.contents writer.new) result) }
-    ensures states { IfOk result (λ status. IfSome (R.remaining reader.old) (λ input. IsStated F.family (content input))) }
+    ensures states { IfOk result
+        (λ status. IfSome (R.remaining reader.old) (λ input. IsStated F.family (content input))) }
     ensures status { IfOk result (λ status. status ≡ 0) }
-    ensures input_read { R.failures reader.new ≡ read_failures_after (R.failures reader.old) result }
+    ensures input_read { R.failures reader.new
+        ≡ read_failures_after (R.failures reader.old) result }
     ensures output { W.failures writer.new ≡ write_failures_after (W.failures writer.old) result }
     ensures taken { ConsumesAtMost 65537 (R.remaining reader.old) (R.remaining reader.new) }
 {

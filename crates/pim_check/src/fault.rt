@@ -5,7 +5,8 @@ ghost use Rattle.pim_device.specs.Device.{AppendsAll, failures_after};
 ghost use Rattle.pim_report.specs.Malformed.{malformed_words};
 ghost use Rattle.pim_check.specs.declared.fault.Fault.TheVariants.{Words};
 ghost use Rattle.pim_text.specs.Text.{line};
-ghost use Rattle.pim_check.specs.Words.{refusal_words, address_words, plan_words, fault_words, fault_text, routes_fault};
+ghost use Rattle.pim_check.specs.Words.{refusal_words, address_words, plan_words, fault_words};
+ghost use Rattle.pim_check.specs.Words.{fault_text, routes_fault};
 
 use crate::causes::{CaptureCause, capture_words, config_words, no_port_words};
 use clap::error::ErrorKind;
@@ -85,7 +86,8 @@ impl From<RoutesFault> for Fault<'static> {
 
 /// Writes the words and ends the line.
 fn write_plain<W: Drain>(writer: &mut W, words: &[u8]) -> Result<(), Failed>
-    ensures bytes { AppendsAll (W.contents writer.old) (W.contents writer.new) result (line words.now) }
+    ensures bytes { AppendsAll (W.contents writer.old) (W.contents writer.new) result
+        (line words.now) }
     ensures count { W.failures writer.new ≡ failures_after (W.failures writer.old) result }
 {
     write_all(writer, words)?;
@@ -105,7 +107,8 @@ fn write_numbered<W: Drain>(writer: &mut W, words: &[u8], number: usize) -> Resu
 
 /// Writes the words of a message's fault and ends the line.
 fn write_malformed<W: Drain>(fault: Malformed, writer: &mut W) -> Result<(), Failed>
-    ensures bytes { AppendsAll (W.contents writer.old) (W.contents writer.new) result (line (malformed_words fault)) }
+    ensures bytes { AppendsAll (W.contents writer.old) (W.contents writer.new) result
+        (line (malformed_words fault)) }
     ensures count { W.failures writer.new ≡ failures_after (W.failures writer.old) result }
 {
     write_malformed_words(writer, fault)?;
@@ -114,7 +117,8 @@ fn write_malformed<W: Drain>(fault: Malformed, writer: &mut W) -> Result<(), Fai
 
 /// Writes the words and a word of the command line, and ends the line.
 fn write_word<W: Drain>(writer: &mut W, words: &[u8], word: &str) -> Result<(), Failed>
-    ensures bytes { AppendsAll (W.contents writer.old) (W.contents writer.new) result (line (words.now ++ word.now)) }
+    ensures bytes { AppendsAll (W.contents writer.old) (W.contents writer.new) result
+        (line (words.now ++ word.now)) }
     ensures count { W.failures writer.new ≡ failures_after (W.failures writer.old) result }
 {
     write_all(writer, words)?;
@@ -155,7 +159,8 @@ fn refusal_words(kind: ErrorKind) -> &'static str
 
 /// Writes the words of a fault of the command line and ends the line.
 fn write_plan_words<W: Drain>(fault: &pim_words::Fault<'_>, writer: &mut W) -> Result<(), Failed>
-    ensures bytes { AppendsAll (W.contents writer.old) (W.contents writer.new) result (line (plan_words fault.now)) }
+    ensures bytes { AppendsAll (W.contents writer.old) (W.contents writer.new) result
+        (line (plan_words fault.now)) }
     ensures count { W.failures writer.new ≡ failures_after (W.failures writer.old) result }
 {
     match fault {
@@ -176,7 +181,8 @@ fn write_plan_words<W: Drain>(fault: &pim_words::Fault<'_>, writer: &mut W) -> R
 
 /// Writes the words of a fault and ends the line.
 fn write_words<W: Drain>(fault: &Fault<'_>, writer: &mut W) -> Result<(), Failed>
-    ensures bytes { AppendsAll (W.contents writer.old) (W.contents writer.new) result (line (fault_words fault.now)) }
+    ensures bytes { AppendsAll (W.contents writer.old) (W.contents writer.new) result
+        (line (fault_words fault.now)) }
     ensures count { W.failures writer.new ≡ failures_after (W.failures writer.old) result }
 {
     match fault {
@@ -206,7 +212,8 @@ fn write_words<W: Drain>(fault: &Fault<'_>, writer: &mut W) -> Result<(), Failed
 /// # Errors
 /// The writer failed: a prefix of the line was written.
 pub fn fault_line<W: Drain>(fault: &Fault<'_>, writer: &mut W) -> Result<(), Failed>
-    ensures bytes { AppendsAll (W.contents writer.old) (W.contents writer.new) result (fault_text fault.now) }
+    ensures bytes { AppendsAll (W.contents writer.old) (W.contents writer.new) result
+        (fault_text fault.now) }
     ensures count { W.failures writer.new ≡ failures_after (W.failures writer.old) result }
 {
     write_all(writer, b"pimtree: ")?;

@@ -59,7 +59,8 @@ fn own_text<'a>(fault: &'a Fault<'_>) -> Option<&'a str>
 
 /// Writes the text of a fault. Where the device fails, it took a prefix of the text.
 fn write_told<D: Drain>(fault: &Fault<'_>, device: &mut D) -> Result<(), Failed>
-    ensures bytes { AppendsAll (D.contents device.old) (D.contents device.new) result (told_text fault.now) }
+    ensures bytes { AppendsAll (D.contents device.old) (D.contents device.new) result
+        (told_text fault.now) }
     ensures count { D.failures device.new ≡ failures_after (D.failures device.old) result }
 {
     match own_text(fault) {
@@ -75,12 +76,15 @@ fn write_told<D: Drain>(fault: &Fault<'_>, device: &mut D) -> Result<(), Failed>
 /// status is 2. Every other fault goes to `errors`; a failure of that device is ignored.
 pub fn tell_into<W: Drain, E: Drain>(fault: &Fault<'_>, output: &mut W, errors: &mut E) -> u8
     ensures asked { is_asked_for fault.now ≡ true → IsAnswered result (told_text fault.now)
-        (W.contents output.old) (W.contents output.new) (W.failures output.old) (W.failures output.new) }
+        (W.contents output.old) (W.contents output.new) (W.failures output.old)
+        (W.failures output.new) }
     ensures no_error { is_asked_for fault.now ≡ true → result ≡ 0 → errors.new ≡ errors.old }
     ensures unwritten { is_asked_for fault.now ≡ true → result ≡ 2 → IsTold (fault_text Output)
-        (E.contents errors.old) (E.contents errors.new) (E.failures errors.old) (E.failures errors.new) }
+        (E.contents errors.old) (E.contents errors.new) (E.failures errors.old)
+        (E.failures errors.new) }
     ensures mistake { is_asked_for fault.now ≡ false → IsTold (told_text fault.now)
-        (E.contents errors.old) (E.contents errors.new) (E.failures errors.old) (E.failures errors.new) }
+        (E.contents errors.old) (E.contents errors.new) (E.failures errors.old)
+        (E.failures errors.new) }
     ensures no_output { is_asked_for fault.now ≡ false → output.new ≡ output.old }
     ensures status { is_asked_for fault.now ≡ false → result ≡ 2 }
 {

@@ -44,7 +44,8 @@ pub fn change_opened<F: Family, R: Feed + Drop, W: Drain>(
     requires a { length pair.old.a.lanes ≡ length (filter (is_of Side.A) captures.now.ports.items) }
     requires b { length pair.old.b.lanes ≡ length (filter (is_of Side.B) captures.now.ports.items) }
     ensures text { ChangesNew F.family F.bytes_of (end_of captures.now) captures.now.limit
-        (writing_seen F.bytes_of writing.now.upstream writing.now.own writing.now.holdtime writing.now.budget)
+        (writing_seen F.bytes_of writing.now.upstream writing.now.own writing.now.holdtime
+        writing.now.budget)
         pair.old.a pair.new.a pair.old.b pair.new.b
         (side_setup F.bytes_of Side.A captures.now.ports.items routes.now captures.now.limit)
         (side_setup F.bytes_of Side.B captures.now.ports.items routes.now captures.now.limit)

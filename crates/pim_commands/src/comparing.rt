@@ -55,7 +55,8 @@ pub fn side_configs<A: Copy>(
     ports: &[Port<'_, A>],
     side: Side,
 ) -> Result<Vec<PortConfig<A>>, AllocError>
-    ensures { IfOk result (λ configs. configs.items ≡ map config_of (filter (is_of side) ports.now)) }
+    ensures { IfOk result (λ configs. configs.items
+        ≡ map config_of (filter (is_of side) ports.now)) }
 {
     let mut configs = Vec::new(alloc);
     for port in ports {
@@ -88,7 +89,8 @@ pub fn same_opened<F: Family, R: Feed + Drop, W: Drain>(
     requires a { length pair.old.a.lanes ≡ length (filter (is_of Side.A) captures.now.ports.items) }
     requires b { length pair.old.b.lanes ≡ length (filter (is_of Side.B) captures.now.ports.items) }
     ensures report { ComparesNew F.family F.bytes_of (end_of captures.now)
-        (writing_seen F.bytes_of writing.now.upstream writing.now.own writing.now.holdtime writing.now.budget)
+        (writing_seen F.bytes_of writing.now.upstream writing.now.own writing.now.holdtime
+        writing.now.budget)
         pair.old.a pair.new.a pair.old.b pair.new.b
         (side_setup F.bytes_of Side.A captures.now.ports.items routes.now captures.now.limit)
         (side_setup F.bytes_of Side.B captures.now.ports.items routes.now captures.now.limit)

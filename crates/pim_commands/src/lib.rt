@@ -16,11 +16,11 @@
 //!
 //! The calls without that suffix open the files first, by an opener that the caller gives
 //! (`pim_files`). They promise what an `_opened` call does over the table and the captures of the
-//! files that are named, where the opener tells what files hold. The file of routes is opened first,
-//! then the files of the ports in the order of the words. Or they write nothing and return the fault
-//! of the first file that isn't open. A word or file name in it is one that they were given. A fault
-//! that names a word borrows it from the command line. The caller gives numbers in the ranges of a
-//! plan of `pim_words`. `run_task` does what a task of such a plan asks for.
+//! files that are named, where the opener tells what files hold. The file of routes is opened
+//! first, then the files of the ports in the order of the words. Or they write nothing and return
+//! the fault of the first file that isn't open. A word or file name in it is one that they were
+//! given. A fault that names a word borrows it from the command line. The caller gives numbers in
+//! the ranges of a plan of `pim_words`. `run_task` does what a task of such a plan asks for.
 //!
 //! This library is apart from the program, so that tests can call it.
 #![tactic(auto)]

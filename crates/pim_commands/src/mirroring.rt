@@ -61,9 +61,11 @@ pub fn mirror_opened<F: Family, R: Feed + Drop, W: Drain>(
     requires writing { IsWritable writing.now }
     requires ports { length merge.old.lanes ≡ length captures.now.ports.items }
     ensures text { MirrorsNew F.family F.bytes_of (end_of captures.now) captures.now.limit
-        (writing_seen F.bytes_of writing.now.upstream writing.now.own writing.now.holdtime writing.now.budget)
+        (writing_seen F.bytes_of writing.now.upstream writing.now.own writing.now.holdtime
+        writing.now.budget)
         merge.old merge.new
-        (setup_seen F.bytes_of (map config_of captures.now.ports.items) routes.now captures.now.limit)
+        (setup_seen F.bytes_of (map config_of captures.now.ports.items) routes.now
+        captures.now.limit)
         (W.contents writer.old) (W.contents writer.new) result }
     ensures count { W.failures writer.new ≡ write_failures_after (W.failures writer.old) result }
 {

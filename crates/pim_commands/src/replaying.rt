@@ -8,7 +8,8 @@ ghost use Rattle.pim_router.specs.Config.{config_faults};
 ghost use Rattle.pim_router.specs.Seen.{setup_seen};
 ghost use Rattle.pim_router.specs.State.{new_router};
 ghost use Rattle.pim_words.specs.Plan.{IsBounded, IsLimited};
-ghost use Rattle.pim_commands.specs.Replaying.{end_of, config_of, config_fault, capture_fault, replay_fault, answer_of};
+ghost use Rattle.pim_commands.specs.Replaying.{end_of, config_of, config_fault, capture_fault};
+ghost use Rattle.pim_commands.specs.Replaying.{replay_fault, answer_of};
 ghost use Rattle.pim_commands.specs.Replaying.{IsUnmade, ReplaysNew};
 ghost use Rattle.pim_commands.specs.Opening.{ReplaysFiles};
 ghost use Rattle.pim_check.specs.Report.{write_failures_after};
@@ -154,8 +155,10 @@ pub fn replay_opened<F: Family, R: Feed + Drop, W: Drain>(
     requires after { IsBounded captures.now }
     requires limit { IsLimited captures.now }
     requires ports { length merge.old.lanes ≡ length captures.now.ports.items }
-    ensures report { ReplaysNew F.family (is_some captures.now.routes) (end_of captures.now) merge.old merge.new
-        (setup_seen F.bytes_of (map config_of captures.now.ports.items) routes.now captures.now.limit)
+    ensures report { ReplaysNew F.family (is_some captures.now.routes) (end_of captures.now)
+        merge.old merge.new
+        (setup_seen F.bytes_of (map config_of captures.now.ports.items) routes.now
+        captures.now.limit)
         (W.contents writer.old) (W.contents writer.new) result }
     ensures count { W.failures writer.new ≡ write_failures_after (W.failures writer.old) result }
 {

@@ -138,8 +138,8 @@ fn trace_by<F: Family, R: Feed + Drop, W: Drain>(
 /// events that are shown. Returns the status, 0.
 ///
 /// # Errors
-/// The faults of `pim_trace::trace_into`. If the router can't be made, the result is its first fault
-/// or `Memory`. Then nothing was written, and no capture was read.
+/// The faults of `pim_trace::trace_into`. If the router can't be made, the result is its first
+/// fault or `Memory`. Then nothing was written, and no capture was read.
 pub fn trace_opened<F: Family, R: Feed + Drop, W: Drain>(
     alloc: Global,
     asked: (&Captures<'_, F::Addr>, &Tracing<'_, F::Addr>),
@@ -173,8 +173,8 @@ pub fn trace_opened<F: Family, R: Feed + Drop, W: Drain>(
     tracing_answer(trace_by::<F, R, W>(alloc, asked, &names, merge, &mut router, writer))
 }
 
-/// `trace_opened` of the captures that the words name. It reads the file of routes first, then opens
-/// all captures, then reads records.
+/// `trace_opened` of the captures that the words name. It reads the file of routes first, then
+/// opens all captures, then reads records.
 ///
 /// # Errors
 /// `File` of a file that can't be opened, or a fault of the file of routes: nothing was written.

@@ -33,7 +33,8 @@ pub fn address_of<F: Family>(address: F::Addr) -> Address
 pub fn writer_of<F: Family>(writing: &Writing<F::Addr>) -> Result<Writer<F>, Fault<'static>>
     requires { IsWritable writing.now }
     ensures { IsWriterOf F.family
-        (writing_seen F.bytes_of writing.now.upstream writing.now.own writing.now.holdtime writing.now.budget)
+        (writing_seen F.bytes_of writing.now.upstream writing.now.own writing.now.holdtime
+        writing.now.budget)
         result }
 {
     match Writer::<F>::new(

@@ -47,7 +47,8 @@ impl<T> Counted<T> {
 
     fn count_failure(&mut self) -> Failed
         ensures inner { counted_inner self.new ≡ counted_inner self.old }
-        ensures failures { counted_failures self.new ≡ min (counted_failures self.old + 1) top_count }
+        ensures failures { counted_failures self.new
+            ≡ min (counted_failures self.old + 1) top_count }
     {
         self.failures = self.failures.saturating_add(1);
         Failed

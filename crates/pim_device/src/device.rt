@@ -62,9 +62,11 @@ pub fn write_all<D: Drain>(drain: &mut D, bytes: &[u8]) -> Result<(), Failed>
 /// It stops at the first failure; earlier reads have then taken bytes.
 pub fn read_up_to<R: Feed>(feed: &mut R, buffer: &mut [u8]) -> Result<usize, Failed>
     ensures bound { IfOk result (λ n. n ≤ length buffer.new) }
-    ensures bytes { IfOk result (λ n. Consumes (R.remaining feed.old) (R.remaining feed.new) (take n buffer.new)) }
+    ensures bytes { IfOk result
+        (λ n. Consumes (R.remaining feed.old) (R.remaining feed.new) (take n buffer.new)) }
     ensures end { IfOk result (λ n. n < length buffer.new → IsAtEnd (R.remaining feed.new)) }
-    ensures front { OnErr result (ConsumesAtMost (length buffer.new) (R.remaining feed.old) (R.remaining feed.new)) }
+    ensures front { OnErr result
+        (ConsumesAtMost (length buffer.new) (R.remaining feed.old) (R.remaining feed.new)) }
     ensures count { R.failures feed.new ≡ failures_after (R.failures feed.old) result }
 {
     let mut got = 0;

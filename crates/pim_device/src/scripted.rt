@@ -1,9 +1,11 @@
 //! Devices for tests, which move few bytes a call and fail from a given byte on.
 
-ghost use Rattle.std.specs.Prelude.{◌≡◌, ◌+◌, ◌<◌, ◌≤◌, ◌↔◌, min, max, Some, [], length, IfOk, OnErr, IsErr};
+ghost use Rattle.std.specs.Prelude.{◌≡◌, ◌+◌, ◌<◌, ◌≤◌, ◌↔◌, min, max, Some, [], length, IfOk};
+ghost use Rattle.std.specs.Prelude.{OnErr, IsErr};
 ghost use Rattle.std.specs.Io.KnownBytes.{ReadConsumes, WriteAppends};
 ghost use Rattle.pim_device.specs.Device.{failures_after};
-ghost use Rattle.pim_device.specs.Scripted.{feed_bytes, feed_failures, feed_most, feed_until_failure, drain_bytes};
+ghost use Rattle.pim_device.specs.Scripted.{feed_bytes, feed_failures, feed_most};
+ghost use Rattle.pim_device.specs.Scripted.{feed_until_failure, drain_bytes};
 ghost use Rattle.pim_device.specs.Scripted.{drain_failures, drain_most, drain_until_failure};
 
 use crate::device::{Drain, Failed, Feed};
@@ -51,13 +53,15 @@ impl Feed for ScriptedFeed<'_> {
 
     fn read(&mut self, buffer: &mut [u8]) -> Result<usize, Failed>
         ensures bound { IfOk result (λ n. n ≤ length buffer.new) }
-        ensures bytes { ReadConsumes (Some (feed_bytes self.old)) (Some (feed_bytes self.new)) result buffer.new }
+        ensures bytes { ReadConsumes (Some (feed_bytes self.old)) (Some (feed_bytes self.new))
+            result buffer.new }
         ensures count { feed_failures self.new ≡ failures_after (feed_failures self.old) result }
         ensures fails { IsErr result ↔ (feed_until_failure self.old ≡ 0) }
         ensures given { IfOk result
             (λ n. n ≡ min (min (length buffer.old) (feed_most self.old))
             (min (feed_until_failure self.old) (length (feed_bytes self.old)))) }
-        ensures left { IfOk result (λ n. feed_until_failure self.new + n ≡ feed_until_failure self.old) }
+        ensures left { IfOk result (λ n. feed_until_failure self.new + n
+            ≡ feed_until_failure self.old) }
         ensures still { OnErr result (feed_until_failure self.new ≡ 0) }
         ensures most { feed_most self.new ≡ feed_most self.old }
     {
@@ -126,13 +130,15 @@ impl Drain for ScriptedDrain {
     fn write(&mut self, bytes: &[u8]) -> Result<usize, Failed>
         ensures bound { IfOk result (λ n. n ≤ length bytes.now) }
         ensures some { IfOk result (λ n. 0 < length bytes.now → 0 < n) }
-        ensures bytes { WriteAppends (Some (drain_bytes self.old)) (Some (drain_bytes self.new)) result bytes.now }
+        ensures bytes { WriteAppends (Some (drain_bytes self.old)) (Some (drain_bytes self.new))
+            result bytes.now }
         ensures count { drain_failures self.new ≡ failures_after (drain_failures self.old) result }
         ensures fails { drain_until_failure self.old ≡ 0 → IsErr result }
         ensures taken { IfOk result
             (λ n. n ≡ min (min (length bytes.now) (drain_most self.old))
             (drain_until_failure self.old)) }
-        ensures left { IfOk result (λ n. drain_until_failure self.new + n ≡ drain_until_failure self.old) }
+        ensures left { IfOk result (λ n. drain_until_failure self.new + n
+            ≡ drain_until_failure self.old) }
         ensures still { OnErr result (drain_until_failure self.new ≡ drain_until_failure self.old) }
         ensures most { drain_most self.new ≡ drain_most self.old }
     {

@@ -3,7 +3,8 @@
 
 ghost use Rattle.std.specs.Prelude.{◌≡◌, option_map};
 ghost use Rattle.std.specs.List.{find};
-ghost use Rattle.pim_down.specs.After.{is_before_groups, is_up_to, is_of_group_after, is_machine_after, is_of_group};
+ghost use Rattle.pim_down.specs.After.{is_before_groups, is_up_to, is_of_group_after};
+ghost use Rattle.pim_down.specs.After.{is_machine_after, is_of_group};
 ghost use Rattle.pim_down.specs.Records.{IsAscending};
 ghost use Rattle.pim_down.specs.Seen.{what_seen, key_seen, record_seen, records_seen};
 
@@ -26,7 +27,8 @@ impl<F: Family> Bound<F::Addr> for GroupsAbove<F> {
     ghost use Rattle.pim_down.specs.After.{is_before_groups};
     ghost use Rattle.pim_down.specs.Seen.{key_seen};
 
-    ghost is_before = { λ b key. is_before_groups b.port (option_map F.bytes_of b.bound) (key_seen F.bytes_of key) };
+    ghost is_before = { λ b key. is_before_groups b.port (option_map F.bytes_of b.bound)
+        (key_seen F.bytes_of key) };
 
     fn is_before(&self, key: &Key<F::Addr>) -> bool {
         match self.bound {
@@ -47,7 +49,8 @@ pub(crate) fn first_of_groups_after<F: Family>(
 ) -> (Option<Held<F::Addr>>, Near)
     requires { IsAscending (records_seen F.bytes_of records.now.items) }
     ensures { option_map (record_seen F.bytes_of) result.0
-        ≡ find (is_of_group_after port (option_map F.bytes_of bound)) (records_seen F.bytes_of records.now.items) }
+        ≡ find (is_of_group_after port (option_map F.bytes_of bound))
+        (records_seen F.bytes_of records.now.items) }
 {
     let place = records.first_behind_near(near.place, &GroupsAbove::<F> { port, bound });
     if !records.is_item(place) {
@@ -95,7 +98,9 @@ pub(crate) fn first_machine_after<F: Family>(
 ) -> (Option<Held<F::Addr>>, Near)
     requires { IsAscending (records_seen F.bytes_of records.now.items) }
     ensures { option_map (record_seen F.bytes_of) result.0
-        ≡ find (is_machine_after key.now.port (F.bytes_of key.now.group) (what_seen F.bytes_of key.now.what))
+        ≡ find
+        (is_machine_after key.now.port (F.bytes_of key.now.group)
+        (what_seen F.bytes_of key.now.what))
         (records_seen F.bytes_of records.now.items) }
 {
     let place = records.first_behind_near(near.place, &Behind::<F> { key: *key });

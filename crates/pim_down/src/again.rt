@@ -33,7 +33,8 @@ pub(crate) fn is_joined_again<F: Family>(
     repeat: bool,
 ) -> bool
     ensures { result ≡ true → is_group_of
-        (joined_sets (drop (number + 1) message.now.sets) (drop (number + 1) joined.now)) (F.bytes_of group) ≡ true }
+        (joined_sets (drop (number + 1) message.now.sets) (drop (number + 1) joined.now))
+        (F.bytes_of group) ≡ true }
 {
     if !repeat {
         return false;

@@ -45,7 +45,8 @@ fn compare_kinds(a: TimerKind, b: TimerKind) -> Ordering
 /// The order in which timers fire: by end, Prune-Pending Timers before Expiry Timers, by key.
 #[tactic(auto, unfolding(crate::specs::Schedule::deadline_cmp))]
 pub(crate) fn compare_deadlines<A, O: KeyOrder<A>>(a: &Deadline<A>, b: &Deadline<A>) -> Ordering
-    ensures { result ≡ deadline_cmp (deadline_seen O.bytes_of a.now) (deadline_seen O.bytes_of b.now) }
+    ensures { result
+        ≡ deadline_cmp (deadline_seen O.bytes_of a.now) (deadline_seen O.bytes_of b.now) }
 {
     let by_end = a.ends_at.cmp(&b.ends_at);
     if by_end.is_ne() {

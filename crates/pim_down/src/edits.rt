@@ -1,6 +1,7 @@
 //! Looks up and changes one machine in a list of records in key order.
 
-ghost use Rattle.std.specs.Prelude.{◌≡◌, ◌+◌, ◌<◌, ◌≤◌, ℕ, List, ◌++◌, Option, take, drop, length, slice_index_or};
+ghost use Rattle.std.specs.Prelude.{◌≡◌, ◌+◌, ◌<◌, ◌≤◌, ℕ, List, ◌++◌, Option, take, drop, length};
+ghost use Rattle.std.specs.Prelude.{slice_index_or};
 ghost use Rattle.sorted_slab.specs.Listed.{at, IsItem};
 ghost use Rattle.pim_down.specs.declared.held.Held.{Held};
 ghost use Rattle.pim_down.specs.Records.{IsAscending, machine_at, recorded, changed};
@@ -27,7 +28,8 @@ impl<F: Family> Probe<Held<F::Addr>> for Sought<F> {
 
     ghost can_compare = { λ _ _. Unit {0} };
 
-    ghost order = { λ sought held. key_cmp (key_seen F.bytes_of held.key) (key_seen F.bytes_of sought.key) };
+    ghost order = { λ sought held. key_cmp (key_seen F.bytes_of held.key)
+        (key_seen F.bytes_of sought.key) };
 
     fn compare(&self, held: &Held<F::Addr>) -> Ordering {
         compare_keys::<F>(&held.key, &self.key)
@@ -63,7 +65,8 @@ pub(crate) fn replace_at<A: Copy, O: KeyOrder<A>>(
     requires { IsItem records.old place }
     ensures left { (bytes_of : A → List ℕ) (d : Held A) → records_seen bytes_of records.new.items
         ≡ take (at records.old place) (records_seen bytes_of records.old.items)
-        ++ (recorded (key_seen bytes_of (slice_index_or records.old.items (at records.old place) d).key)
+        ++ (recorded
+        (key_seen bytes_of (slice_index_or records.old.items (at records.old place) d).key)
         (machine_seen machine)
         ++ drop (at records.old place + 1) (records_seen bytes_of records.old.items)) }
     ensures capacity { records.new.capacity ≡ records.old.capacity }
@@ -125,7 +128,8 @@ pub(crate) fn put_machine<F: Family>(
     requires room { length (changed (key_seen F.bytes_of key) (λ _. machine_seen machine)
         (records_seen F.bytes_of records.old.items)) ≤ records.old.capacity }
     ensures left { records_seen F.bytes_of records.new.items
-        ≡ changed (key_seen F.bytes_of key) (λ _. machine_seen machine) (records_seen F.bytes_of records.old.items) }
+        ≡ changed (key_seen F.bytes_of key) (λ _. machine_seen machine)
+        (records_seen F.bytes_of records.old.items) }
     ensures capacity { records.old.capacity ≤ records.new.capacity }
 {
     match (found, machine) {

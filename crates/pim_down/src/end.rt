@@ -33,7 +33,8 @@ pub(crate) fn end_group<F: Family>(
 )
     requires { IsAscending (records_seen F.bytes_of records.old.items) }
     ensures { records_seen F.bytes_of records.new.items
-        ≡ filter (λ held. not (is_over_in port (F.bytes_of group) held)) (records_seen F.bytes_of records.old.items) }
+        ≡ filter (λ held. not (is_over_in port (F.bytes_of group) held))
+        (records_seen F.bytes_of records.old.items) }
 {
     let mut place = records.first_behind(&RptsOf::<F> { port, group });
     while records.is_item(place) {

@@ -4,7 +4,8 @@
 ghost use Rattle.std.specs.Prelude.{◌≡◌, ◌≤◌, ◌+◌, ℕ, List, length};
 ghost use Rattle.pim_jp.specs.Seen.{entry_seen};
 ghost use Rattle.pim_down.specs.Records.{IsAscending, changed, each_changed};
-ghost use Rattle.pim_down.specs.Hearing.{is_known, entry_events, start_of, on_own, is_rpt_of, on_rpts, is_star_join};
+ghost use Rattle.pim_down.specs.Hearing.{is_known, entry_events, start_of, on_own, is_rpt_of};
+ghost use Rattle.pim_down.specs.Hearing.{on_rpts, is_star_join};
 ghost use Rattle.pim_down.specs.Hearing.{key_of, act, is_rpt};
 ghost use Rattle.pim_down.specs.After.{beside_rpts};
 ghost use Rattle.pim_down.specs.Ends.{IsLateStart};
@@ -73,7 +74,8 @@ pub fn event_of<F: Family>(
     entry: Entry<F::Addr>,
 ) -> Option<Event<F::Addr>>
     ensures { events_seen F.bytes_of result
-        ≡ entry_events (known_in F.family routes.now) joins (F.bytes_of group) (entry_seen F.bytes_of entry) }
+        ≡ entry_events (known_in F.family routes.now) joins (F.bytes_of group)
+        (entry_seen F.bytes_of entry) }
 {
     let what = match entry {
         Entry::Star(rp) => {
@@ -91,7 +93,8 @@ pub fn event_of<F: Family>(
 /// What the event does to the machine that it names.
 fn on_own<A>(event: &Event<A>, start: Start, held: Option<Timed>) -> Option<Timed>
     ensures { (bytes_of : A → List ℕ) → machine_seen result
-        ≡ on_own event.now.joins (what_seen bytes_of event.now.what) (start_seen start) (machine_seen held) }
+        ≡ on_own event.now.joins (what_seen bytes_of event.now.what) (start_seen start)
+        (machine_seen held) }
 {
     match (&event.what, event.joins) {
         (What::Star | What::Source(_), true) => on_join(start, held),
@@ -110,7 +113,8 @@ pub(crate) fn is_rpt_of<F: Family>(key: &Key<F::Addr>, port: usize, group: F::Ad
 
 /// How a machine of a group compares with the start of the group's (S,G,rpt) machines.
 fn beside_rpts<A>(what: &What<A>) -> Ordering
-    ensures { (bytes_of : A → List ℕ) → result ≡ beside_rpts (is_rpt (what_seen bytes_of what.now)) }
+    ensures { (bytes_of : A → List ℕ) → result
+        ≡ beside_rpts (is_rpt (what_seen bytes_of what.now)) }
 {
     match what {
         What::Star | What::Source(_) => Ordering::Less,
@@ -129,7 +133,8 @@ impl<F: Family> Bound<F::Addr> for RptsOf<F> {
     ghost use Rattle.pim_down.specs.Seen.{key_seen};
     ghost use Rattle.pim_down.specs.After.{is_before_rpts};
 
-    ghost is_before = { λ bound key. is_before_rpts bound.port (F.bytes_of bound.group) (key_seen F.bytes_of key) };
+    ghost is_before = { λ bound key. is_before_rpts bound.port (F.bytes_of bound.group)
+        (key_seen F.bytes_of key) };
 
     fn is_before(&self, key: &Key<F::Addr>) -> bool {
         compare_groups::<F>(key, self.port, self.group)
@@ -210,7 +215,8 @@ pub(crate) fn act<F: Family>(
     requires room { length (act port (start_seen start) (event_seen F.bytes_of event)
         (records_seen F.bytes_of records.old.items)) ≤ records.old.capacity }
     ensures records { records_seen F.bytes_of records.new.items
-        ≡ act port (start_seen start) (event_seen F.bytes_of event) (records_seen F.bytes_of records.old.items) }
+        ≡ act port (start_seen start) (event_seen F.bytes_of event)
+        (records_seen F.bytes_of records.old.items) }
     ensures capacity { records.old.capacity ≤ records.new.capacity }
 {
     act_on_own::<F>(records, near, port, start, event);

@@ -1,10 +1,14 @@
 //! Laws of the definitions: what runs mean together, and what a message means for one machine.
 //! These functions do nothing; their clauses are the laws.
 
-ghost use Rattle.pim_down.specs.Laws.{ChangeActsAtItsKey, AMapHasOneList, KeysAreToldApart, EventActsAtEachKey};
-ghost use Rattle.pim_down.specs.Laws.{EndActsAtEachKey, EventKeepsTheOrder, HearingKeepsTheOrder, HearingKeepsSound};
-ghost use Rattle.pim_down.specs.Laws.{HearingLeavesOtherPorts, HearingActsAtEachKey, RunGoesOn, RunHasOneEnd};
-ghost use Rattle.pim_down.specs.Laws.{RunKeepsSound, RunKeepsItsBounds, SilenceActsAtEachKey, EveryStateHasARun};
+ghost use Rattle.pim_down.specs.Laws.{ChangeActsAtItsKey, AMapHasOneList, KeysAreToldApart};
+ghost use Rattle.pim_down.specs.Laws.{EventActsAtEachKey};
+ghost use Rattle.pim_down.specs.Laws.{EndActsAtEachKey, EventKeepsTheOrder, HearingKeepsTheOrder};
+ghost use Rattle.pim_down.specs.Laws.{HearingKeepsSound};
+ghost use Rattle.pim_down.specs.Laws.{HearingLeavesOtherPorts, HearingActsAtEachKey, RunGoesOn};
+ghost use Rattle.pim_down.specs.Laws.{RunHasOneEnd};
+ghost use Rattle.pim_down.specs.Laws.{RunKeepsSound, RunKeepsItsBounds, SilenceActsAtEachKey};
+ghost use Rattle.pim_down.specs.Laws.{EveryStateHasARun};
 ghost use Rattle.pim_down.specs.Laws.{EchoNamesAMachine, RunKeepsTheOrder, TimersRunOut};
 ghost use Rattle.pim_down.specs.Laws.{FiringSaysMore, RunIsAChainOfFirings, FiringHasOneEnd};
 

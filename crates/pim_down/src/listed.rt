@@ -1,10 +1,12 @@
 //! Counts and hears the events of a message from a list of their own.
 
-ghost use Rattle.std.specs.Prelude.{◌≡◌, ◌≤◌, ◌<◌, ◌+◌, ℕ, true, false, map, length, slice_index_or, Some};
+ghost use Rattle.std.specs.Prelude.{◌≡◌, ◌≤◌, ◌<◌, ◌+◌, ℕ, true, false, map, length};
+ghost use Rattle.std.specs.Prelude.{slice_index_or, Some};
 ghost use Rattle.std.specs.List.{list_any};
 ghost use Rattle.pim_jp.specs.Message.{GroupSet};
 ghost use Rattle.pim_down.specs.Records.{IsAscending, changed, each_changed};
-ghost use Rattle.pim_down.specs.Hearing.{list_events, act, act_all, is_star_join, on_rpts, count_new};
+ghost use Rattle.pim_down.specs.Hearing.{list_events, act, act_all, is_star_join, on_rpts};
+ghost use Rattle.pim_down.specs.Hearing.{count_new};
 ghost use Rattle.pim_down.specs.Running.{has_star_join};
 ghost use Rattle.pim_down.specs.Known.{known_in};
 ghost use Rattle.pim_down.specs.Ordered.{StayButNamed, IsLast};
@@ -148,11 +150,14 @@ fn act_listed<F: Family>(
     requires ascending { IsAscending (records_seen F.bytes_of records.old.items) }
     requires room { length (act port (start_seen start) (event_seen F.bytes_of event)
         (records_seen F.bytes_of records.old.items)) ≤ records.old.capacity }
-    requires last { IsLast F.bytes_of port events.now index last (records_seen F.bytes_of records.old.items) }
+    requires last { IsLast F.bytes_of port events.now index last
+        (records_seen F.bytes_of records.old.items) }
     ensures records { records_seen F.bytes_of records.new.items
-        ≡ act port (start_seen start) (event_seen F.bytes_of event) (records_seen F.bytes_of records.old.items) }
+        ≡ act port (start_seen start) (event_seen F.bytes_of event)
+        (records_seen F.bytes_of records.old.items) }
     ensures capacity { records.old.capacity ≤ records.new.capacity }
-    ensures last { IsLast F.bytes_of port events.now (index + 1) result (records_seen F.bytes_of records.new.items) }
+    ensures last { IsLast F.bytes_of port events.now (index
+        + 1) result (records_seen F.bytes_of records.new.items) }
 {
     act_on_own::<F>(records, near, port, start, event);
     if !is_star_join(&event) {
@@ -179,7 +184,8 @@ pub(crate) fn hear_events<F: Family>(
     events: &[Event<F::Addr>],
 )
     requires ascending { IsAscending (records_seen F.bytes_of records.old.items) }
-    requires room { HasRoom port (start_seen start) records.old.capacity (map (event_seen F.bytes_of) events.now)
+    requires room { HasRoom port (start_seen start) records.old.capacity
+        (map (event_seen F.bytes_of) events.now)
         (records_seen F.bytes_of records.old.items) }
     ensures { records_seen F.bytes_of records.new.items ≡ act_all port (start_seen start)
         (map (event_seen F.bytes_of) events.now) (records_seen F.bytes_of records.old.items) }

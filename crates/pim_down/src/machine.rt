@@ -5,7 +5,8 @@
 ghost use Rattle.std.specs.Prelude.{◌≡◌, Some};
 ghost use Rattle.pim_down.specs.declared.machine.Machine.{Machine};
 ghost use Rattle.pim_down.specs.Seen.{start_seen, timed_seen, machine_seen};
-ghost use Rattle.pim_down.specs.Tables.{greater, on_join, on_prune, on_star_join, on_rpt_prune, machine_in};
+ghost use Rattle.pim_down.specs.Tables.{greater, on_join, on_prune, on_star_join, on_rpt_prune};
+ghost use Rattle.pim_down.specs.Tables.{machine_in};
 
 use crate::held::{Start, Timed};
 use crate::key::Key;

@@ -7,7 +7,8 @@ ghost use Rattle.std.specs.Prelude.{length, slice_index_or, OnOk, OnErr, IfOk, I
 ghost use Rattle.std.specs.List.{flat_map, list_any};
 ghost use Rattle.pim_jp.specs.Message.{GroupSet};
 ghost use Rattle.pim_down.specs.Records.{IsAscending, count_on};
-ghost use Rattle.pim_down.specs.Hearing.{list_events, set_events, events_of, act_all, hearing, is_star_join};
+ghost use Rattle.pim_down.specs.Hearing.{list_events, set_events, events_of, act_all, hearing};
+ghost use Rattle.pim_down.specs.Hearing.{is_star_join};
 ghost use Rattle.pim_down.specs.Hearing.{creates, is_new, count_new, needed};
 ghost use Rattle.pim_down.specs.Running.{has_star_join};
 ghost use Rattle.pim_down.specs.Heard.{IsWithin, MayWantMemory, OnFull};
@@ -53,7 +54,8 @@ pub(crate) fn is_new<F: Family>(
     event: &Event<F::Addr>,
 ) -> bool
     requires { IsAscending (records_seen F.bytes_of records.now.items) }
-    ensures { result ≡ is_new port (records_seen F.bytes_of records.now.items) (event_seen F.bytes_of event.now) }
+    ensures { result
+        ≡ is_new port (records_seen F.bytes_of records.now.items) (event_seen F.bytes_of event.now) }
 {
     let key = Key {
         port,
@@ -220,9 +222,11 @@ pub(crate) fn hear_sets<F: Family>(
 ) -> [bool; 256]
     requires ascending { IsAscending (records_seen F.bytes_of records.old.items) }
     requires room { HasRoom port (start_seen start) records.old.capacity
-        (events_of (known_in F.family routes.now) message.now) (records_seen F.bytes_of records.old.items) }
+        (events_of (known_in F.family routes.now) message.now)
+        (records_seen F.bytes_of records.old.items) }
     ensures records { records_seen F.bytes_of records.new.items ≡ act_all port (start_seen start)
-        (events_of (known_in F.family routes.now) message.now) (records_seen F.bytes_of records.old.items) }
+        (events_of (known_in F.family routes.now) message.now)
+        (records_seen F.bytes_of records.old.items) }
     ensures joined { (i : ℕ) (d : GroupSet) → i < length message.now.sets →
         slice_index_or result i false
         ≡ has_star_join (known_in F.family routes.now) (slice_index_or message.now.sets i d) }
@@ -307,7 +311,8 @@ fn count_fresh<F: Family>(
     counted: Option<usize>,
 ) -> usize
     requires ascending { IsAscending (records_seen F.bytes_of records.now.items) }
-    requires alike { IfSome ordered.now (λ events. AreAlike (map (event_seen F.bytes_of) events.items)
+    requires alike { IfSome ordered.now
+        (λ events. AreAlike (map (event_seen F.bytes_of) events.items)
         (events_of (known_in F.family routes.now) message.now)) }
     requires counted { IfSome counted (λ fresh. fresh
         ≡ count_new port (records_seen F.bytes_of records.now.items)
@@ -335,12 +340,15 @@ fn hear_all<F: Family>(
     ordered: &Option<Vec<Event<F::Addr>>>,
 ) -> [bool; 256]
     requires ascending { IsAscending (records_seen F.bytes_of records.old.items) }
-    requires alike { IfSome ordered.now (λ events. AreAlike (map (event_seen F.bytes_of) events.items)
+    requires alike { IfSome ordered.now
+        (λ events. AreAlike (map (event_seen F.bytes_of) events.items)
         (events_of (known_in F.family routes.now) message.now)) }
-    requires room { length records.old.items + count_new port (records_seen F.bytes_of records.old.items)
+    requires room { length records.old.items
+        + count_new port (records_seen F.bytes_of records.old.items)
         (events_of (known_in F.family routes.now) message.now) ≤ records.old.capacity }
     ensures records { records_seen F.bytes_of records.new.items ≡ act_all port (start_seen start)
-        (events_of (known_in F.family routes.now) message.now) (records_seen F.bytes_of records.old.items) }
+        (events_of (known_in F.family routes.now) message.now)
+        (records_seen F.bytes_of records.old.items) }
     ensures joined { (i : ℕ) (d : GroupSet) → i < length message.now.sets →
         slice_index_or result i false
         ≡ has_star_join (known_in F.family routes.now) (slice_index_or message.now.sets i d) }
@@ -370,8 +378,10 @@ pub(crate) fn hear_message<F: Family>(
     requires settled { IsSettled (records_seen F.bytes_of records.old.items) }
     requires port { port < 64 }
     requires within { count_on port (records_seen F.bytes_of records.old.items) ≤ 100000 }
-    ensures ok { OnOk result (records_seen F.bytes_of records.new.items ≡ hearing port (start_seen start)
-        (events_of (known_in F.family routes.now) message.now) (records_seen F.bytes_of records.old.items)) }
+    ensures ok { OnOk result (records_seen F.bytes_of records.new.items
+        ≡ hearing port (start_seen start)
+        (events_of (known_in F.family routes.now) message.now)
+        (records_seen F.bytes_of records.old.items)) }
     ensures err { OnErr result (records.new.items ≡ records.old.items) }
     ensures kept { OnFull result (records.new ≡ records.old) }
     ensures memory { MayWantMemory (count_new port (records_seen F.bytes_of records.old.items)

@@ -14,7 +14,8 @@ ghost use Rattle.pim_down.specs.declared.machine.Record.{Record};
 ghost use Rattle.pim_down.specs.Hearing.{key_of, list_events, events_of, count_new};
 ghost use Rattle.pim_down.specs.Key.{key_cmp};
 ghost use Rattle.pim_down.specs.Known.{known_in};
-ghost use Rattle.pim_down.specs.Ordered.{comes_before, source_or_star, source_key_of, comes_before_by_source};
+ghost use Rattle.pim_down.specs.Ordered.{comes_before, source_or_star, source_key_of};
+ghost use Rattle.pim_down.specs.Ordered.{comes_before_by_source};
 ghost use Rattle.pim_down.specs.Ordered.{is_of_rpts_of, StarsComeFirst, AreAlike};
 ghost use Rattle.pim_down.specs.Seen.{what_seen, event_seen};
 
@@ -31,7 +32,8 @@ use std::cmp::Ordering;
 /// By group, then by machine.
 #[tactic(auto, unfolding(crate::specs::Key::key_cmp))]
 fn compare_events<F: Family>(a: &Event<F::Addr>, b: &Event<F::Addr>) -> Ordering
-    ensures { result ≡ key_cmp (key_of 0 (event_seen F.bytes_of a.now)) (key_of 0 (event_seen F.bytes_of b.now)) }
+    ensures { result
+        ≡ key_cmp (key_of 0 (event_seen F.bytes_of a.now)) (key_of 0 (event_seen F.bytes_of b.now)) }
 {
     let by_group = compare_addresses::<F>(a.group, b.group);
     if by_group.is_ne() {
@@ -42,7 +44,8 @@ fn compare_events<F: Family>(a: &Event<F::Addr>, b: &Event<F::Addr>) -> Ordering
 
 /// The (S,G) machine unchanged; (*,G) for all other machines.
 fn source_or_star<A: Copy>(what: What<A>) -> What<A>
-    ensures { (bytes_of : A → List ℕ) → what_seen bytes_of result ≡ source_or_star (what_seen bytes_of what) }
+    ensures { (bytes_of : A → List ℕ) → what_seen bytes_of result
+        ≡ source_or_star (what_seen bytes_of what) }
 {
     match what {
         What::Source(source) => What::Source(source),
@@ -71,7 +74,8 @@ fn push_list<F: Family>(
     group: F::Addr,
     entries: Entries<'_, F>,
 ) -> Result<(), AllocError>
-    ensures { OnOk result (map (event_seen F.bytes_of) events.new.items ≡ map (event_seen F.bytes_of) events.old.items
+    ensures { OnOk result (map (event_seen F.bytes_of) events.new.items
+        ≡ map (event_seen F.bytes_of) events.old.items
         ++ list_events (known_in F.family routes.now) joins (F.bytes_of group) entries.entry) }
 {
     for entry in entries {
@@ -126,7 +130,8 @@ fn is_of_rpts_of<F: Family>(event: &Event<F::Addr>, group: F::Addr) -> bool
 
 /// Whether one of these events is a Join(*,G) of this group or names one of its (S,G,rpt) machines.
 fn have_rpts_of<F: Family>(events: &[Event<F::Addr>], group: F::Addr) -> bool
-    ensures { result ≡ list_any (is_of_rpts_of (F.bytes_of group)) (map (event_seen F.bytes_of) events.now) }
+    ensures { result
+        ≡ list_any (is_of_rpts_of (F.bytes_of group)) (map (event_seen F.bytes_of) events.now) }
 {
     for event in events {
         if is_of_rpts_of::<F>(event, group) {
@@ -155,7 +160,8 @@ fn stars_come_first<F: Family>(events: &[Event<F::Addr>]) -> bool
 /// refused.
 fn put_in_key_order<F: Family>(events: &mut Vec<Event<F::Addr>>) -> Result<(), AllocError>
     ensures permutation { IsPermutation events.old.items events.new.items }
-    ensures stable { IsStableBy (λ x y. comes_before (event_seen F.bytes_of x) (event_seen F.bytes_of y))
+    ensures stable { IsStableBy
+        (λ x y. comes_before (event_seen F.bytes_of x) (event_seen F.bytes_of y))
         events.old.items events.new.items }
 {
     events.sort_by(|a, b| compare_events::<F>(a, b))
@@ -166,7 +172,8 @@ fn put_in_key_order<F: Family>(events: &mut Vec<Event<F::Addr>>) -> Result<(), A
 /// memory is refused.
 fn put_sources_in_key_order<F: Family>(events: &mut Vec<Event<F::Addr>>) -> Result<(), AllocError>
     ensures permutation { IsPermutation events.old.items events.new.items }
-    ensures stable { IsStableBy (λ x y. comes_before_by_source (event_seen F.bytes_of x) (event_seen F.bytes_of y))
+    ensures stable { IsStableBy
+        (λ x y. comes_before_by_source (event_seen F.bytes_of x) (event_seen F.bytes_of y))
         events.old.items events.new.items }
 {
     events.sort_by(|a, b| compare_sources::<F>(a, b))

@@ -5,7 +5,8 @@ ghost use Rattle.std.specs.List.{filter};
 ghost use Rattle.pim_down.specs.declared.step.Step.TheVariants.{Reached};
 ghost use Rattle.pim_down.specs.Hearing.{rpt_count_on};
 ghost use Rattle.pim_down.specs.Records.{state_of, machine_at, is_on, count_on};
-ghost use Rattle.pim_down.specs.Heard.{heard, needed_for, new_for, IsWithin, MayWantMemory, OthersStay};
+ghost use Rattle.pim_down.specs.Heard.{heard, needed_for, new_for, IsWithin, MayWantMemory};
+ghost use Rattle.pim_down.specs.Heard.{OthersStay};
 ghost use Rattle.pim_down.specs.Time.{Downstream, Runs, RunsLooking, IsNextDue};
 ghost use Rattle.pim_down.specs.Firing.{FiresTo};
 ghost use Rattle.pim_down.specs.Known.{known_in};
@@ -59,7 +60,8 @@ impl<F: Family> Model for Ports<F> {
 
     ghost view = { λ p. downstream_at F.bytes_of p.ports p.limit p.moment p.records.items };
 
-    ghost invariant = { λ p. IsSound F.family (downstream_at F.bytes_of p.ports p.limit p.moment p.records.items)
+    ghost invariant = { λ p. IsSound F.family
+        (downstream_at F.bytes_of p.ports p.limit p.moment p.records.items)
         × AreLate p.moment (records_seen F.bytes_of p.records.items) };
 }
 
@@ -174,9 +176,9 @@ impl<F: Family> Ports<F> {
         }
     }
 
-    /// One machine with the time left of its timers; `None` is NoInfo. The look-up begins at a hint,
-    /// and the call also returns the place of the machine's record, or where it would be. It costs
-    /// as much as `state_of_near`.
+    /// One machine with the time left of its timers; `None` is NoInfo. The look-up begins at a
+    /// hint, and the call also returns the place of the machine's record, or where it would be. It
+    /// costs as much as `state_of_near`.
     pub fn machine_near(
         &self,
         port: usize,
@@ -184,7 +186,8 @@ impl<F: Family> Ports<F> {
         what: What<F::Addr>,
         near: Near,
     ) -> (Option<Machine>, Near)
-        ensures machine { result.0 ≡ machine_at (key_at F.bytes_of port group what) self.now.records }
+        ensures machine { result.0
+            ≡ machine_at (key_at F.bytes_of port group what) self.now.records }
         ensures absent { self.now.ports ≤ port → result.0 ≡ None }
     {
         let (found, place) = machine_near::<F>(&self.records, near, &Key { port, group, what });
@@ -216,7 +219,8 @@ impl<F: Family> Ports<F> {
     /// The least group after this one, or of all, that has a record on the port; `None` if none
     /// has. It is a binary search, and takes no memory.
     pub fn group_after(&self, port: usize, group: Option<F::Addr>) -> Option<F::Addr>
-        ensures { option_map F.bytes_of result ≡ group_after port (option_map F.bytes_of group) self.now.records }
+        ensures { option_map F.bytes_of result
+            ≡ group_after port (option_map F.bytes_of group) self.now.records }
     {
         let (next, _near) = self.group_after_near(port, group, Near::UNKNOWN);
         next
@@ -234,7 +238,8 @@ impl<F: Family> Ports<F> {
         group: Option<F::Addr>,
         near: Near,
     ) -> (Option<F::Addr>, Near)
-        ensures { option_map F.bytes_of result.0 ≡ group_after port (option_map F.bytes_of group) self.now.records }
+        ensures { option_map F.bytes_of result.0
+            ≡ group_after port (option_map F.bytes_of group) self.now.records }
     {
         let (first, place) = first_of_groups_after::<F>(&self.records, near, port, group);
         match first {
@@ -333,11 +338,13 @@ impl<F: Family> Ports<F> {
     ) -> Result<(), HearFault>
         requires port { port < self.old.ports }
         requires interval { timing.override_ms ≤ 98302 }
-        ensures ok { OnOk result (self.new ≡ heard port message.now (known_in F.family routes.now) timing self.old) }
+        ensures ok { OnOk result (self.new
+            ≡ heard port message.now (known_in F.family routes.now) timing self.old) }
         ensures err { OnErr result (self.new ≡ self.old) }
         ensures room { IsWithin self.old.limit
             (needed_for port message.now (known_in F.family routes.now) self.old) result }
-        ensures memory { MayWantMemory (new_for port message.now (known_in F.family routes.now) self.old) result }
+        ensures memory { MayWantMemory
+            (new_for port message.now (known_in F.family routes.now) self.old) result }
         ensures ports { self.new.ports ≡ self.old.ports }
         ensures others { OthersStay port self.old self.new }
     {
@@ -389,7 +396,8 @@ impl<F: Family> Ports<F> {
     /// It takes no memory, and looks at one timer at most. After the timer it searches its record.
     pub fn fire_to(&mut self, moment: u64) -> Option<Firing<F::Addr>>
         requires { moment ≤ 1000000000000000 }
-        ensures fires { FiresTo moment self.old (option_map (firing_seen F.bytes_of) result) self.new }
+        ensures fires { FiresTo moment self.old (option_map (firing_seen F.bytes_of) result)
+            self.new }
         ensures ports { self.new.ports ≡ self.old.ports }
         ensures limit { self.new.limit ≡ self.old.limit }
         ensures later { self.old.moment ≤ self.new.moment }

@@ -3,7 +3,8 @@
 //! an insert or a removal moves only the numbers of one block.
 
 ghost use Rattle.std.specs.Prelude.{◌≡◌, ℕ, List, ◌+◌, ◌-◌, ◌<◌, ◌≤◌, ◌↔◌, [], length, take, drop};
-ghost use Rattle.std.specs.Prelude.{slice_index_or, slice_set, OnOk, IsOk, IsTrue, Bool, true, false};
+ghost use Rattle.std.specs.Prelude.{slice_index_or, slice_set, OnOk, IsOk, IsTrue, Bool, true};
+ghost use Rattle.std.specs.Prelude.{false};
 ghost use Rattle.std.specs.List.{All, insert, remove};
 ghost use Rattle.std.specs.List.Sorted.{IsPartitionedBy, IsPartitionPoint};
 ghost use Rattle.sorted_blocks.specs.declared.place.Place.{Place};
@@ -139,7 +140,8 @@ impl<A: Copy> Rows<A> {
     /// How many records this port has.
     pub(crate) fn count_on(&self, port: usize) -> usize
         requires { port < 64 }
-        ensures { (bytes_of : A → List ℕ) → result ≡ count_on port (records_seen bytes_of self.now.items) }
+        ensures { (bytes_of : A → List ℕ) → result
+            ≡ count_on port (records_seen bytes_of self.now.items) }
     {
         self.counts[port]
     }
@@ -147,7 +149,8 @@ impl<A: Copy> Rows<A> {
     /// How many (S,G,rpt) records this port has.
     pub(crate) fn rpt_count_on(&self, port: usize) -> usize
         requires { port < 64 }
-        ensures { (bytes_of : A → List ℕ) → result ≡ rpt_count_on port (records_seen bytes_of self.now.items) }
+        ensures { (bytes_of : A → List ℕ) → result
+            ≡ rpt_count_on port (records_seen bytes_of self.now.items) }
     {
         self.rpts[port]
     }
@@ -198,7 +201,8 @@ impl<A: Copy> Rows<A> {
     pub(crate) fn set_machine(&mut self, place: Place, machine: Timed)
         requires { IsItem self.old place }
         ensures items { (d : Held A) → self.new.items ≡ slice_set self.old.items (at self.old place)
-            (record { key = (slice_index_or self.old.items (at self.old place) d).key; machine = machine }) }
+            (record
+            { key = (slice_index_or self.old.items (at self.old place) d).key; machine = machine }) }
         ensures places { (p : Place) → IsItem self.old p → IsItem self.new p }
         ensures at { (p : Place) → at self.new p ≡ at self.old p }
         ensures capacity { self.new.capacity ≡ self.old.capacity }

@@ -36,7 +36,8 @@ pub(crate) fn run<F: Family>(
     requires late { AreLate now (records_seen F.bytes_of records.old.items) }
     ensures runs { (ports limit : ℕ) →
         RunsLooking moment (downstream_at F.bytes_of ports limit now records.old.items)
-        (step_seen F.bytes_of result.step) (downstream_at F.bytes_of ports limit result.now records.new.items)
+        (step_seen F.bytes_of result.step)
+        (downstream_at F.bytes_of ports limit result.now records.new.items)
         result.looks }
     ensures later { now ≤ result.now }
     ensures moment { result.now ≤ max now moment }
@@ -89,7 +90,8 @@ pub(crate) fn run_to_firing<F: Family>(
 ) -> Halt<F::Addr>
     requires ascending { IsAscending (records_seen F.bytes_of records.old.items) }
     requires late { AreLate now (records_seen F.bytes_of records.old.items) }
-    ensures fires { (ports limit : ℕ) → FiresTo moment (downstream_at F.bytes_of ports limit now records.old.items)
+    ensures fires { (ports limit : ℕ)
+        → FiresTo moment (downstream_at F.bytes_of ports limit now records.old.items)
         (option_map (firing_seen F.bytes_of) result.fired)
         (downstream_at F.bytes_of ports limit result.now records.new.items) }
     ensures later { now ≤ result.now }

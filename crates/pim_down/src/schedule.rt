@@ -2,7 +2,8 @@
 //! first one. Room for the timers of new records is reserved with the records, so that a message
 //! puts timers in without memory.
 
-ghost use Rattle.std.specs.Prelude.{◌≡◌, ℕ, List, ◌+◌, ◌-◌, ◌*◌, ◌<◌, ◌≤◌, [], length, map, option_map, OnOk};
+ghost use Rattle.std.specs.Prelude.{◌≡◌, ℕ, List, ◌+◌, ◌-◌, ◌*◌, ◌<◌, ◌≤◌, [], length, map};
+ghost use Rattle.std.specs.Prelude.{option_map, OnOk};
 ghost use Rattle.std.specs.List.{slice_get, insert};
 ghost use Rattle.sorted_blocks.specs.Shape.{items};
 ghost use Rattle.sorted_blocks.specs.Places.{before, IsPlace};
@@ -78,7 +79,8 @@ fn slot_of<A: Copy, O: KeyOrder<A>, const HALF: usize>(
     ensures place { IsPlace list.now result }
     ensures slot { insert (map (deadline_seen O.bytes_of) (items list.now)) (before list.now result)
         (deadline_seen O.bytes_of deadline)
-        ≡ placed deadline_cmp (deadline_seen O.bytes_of deadline) (map (deadline_seen O.bytes_of) (items list.now)) }
+        ≡ placed deadline_cmp (deadline_seen O.bytes_of deadline)
+        (map (deadline_seen O.bytes_of) (items list.now)) }
 {
     item_has_a_place::<Deadline<A>>();
     place_is_within::<Deadline<A>>();
@@ -155,7 +157,8 @@ impl<A: Copy, O: KeyOrder<A>, const HALF: usize> Schedule<A, O, HALF> {
     /// Puts in a timer, within the capacity.
     fn put(&mut self, deadline: Deadline<A>)
         requires { length self.old.timers < self.old.capacity }
-        ensures timers { self.new.timers ≡ placed deadline_cmp (deadline_seen O.bytes_of deadline) self.old.timers }
+        ensures timers { self.new.timers
+            ≡ placed deadline_cmp (deadline_seen O.bytes_of deadline) self.old.timers }
         ensures capacity { self.new.capacity ≡ self.old.capacity }
     {
         let place = slot_of::<A, O, HALF>(&self.list, self.put.of(deadline.timer), deadline);
@@ -165,7 +168,8 @@ impl<A: Copy, O: KeyOrder<A>, const HALF: usize> Schedule<A, O, HALF> {
 
     /// Removes a timer, if it is there.
     fn take(&mut self, deadline: Deadline<A>)
-        ensures timers { self.new.timers ≡ without deadline_cmp (deadline_seen O.bytes_of deadline) self.old.timers }
+        ensures timers { self.new.timers
+            ≡ without deadline_cmp (deadline_seen O.bytes_of deadline) self.old.timers }
         ensures capacity { self.new.capacity ≡ self.old.capacity }
     {
         place_is_within::<Deadline<A>>();
@@ -183,7 +187,8 @@ impl<A: Copy, O: KeyOrder<A>, const HALF: usize> Schedule<A, O, HALF> {
     /// Puts in a machine's timer, if it runs.
     fn start(&mut self, key: Key<A>, timer: TimerKind, end: Option<u64>)
         requires { length self.old.timers < self.old.capacity }
-        ensures timers { self.new.timers ≡ with_end timer (key_seen O.bytes_of key) end self.old.timers }
+        ensures timers { self.new.timers
+            ≡ with_end timer (key_seen O.bytes_of key) end self.old.timers }
         ensures capacity { self.new.capacity ≡ self.old.capacity }
     {
         match end {
@@ -200,7 +205,8 @@ impl<A: Copy, O: KeyOrder<A>, const HALF: usize> Schedule<A, O, HALF> {
     #[inline(always)]
     fn stop(&mut self, key: Key<A>, timer: TimerKind, end: Option<u64>)
         ensures timers { (rest : List (Deadline (List ℕ))) →
-            self.old.timers ≡ with_end timer (key_seen O.bytes_of key) end rest → self.new.timers ≡ rest }
+            self.old.timers ≡ with_end timer (key_seen O.bytes_of key) end rest → self.new.timers
+            ≡ rest }
         ensures fewer { length self.new.timers ≤ length self.old.timers }
         ensures capacity { self.new.capacity ≡ self.old.capacity }
     {
@@ -217,7 +223,8 @@ impl<A: Copy, O: KeyOrder<A>, const HALF: usize> Schedule<A, O, HALF> {
     /// The same as `stop`, not inlined: for a timer that is removed alone.
     fn stop_one(&mut self, key: Key<A>, timer: TimerKind, end: Option<u64>)
         ensures timers { (rest : List (Deadline (List ℕ))) →
-            self.old.timers ≡ with_end timer (key_seen O.bytes_of key) end rest → self.new.timers ≡ rest }
+            self.old.timers ≡ with_end timer (key_seen O.bytes_of key) end rest → self.new.timers
+            ≡ rest }
         ensures fewer { length self.new.timers ≤ length self.old.timers }
         ensures capacity { self.new.capacity ≡ self.old.capacity }
     {
@@ -242,7 +249,8 @@ impl<A: Copy, O: KeyOrder<A>, const HALF: usize> Schedule<A, O, HALF> {
     /// Puts in the timers of a machine.
     pub(crate) fn start_all(&mut self, held: &Held<A>)
         requires { length self.old.timers + 2 ≤ self.old.capacity }
-        ensures timers { self.new.timers ≡ with_timers (record_seen O.bytes_of held.now) self.old.timers }
+        ensures timers { self.new.timers
+            ≡ with_timers (record_seen O.bytes_of held.now) self.old.timers }
         ensures capacity { self.new.capacity ≡ self.old.capacity }
     {
         self.start(held.key, TimerKind::ExpiryTimer, held.machine.expires_at);
@@ -257,7 +265,8 @@ impl<A: Copy, O: KeyOrder<A>, const HALF: usize> Schedule<A, O, HALF> {
     #[inline(always)]
     pub(crate) fn stop_all(&mut self, held: &Held<A>)
         ensures timers { (rest : List (Deadline (List ℕ))) →
-            self.old.timers ≡ with_timers (record_seen O.bytes_of held.now) rest → self.new.timers ≡ rest }
+            self.old.timers ≡ with_timers (record_seen O.bytes_of held.now) rest → self.new.timers
+            ≡ rest }
         ensures capacity { self.new.capacity ≡ self.old.capacity }
     {
         self.stop(
@@ -273,9 +282,11 @@ impl<A: Copy, O: KeyOrder<A>, const HALF: usize> Schedule<A, O, HALF> {
         requires { length self.old.timers + 2 ≤ self.old.capacity }
         ensures timers { (rest : List (Deadline (List ℕ))) →
             self.old.timers
-            ≡ with_timers (record { key = key_seen O.bytes_of key; machine = timed_seen from.now }) rest →
+            ≡ with_timers (record { key = key_seen O.bytes_of key; machine = timed_seen from.now })
+            rest →
             self.new.timers
-            ≡ with_timers (record { key = key_seen O.bytes_of key; machine = timed_seen to.now }) rest }
+            ≡ with_timers (record { key = key_seen O.bytes_of key; machine = timed_seen to.now })
+            rest }
         ensures capacity { self.new.capacity ≡ self.old.capacity }
     {
         self.change(

@@ -1,7 +1,8 @@
 //! The records of all ports, and a schedule of their timers. The schedule always has exactly the
 //! timers of the records: each change of a record puts timers in and removes others.
 
-ghost use Rattle.std.specs.Prelude.{◌≡◌, ℕ, List, ◌+◌, ◌*◌, ◌<◌, ◌≤◌, ◌↔◌, [], length, take, drop, option_map};
+ghost use Rattle.std.specs.Prelude.{◌≡◌, ℕ, List, ◌+◌, ◌*◌, ◌<◌, ◌≤◌, ◌↔◌, [], length, take, drop};
+ghost use Rattle.std.specs.Prelude.{option_map};
 ghost use Rattle.std.specs.Prelude.{slice_index_or, slice_set, OnOk, IsOk, IsTrue, true, false};
 ghost use Rattle.std.specs.List.{All, insert, remove, slice_get};
 ghost use Rattle.std.specs.List.Sorted.{IsPartitionedBy, IsPartitionPoint};
@@ -46,7 +47,8 @@ impl<A: Copy, O: KeyOrder<A>> Model for Store<A, O> {
     ghost use Rattle.std.specs.Prelude.{min};
     ghost use Rattle.pim_down.specs.Schedule.{IsTimed};
 
-    ghost view = { λ s. record { index = s.rows.index; items = s.rows.items; capacity = min s.rows.capacity s.room } };
+    ghost view = { λ s. record
+        { index = s.rows.index; items = s.rows.items; capacity = min s.rows.capacity s.room } };
 
     ghost invariant = { λ s. IsTimed O.bytes_of s.rows s.schedule s.room };
 }
@@ -75,7 +77,8 @@ impl<A: Copy, O: KeyOrder<A>> Store<A, O> {
     /// How many records this port has.
     pub(crate) fn count_on(&self, port: usize) -> usize
         requires { port < 64 }
-        ensures { (bytes_of : A → List ℕ) → result ≡ count_on port (records_seen bytes_of self.now.items) }
+        ensures { (bytes_of : A → List ℕ) → result
+            ≡ count_on port (records_seen bytes_of self.now.items) }
     {
         self.rows.count_on(port)
     }
@@ -83,7 +86,8 @@ impl<A: Copy, O: KeyOrder<A>> Store<A, O> {
     /// How many (S,G,rpt) records this port has.
     pub(crate) fn rpt_count_on(&self, port: usize) -> usize
         requires { port < 64 }
-        ensures { (bytes_of : A → List ℕ) → result ≡ rpt_count_on port (records_seen bytes_of self.now.items) }
+        ensures { (bytes_of : A → List ℕ) → result
+            ≡ rpt_count_on port (records_seen bytes_of self.now.items) }
     {
         self.rows.rpt_count_on(port)
     }
@@ -140,7 +144,8 @@ impl<A: Copy, O: KeyOrder<A>> Store<A, O> {
     pub(crate) fn set_machine(&mut self, place: Place, machine: Timed)
         requires { IsItem self.old place }
         ensures items { (d : Held A) → self.new.items ≡ slice_set self.old.items (at self.old place)
-            (record { key = (slice_index_or self.old.items (at self.old place) d).key; machine = machine }) }
+            (record
+            { key = (slice_index_or self.old.items (at self.old place) d).key; machine = machine }) }
         ensures places { (p : Place) → IsItem self.old p → IsItem self.new p }
         ensures at { (p : Place) → at self.new p ≡ at self.old p }
         ensures capacity { self.new.capacity ≡ self.old.capacity }

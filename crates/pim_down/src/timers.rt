@@ -1,17 +1,20 @@
 //! When the timers of records end, and what they do when they expire. Every look at a timer of a
 //! run is a call of `is_due`, which counts it.
 
-ghost use Rattle.std.specs.Prelude.{◌≡◌, ◌+◌, ◌<◌, ℕ, List, ◌++◌, take, drop, length, slice_index_or, nat_le};
+ghost use Rattle.std.specs.Prelude.{◌≡◌, ◌+◌, ◌<◌, ℕ, List, ◌++◌, take, drop, length};
+ghost use Rattle.std.specs.Prelude.{slice_index_or, nat_le};
 ghost use Rattle.std.specs.List.{slice_get, remove};
 ghost use Rattle.sorted_slab.specs.Listed.{at, IsItem};
 ghost use Rattle.pim_down.specs.declared.held.Held.{Held};
 ghost use Rattle.pim_down.specs.Records.{IsAscending};
 ghost use Rattle.pim_down.specs.Records.{state_of_machine};
-ghost use Rattle.pim_down.specs.Time.{on_ppt, after_ppt, record_after, echoes_at, had_several, fired};
+ghost use Rattle.pim_down.specs.Time.{on_ppt, after_ppt, record_after, echoes_at, had_several};
+ghost use Rattle.pim_down.specs.Time.{fired};
 ghost use Rattle.pim_down.specs.Ends.{first_end, AreLate};
 ghost use Rattle.pim_down.specs.Firing.{ppt_fires, et_fires, firing, step_of};
 ghost use Rattle.pim_down.specs.Schedule.{deadline_seen, timers_of, IsFirstBy, IsLookedAt};
-ghost use Rattle.pim_down.specs.Seen.{timed_seen, machine_seen, waiting_seen, what_seen, record_seen, records_seen};
+ghost use Rattle.pim_down.specs.Seen.{timed_seen, machine_seen, waiting_seen, what_seen};
+ghost use Rattle.pim_down.specs.Seen.{record_seen, records_seen};
 ghost use Rattle.pim_down.specs.Seen.{step_seen, firing_seen, shown};
 
 use crate::deadline::{Deadline, TimerKind};
@@ -86,7 +89,8 @@ fn on_ppt<A>(what: &What<A>, machine: &Timed) -> Option<Timed>
 /// Whether the end of this record's Prune-Pending Timer triggers a PruneEcho.
 fn echoes<A>(held: &Held<A>) -> bool
     ensures { (bytes_of : A → List ℕ) → result
-        ≡ echoes_at (what_seen bytes_of held.now.key.what) (had_several (waiting_seen held.now.machine.pending)) }
+        ≡ echoes_at (what_seen bytes_of held.now.key.what)
+        (had_several (waiting_seen held.now.machine.pending)) }
 {
     let several = match held.machine.pending {
         Some(timer) => timer.several,
@@ -146,7 +150,8 @@ fn fire_pending<F: Family>(
         (record_seen F.bytes_of (slice_index_or records.old.items (at records.old place) d))) }
     ensures left { (d : Held F.Addr) → records_seen F.bytes_of records.new.items
         ≡ take (at records.old place) (records_seen F.bytes_of records.old.items)
-        ++ (after_ppt (record_seen F.bytes_of (slice_index_or records.old.items (at records.old place) d))
+        ++ (after_ppt
+        (record_seen F.bytes_of (slice_index_or records.old.items (at records.old place) d))
         ++ drop (at records.old place + 1) (records_seen F.bytes_of records.old.items)) }
 {
     let fired = *records.get(place);
@@ -198,7 +203,8 @@ pub(crate) fn fire_timer<F: Family>(
 
 /// What a run reports of a timer that fired: a PruneEcho, or nothing.
 fn step_of<A: Copy>(fired: Firing<A>) -> Step<A>
-    ensures { (bytes_of : A → List ℕ) → step_seen bytes_of result ≡ step_of (firing_seen bytes_of fired) }
+    ensures { (bytes_of : A → List ℕ) → step_seen bytes_of result
+        ≡ step_of (firing_seen bytes_of fired) }
 {
     if !fired.echo {
         return Step::Reached;

@@ -44,7 +44,8 @@ pub(crate) fn machine_after(machine: &Timed, now: u64) -> Machine
 
 /// The record at this moment, with countdowns.
 pub(crate) fn record_after<A: Copy>(held: &Held<A>, now: u64) -> Record<A>
-    ensures { (bytes_of : A → List ℕ) → told_seen bytes_of result ≡ record_after now (record_seen bytes_of held.now) }
+    ensures { (bytes_of : A → List ℕ) → told_seen bytes_of result
+        ≡ record_after now (record_seen bytes_of held.now) }
 {
     Record {
         key: held.key,
@@ -75,7 +76,8 @@ pub(crate) fn on_port<F: Family>(
 ) -> Walk<'_, Held<F::Addr>, HALF_OF_RECORDS>
     requires ascending { IsAscending (records_seen F.bytes_of records.now.items) }
     requires port { port < 64 }
-    ensures { records_seen F.bytes_of result ≡ filter (is_on port) (records_seen F.bytes_of records.now.items) }
+    ensures { records_seen F.bytes_of result
+        ≡ filter (is_on port) (records_seen F.bytes_of records.now.items) }
 {
     records.walk(
         records.first_behind(&OfPort { port }),

@@ -1,7 +1,9 @@
-//! What no command of a session shows of the machines: look-ups, walks, looks, prints, a moment that is far away, and growths
-//! that are refused; and thousands of messages beside a slow list. The group is 239.1.1.1 with the RP 10.9.9.9, the sources are
-//! 192.0.2.1 and 192.0.2.2. Examples are constant tables of rows that are played one after the other, each by a small
-//! helper: a test that makes its calls itself takes far longer to prove. The scenarios of `pimtree_cases` show the machines.
+//! What no command of a session shows of the machines: look-ups, walks, looks, prints, a moment
+//! that is far away, and growths that are refused; and thousands of messages beside a slow list.
+//! The group is 239.1.1.1 with the RP 10.9.9.9, the sources are 192.0.2.1 and 192.0.2.2. Examples
+//! are constant tables of rows that are played one after the other, each by a small helper: a test
+//! that makes its calls itself takes far longer to prove. The scenarios of `pimtree_cases` show the
+//! machines.
 
 mod blocks;
 mod bodies;

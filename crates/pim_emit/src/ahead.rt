@@ -2,12 +2,14 @@
 //! the stack for each port, with the machines after it. So a port whose source was written goes on
 //! to its next machine without a search.
 
-ghost use Rattle.std.specs.Prelude.{◌≡◌, ◌≤◌, ◌<◌, ◌+◌, ℕ, false, List, Option, Some, IfSome, length, option_map};
+ghost use Rattle.std.specs.Prelude.{◌≡◌, ◌≤◌, ◌<◌, ◌+◌, ℕ, false, List, Option, Some, IfSome};
+ghost use Rattle.std.specs.Prelude.{length, option_map};
 ghost use Rattle.std.specs.Prelude.{slice_index_or};
 ghost use Rattle.pim_down.specs.Key.{address_cmp};
 ghost use Rattle.pim_down.specs.Seen.{what_seen};
 ghost use Rattle.pim_form.specs.NormalForm.{same_address};
-ghost use Rattle.pim_emit.specs.Ahead.{passed, SourceAhead, its_source, IsAheadOn, IsNextOn, IsNextSource, AreNext};
+ghost use Rattle.pim_emit.specs.Ahead.{passed, SourceAhead, its_source, IsAheadOn, IsNextOn};
+ghost use Rattle.pim_emit.specs.Ahead.{IsNextSource, AreNext};
 ghost use Rattle.pim_emit.specs.Ahead.{is_this, least_seen, source_told, AreLeastBelow, TellsNext};
 
 use crate::least::lesser;
@@ -152,7 +154,8 @@ fn least_source<F: Family>(
     group: F::Addr,
     bound: Option<F::Addr>,
 ) -> Option<F::Addr>
-    ensures { IsNextSource ports.now (F.bytes_of group) (option_map F.bytes_of bound) (option_map F.bytes_of result) }
+    ensures { IsNextSource ports.now (F.bytes_of group) (option_map F.bytes_of bound)
+        (option_map F.bytes_of result) }
 {
     let count = ports.port_count();
     let mut least = None;
@@ -222,9 +225,11 @@ fn least_ahead<F: Family>(
     nexts: &[Option<Ahead<'_, F>>],
 ) -> Option<LeastAhead<F::Addr>>
     requires { ports.now.ports ≤ length nexts.now }
-    ensures source { (group : List ℕ) (bound : Option (List ℕ)) → AreNext ports.now group bound nexts.now →
+    ensures source { (group : List ℕ) (bound : Option (List ℕ))
+        → AreNext ports.now group bound nexts.now →
         IsNextSource ports.now group bound (source_told (option_map (least_seen F.bytes_of) result)) }
-    ensures places { AreLeastBelow ports.now.ports nexts.now (option_map (least_seen F.bytes_of) result) }
+    ensures places { AreLeastBelow ports.now.ports nexts.now
+        (option_map (least_seen F.bytes_of) result) }
 {
     let count = ports.port_count();
     let mut least = None;
@@ -283,7 +288,8 @@ fn pass_on<F: Family>(
 )
     requires { port < ports.now.ports }
     ensures { (group : List ℕ) (bound : Option (List ℕ)) →
-        IsAheadOn ports.now group bound port next.old → IsNextSource ports.now group bound (Some (F.bytes_of passed)) →
+        IsAheadOn ports.now group bound port next.old
+        → IsNextSource ports.now group bound (Some (F.bytes_of passed)) →
         IsAheadOn ports.now group (Some (F.bytes_of passed)) port next.new }
 {
     if !comes_next::<F>(next, passed) {
@@ -295,7 +301,8 @@ fn pass_on<F: Family>(
 /// Passes a source on all ports, so that `nexts` holds what follows it on each.
 fn pass_all<F: Family>(ports: &Nearby<'_, F>, passed: F::Addr, nexts: &mut [Option<Ahead<'_, F>>])
     requires { ports.now.ports ≤ length nexts.old }
-    ensures next { (group : List ℕ) (bound : Option (List ℕ)) → AreNext ports.now group bound nexts.old →
+    ensures next { (group : List ℕ) (bound : Option (List ℕ))
+        → AreNext ports.now group bound nexts.old →
         IsNextSource ports.now group bound (Some (F.bytes_of passed)) →
         AreNext ports.now group (Some (F.bytes_of passed)) nexts.new }
     ensures length { length nexts.new ≡ length nexts.old }
@@ -315,7 +322,8 @@ fn pass_ahead<F: Family>(
 )
     requires room { ports.now.ports ≤ length nexts.old }
     requires places { AreLeastBelow ports.now.ports nexts.old (Some (least_seen F.bytes_of least)) }
-    ensures next { (group : List ℕ) (bound : Option (List ℕ)) → AreNext ports.now group bound nexts.old →
+    ensures next { (group : List ℕ) (bound : Option (List ℕ))
+        → AreNext ports.now group bound nexts.old →
         IsNextSource ports.now group bound (Some (F.bytes_of least.source)) →
         AreNext ports.now group (Some (F.bytes_of least.source)) nexts.new }
     ensures length { length nexts.new ≡ length nexts.old }

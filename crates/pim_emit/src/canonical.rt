@@ -48,7 +48,8 @@ pub fn write_canonical<F: Family, D: Drain>(
     requires { writer.now.budget ≤ length buffer.old }
     ensures written { IsWritten F.family writer.now routes.now ports.now
         (D.contents out.old) (D.contents out.new) result }
-    ensures too_big { IsTooBig F.family writer.now routes.now ports.now (option_map F.bytes_of (told_too_big result)) }
+    ensures too_big { IsTooBig F.family writer.now routes.now ports.now
+        (option_map F.bytes_of (told_too_big result)) }
     ensures failures { D.failures out.new ≡ failures_told (D.failures out.old) result }
 {
     ports.is_sound();

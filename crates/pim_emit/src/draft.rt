@@ -1,12 +1,14 @@
 //! A message that is being made in the caller's buffer, set by set. Nothing of a form is copied.
 
-ghost use Rattle.std.specs.Prelude.{◌≡◌, ◌+◌, ◌*◌, ◌≤◌, ◌<◌, ◌↔◌, ℕ, length, true, false, List, is_some, option_map};
+ghost use Rattle.std.specs.Prelude.{◌≡◌, ◌+◌, ◌*◌, ◌≤◌, ◌<◌, ◌↔◌, ℕ, length, true, false, List};
+ghost use Rattle.std.specs.Prelude.{is_some, option_map};
 ghost use Rattle.std.specs.Int.{from_bool};
 ghost use Rattle.pim_form.specs.Units.{empty_set_size, entry_size};
 ghost use Rattle.pim_form.specs.Rows.{exceptions_of};
 ghost use Rattle.pim_emit.specs.declared.position.Position.{Position};
 ghost use Rattle.pim_emit.specs.Drafts.{draft_seen, body_start, IsDraft, IsBegun, steps_left};
-ghost use Rattle.pim_emit.specs.Left.{IsPiece, position_seen, piece_seen, piece_form, star_of, sources_in, next_above};
+ghost use Rattle.pim_emit.specs.Left.{IsPiece, position_seen, piece_seen, piece_form, star_of};
+ghost use Rattle.pim_emit.specs.Left.{sources_in, next_above};
 ghost use Rattle.pim_emit.specs.Sets.{AreTold, told_seen};
 ghost use Rattle.pim_addr.specs.Address.{IsGroupAddress};
 
@@ -35,7 +37,8 @@ pub(crate) struct Draft<A> {
 
 /// A message without groups.
 pub(crate) fn empty_draft<F: Family>(position: Position<F::Addr>) -> Draft<F::Addr>
-    ensures { result ≡ record { position = position; groups = 0; end = body_start F.family; is_full = false } }
+    ensures { result
+        ≡ record { position = position; groups = 0; end = body_start F.family; is_full = false } }
 {
     Draft {
         position,
@@ -67,7 +70,8 @@ fn has_more<F: Family>(
     told: &ToldSources<F::Addr>,
 ) -> bool
     requires group { IsGroupAddress F.family (F.bytes_of piece.now.group) }
-    requires told { AreTold (piece_seen F.bytes_of piece.now) asked.now.form most (told_seen F.bytes_of told.now) }
+    requires told { AreTold (piece_seen F.bytes_of piece.now) asked.now.form most
+        (told_seen F.bytes_of told.now) }
     ensures { result ≡ is_some (next_above (option_map F.bytes_of told.now.last)
         (sources_in (F.bytes_of piece.now.group) asked.now.form)) }
 {
@@ -84,7 +88,8 @@ fn tell_piece<F: Family>(
     draft: &mut Draft<F::Addr>,
     bytes: &mut [u8],
 )
-    requires begun { IsBegun F.family (length bytes.old) asked.now (draft_seen F.bytes_of draft.old) bytes.old }
+    requires begun { IsBegun F.family (length bytes.old) asked.now (draft_seen F.bytes_of draft.old)
+        bytes.old }
     requires open { draft.old.is_full ≡ false }
     requires budget { length bytes.old ≤ 65000 }
     requires piece { IsPiece F.family (position_seen F.bytes_of draft.old.position) asked.now.form
@@ -94,11 +99,15 @@ fn tell_piece<F: Family>(
     requires some { 1 ≤ room }
     requires star { from_bool piece.now.starred + exceptions ≤ room }
     requires room { (count : ℕ) → 1 ≤ count → (count ≤ room) ↔ ((draft.old.groups < 255)
-        × (draft.old.end + empty_set_size F.family + count * entry_size F.family ≤ length bytes.old)) }
+        × (draft.old.end + empty_set_size F.family + count * entry_size F.family
+        ≤ length bytes.old)) }
     ensures draft { (begun : Position (List ℕ)) →
-        IsDraft F.family (length bytes.old) asked.now begun (draft_seen F.bytes_of draft.old) bytes.old →
-        IsDraft F.family (length bytes.old) asked.now begun (draft_seen F.bytes_of draft.new) bytes.new }
-    ensures falls { steps_left F.family (length bytes.old) asked.now (draft_seen F.bytes_of draft.new)
+        IsDraft F.family (length bytes.old) asked.now begun (draft_seen F.bytes_of draft.old)
+        bytes.old →
+        IsDraft F.family (length bytes.old) asked.now begun (draft_seen F.bytes_of draft.new)
+        bytes.new }
+    ensures falls { steps_left F.family (length bytes.old) asked.now
+        (draft_seen F.bytes_of draft.new)
         < steps_left F.family (length bytes.old) asked.now (draft_seen F.bytes_of draft.old) }
     ensures length { length bytes.new ≡ length bytes.old }
 {
@@ -121,8 +130,10 @@ fn tell_piece<F: Family>(
 /// The number of exceptions of the star of a piece, if the piece has the star.
 fn exceptions_left<F: Family>(asked: &Asked<'_, F>, piece: &Piece<F::Addr>) -> usize
     requires group { IsGroupAddress F.family (F.bytes_of piece.now.group) }
-    requires star { piece.now.starred ≡ true → is_some (star_of (F.bytes_of piece.now.group) asked.now.form) ≡ true }
-    ensures { result ≡ length (exceptions_of (piece_form (piece_seen F.bytes_of piece.now) asked.now.form).star) }
+    requires star { piece.now.starred ≡ true
+        → is_some (star_of (F.bytes_of piece.now.group) asked.now.form) ≡ true }
+    ensures { result
+        ≡ length (exceptions_of (piece_form (piece_seen F.bytes_of piece.now) asked.now.form).star) }
 {
     if piece.starred {
         asked.exception_count(piece.group)
@@ -137,13 +148,17 @@ pub(crate) fn tell_next<F: Family>(
     draft: &mut Draft<F::Addr>,
     bytes: &mut [u8],
 )
-    requires begun { IsBegun F.family (length bytes.old) asked.now (draft_seen F.bytes_of draft.old) bytes.old }
+    requires begun { IsBegun F.family (length bytes.old) asked.now (draft_seen F.bytes_of draft.old)
+        bytes.old }
     requires open { draft.old.is_full ≡ false }
     requires budget { length bytes.old ≤ 65000 }
     ensures draft { (begun : Position (List ℕ)) →
-        IsDraft F.family (length bytes.old) asked.now begun (draft_seen F.bytes_of draft.old) bytes.old →
-        IsDraft F.family (length bytes.old) asked.now begun (draft_seen F.bytes_of draft.new) bytes.new }
-    ensures falls { steps_left F.family (length bytes.old) asked.now (draft_seen F.bytes_of draft.new)
+        IsDraft F.family (length bytes.old) asked.now begun (draft_seen F.bytes_of draft.old)
+        bytes.old →
+        IsDraft F.family (length bytes.old) asked.now begun (draft_seen F.bytes_of draft.new)
+        bytes.new }
+    ensures falls { steps_left F.family (length bytes.old) asked.now
+        (draft_seen F.bytes_of draft.new)
         < steps_left F.family (length bytes.old) asked.now (draft_seen F.bytes_of draft.old) }
     ensures length { length bytes.new ≡ length bytes.old }
 {

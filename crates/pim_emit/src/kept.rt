@@ -33,7 +33,8 @@ fn keep_all<F: Family>(
     requires none { messages.old ≡ [] }
     requires fits { too_big F.family writer.now.budget asked.now.form ≡ None }
     requires room { writer.now.budget ≤ length buffer.old }
-    ensures { OnOk result (AreCanonical F.family writer.now (rps_of F.family asked.now) asked.now.form messages.new) }
+    ensures { OnOk result
+        (AreCanonical F.family writer.now (rps_of F.family asked.now) asked.now.form messages.new) }
 {
     let mut position = Position::Start;
     while let Some(length) = next_message::<F>(asked, writer, &mut position, buffer) {

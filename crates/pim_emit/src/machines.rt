@@ -76,7 +76,8 @@ pub(crate) fn least_group<F: Family>(
     ports: &Nearby<'_, F>,
     bound: Option<F::Addr>,
 ) -> Option<F::Addr>
-    ensures { IsLeast (λ group. some_below ports.now.ports (λ port. is_above (option_map F.bytes_of bound) group
+    ensures { IsLeast
+        (λ group. some_below ports.now.ports (λ port. is_above (option_map F.bytes_of bound) group
         && has_group ports.now group port)) (option_map F.bytes_of result) }
 {
     ports.is_sound();

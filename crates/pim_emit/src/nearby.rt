@@ -73,7 +73,8 @@ impl<'a, F: Family> Nearby<'a, F> {
 
     /// The least group above this one, or of all, that has a record on the port.
     pub(crate) fn group_after(&self, port: usize, group: Option<F::Addr>) -> Option<F::Addr>
-        ensures { option_map F.bytes_of result ≡ group_after port (option_map F.bytes_of group) self.now.records }
+        ensures { option_map F.bytes_of result
+            ≡ group_after port (option_map F.bytes_of group) self.now.records }
     {
         let near = self.hints.near(port);
         let (next, place) = self.ports.group_after_near(port, group, near);
@@ -88,7 +89,8 @@ impl<'a, F: Family> Nearby<'a, F> {
         group: F::Addr,
         what: What<F::Addr>,
     ) -> GroupMachines<'a, F>
-        ensures { result ≡ machines_behind self.now port (F.bytes_of group) (what_seen F.bytes_of what) }
+        ensures { result
+            ≡ machines_behind self.now port (F.bytes_of group) (what_seen F.bytes_of what) }
     {
         let near = self.hints.near(port);
         self.ports.machines_after_near(port, group, what, near)

@@ -68,10 +68,12 @@ pub(crate) fn next_rpt<F: Family>(
     rpts: &mut Rpts<'_, F>,
 ) -> Option<Held<F::Addr>>
     ensures least { (port : ℕ) (group : List ℕ) → AreRptsOn ports.now port group rpts.old →
-        IsLeast (λ source. is_above (Some rpts.old.bound) source && has_rpt ports.now port group source)
+        IsLeast (λ source. is_above (Some rpts.old.bound) source
+        && has_rpt ports.now port group source)
         (option_map (source_held F.bytes_of) result) }
     ensures state { (port : ℕ) (group : List ℕ) → AreRptsOn ports.now port group rpts.old →
-        IfSome result (λ held. state_on ports.now.records port group (Rpt (F.bytes_of held.source)) ≡ Some held.state) }
+        IfSome result (λ held. state_on ports.now.records port group (Rpt (F.bytes_of held.source))
+        ≡ Some held.state) }
     ensures left { (port : ℕ) (group : List ℕ) → AreRptsOn ports.now port group rpts.old →
         IfSome result (λ _. AreRptsOn ports.now port group rpts.new) }
     ensures bound { IfSome result (λ held. rpts.new.bound ≡ F.bytes_of held.source) }

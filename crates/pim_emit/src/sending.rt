@@ -15,7 +15,8 @@ fn send<D: Drain>(out: &mut D, bytes: &[u8], sent: &mut u64) -> Result<(), Faile
     ensures rises { sent.old ≤ sent.new }
     ensures most { sent.new ≤ sent.old + length bytes.now }
     ensures all { OnOk result (sent.new ≡ sent.old + length bytes.now) }
-    ensures bytes { Appends (D.contents out.old) (D.contents out.new) (take (sent.new - sent.old) bytes.now) }
+    ensures bytes { Appends (D.contents out.old) (D.contents out.new)
+        (take (sent.new - sent.old) bytes.now) }
     ensures count { D.failures out.new ≡ failures_after (D.failures out.old) result }
 {
     let mut taken = 0;

@@ -12,7 +12,8 @@ ghost use Rattle.pim_jp.specs.Canonical.{canonical_entry, canonical_set};
 ghost use Rattle.pim_jp.specs.Seen.{entry_seen};
 ghost use Rattle.pim_emit.specs.Asking.{rps_of};
 ghost use Rattle.pim_emit.specs.Left.{star_of, exceptions_in, piece_seen, piece_form};
-ghost use Rattle.pim_emit.specs.Sets.{source_entries, exception_entries, cut_piece, AreTold, told_seen};
+ghost use Rattle.pim_emit.specs.Sets.{source_entries, exception_entries, cut_piece, AreTold};
+ghost use Rattle.pim_emit.specs.Sets.{told_seen};
 ghost use Rattle.pim_emit.specs.Sets.{set_entries, entry_count, set_size};
 
 use crate::ahead::Ahead;
@@ -61,9 +62,12 @@ fn write_sources_ahead<'a, F: Family>(
     requires group { IsGroupAddress F.family (F.bytes_of piece.now.group) }
     requires few { length bytes.old ≤ 65000 }
     requires room { at + most * source_length F.family ≤ length bytes.old }
-    ensures told { AreTold (piece_seen F.bytes_of piece.now) asked.now.form most (told_seen F.bytes_of result) }
-    ensures written { take (at + result.count * source_length F.family) bytes.new ≡ take at bytes.old
-        ++ source_entries F.family (cut_piece result.count (piece_seen F.bytes_of piece.now) asked.now.form).sources }
+    ensures told { AreTold (piece_seen F.bytes_of piece.now) asked.now.form most
+        (told_seen F.bytes_of result) }
+    ensures written { take (at + result.count * source_length F.family) bytes.new
+        ≡ take at bytes.old
+        ++ source_entries F.family
+        (cut_piece result.count (piece_seen F.bytes_of piece.now) asked.now.form).sources }
     ensures length { length bytes.new ≡ length bytes.old }
 {
     asked.is_normal();
@@ -94,9 +98,12 @@ fn write_sources<F: Family>(
     requires group { IsGroupAddress F.family (F.bytes_of piece.now.group) }
     requires few { length bytes.old ≤ 65000 }
     requires room { at + most * source_length F.family ≤ length bytes.old }
-    ensures told { AreTold (piece_seen F.bytes_of piece.now) asked.now.form most (told_seen F.bytes_of result) }
-    ensures written { take (at + result.count * source_length F.family) bytes.new ≡ take at bytes.old
-        ++ source_entries F.family (cut_piece result.count (piece_seen F.bytes_of piece.now) asked.now.form).sources }
+    ensures told { AreTold (piece_seen F.bytes_of piece.now) asked.now.form most
+        (told_seen F.bytes_of result) }
+    ensures written { take (at + result.count * source_length F.family) bytes.new
+        ≡ take at bytes.old
+        ++ source_entries F.family
+        (cut_piece result.count (piece_seen F.bytes_of piece.now) asked.now.form).sources }
     ensures length { length bytes.new ≡ length bytes.old }
 {
     let none: Option<Ahead<'_, F>> = None;
@@ -117,10 +124,13 @@ fn write_exceptions<F: Family>(asked: &Asked<'_, F>, group: F::Addr, at: usize, 
     requires group { IsGroupAddress F.family (F.bytes_of group) }
     requires star { is_some (star_of (F.bytes_of group) asked.now.form) ≡ true }
     requires few { length bytes.old ≤ 65000 }
-    requires room { at + length (exceptions_in (F.bytes_of group) asked.now.form) * source_length F.family
+    requires room { at
+        + length (exceptions_in (F.bytes_of group) asked.now.form) * source_length F.family
         ≤ length bytes.old }
-    ensures written { take (at + length (exceptions_in (F.bytes_of group) asked.now.form) * source_length F.family)
-        bytes.new ≡ take at bytes.old ++ exception_entries F.family (exceptions_in (F.bytes_of group) asked.now.form) }
+    ensures written { take (at
+        + length (exceptions_in (F.bytes_of group) asked.now.form) * source_length F.family)
+        bytes.new ≡ take at bytes.old
+        ++ exception_entries F.family (exceptions_in (F.bytes_of group) asked.now.form) }
     ensures length { length bytes.new ≡ length bytes.old }
 {
     asked.is_normal();
@@ -137,13 +147,16 @@ fn write_exceptions<F: Family>(asked: &Asked<'_, F>, group: F::Addr, at: usize, 
 /// Writes the (*,G) entry of a piece that has the star, and returns the number of such entries.
 fn write_star<F: Family>(asked: &Asked<'_, F>, piece: &Piece<F::Addr>, bytes: &mut [u8]) -> usize
     requires group { IsGroupAddress F.family (F.bytes_of piece.now.group) }
-    requires star { piece.now.starred ≡ true → is_some (star_of (F.bytes_of piece.now.group) asked.now.form) ≡ true }
+    requires star { piece.now.starred ≡ true
+        → is_some (star_of (F.bytes_of piece.now.group) asked.now.form) ≡ true }
     requires room { from_bool piece.now.starred * source_length F.family ≤ length bytes.old }
     ensures one { result ≡ from_bool piece.now.starred }
-    ensures count { result ≡ length (star_entries (rps_of F.family asked.now (F.bytes_of piece.now.group))
+    ensures count { result
+        ≡ length (star_entries (rps_of F.family asked.now (F.bytes_of piece.now.group))
         (piece_form (piece_seen F.bytes_of piece.now) asked.now.form).star) }
     ensures written { take (result * source_length F.family) bytes.new
-        ≡ flat_map (canonical_entry F.family) (star_entries (rps_of F.family asked.now (F.bytes_of piece.now.group))
+        ≡ flat_map (canonical_entry F.family)
+        (star_entries (rps_of F.family asked.now (F.bytes_of piece.now.group))
         (piece_form (piece_seen F.bytes_of piece.now) asked.now.form).star) }
     ensures length { length bytes.new ≡ length bytes.old }
 {
@@ -166,17 +179,21 @@ fn write_entries<F: Family>(
     bytes: &mut [u8],
 ) -> ToldSources<F::Addr>
     requires group { IsGroupAddress F.family (F.bytes_of piece.now.group) }
-    requires star { piece.now.starred ≡ true → is_some (star_of (F.bytes_of piece.now.group) asked.now.form) ≡ true }
+    requires star { piece.now.starred ≡ true
+        → is_some (star_of (F.bytes_of piece.now.group) asked.now.form) ≡ true }
     requires few { length bytes.old ≤ 65000 }
     requires room { (from_bool piece.now.starred + most
         + length (exceptions_of (piece_form (piece_seen F.bytes_of piece.now) asked.now.form).star))
         * source_length F.family ≤ length bytes.old }
-    ensures told { AreTold (piece_seen F.bytes_of piece.now) asked.now.form most (told_seen F.bytes_of result) }
+    ensures told { AreTold (piece_seen F.bytes_of piece.now) asked.now.form most
+        (told_seen F.bytes_of result) }
     ensures joined { length (told_set (rps_of F.family asked.now)
         (cut_piece result.count (piece_seen F.bytes_of piece.now) asked.now.form)).joined
         ≡ from_bool piece.now.starred + result.count }
-    ensures written { let this = cut_piece result.count (piece_seen F.bytes_of piece.now) asked.now.form in
-        take (entry_count F.family (rps_of F.family asked.now) this * source_length F.family) bytes.new
+    ensures written { let this = cut_piece result.count (piece_seen F.bytes_of piece.now)
+        asked.now.form in
+        take (entry_count F.family (rps_of F.family asked.now) this * source_length F.family)
+        bytes.new
         ≡ set_entries F.family (rps_of F.family asked.now) this }
     ensures length { length bytes.new ≡ length bytes.old }
 {
@@ -200,17 +217,20 @@ pub(crate) fn write_set<F: Family>(
     bytes: &mut [u8],
 ) -> ToldSources<F::Addr>
     requires group { IsGroupAddress F.family (F.bytes_of piece.now.group) }
-    requires star { piece.now.starred ≡ true → is_some (star_of (F.bytes_of piece.now.group) asked.now.form) ≡ true }
+    requires star { piece.now.starred ≡ true
+        → is_some (star_of (F.bytes_of piece.now.group) asked.now.form) ≡ true }
     requires exceptions { exceptions
         ≡ length (exceptions_of (piece_form (piece_seen F.bytes_of piece.now) asked.now.form).star) }
     requires few { length bytes.old ≤ 65000 }
     requires room { group_length F.family + 4 + (from_bool piece.now.starred + most + exceptions)
         * source_length F.family ≤ length bytes.old }
-    ensures told { AreTold (piece_seen F.bytes_of piece.now) asked.now.form most (told_seen F.bytes_of result) }
+    ensures told { AreTold (piece_seen F.bytes_of piece.now) asked.now.form most
+        (told_seen F.bytes_of result) }
     ensures joined { length (told_set (rps_of F.family asked.now)
         (cut_piece result.count (piece_seen F.bytes_of piece.now) asked.now.form)).joined
         ≡ from_bool piece.now.starred + result.count }
-    ensures written { let this = cut_piece result.count (piece_seen F.bytes_of piece.now) asked.now.form in
+    ensures written { let this = cut_piece result.count (piece_seen F.bytes_of piece.now)
+        asked.now.form in
         take (set_size F.family (rps_of F.family asked.now) this) bytes.new
         ≡ canonical_set F.family (told_set (rps_of F.family asked.now) this) }
     ensures length { length bytes.new ≡ length bytes.old }

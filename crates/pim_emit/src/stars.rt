@@ -76,7 +76,8 @@ fn wants_on<F: Family>(
     port: usize,
 ) -> bool
     requires { starred ≡ is_starred ports.now (F.bytes_of group) port }
-    ensures { result ≡ wants_on ports.now.records (F.bytes_of source) (F.bytes_of group) Shared port }
+    ensures { result
+        ≡ wants_on ports.now.records (F.bytes_of source) (F.bytes_of group) Shared port }
 {
     if !starred {
         return false;
@@ -96,7 +97,8 @@ fn wants_from<F: Family>(
 ) -> bool
     requires stars { AreStars ports.now (F.bytes_of group) stars.now }
     requires within { from ≤ ports.now.ports }
-    requires none { some_below from (wants_on ports.now.records (F.bytes_of source) (F.bytes_of group) Shared)
+    requires none { some_below from
+        (wants_on ports.now.records (F.bytes_of source) (F.bytes_of group) Shared)
         ≡ false }
     ensures { result ≡ wants ports.now (F.bytes_of source) (F.bytes_of group) Shared }
 {
@@ -121,8 +123,10 @@ pub(crate) fn wants_shared<F: Family>(
     group: F::Addr,
 ) -> bool
     requires stars { AreStars ports.now (F.bytes_of group) stars.now }
-    requires first { IsFirstBelow ports.now.ports (is_starred ports.now (F.bytes_of group)) (Some first) }
-    requires state { state_on ports.now.records first (F.bytes_of group) (Rpt (F.bytes_of held.now.source))
+    requires first { IsFirstBelow ports.now.ports (is_starred ports.now (F.bytes_of group))
+        (Some first) }
+    requires state { state_on ports.now.records first (F.bytes_of group)
+        (Rpt (F.bytes_of held.now.source))
         ≡ Some held.now.state }
     ensures { result ≡ wants ports.now (F.bytes_of held.now.source) (F.bytes_of group) Shared }
 {

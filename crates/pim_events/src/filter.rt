@@ -1,14 +1,18 @@
 //! Which events are shown.
 
-ghost use Rattle.std.specs.Prelude.{◌≡◌, ◌||◌, ◌&&◌, ◌==◌, not, nat_lt, length, map, bytes_eq, option_map};
+ghost use Rattle.std.specs.Prelude.{◌≡◌, ◌||◌, ◌&&◌, ◌==◌, not, nat_lt, length, map, bytes_eq};
+ghost use Rattle.std.specs.Prelude.{option_map};
 ghost use Rattle.std.specs.List.{list_any};
 ghost use Rattle.pim_down.specs.Seen.{what_seen};
 ghost use Rattle.pim_jp.specs.Seen.{entry_seen};
 ghost use Rattle.pim_events.specs.Events.{event_seen, happening_seen, transition_seen};
 ghost use Rattle.pim_events.specs.Parts.{pending_in};
-ghost use Rattle.pim_events.specs.Filter.{filter_seen, is_same_again, is_usual, state_number, keeps_state, is_over};
-ghost use Rattle.pim_events.specs.Filter.{is_fragment, is_news, is_wanted, is_wanted_machine, is_wanted_entry};
-ghost use Rattle.pim_events.specs.Filter.{has_wanted_entry, is_wanted_set, is_wanted_message, is_wanted_packet};
+ghost use Rattle.pim_events.specs.Filter.{filter_seen, is_same_again, is_usual, state_number};
+ghost use Rattle.pim_events.specs.Filter.{keeps_state, is_over};
+ghost use Rattle.pim_events.specs.Filter.{is_fragment, is_news, is_wanted, is_wanted_machine};
+ghost use Rattle.pim_events.specs.Filter.{is_wanted_entry};
+ghost use Rattle.pim_events.specs.Filter.{has_wanted_entry, is_wanted_set, is_wanted_message};
+ghost use Rattle.pim_events.specs.Filter.{is_wanted_packet};
 ghost use Rattle.pim_events.specs.Filter.{is_chosen, is_early, is_epoch_before, is_end, is_shown};
 
 use crate::event::{Event, Happening, Skip, Transition};

@@ -1,8 +1,8 @@
 //! The events of a trace, and which of them are shown.
 //!
 //! - `Event` is a value: what happened, when, on which port, and why.
-//! - `Filter` says which events a user wants to see; `is_shown` tells whether an event is one of them.
-//!   `specs/Filter.antt` defines it.
+//! - `Filter` says which events a user wants to see; `is_shown` tells whether an event is one of
+//!   them. `specs/Filter.antt` defines it.
 //! - `Teller` takes events, and writes a text of each to a device. `Silent` writes nothing of them.
 //! - `ShortText` has the text of an address: that of RFC 5952 for IPv6. It names the address.
 //! - `Name` is the name of a port. It has no byte that a JSON string has to escape.

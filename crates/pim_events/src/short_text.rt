@@ -1,10 +1,12 @@
 //! The short text of an address.
 
-ghost use Rattle.std.specs.Prelude.{◌≡◌, ◌+◌, ◌*◌, ◌<◌, ◌≤◌, [], ◌∷◌, ◌++◌, length, codes, option_map};
+ghost use Rattle.std.specs.Prelude.{◌≡◌, ◌+◌, ◌*◌, ◌<◌, ◌≤◌, [], ◌∷◌, ◌++◌, length, codes};
+ghost use Rattle.std.specs.Prelude.{option_map};
 ghost use Rattle.std.specs.Char.{digit_char};
 ghost use Rattle.std.specs.List.{flat_map};
 ghost use Rattle.std.specs.Net.Addr.{segments_of};
-ghost use Rattle.std.specs.Net.Text.{leading_zero_digits, hex, groups_text, longest_zero_run, hex_groups_text};
+ghost use Rattle.std.specs.Net.Text.{leading_zero_digits, hex, groups_text, longest_zero_run};
+ghost use Rattle.std.specs.Net.Text.{hex_groups_text};
 ghost use Rattle.pim_events.specs.ShortText.{short_text, maybe_short, ShortTextNames, RunIsLongest};
 
 use crate::buffers::put_at;

@@ -45,7 +45,8 @@ fn add_exception<F: Family>(
     requires star { group.old.starred ≡ true }
     ensures { OnOk result (Becomes F.bytes_of row.old.items row.new.items group.new (record {
       group = (place_seen F.bytes_of row.old.items group.old).group;
-      star = with_exception (F.bytes_of source) (place_seen F.bytes_of row.old.items group.old).star;
+      star = with_exception (F.bytes_of source)
+          (place_seen F.bytes_of row.old.items group.old).star;
       sources = (place_seen F.bytes_of row.old.items group.old).sources;
     })) }
 {
@@ -61,7 +62,8 @@ fn add<F: Family>(
     held: &Record<F::Addr>,
 ) -> Result<(), AllocError>
     requires last { IsLast (length row.old.items) group.old }
-    requires takes { Takes (what_seen F.bytes_of held.now.key.what) (place_seen F.bytes_of row.old.items group.old) }
+    requires takes { Takes (what_seen F.bytes_of held.now.key.what)
+        (place_seen F.bytes_of row.old.items group.old) }
     ensures { OnOk result (Becomes F.bytes_of row.old.items row.new.items group.new
         (added (told_seen F.bytes_of held.now) (place_seen F.bytes_of row.old.items group.old))) }
 {
@@ -109,9 +111,11 @@ fn close<F: Family>(
     places: &mut Vec<Place<F::Addr>>,
     group: &Place<F::Addr>,
 ) -> Result<(), AllocError>
-    ensures { OnOk result ((row : List F.Addr) (form : List GroupForm) → IsLast (length row) group.now →
+    ensures { OnOk result ((row : List F.Addr) (form : List GroupForm)
+        → IsLast (length row) group.now →
         IsDraft F.bytes_of row places.old.items form →
-        IsDraft F.bytes_of row places.new.items (form ++ closed (place_seen F.bytes_of row group.now))) }
+        IsDraft F.bytes_of row places.new.items (form
+        ++ closed (place_seen F.bytes_of row group.now))) }
 {
     if group.starred || group.sources_start < group.sources_end {
         places.push(*group)?;

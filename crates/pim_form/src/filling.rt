@@ -1,7 +1,9 @@
 //! How the messages of a plan are filled, one after another.
 
-ghost use Rattle.std.specs.Prelude.{◌≡◌, ℕ, ◌≤◌, ◌<◌, ◌+◌, ◌↔◌, ◌++◌, [], ◌∷◌, List, length, IsTrue, IfOk, true};
-ghost use Rattle.pim_form.specs.Filling.{HasRoom, star_count, star_entries, place_sources, IsFilling, IsNext};
+ghost use Rattle.std.specs.Prelude.{◌≡◌, ℕ, ◌≤◌, ◌<◌, ◌+◌, ◌↔◌, ◌++◌, [], ◌∷◌, List, length};
+ghost use Rattle.std.specs.Prelude.{IsTrue, IfOk, true};
+ghost use Rattle.pim_form.specs.Filling.{HasRoom, star_count, star_entries, place_sources};
+ghost use Rattle.pim_form.specs.Filling.{IsFilling, IsNext};
 ghost use Rattle.pim_form.specs.Plan.{IsPlan};
 ghost use Rattle.pim_form.specs.declared.place.Place.{Place};
 
@@ -42,7 +44,8 @@ impl<A> Model for Filling<A> {
 impl<A: Copy> Filling<A> {
     /// An empty plan with room for `count` pieces.
     pub(crate) fn new(alloc: Global, count: usize) -> Result<Self, AllocError>
-        ensures { IfOk result (λ filling. filling ≡ record { pieces = []; ends = []; groups = 0; entries = 0 }) }
+        ensures { IfOk result (λ filling. filling
+            ≡ record { pieces = []; ends = []; groups = 0; entries = 0 }) }
     {
         Ok(Filling {
             pieces: Vec::with_capacity(alloc, count)?,
@@ -57,7 +60,8 @@ impl<A: Copy> Filling<A> {
         requires sources { piece.now.sources_start ≤ piece.now.sources_end }
         requires exceptions { piece.now.exceptions_start ≤ piece.now.exceptions_end }
         requires groups { self.old.groups < 255 }
-        requires entries { self.old.entries + (star_entries piece.now + place_sources piece.now) ≤ 65000 }
+        requires entries { self.old.entries + (star_entries piece.now + place_sources piece.now)
+            ≤ 65000 }
         ensures { IfOk result (λ _. self.new ≡ record {
           pieces = self.old.pieces ++ piece.now ∷ [];
           ends = self.old.ends;
@@ -94,7 +98,8 @@ fn fitting<F: Family>(filling: &Filling<F::Addr>, budget: usize) -> usize
     requires room { HasRoom F.family budget filling.now.groups filling.now.entries }
     requires budget { budget ≤ 65000 }
     ensures { (count : ℕ) → 1 ≤ count →
-        (count ≤ result) ↔ HasRoom F.family budget (filling.now.groups + 1) (filling.now.entries + count) }
+        (count ≤ result)
+        ↔ HasRoom F.family budget (filling.now.groups + 1) (filling.now.entries + count) }
 {
     if filling.groups == MOST_GROUPS {
         return 0;

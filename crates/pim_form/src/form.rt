@@ -57,7 +57,8 @@ impl<F: Family> NormalForm<F> {
 
     /// What the form has of this group, found by binary search; `None` if it has nothing.
     pub(crate) fn group(&self, group: F::Addr) -> Option<GroupView<'_, F>>
-        ensures { unwrap_or result (unwanted (F.bytes_of group)) ≡ group_in (F.bytes_of group) self.now }
+        ensures { unwrap_or result (unwanted (F.bytes_of group))
+            ≡ group_in (F.bytes_of group) self.now }
     {
         match find_group::<F>(&self.places, group) {
             Some(index) => Some(group_at::<F>(&self.row, &self.places[index])),

@@ -4,7 +4,8 @@ ghost use Rattle.std.specs.Prelude.{◌≡◌, length, map};
 ghost use Rattle.std.specs.Option.{is_some};
 ghost use Rattle.std.specs.Iterator.{YieldsFirst, item_count};
 ghost use Rattle.pim_form.specs.NormalForm.{IsNormalGroup, group_wants};
-ghost use Rattle.pim_form.specs.Rows.{IsWithin, AreKept, exceptions_of, place_seen, form_seen, IsCut};
+ghost use Rattle.pim_form.specs.Rows.{IsWithin, AreKept, exceptions_of, place_seen, form_seen};
+ghost use Rattle.pim_form.specs.Rows.{IsCut};
 
 use crate::place::Place;
 use crate::sorted::is_listed;
@@ -28,10 +29,12 @@ impl<'a, F: Family> Model for GroupView<'a, F> {
 
     ghost Value = { GroupForm };
 
-    ghost view = { λ this. group_seen F.bytes_of this.group this.starred this.exceptions.now this.sources.now };
+    ghost view = { λ this. group_seen F.bytes_of this.group this.starred this.exceptions.now
+        this.sources.now };
 
     ghost invariant = { λ this.
-        IsNormalGroup F.family (group_seen F.bytes_of this.group this.starred this.exceptions.now this.sources.now) };
+        IsNormalGroup F.family
+        (group_seen F.bytes_of this.group this.starred this.exceptions.now this.sources.now) };
 }
 
 impl<'a, F: Family> GroupView<'a, F> {

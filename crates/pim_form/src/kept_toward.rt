@@ -9,7 +9,8 @@ ghost use Rattle.pim_down.specs.Known.{known_in};
 ghost use Rattle.pim_form.specs.NormalForm.{IsFormOf, form_wants};
 ghost use Rattle.pim_form.specs.Toward.{via_in, toward, is_toward};
 ghost use Rattle.pim_form.specs.Wants.{wants};
-ghost use Rattle.pim_form.specs.KeptToward.{is_reached, star_toward, group_toward, has_some, IsStarPushed, IsPushed};
+ghost use Rattle.pim_form.specs.KeptToward.{is_reached, star_toward, group_toward, has_some};
+ghost use Rattle.pim_form.specs.KeptToward.{IsStarPushed, IsPushed};
 
 use crate::form::NormalForm;
 use crate::groups::GroupView;
@@ -26,7 +27,8 @@ fn push_reached<F: Family>(
     routes: &Routes<F>,
     upstream: F::Addr,
 ) -> Result<(), AllocError>
-    ensures { OnOk result (row.new.items ≡ row.old.items ++ filter (λ source. is_reached (known_in F.family routes.now)
+    ensures { OnOk result (row.new.items ≡ row.old.items
+        ++ filter (λ source. is_reached (known_in F.family routes.now)
         (via_in F.family routes.now) (F.bytes_of upstream) (F.bytes_of source)) sources.now) }
 {
     for &source in sources {
@@ -39,7 +41,8 @@ fn push_reached<F: Family>(
 
 /// Whether the group has a star that is requested from this neighbour.
 fn keeps_star<F: Family>(this: &GroupView<'_, F>, routes: &Routes<F>, upstream: F::Addr) -> bool
-    ensures { result ≡ is_some (star_toward (known_in F.family routes.now) (via_in F.family routes.now)
+    ensures { result
+        ≡ is_some (star_toward (known_in F.family routes.now) (via_in F.family routes.now)
         (F.bytes_of upstream) this.now.group this.now.star) }
 {
     this.star() && is_rp_reached::<F>(routes, this.group(), upstream)
@@ -71,7 +74,9 @@ fn push_group<F: Family>(
     routes: &Routes<F>,
     upstream: F::Addr,
 ) -> Result<Place<F::Addr>, AllocError>
-    ensures { IfOk result (IsPushed F.bytes_of (group_toward (known_in F.family routes.now) (via_in F.family routes.now)
+    ensures { IfOk result
+        (IsPushed F.bytes_of
+        (group_toward (known_in F.family routes.now) (via_in F.family routes.now)
         (F.bytes_of upstream) this.now) row.old.items row.new.items) }
 {
     let sources_start = row.len();
@@ -116,7 +121,8 @@ fn kept_toward<F: Family>(
 ) -> Result<NormalForm<F>, AllocError>
     ensures meaning { IfOk result (λ form. IsFormOf F.family (toward (known_in F.family routes.now)
         (via_in F.family routes.now) (F.bytes_of upstream) (form_wants normal.now)) form) }
-    ensures only { IfOk result (λ form. is_toward (known_in F.family routes.now) (via_in F.family routes.now)
+    ensures only { IfOk result
+        (λ form. is_toward (known_in F.family routes.now) (via_in F.family routes.now)
         (F.bytes_of upstream) form ≡ true) }
 {
     normal.is_normal();
@@ -143,9 +149,11 @@ impl<F: Family> NormalForm<F> {
         routes: &Routes<F>,
         upstream: F::Addr,
     ) -> Result<NormalForm<F>, AllocError>
-        ensures meaning { IfOk result (λ form. IsFormOf F.family (toward (known_in F.family routes.now)
+        ensures meaning { IfOk result
+            (λ form. IsFormOf F.family (toward (known_in F.family routes.now)
             (via_in F.family routes.now) (F.bytes_of upstream) (wants ports.now)) form) }
-        ensures only { IfOk result (λ form. is_toward (known_in F.family routes.now) (via_in F.family routes.now)
+        ensures only { IfOk result
+            (λ form. is_toward (known_in F.family routes.now) (via_in F.family routes.now)
             (F.bytes_of upstream) form ≡ true) }
     {
         let wanted = NormalForm::of(alloc, ports)?;

@@ -1,7 +1,9 @@
 //! Laws of the definitions. Nothing in this module is to be called.
 
-ghost use Rattle.pim_form.specs.Laws.{SealedMessageIsRead, SomeSourceIsOutside, OneNormalForm, OnePacking};
-ghost use Rattle.pim_form.specs.Laws.{MessagesTellTheForm, OneListOfMessages, SameMessagesSameDemand, SizeIsLength};
+ghost use Rattle.pim_form.specs.Laws.{SealedMessageIsRead, SomeSourceIsOutside, OneNormalForm};
+ghost use Rattle.pim_form.specs.Laws.{OnePacking};
+ghost use Rattle.pim_form.specs.Laws.{MessagesTellTheForm, OneListOfMessages};
+ghost use Rattle.pim_form.specs.Laws.{SameMessagesSameDemand, SizeIsLength};
 ghost use Rattle.pim_form.specs.Laws.{OneNeighbourIsAskedForAll, FirstRunIsTold};
 ghost use Rattle.pim_form.specs.Laws.{UnitsPackIfEachFits, MessagesAreThereUnlessTooBig};
 ghost use Rattle.pim_form.specs.Asked.{GroupsAreCounted};

@@ -6,8 +6,8 @@
 //! (S,G,rpt) prunes. Its sources are the (S,G) joins.
 //!
 //! - `wants` is that demand of a `Ports`. `NormalForm::of` returns its normal form,
-//!   `NormalForm::toward` that of what is requested from one neighbour. Both refuse only for lack of
-//!   memory.
+//!   `NormalForm::toward` that of what is requested from one neighbour. Both refuse only for lack
+//!   of memory.
 //! - `pack` returns the canonical messages of a form. The caller's condition is that `is_toward`
 //!   holds of the form and the writer's upstream neighbour. `TooBig` is returned exactly if some
 //!   star with its exceptions exceeds the budget, with the least such group.

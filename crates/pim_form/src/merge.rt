@@ -108,7 +108,8 @@ fn push_group<F: Family>(
     places: &mut Vec<Place<F::Addr>>,
     group: &GroupView<'_, F>,
 ) -> Result<(), AllocError>
-    ensures { OnOk result ((form : List GroupForm) → IsDraft F.bytes_of row.old.items places.old.items form →
+    ensures { OnOk result ((form : List GroupForm)
+        → IsDraft F.bytes_of row.old.items places.old.items form →
         IsDraft F.bytes_of row.new.items places.new.items (form ++ group.now ∷ [])) }
 {
     let sources_start = row.len();
@@ -133,8 +134,10 @@ fn push_both<F: Family>(
     one: &GroupView<'_, F>,
     other: &GroupView<'_, F>,
 ) -> Result<(), AllocError>
-    ensures { OnOk result ((form : List GroupForm) → IsDraft F.bytes_of row.old.items places.old.items form →
-        IsDraft F.bytes_of row.new.items places.new.items (form ++ both_groups one.now other.now ∷ [])) }
+    ensures { OnOk result ((form : List GroupForm)
+        → IsDraft F.bytes_of row.old.items places.old.items form →
+        IsDraft F.bytes_of row.new.items places.new.items (form ++ both_groups one.now other.now
+        ∷ [])) }
 {
     let sources_start = row.len();
     push_united::<F>(row, one.sources(), other.sources())?;
@@ -157,7 +160,8 @@ fn push_groups<F: Family>(
     places: &mut Vec<Place<F::Addr>>,
     groups: Groups<'_, F>,
 ) -> Result<(), AllocError>
-    ensures { OnOk result ((form : List GroupForm) → IsDraft F.bytes_of row.old.items places.old.items form →
+    ensures { OnOk result ((form : List GroupForm)
+        → IsDraft F.bytes_of row.old.items places.old.items form →
         IsDraft F.bytes_of row.new.items places.new.items (form ++ groups.entry)) }
 {
     for group in groups {

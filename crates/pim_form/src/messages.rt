@@ -1,6 +1,7 @@
 //! Messages in one block of bytes.
 
-ghost use Rattle.std.specs.Prelude.{IsTrue, ◌↔◌, ◌≡◌, ◌<◌, true, [], ◌∷◌, ◌++◌, length, slice_get, OnOk, OnErr};
+ghost use Rattle.std.specs.Prelude.{IsTrue, ◌↔◌, ◌≡◌, ◌<◌, true, [], ◌∷◌, ◌++◌, length, slice_get};
+ghost use Rattle.std.specs.Prelude.{OnOk, OnErr};
 ghost use Rattle.pim_down.specs.Known.{known_in};
 ghost use Rattle.pim_form.specs.Added.{IsAdded};
 ghost use Rattle.pim_form.specs.Blocks.{told_bytes};
@@ -41,7 +42,8 @@ impl Model for Messages {
 
     ghost view = { λ messages. messages_seen messages.bytes.items messages.spans.items };
 
-    ghost invariant = { λ messages. AllByRecursion (IsSpan (length messages.bytes.items)) messages.spans.items };
+    ghost invariant = { λ messages. AllByRecursion (IsSpan (length messages.bytes.items))
+        messages.spans.items };
 }
 
 impl Messages {
@@ -73,8 +75,10 @@ impl Messages {
         pieces: &[Place<F::Addr>],
     ) -> Result<(), AllocError>
         requires kept { IsKept F.bytes_of F.family row.now pieces.now }
-        requires rps { HaveRps F.family (known_in F.family routes.now) (form_seen F.bytes_of row.now pieces.now) }
-        requires fitting { fits F.family writer.now.budget (run_of F.bytes_of row.now pieces.now) ≡ true }
+        requires rps { HaveRps F.family (known_in F.family routes.now)
+            (form_seen F.bytes_of row.now pieces.now) }
+        requires fitting { fits F.family writer.now.budget (run_of F.bytes_of row.now pieces.now)
+            ≡ true }
         ensures { OnOk result (IsAdded F.family writer.now (known_in F.family routes.now)
             (form_seen F.bytes_of row.now pieces.now) self.old self.new) }
     {

@@ -76,10 +76,12 @@ fn told_plan<F: Family>(
     requires ends { AreEnds 0 (length plan.now.pieces.items) plan.now.ends.items }
     requires parts { AllByRecursion (IsFitting F.bytes_of F.family writer.now.budget row.now)
         (parts_from 0 plan.now.ends.items plan.now.pieces.items) }
-    requires rps { AllByRecursion (PartHasRps F.bytes_of F.family (known_in F.family routes.now) row.now)
+    requires rps { AllByRecursion
+        (PartHasRps F.bytes_of F.family (known_in F.family routes.now) row.now)
         (parts_from 0 plan.now.ends.items plan.now.pieces.items) }
     ensures { IfOk result (λ messages. TellRuns F.family writer.now (known_in F.family routes.now)
-        (map (run_of F.bytes_of row.now) (parts_from 0 plan.now.ends.items plan.now.pieces.items)) messages) }
+        (map (run_of F.bytes_of row.now) (parts_from 0 plan.now.ends.items plan.now.pieces.items))
+        messages) }
 {
     let total = total_length::<F>(writer, row, plan)?;
     let mut messages = Messages::none(alloc);
@@ -104,7 +106,8 @@ fn packed<F: Family>(
     requires fits { too_big F.family writer.now.budget normal.now ≡ None }
     requires rps { HaveRps F.family (known_in F.family routes.now) normal.now }
     ensures { IfOk result
-        (λ messages. AreCanonical F.family writer.now (known_in F.family routes.now) normal.now messages) }
+        (λ messages. AreCanonical F.family writer.now (known_in F.family routes.now) normal.now
+        messages) }
 {
     writer.is_writing();
     let plan = plan_messages::<F>(alloc, &normal.row, &normal.places, writer.budget())?;
@@ -127,11 +130,14 @@ pub fn pack<F: Family>(
     writer: &Writer<F>,
     routes: &Routes<F>,
 ) -> Result<Messages, FormFault<F>>
-    requires { is_toward (known_in F.family routes.now) (via_in F.family routes.now) writer.now.upstream normal.now
+    requires { is_toward (known_in F.family routes.now) (via_in F.family routes.now)
+        writer.now.upstream normal.now
         ≡ true }
     ensures canonical { IfOk result
-        (λ messages. AreCanonical F.family writer.now (known_in F.family routes.now) normal.now messages) }
-    ensures too_big { option_map F.bytes_of (told_too_big result) ≡ too_big F.family writer.now.budget normal.now }
+        (λ messages. AreCanonical F.family writer.now (known_in F.family routes.now) normal.now
+        messages) }
+    ensures too_big { option_map F.bytes_of (told_too_big result)
+        ≡ too_big F.family writer.now.budget normal.now }
     ensures not_tables { result ≢ Err FormFault.Tables }
 {
     routes.is_sound();

@@ -32,7 +32,8 @@ pub(crate) fn plan_messages<F: Family>(
     requires most { budget ≤ 65000 }
     requires fits { too_big F.family budget (form_seen F.bytes_of row.now places.now) ≡ None }
     ensures { IfOk result
-        (λ plan. IsPlan F.bytes_of F.family budget row.now places.now plan.pieces.items plan.ends.items) }
+        (λ plan. IsPlan F.bytes_of F.family budget row.now places.now plan.pieces.items
+        plan.ends.items) }
 {
     let _row = row;
     let mut filling = Filling::new(alloc, places.len())?;

@@ -8,7 +8,8 @@ ghost use Rattle.std.specs.List.{filter, list_all};
 ghost use Rattle.pim_down.specs.Records.{is_on};
 ghost use Rattle.pim_down.specs.Seen.{told_seen, what_seen};
 ghost use Rattle.pim_form.specs.Settled.{is_in_join, joins_if, rpt_settles};
-ghost use Rattle.pim_form.specs.Settled.{machine_settles, record_settles, is_joined_at, is_pruned_at, group_settles};
+ghost use Rattle.pim_form.specs.Settled.{machine_settles, record_settles, is_joined_at};
+ghost use Rattle.pim_form.specs.Settled.{is_pruned_at, group_settles};
 ghost use Rattle.pim_form.specs.Settled.{IsSettledAt};
 
 use crate::form::NormalForm;
@@ -80,7 +81,8 @@ fn record_settles<F: Family>(normal: &NormalForm<F>, held: &Record<F::Addr>) -> 
 
 /// Whether the state of each machine that the port holds is one that the form allows.
 fn all_held_settle<F: Family>(ports: &Ports<F>, port: usize, normal: &NormalForm<F>) -> bool
-    ensures { result ≡ list_all (record_settles normal.now) (filter (is_on port) ports.now.records) }
+    ensures { result
+        ≡ list_all (record_settles normal.now) (filter (is_on port) ports.now.records) }
 {
     for held in ports.records_on(port) {
         if !record_settles::<F>(normal, &held) {
@@ -94,7 +96,8 @@ fn all_held_settle<F: Family>(ports: &Ports<F>, port: usize, normal: &NormalForm
 #[tactic(auto, using(crate::proofs::Asked::all_left, crate::proofs::Asked::none_left))]
 fn all_joined<F: Family>(ports: &Ports<F>, port: usize, group: F::Addr, sources: &[F::Addr]) -> bool
     ensures { result
-        ≡ list_all (is_joined_at ports.now.records port (F.bytes_of group)) (map F.bytes_of sources.now) }
+        ≡ list_all (is_joined_at ports.now.records port (F.bytes_of group))
+        (map F.bytes_of sources.now) }
 {
     for &source in sources {
         if !is_in_join(ports.state_of(port, group, What::Source(source))) {
@@ -108,7 +111,8 @@ fn all_joined<F: Family>(ports: &Ports<F>, port: usize, group: F::Addr, sources:
 #[tactic(auto, using(crate::proofs::Asked::all_left, crate::proofs::Asked::none_left))]
 fn all_pruned<F: Family>(ports: &Ports<F>, port: usize, group: F::Addr, sources: &[F::Addr]) -> bool
     ensures { result
-        ≡ list_all (is_pruned_at ports.now.records port (F.bytes_of group)) (map F.bytes_of sources.now) }
+        ≡ list_all (is_pruned_at ports.now.records port (F.bytes_of group))
+        (map F.bytes_of sources.now) }
 {
     for &source in sources {
         if !is_pruned(ports.state_of(port, group, What::Rpt(source))) {

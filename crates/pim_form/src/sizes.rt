@@ -12,7 +12,8 @@ use pim_addr::{Family, group_length, source_length, unicast_length};
 pub(crate) fn message_size<F: Family>(groups: usize, entries: usize) -> usize
     requires groups { groups ≤ 255 }
     requires entries { entries ≤ 100001 }
-    ensures { result ≡ empty_message_size F.family + groups * empty_set_size F.family + entries * entry_size F.family }
+    ensures { result ≡ empty_message_size F.family + groups * empty_set_size F.family
+        + entries * entry_size F.family }
 {
     let head = unicast_length::<F>() + 8;
     let set = group_length::<F>() + 4;

@@ -3,7 +3,8 @@
 ghost use Rattle.std.specs.Prelude.{◌≡◌, List, ℕ, map, option_map};
 ghost use Rattle.std.specs.List.{list_all};
 ghost use Rattle.pim_down.specs.Known.{known_in};
-ghost use Rattle.pim_form.specs.Toward.{via_in, via_rp, upstream_of, is_neighbour, is_group_toward, is_toward};
+ghost use Rattle.pim_form.specs.Toward.{via_in, via_rp, upstream_of, is_neighbour, is_group_toward};
+ghost use Rattle.pim_form.specs.Toward.{is_toward};
 
 use crate::form::NormalForm;
 use crate::groups::GroupView;
@@ -19,7 +20,8 @@ pub fn upstream_of<F: Family>(
     group: F::Addr,
     tree: Tree,
 ) -> Option<F::Addr>
-    ensures { option_map F.bytes_of result ≡ upstream_of (known_in F.family routes.now) (via_in F.family routes.now)
+    ensures { option_map F.bytes_of result
+        ≡ upstream_of (known_in F.family routes.now) (via_in F.family routes.now)
         (F.bytes_of source) (F.bytes_of group) tree }
 {
     match tree {

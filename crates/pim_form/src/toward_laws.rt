@@ -1,7 +1,8 @@
 //! Laws on what is requested from one upstream neighbour, and on its messages. Nothing in this
 //! module is to be called.
 
-ghost use Rattle.pim_form.specs.TowardLaws.{TestTellsWhoIsAsked, OneRowAsksOneNeighbour, SameMessagesSameAsked};
+ghost use Rattle.pim_form.specs.TowardLaws.{TestTellsWhoIsAsked, OneRowAsksOneNeighbour};
+ghost use Rattle.pim_form.specs.TowardLaws.{SameMessagesSameAsked};
 ghost use Rattle.pim_form.specs.Asked.{AskedFormIsAsked};
 
 use crate::laws::same_messages_same_demand;

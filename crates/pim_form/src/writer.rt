@@ -52,7 +52,8 @@ impl<F: Family> Model for Writer<F> {
 
     ghost view = { λ w. writing_seen F.bytes_of w.upstream w.own w.holdtime w.budget };
 
-    ghost invariant = { λ w. IsWriting F.family (writing_seen F.bytes_of w.upstream w.own w.holdtime w.budget) };
+    ghost invariant = { λ w. IsWriting F.family
+        (writing_seen F.bytes_of w.upstream w.own w.holdtime w.budget) };
 }
 
 /// Whether an address isn't a valid source, or both are the same.

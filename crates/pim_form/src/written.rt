@@ -1,14 +1,16 @@
 //! One message, written in place: its head, a set for each group, and at last its header
 //! (RFC 7761, 4.9.5). The checksum is summed over the finished message.
 
-ghost use Rattle.std.specs.Prelude.{◌≡◌, ◌+◌, ◌*◌, ◌<◌, ◌≤◌, ◌^◌, true, take, drop, ◌++◌, length, map, OnOk, OnErr};
+ghost use Rattle.std.specs.Prelude.{◌≡◌, ◌+◌, ◌*◌, ◌<◌, ◌≤◌, ◌^◌, true, take, drop, ◌++◌, length};
+ghost use Rattle.std.specs.Prelude.{map, OnOk, OnErr};
 ghost use Rattle.std.specs.List.{AllByRecursion, flat_map};
 ghost use Rattle.pim_addr.specs.Encoded.{source_length};
 ghost use Rattle.pim_frame.specs.Frame.{all_routers};
 ghost use Rattle.pim_frame.specs.Seal.{IsSealed};
 ghost use Rattle.pim_frame.specs.declared.frame.MessageType.TheVariants.{JoinPrune};
 ghost use Rattle.pim_down.specs.Known.{known_in};
-ghost use Rattle.pim_jp.specs.Canonical.{IsMessageSet, canonical_entry, canonical_set, canonical, canonical_set_length};
+ghost use Rattle.pim_jp.specs.Canonical.{IsMessageSet, canonical_entry, canonical_set, canonical};
+ghost use Rattle.pim_jp.specs.Canonical.{canonical_set_length};
 ghost use Rattle.pim_jp.specs.Canonical.{canonical_sets_length};
 ghost use Rattle.pim_jp.specs.Seen.{entry_seen};
 ghost use Rattle.pim_form.specs.NormalForm.{IsNormal};
@@ -17,7 +19,8 @@ ghost use Rattle.pim_form.specs.Packing.{fits};
 ghost use Rattle.pim_form.specs.Rows.{IsKept, form_seen};
 ghost use Rattle.pim_form.specs.Plan.{run_of};
 ghost use Rattle.pim_form.specs.Added.{IsAppended};
-ghost use Rattle.pim_form.specs.Messages.{Rps, IsRpOf, HaveRps, star_entries, told_set, told_message};
+ghost use Rattle.pim_form.specs.Messages.{Rps, IsRpOf, HaveRps, star_entries, told_set};
+ghost use Rattle.pim_form.specs.Messages.{told_message};
 ghost use Rattle.pim_form.specs.Entries.{canonical_source_entry, canonical_rpt_entry};
 
 use crate::groups::{GroupView, Groups};
@@ -32,7 +35,8 @@ use std::alloc::AllocError;
 /// Writes an entry at this place.
 fn write_entry_at<F: Family>(entry: Entry<F::Addr>, at: usize, bytes: &mut [u8])
     requires { at + source_length F.family ≤ length bytes.old }
-    ensures written { bytes.new ≡ take at bytes.old ++ canonical_entry F.family (entry_seen F.bytes_of entry)
+    ensures written { bytes.new ≡ take at bytes.old
+        ++ canonical_entry F.family (entry_seen F.bytes_of entry)
         ++ drop (at + source_length F.family) bytes.old }
     ensures length { length bytes.new ≡ length bytes.old }
 {
@@ -65,7 +69,8 @@ fn write_exceptions<F: Family>(exceptions: &[F::Addr], bytes: &mut [u8])
 fn write_star<F: Family>(routes: &Routes<F>, group: &GroupView<'_, F>, bytes: &mut [u8])
     requires rp { IsRpOf F.family (known_in F.family routes.now group.now.group) group.now.star }
     requires length { length bytes.old
-        ≡ length (star_entries (known_in F.family routes.now group.now.group) group.now.star) * source_length F.family }
+        ≡ length (star_entries (known_in F.family routes.now group.now.group) group.now.star)
+        * source_length F.family }
     ensures { bytes.new ≡ flat_map (canonical_entry F.family)
         (star_entries (known_in F.family routes.now group.now.group) group.now.star) }
 {
@@ -101,7 +106,8 @@ fn write_set<F: Family>(routes: &Routes<F>, group: &GroupView<'_, F>, bytes: &mu
     requires length { length bytes.old ≡ canonical_set_length F.family
         (length (told_set (known_in F.family routes.now) group.now).joined)
         (length (told_set (known_in F.family routes.now) group.now).pruned) }
-    ensures { bytes.new ≡ canonical_set F.family (told_set (known_in F.family routes.now) group.now) }
+    ensures { bytes.new
+        ≡ canonical_set F.family (told_set (known_in F.family routes.now) group.now) }
 {
     let sources = group.sources();
     let exceptions = group.exceptions();
@@ -132,7 +138,8 @@ fn write_set_at<F: Family>(
         (length (told_set (known_in F.family routes.now) group.now).joined)
         (length (told_set (known_in F.family routes.now) group.now).pruned) }
     ensures front { take result bytes.new
-        ≡ take at bytes.old ++ canonical_set F.family (told_set (known_in F.family routes.now) group.now) }
+        ≡ take at bytes.old
+        ++ canonical_set F.family (told_set (known_in F.family routes.now) group.now) }
     ensures length { length bytes.new ≡ length bytes.old }
 {
     let length = set_length::<F>(joined_count(group) as u16, pruned_count(group) as u16);
@@ -145,11 +152,13 @@ fn write_set_at<F: Family>(
 /// Writes the sets of groups, one after another.
 fn write_sets<F: Family>(routes: &Routes<F>, groups: Groups<'_, F>, bytes: &mut [u8])
     requires rps { HaveRps F.family (known_in F.family routes.now) groups }
-    requires sets { AllByRecursion (IsMessageSet F.family) (map (told_set (known_in F.family routes.now)) groups) }
+    requires sets { AllByRecursion (IsMessageSet F.family)
+        (map (told_set (known_in F.family routes.now)) groups) }
     requires length { length bytes.old
         ≡ canonical_sets_length F.family (map (told_set (known_in F.family routes.now)) groups) }
     ensures { bytes.new
-        ≡ flat_map (canonical_set F.family) (map (told_set (known_in F.family routes.now)) groups.entry) }
+        ≡ flat_map (canonical_set F.family)
+        (map (told_set (known_in F.family routes.now)) groups.entry) }
 {
     let mut at = 0;
     for group in groups {
@@ -170,7 +179,8 @@ pub(crate) fn write_message<F: Family>(
     requires fitting { fits F.family writer.now.budget (units_of part) ≡ true }
     requires length { length bytes.old ≡ run_size F.family (units_of part) }
     ensures { IsSealed F.family writer.now.own (all_routers F.family) JoinPrune
-        (canonical F.family (told_message writer.now (known_in F.family routes.now) part.entry)) bytes.new }
+        (canonical F.family (told_message writer.now (known_in F.family routes.now) part.entry))
+        bytes.new }
 {
     writer.is_writing();
     let (_, body) = bytes.split_at_mut(4);
@@ -223,8 +233,10 @@ pub(crate) fn append_message<F: Family>(
     bytes: &mut Vec<u8>,
 ) -> Result<(), AllocError>
     requires kept { IsKept F.bytes_of F.family row.now pieces.now }
-    requires rps { HaveRps F.family (known_in F.family routes.now) (form_seen F.bytes_of row.now pieces.now) }
-    requires fitting { fits F.family writer.now.budget (run_of F.bytes_of row.now pieces.now) ≡ true }
+    requires rps { HaveRps F.family (known_in F.family routes.now)
+        (form_seen F.bytes_of row.now pieces.now) }
+    requires fitting { fits F.family writer.now.budget (run_of F.bytes_of row.now pieces.now)
+        ≡ true }
     ensures ok { OnOk result (IsAppended F.family writer.now (known_in F.family routes.now)
         (form_seen F.bytes_of row.now pieces.now) bytes.old.items bytes.new.items) }
     ensures err { OnErr result (bytes.new.items ≡ bytes.old.items) }

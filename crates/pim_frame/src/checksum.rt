@@ -113,8 +113,10 @@ fn add_address<F: Family>(start: u16, address: F::Addr) -> u16
 /// none.
 fn pseudo_header_sum<F: Family>(src: F::Addr, dst: F::Addr, message_length: u32) -> u16
     ensures sum { result
-        ≡ folded (words_sum (pseudo_header F.family (F.bytes_of src) (F.bytes_of dst) message_length)) }
-    ensures whole { length (pseudo_header F.family (F.bytes_of src) (F.bytes_of dst) message_length) % 2 ≡ 0 }
+        ≡ folded
+        (words_sum (pseudo_header F.family (F.bytes_of src) (F.bytes_of dst) message_length)) }
+    ensures whole { length (pseudo_header F.family (F.bytes_of src) (F.bytes_of dst) message_length)
+        % 2 ≡ 0 }
 {
     match F::family() {
         AddressFamily::Ipv4 => 0,
@@ -130,8 +132,10 @@ fn pseudo_header_sum<F: Family>(src: F::Addr, dst: F::Addr, message_length: u32)
 /// Returns the folded sum of a message from `src` to `dst`, with its Checksum field.
 fn folded_sum<F: Family>(src: F::Addr, dst: F::Addr, message: &[u8]) -> u16
     requires { length message.now < 2 ^ 32 }
-    ensures sum { result ≡ folded (message_sum F.family (F.bytes_of src) (F.bytes_of dst) message.now) }
-    ensures whole { length (pseudo_header F.family (F.bytes_of src) (F.bytes_of dst) (length message.now)) % 2 ≡ 0 }
+    ensures sum { result
+        ≡ folded (message_sum F.family (F.bytes_of src) (F.bytes_of dst) message.now) }
+    ensures whole { length
+        (pseudo_header F.family (F.bytes_of src) (F.bytes_of dst) (length message.now)) % 2 ≡ 0 }
 {
     let start = pseudo_header_sum::<F>(src, dst, message.len() as u32);
     add_bytes(start, message)
@@ -150,8 +154,10 @@ pub(crate) fn sums_rightly<F: Family>(src: F::Addr, dst: F::Addr, message: &[u8]
 /// Checksum field is 0.
 pub(crate) fn complement<F: Family>(src: F::Addr, dst: F::Addr, message: &[u8]) -> u16
     requires { length message.now < 2 ^ 32 }
-    ensures sum { folded (message_sum F.family (F.bytes_of src) (F.bytes_of dst) message.now) + result ≡ 65535 }
-    ensures whole { length (pseudo_header F.family (F.bytes_of src) (F.bytes_of dst) (length message.now)) % 2 ≡ 0 }
+    ensures sum { folded (message_sum F.family (F.bytes_of src) (F.bytes_of dst) message.now)
+        + result ≡ 65535 }
+    ensures whole { length
+        (pseudo_header F.family (F.bytes_of src) (F.bytes_of dst) (length message.now)) % 2 ≡ 0 }
 {
     !folded_sum::<F>(src, dst, message)
 }

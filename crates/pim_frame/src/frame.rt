@@ -1,6 +1,7 @@
 //! Reading and writing of the header of a PIM message (RFC 7761, 4.9).
 
-ghost use Rattle.std.specs.Prelude.{◌≡◌, ◌≢◌, ◌↔◌, ◌^◌, ◌<◌, ◌≤◌, length, drop, IsErrAnd, IsFalse, IsOk, Ok, Err};
+ghost use Rattle.std.specs.Prelude.{◌≡◌, ◌≢◌, ◌↔◌, ◌^◌, ◌<◌, ◌≤◌, length, drop, IsErrAnd, IsFalse};
+ghost use Rattle.std.specs.Prelude.{IsOk, Ok, Err};
 ghost use Rattle.pim_addr.specs.Faults.{judged, Answers};
 ghost use Rattle.pim_frame.specs.Frame.{all_routers, frame_faults, content, version, message_type};
 ghost use Rattle.pim_frame.specs.Frame.{is_hello_or_join_prune, IsAccepted};
@@ -95,15 +96,18 @@ pub fn open<'a, F: Family>(
 ) -> Result<Body<'a>, FrameFault>
     requires { length bytes.now < 2 ^ 32 }
     ensures answer { Answers content_of result
-        (judged (frame_faults F.family (F.bytes_of src) (F.bytes_of dst) bytes.now) (content bytes.now)) }
+        (judged (frame_faults F.family (F.bytes_of src) (F.bytes_of dst) bytes.now)
+        (content bytes.now)) }
 
     // What this implies for acceptance, for the first two faults, and for the types that are not
     // read.
-    ensures accepted { IsOk result ↔ IsAccepted F.family (F.bytes_of src) (F.bytes_of dst) bytes.now }
+    ensures accepted { IsOk result
+        ↔ IsAccepted F.family (F.bytes_of src) (F.bytes_of dst) bytes.now }
     ensures short { (result ≡ Err FrameFault.Short) ↔ (length bytes.now < 4) }
     ensures version { IsErrAnd result (λ fault. fault ≡ FrameFault.Version (version bytes.now))
         ↔ ((4 ≤ length bytes.now) × (version bytes.now ≢ 2)) }
-    ensures other { 4 ≤ length bytes.now → version bytes.now ≡ 2 → IsFalse (is_hello_or_join_prune bytes.now)
+    ensures other { 4 ≤ length bytes.now → version bytes.now ≡ 2
+        → IsFalse (is_hello_or_join_prune bytes.now)
         → result ≡ Ok (Body.Other (message_type bytes.now)) }
 {
     if bytes.len() < 4 {
@@ -146,7 +150,8 @@ fn put_header(message_type: MessageType, checksum: u16, bytes: &mut [u8])
 pub fn seal<F: Family>(src: F::Addr, dst: F::Addr, message_type: MessageType, bytes: &mut [u8])
     requires header { 4 ≤ length bytes.old }
     requires counted { length bytes.old < 2 ^ 32 }
-    ensures sealed { IsSealed F.family (F.bytes_of src) (F.bytes_of dst) message_type (drop 4 bytes.old) bytes.new }
+    ensures sealed { IsSealed F.family (F.bytes_of src) (F.bytes_of dst) message_type
+        (drop 4 bytes.old) bytes.new }
     ensures body { drop 4 bytes.new ≡ drop 4 bytes.old }
     ensures length { length bytes.new ≡ length bytes.old }
 {

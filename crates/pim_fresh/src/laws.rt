@@ -1,7 +1,9 @@
 //! The laws of this crate. Nothing in this module is to be called.
 
-ghost use Rattle.pim_fresh.specs.Laws.{FreshHearing, NoEchoIsTold, EveryHearingReaches, StaysAsAsked};
-ghost use Rattle.pim_fresh.specs.Laws.{HoldsTheUnits, NeedsTheUnits, AskingTellsUnits, HearingHasOneEnd};
+ghost use Rattle.pim_fresh.specs.Laws.{FreshHearing, NoEchoIsTold, EveryHearingReaches};
+ghost use Rattle.pim_fresh.specs.Laws.{StaysAsAsked};
+ghost use Rattle.pim_fresh.specs.Laws.{HoldsTheUnits, NeedsTheUnits, AskingTellsUnits};
+ghost use Rattle.pim_fresh.specs.Laws.{HearingHasOneEnd};
 ghost use Rattle.pim_fresh.specs.Laws.{SpanIsOfItsMessage};
 
 /// After timely deliveries and a run to a moment, exactly the units of the messages that came have

@@ -88,7 +88,8 @@ impl<'a, F: Family> Addresses<'a, F> {
     /// bytes that are no whole native address, or is too long for one option.
     pub fn in_row(row: &'a [u8]) -> Option<Addresses<'a, F>>
         ensures row { is_some result ≡ (is_row row.now && nat_lt (length row.now) (2 ^ 16)) }
-        ensures addresses { IfSome result (λ a. addresses_seen F.family a ≡ addresses_of F.family row.now) }
+        ensures addresses { IfSome result (λ a. addresses_seen F.family a
+            ≡ addresses_of F.family row.now) }
     {
         if row.len() <= usize::from(u16::MAX) && is_row(row) {
             Some(Addresses {

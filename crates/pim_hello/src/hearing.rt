@@ -30,7 +30,8 @@ pub(crate) fn end_of_time(hello: &Parameters, moment: u64) -> Option<u64>
 
 /// What a Hello that is no goodbye means, by what was kept of its sender.
 pub(crate) fn told(known: Option<Kept>, hello: &Parameters) -> Heard
-    ensures { result ≡ told_unless_goodbye (option_map (kept_seen 0) known) (parameters_seen hello.now) }
+    ensures { result
+        ≡ told_unless_goodbye (option_map (kept_seen 0) known) (parameters_seen hello.now) }
 {
     match known {
         None => Heard::New,

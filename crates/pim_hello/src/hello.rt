@@ -12,7 +12,8 @@ ghost use Rattle.pim_hello.specs.Delays.{delays_seen};
 ghost use Rattle.pim_hello.specs.Seen.{hello_seen};
 ghost use Rattle.pim_hello.specs.Kept.{parameters_seen};
 ghost use Rattle.pim_hello.specs.Steps.{with_option};
-ghost use Rattle.pim_hello.specs.Spelling.{parameters_spelled, ParametersFit, spelling_of, Fits, ReadsBack};
+ghost use Rattle.pim_hello.specs.Spelling.{parameters_spelled, ParametersFit, spelling_of, Fits};
+ghost use Rattle.pim_hello.specs.Spelling.{ReadsBack};
 
 use crate::addresses::Addresses;
 use crate::delay::{LanDelay, T_BIT};
@@ -127,7 +128,8 @@ impl<'a, F: Family> Hello<'a, F> {
     /// The fault of least offset; of several kinds at one option, the first in the order of
     /// `HelloKind`.
     pub fn read(body: &'a [u8]) -> Result<Hello<'a, F>, HelloFault>
-        ensures { Answers (hello_seen F.family) result (judged (faults body.now) (hello_of F.family body.now)) }
+        ensures { Answers (hello_seen F.family) result
+            (judged (faults body.now) (hello_of F.family body.now)) }
     {
         let mut hello = Hello::empty();
         let mut rest = body;
@@ -166,7 +168,8 @@ impl<'a, F: Family> Hello<'a, F> {
 
     /// The length in bytes of the options without the Address List.
     fn parameters_length(&self) -> usize
-        ensures length { result ≡ length (parameters_spelled (hello_seen F.family self.now).parameters) }
+        ensures length { result
+            ≡ length (parameters_spelled (hello_seen F.family self.now).parameters) }
         ensures small { result ≤ 32 }
     {
         size_number16(self.holdtime)
@@ -177,7 +180,8 @@ impl<'a, F: Family> Hello<'a, F> {
 
     /// Writes the options without the Address List.
     fn put_parameters(&self, out: &mut [u8])
-        requires { length out.old ≡ length (parameters_spelled (hello_seen F.family self.now).parameters) }
+        requires { length out.old
+            ≡ length (parameters_spelled (hello_seen F.family self.now).parameters) }
         ensures spelled { out.new ≡ parameters_spelled (hello_seen F.family self.now).parameters }
         ensures fits { ParametersFit (hello_seen F.family self.now).parameters }
     {

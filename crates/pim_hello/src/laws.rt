@@ -1,8 +1,10 @@
 //! The laws of the definitions: the first fault is the least, and a change of the table of
 //! neighbours is one at one address. These functions do nothing.
 
-ghost use Rattle.pim_hello.specs.Laws.{FirstFaultIsLeast, HearingChangesItsSenderAlone, TimePassesForAll};
-ghost use Rattle.pim_hello.specs.Laws.{ExactlyTheEndedGo, ExpiringTwiceIsExpiringOnce, TablesThatAgreeAreOne};
+ghost use Rattle.pim_hello.specs.Laws.{FirstFaultIsLeast, HearingChangesItsSenderAlone};
+ghost use Rattle.pim_hello.specs.Laws.{TimePassesForAll};
+ghost use Rattle.pim_hello.specs.Laws.{ExactlyTheEndedGo, ExpiringTwiceIsExpiringOnce};
+ghost use Rattle.pim_hello.specs.Laws.{TablesThatAgreeAreOne};
 ghost use Rattle.pim_hello.specs.Laws.{TimeIsOverFromNextEnd};
 
 use pim_addr::first_of_parts_is_least;

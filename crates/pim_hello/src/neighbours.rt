@@ -4,7 +4,8 @@ ghost use Rattle.std.specs.Prelude.{◌≡◌, ◌≤◌, ◌^◌, length, is_so
 ghost use Rattle.pim_hello.specs.Interval.{override_interval};
 ghost use Rattle.pim_hello.specs.Kept.{parameters_seen};
 ghost use Rattle.pim_hello.specs.Seen.{hello_seen};
-ghost use Rattle.pim_hello.specs.Neighbours.{no_neighbours, neighbour_at, passed_to, without_ended, hellos_of, Hears};
+ghost use Rattle.pim_hello.specs.Neighbours.{no_neighbours, neighbour_at, passed_to, without_ended};
+ghost use Rattle.pim_hello.specs.Neighbours.{hellos_of, Hears};
 ghost use Rattle.pim_hello.specs.Neighbours.{IsAscending, IsSound, entry_at, next_end};
 ghost use Rattle.pim_hello.specs.Walk.{neighbour_seen};
 
@@ -97,7 +98,8 @@ impl<F: Family> Neighbours<F> {
 
     /// What the table has of this address, as `entries` gives it.
     pub fn get(&self, from: F::Addr) -> Option<KnownNeighbour<F::Addr>>
-        ensures { option_map (neighbour_seen F.bytes_of) result ≡ entry_at (F.bytes_of from) self.now }
+        ensures { option_map (neighbour_seen F.bytes_of) result
+            ≡ entry_at (F.bytes_of from) self.now }
     {
         match self.roster.get(from) {
             Some(kept) => Some(neighbour_at(from, kept, self.moment)),
@@ -131,7 +133,8 @@ impl<F: Family> Neighbours<F> {
         now: u64,
     ) -> Result<Heard, NeighbourFault>
         requires { now ≤ 10 ^ 15 }
-        ensures { Hears (F.bytes_of from) (hello_seen F.family hello.now).parameters now self.old result self.new }
+        ensures { Hears (F.bytes_of from) (hello_seen F.family hello.now).parameters now self.old
+            result self.new }
     {
         self.hear_parameters(from, &hello.parameters(), now)
     }
@@ -189,7 +192,8 @@ impl<F: Family> Neighbours<F> {
     /// J/P_Override_Interval(I) of a port with these delays of its own, in milliseconds (RFC 7761,
     /// 4.3.3): at most 98,302. It walks over the neighbours only where `gather_delays` would.
     pub fn override_interval(&self, own: PortDelays) -> u32
-        ensures interval { result ≡ override_interval own.propagation own.override_ms (hellos_of self.now) }
+        ensures interval { result
+            ≡ override_interval own.propagation own.override_ms (hellos_of self.now) }
         ensures bound { result ≤ 98302 }
     {
         self.roster.override_interval(own)

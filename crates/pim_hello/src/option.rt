@@ -38,7 +38,8 @@ pub(crate) struct FirstOption<'a> {
 
 /// The option at the front, or `None` if it isn't whole.
 pub(crate) fn first_option(bytes: &[u8]) -> Option<FirstOption<'_>>
-    ensures whole { MatchOption result (is_whole bytes.now ≡ false) (λ _. is_whole bytes.now ≡ true) }
+    ensures whole { MatchOption result (is_whole bytes.now ≡ false) (λ _. is_whole bytes.now
+        ≡ true) }
     ensures type_code { IfSome result (λ o. o.type_code ≡ option_type bytes.now) }
     ensures value { IfSome result (λ o. o.value.now ≡ option_value bytes.now) }
     ensures behind { IfSome result (λ o. o.behind.now ≡ behind_option bytes.now) }

@@ -1,7 +1,8 @@
 //! The neighbours of one port, an ordered index of the moments at which their times end, and the
 //! greatest of their delays. With the index, a moment at which no time ends costs one lookup.
 
-ghost use Rattle.std.specs.Prelude.{◌≡◌, ◌<◌, ◌≤◌, ◌+◌, [], map, length, OnOk, OnErr, IfSome, IsSome, not, false, ◌&&◌};
+ghost use Rattle.std.specs.Prelude.{◌≡◌, ◌<◌, ◌≤◌, ◌+◌, [], map, length, OnOk, OnErr, IfSome};
+ghost use Rattle.std.specs.Prelude.{IsSome, not, false, ◌&&◌};
 ghost use Rattle.std.specs.Prelude.{is_some, true, if◌then◌else◌};
 ghost use Rattle.std.specs.Option.{OnSome, IfNone};
 ghost use Rattle.std.specs.BTreeMap.{get, insert_entry, is_at, IsOrdered, values};
@@ -9,7 +10,8 @@ ghost use Rattle.std.specs.Map.{remove_entry};
 ghost use Rattle.pim_hello.specs.Interval.{override_interval};
 ghost use Rattle.pim_hello.specs.Kept.{hello_of_kept};
 ghost use Rattle.pim_hello.specs.Told.{ComesTo, props};
-ghost use Rattle.pim_hello.specs.Index.{AddsEnd, RemovesEnd, IndexesEnds, NoneEnded, end_kept, ended_by};
+ghost use Rattle.pim_hello.specs.Index.{AddsEnd, RemovesEnd, IndexesEnds, NoneEnded, end_kept};
+ghost use Rattle.pim_hello.specs.Index.{ended_by};
 ghost use Rattle.pim_hello.specs.Index.{least_end};
 
 use crate::interval::PortDelays;
@@ -103,10 +105,13 @@ impl<A: Ord + Copy> Roster<A> {
     /// Keeps this of an address, in place of what was kept of it. A refusal changes nothing.
     pub(crate) fn insert(&mut self, address: A, kept: Kept) -> Result<(), AllocError>
         ensures kept { OnOk result
-            (self.new.neighbours.entries ≡ insert_entry A.cmp self.old.neighbours.entries address kept) }
-        ensures count { OnOk result (length self.new.neighbours.entries ≡ length self.old.neighbours.entries
+            (self.new.neighbours.entries
+            ≡ insert_entry A.cmp self.old.neighbours.entries address kept) }
+        ensures count { OnOk result (length self.new.neighbours.entries
+            ≡ length self.old.neighbours.entries
             + (if is_some (get A.cmp self.old.neighbours address) then 0 else 1)) }
-        ensures unchanged { OnErr result (self.new.neighbours.entries ≡ self.old.neighbours.entries) }
+        ensures unchanged { OnErr result (self.new.neighbours.entries
+            ≡ self.old.neighbours.entries) }
         ensures refused { OnErr result
             ((is_some (get A.cmp self.old.neighbours address) && not (is_some kept.end)) ≡ false) }
     {
@@ -129,7 +134,8 @@ impl<A: Ord + Copy> Roster<A> {
         ensures removed { self.new.neighbours.entries
             ≡ remove_entry (is_at (A.cmp address)) self.old.neighbours.entries }
         ensures count { length self.new.neighbours.entries
-            + (if is_some (get A.cmp self.old.neighbours address) then 1 else 0) ≡ length self.old.neighbours.entries }
+            + (if is_some (get A.cmp self.old.neighbours address) then 1 else 0)
+            ≡ length self.old.neighbours.entries }
     {
         let end = self.end_of(address);
         remove_end(&mut self.ends, end, address);
@@ -150,9 +156,12 @@ impl<A: Ord + Copy> Roster<A> {
         ensures ended { IfSome result
             (λ address. ended_by moment (end_kept (get A.cmp self.old.neighbours address)) ≡ true) }
         ensures removed { IfSome result (λ address.
-            self.new.neighbours.entries ≡ remove_entry (is_at (A.cmp address)) self.old.neighbours.entries) }
-        ensures shorter { OnSome result (length self.new.neighbours.entries < length self.old.neighbours.entries) }
-        ensures unchanged { IfNone result (self.new.neighbours.entries ≡ self.old.neighbours.entries) }
+            self.new.neighbours.entries
+            ≡ remove_entry (is_at (A.cmp address)) self.old.neighbours.entries) }
+        ensures shorter { OnSome result (length self.new.neighbours.entries
+            < length self.old.neighbours.entries) }
+        ensures unchanged { IfNone result (self.new.neighbours.entries
+            ≡ self.old.neighbours.entries) }
         ensures none_ended { IfNone result (NoneEnded A.cmp moment self.old.neighbours.entries) }
     {
         let (end, address) = *self.ends.first()?;

@@ -34,7 +34,8 @@ impl DelaysTold {
 
     /// The same with the delays of one more neighbour.
     fn with(self, lan: Option<LanDelay>) -> DelaysTold
-        ensures { (hello : Parameters) (hellos : List Parameters) → hello.lan ≡ option_map delays_seen lan →
+        ensures { (hello : Parameters) (hellos : List Parameters) → hello.lan
+            ≡ option_map delays_seen lan →
             ComesTo self hellos → ComesTo result (hello ∷ hellos) }
     {
         let Some(lan) = lan else {
@@ -68,7 +69,8 @@ fn tells_no_less(now: Option<LanDelay>, before: Option<LanDelay>) -> bool
     ensures none { now ≡ None → result ≡ true }
     ensures first { IfNone before (IsSome now → result ≡ false) }
     ensures both { IfSome now (λ now. IfSome before (λ before.
-        result ≡ (nat_le before.propagation now.propagation && nat_le before.override_ms now.override_ms))) }
+        result
+        ≡ (nat_le before.propagation now.propagation && nat_le before.override_ms now.override_ms))) }
 {
     let Some(now) = now else {
         return true;
@@ -88,10 +90,13 @@ pub(crate) fn known_with(
 ) -> Option<DelaysTold>
     ensures new { known ≡ None →
         (hello : Parameters) (hellos : List Parameters) → hello.lan ≡ option_map delays_seen lan →
-        IfSome told (λ told. ComesTo told hellos) → IfSome result (λ told. ComesTo told (hello ∷ hellos)) }
+        IfSome told (λ told. ComesTo told hellos)
+        → IfSome result (λ told. ComesTo told (hello ∷ hellos)) }
     ensures known { IfSome known (λ kept. (before hello : Parameters) (hellos : List Parameters) →
-        before.lan ≡ option_map delays_seen kept.parameters.lan → hello.lan ≡ option_map delays_seen lan →
-        IfSome told (λ told. ComesTo told (before ∷ hellos)) → IfSome result (λ told. ComesTo told (hello ∷ hellos))) }
+        before.lan ≡ option_map delays_seen kept.parameters.lan → hello.lan
+        ≡ option_map delays_seen lan →
+        IfSome told (λ told. ComesTo told (before ∷ hellos))
+        → IfSome result (λ told. ComesTo told (hello ∷ hellos))) }
 {
     if let Some(kept) = known {
         if !tells_no_less(lan, kept.parameters.lan) {

@@ -24,7 +24,8 @@ pub struct KnownNeighbour<A> {
 
 /// The neighbour with the time that is left at this moment.
 pub(crate) fn neighbour_at<A>(address: A, kept: Kept, moment: u64) -> KnownNeighbour<A>
-    ensures { (bytes_of : A → List ℕ) → neighbour_seen bytes_of result ≡ entry_seen bytes_of moment (address, kept) }
+    ensures { (bytes_of : A → List ℕ) → neighbour_seen bytes_of result
+        ≡ entry_seen bytes_of moment (address, kept) }
 {
     KnownNeighbour {
         address,

@@ -6,7 +6,8 @@ ghost use Rattle.byteorder.specs.Endian.{big_bytes};
 ghost use Rattle.pim_addr.specs.Encoded.{unicast_length};
 ghost use Rattle.pim_hello.specs.Delays.{delays_seen};
 ghost use Rattle.pim_hello.specs.Seen.{addresses_seen};
-ghost use Rattle.pim_hello.specs.Spelling.{if_there, delays_spelled, address_spelled, row_spelled, row_there};
+ghost use Rattle.pim_hello.specs.Spelling.{if_there, delays_spelled, address_spelled, row_spelled};
+ghost use Rattle.pim_hello.specs.Spelling.{row_there};
 ghost use Rattle.pim_hello.specs.Spelling.{AreAddresses};
 
 use crate::addresses::Addresses;
@@ -27,7 +28,8 @@ fn put_header(type_code: u16, size: u16, out: &mut [u8])
 
 /// The length in bytes of an option whose value has 16 bits.
 pub(crate) fn size_number16(number: Option<u16>) -> usize
-    ensures size { (type_code : ℕ) → result ≡ length (if_there type_code (option_map (big_bytes 2) number)) }
+    ensures size { (type_code : ℕ) → result
+        ≡ length (if_there type_code (option_map (big_bytes 2) number)) }
     ensures small { result ≤ 8 }
 {
     if number.is_some() {
@@ -52,7 +54,8 @@ pub(crate) fn put_number16(type_code: u16, number: Option<u16>, out: &mut [u8])
 
 /// The length in bytes of an option whose value has 32 bits.
 pub(crate) fn size_number32(number: Option<u32>) -> usize
-    ensures size { (type_code : ℕ) → result ≡ length (if_there type_code (option_map (big_bytes 4) number)) }
+    ensures size { (type_code : ℕ) → result
+        ≡ length (if_there type_code (option_map (big_bytes 4) number)) }
     ensures small { result ≤ 8 }
 {
     if number.is_some() {
@@ -77,7 +80,8 @@ pub(crate) fn put_number32(type_code: u16, number: Option<u32>, out: &mut [u8])
 
 /// The length in bytes of the LAN Prune Delay option.
 pub(crate) fn size_delays(lan: Option<LanDelay>) -> usize
-    ensures size { result ≡ length (if_there 2 (option_map delays_spelled (option_map delays_seen lan))) }
+    ensures size { result
+        ≡ length (if_there 2 (option_map delays_spelled (option_map delays_seen lan))) }
     ensures small { result ≤ 8 }
 {
     if lan.is_some() { HEADER_LENGTH + 4 } else { 0 }
@@ -85,9 +89,12 @@ pub(crate) fn size_delays(lan: Option<LanDelay>) -> usize
 
 /// Writes the LAN Prune Delay option.
 pub(crate) fn put_delays(lan: Option<LanDelay>, out: &mut [u8])
-    requires { length out.old ≡ length (if_there 2 (option_map delays_spelled (option_map delays_seen lan))) }
-    ensures spelled { out.new ≡ if_there 2 (option_map delays_spelled (option_map delays_seen lan)) }
-    ensures fits { IfSome (option_map delays_seen lan) (λ d. (d.propagation < 2 ^ 15) × (d.override_ms < 2 ^ 16)) }
+    requires { length out.old
+        ≡ length (if_there 2 (option_map delays_spelled (option_map delays_seen lan))) }
+    ensures spelled { out.new
+        ≡ if_there 2 (option_map delays_spelled (option_map delays_seen lan)) }
+    ensures fits { IfSome (option_map delays_seen lan) (λ d. (d.propagation < 2 ^ 15)
+        × (d.override_ms < 2 ^ 16)) }
 {
     if let Some(delays) = lan {
         let (header, value) = out.split_at_mut(HEADER_LENGTH);
@@ -101,7 +108,8 @@ pub(crate) fn put_delays(lan: Option<LanDelay>, out: &mut [u8])
 
 /// The length in bytes of the encoded addresses.
 fn size_row<F: Family>(addresses: Addresses<'_, F>) -> usize
-    ensures size { result ≡ length (row_spelled F.family (addresses_seen F.family addresses.entry)) }
+    ensures size { result
+        ≡ length (row_spelled F.family (addresses_seen F.family addresses.entry)) }
     ensures small { result < 2 ^ 16 }
 {
     addresses.len() * unicast_length::<F>()
@@ -141,7 +149,8 @@ pub(crate) fn put_each<F: Family>(addresses: &[F::Addr], row: &mut [u8])
 /// The length in bytes of the Address List option, which is absent if there is no address.
 #[tactic(auto, using(crate::proofs::Spelled::nothing_written))]
 pub(crate) fn size_addresses<F: Family>(addresses: Addresses<'_, F>) -> usize
-    ensures size { result ≡ length (if_there 24 (row_there F.family (addresses_seen F.family addresses.entry))) }
+    ensures size { result
+        ≡ length (if_there 24 (row_there F.family (addresses_seen F.family addresses.entry))) }
     ensures small { result < 2 ^ 17 }
 {
     match size_row(addresses) {
@@ -153,7 +162,8 @@ pub(crate) fn size_addresses<F: Family>(addresses: Addresses<'_, F>) -> usize
 /// Writes the Address List option, which is absent if there is no address.
 #[tactic(auto, using(crate::proofs::Spelled::nothing_written))]
 pub(crate) fn put_addresses<F: Family>(addresses: Addresses<'_, F>, out: &mut [u8])
-    requires { length out.old ≡ length (if_there 24 (row_there F.family (addresses_seen F.family addresses))) }
+    requires { length out.old
+        ≡ length (if_there 24 (row_there F.family (addresses_seen F.family addresses))) }
     ensures { out.new ≡ if_there 24 (row_there F.family (addresses_seen F.family addresses.entry)) }
 {
     let size = size_row(addresses);

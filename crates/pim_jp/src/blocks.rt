@@ -35,7 +35,8 @@ pub(crate) struct Ends {
 pub(crate) fn number_of_source<F: Family>(source: F::Addr) -> F::Number
     ensures number { F.value_of result ≡ number_of (F.bytes_of source) }
     ensures same { (other : List ℕ) → IsAddress F.family other
-        → pointwise nat_eq other (F.bytes_of source) ≡ nat_eq (number_of other) (F.value_of result) }
+        → pointwise nat_eq other (F.bytes_of source)
+        ≡ nat_eq (number_of other) (F.value_of result) }
 {
     F::address_has_its_bytes(source);
     numbers_are_in_order();

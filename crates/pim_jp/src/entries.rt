@@ -15,7 +15,8 @@ use std::marker::{Model, PhantomData};
 /// The entry that a source and its bits name. W without R, which no legal message has, counts as
 /// (S,G).
 fn entry_named<A>(source: SourceAddress<A>) -> Entry<A>
-    ensures { (bytes_of : A → List ℕ) → entry_seen bytes_of result ≡ entry_of (source_seen bytes_of source) }
+    ensures { (bytes_of : A → List ℕ) → entry_seen bytes_of result
+        ≡ entry_of (source_seen bytes_of source) }
 {
     let SourceAddress { address, bits } = source;
     match (bits.is_rpt(), bits.is_wildcard()) {

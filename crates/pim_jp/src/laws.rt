@@ -10,8 +10,10 @@ ghost use Rattle.pim_jp.specs.Message.{GroupSet, Message, message_of};
 ghost use Rattle.pim_jp.specs.Spelling.{Spells};
 ghost use Rattle.pim_jp.specs.Faults.{faults_of, faults};
 ghost use Rattle.pim_jp.specs.Parts.{set_parts};
-ghost use Rattle.pim_jp.specs.Canonical.{IsMessageSet, IsMessage, canonical_head, canonical_set, canonical};
-ghost use Rattle.pim_jp.specs.Canonical.{canonical_head_length, canonical_set_length, canonical_sets_length};
+ghost use Rattle.pim_jp.specs.Canonical.{IsMessageSet, IsMessage, canonical_head, canonical_set};
+ghost use Rattle.pim_jp.specs.Canonical.{canonical};
+ghost use Rattle.pim_jp.specs.Canonical.{canonical_head_length, canonical_set_length};
+ghost use Rattle.pim_jp.specs.Canonical.{canonical_sets_length};
 ghost use Rattle.pim_jp.specs.Plain.{SpellsPlainly};
 ghost use Rattle.pim_jp.specs.Laws.{ToldBefore, ReadsHead, ReadsSet};
 
@@ -66,14 +68,16 @@ pub fn canonical_is_read()
 /// The canonical spelling is the only one whose ignored bits are as they are written.
 pub fn one_canonical_spelling()
     ensures { (family : AddressFamily) (message : Message) (body : List ℕ) →
-        IsMessage family message → SpellsPlainly family message body ↔ (body ≡ canonical family message) }
+        IsMessage family message → SpellsPlainly family message body
+        ↔ (body ≡ canonical family message) }
 {}
 
 /// The canonical head has no fault and is read as its values, with any bytes after it.
 pub fn canonical_head_is_read()
     ensures { (family : AddressFamily) (upstream behind : List ℕ) (sets holdtime : ℕ) →
         length upstream ≡ address_length family → sets < 2 ^ 8 → holdtime < 2 ^ 16 →
-        ReadsHead family upstream sets holdtime behind (canonical_head family upstream sets holdtime ++ behind) }
+        ReadsHead family upstream sets holdtime behind (canonical_head family upstream sets holdtime
+        ++ behind) }
 {}
 
 /// The canonical spelling of a group set is read as that set, with any bytes after it. The next law
@@ -86,9 +90,11 @@ pub fn canonical_set_is_read()
 /// Group sets of which the first has the canonical spelling have no fault if those after it have
 /// none.
 pub fn canonical_set_has_no_fault()
-    ensures { (family : AddressFamily) (set : GroupSet) (count at : ℕ) (behind : List ℕ) → IsMessageSet family set →
+    ensures { (family : AddressFamily) (set : GroupSet) (count at : ℕ) (behind : List ℕ)
+        → IsMessageSet family set →
         ((at : ℕ) → faults_of family (set_parts family count at behind) ≡ []) →
-        faults_of family (set_parts family (suc count) at (canonical_set family set ++ behind)) ≡ [] }
+        faults_of family (set_parts family (suc count) at (canonical_set family set ++ behind))
+        ≡ [] }
 {}
 
 /// The canonical head has the length that `head_length` returns.
@@ -101,11 +107,13 @@ pub fn canonical_head_has_its_length()
 /// The canonical spelling of a group set has the length that `set_length` returns for its counts.
 pub fn canonical_set_has_its_length()
     ensures { (family : AddressFamily) (set : GroupSet) → IsMessageSet family set →
-        length (canonical_set family set) ≡ canonical_set_length family (length set.joined) (length set.pruned) }
+        length (canonical_set family set)
+        ≡ canonical_set_length family (length set.joined) (length set.pruned) }
 {}
 
 /// The canonical spelling of a message has the length of its head and its group sets.
 pub fn canonical_has_its_length()
     ensures { (family : AddressFamily) (message : Message) → IsMessage family message →
-        length (canonical family message) ≡ canonical_head_length family + canonical_sets_length family message.sets }
+        length (canonical family message) ≡ canonical_head_length family
+        + canonical_sets_length family message.sets }
 {}

@@ -1,6 +1,7 @@
 //! Marks on sorted numbers that are also among others.
 
-ghost use Rattle.std.specs.Prelude.{◌≡◌, ℕ, ◌≤◌, ◌<◌, ◌||◌, List, true, nat_eq, get_or, take, length};
+ghost use Rattle.std.specs.Prelude.{◌≡◌, ℕ, ◌≤◌, ◌<◌, ◌||◌, List, true, nat_eq, get_or, take};
+ghost use Rattle.std.specs.Prelude.{length};
 ghost use Rattle.std.specs.List.Sorted.{IsSorted};
 ghost use Rattle.pim_jp.specs.declared.entry.Entry.{Entry};
 ghost use Rattle.pim_jp.specs.Seen.{entry_seen};
@@ -85,7 +86,8 @@ pub(crate) fn mark_entries<F: Family>(
     ensures marked { (this : Entry (List ℕ)) → HasAddress F.family this
         → is_listed F.value_of sources.now rpts.now this ≡ true
         → has_mark F.value_of sources.now rpts.now source_marks.new rpt_marks.new this
-        ≡ (has_mark F.value_of sources.now rpts.now source_marks.old rpt_marks.old this || is_in entries.entry this) }
+        ≡ (has_mark F.value_of sources.now rpts.now source_marks.old rpt_marks.old this
+        || is_in entries.entry this) }
 {
     for entry in entries {
         mark_entry::<F>(sources, rpts, source_marks, rpt_marks, entry);

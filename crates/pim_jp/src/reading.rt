@@ -1,6 +1,7 @@
 //! The check of a body: once, forward, up to the first fault.
 
-ghost use Rattle.std.specs.Prelude.{◌≡◌, ℕ, ◌+◌, ◌*◌, ◌≤◌, ◌<◌, ◌^◌, List, [], length, map, drop, IfOk, IfErr, Ok};
+ghost use Rattle.std.specs.Prelude.{◌≡◌, ℕ, ◌+◌, ◌*◌, ◌≤◌, ◌<◌, ◌^◌, List, [], length, map, drop};
+ghost use Rattle.std.specs.Prelude.{IfOk, IfErr, Ok};
 ghost use Rattle.std.specs.List.{list_any};
 ghost use Rattle.pim_addr.specs.Encoded.{unicast_length, group_length, source_length};
 ghost use Rattle.pim_jp.specs.declared.fault.JpKind.{JpKind};
@@ -9,7 +10,8 @@ ghost use Rattle.pim_jp.specs.Spelling.{is_star};
 ghost use Rattle.pim_jp.specs.Parts.{upstream, group, rest, entry_parts, set_parts};
 ghost use Rattle.pim_jp.specs.Faults.{short_kinds, kinds_at, faults_of, faults};
 ghost use Rattle.pim_jp.specs.Whole.{set_length, HoldsSets, HoldsMessage};
-ghost use Rattle.pim_jp.specs.Reading.{Judges, is_source_entry, is_rpt_entry, Passes, Stops, EntriesPass, AreApart};
+ghost use Rattle.pim_jp.specs.Reading.{Judges, is_source_entry, is_rpt_entry, Passes, Stops};
+ghost use Rattle.pim_jp.specs.Reading.{EntriesPass, AreApart};
 ghost use Rattle.pim_jp.specs.Reading.{ClashesAt};
 ghost use Rattle.pim_jp.specs.Reading.{lists_then, lists_length, lists_end, after_lists, set_then};
 
@@ -96,10 +98,12 @@ fn check_joined<F: Family>(at: usize, count: u16, bytes: &[u8]) -> Result<EntryT
     requires fits { at + length bytes.now < 2 ^ 64 }
     ensures passes { IfOk result (λ _. EntriesPass F.family count [] at bytes.now) }
     ensures whole { IfOk result (λ _. count * source_length F.family ≤ length bytes.now) }
-    ensures star { IfOk result (λ types. types.star ≡ list_any is_star (entries_of F.family count bytes.now)) }
+    ensures star { IfOk result (λ types. types.star
+        ≡ list_any is_star (entries_of F.family count bytes.now)) }
     ensures source { IfOk result (λ types. types.source
         ≡ list_any is_source_entry (entries_of F.family count bytes.now)) }
-    ensures rpt { IfOk result (λ types. types.rpt ≡ list_any is_rpt_entry (entries_of F.family count bytes.now)) }
+    ensures rpt { IfOk result (λ types. types.rpt
+        ≡ list_any is_rpt_entry (entries_of F.family count bytes.now)) }
     ensures stops { IfErr result (Stops F.family (entry_parts F.family count [] [] at bytes.now)) }
 {
     match check_entries::<F>(count, bytes, false) {
@@ -155,7 +159,8 @@ fn check_pruned<F: Family>(
     requires rpt { types.rpt ≡ list_any is_rpt_entry joined.now }
     ensures passes { IfOk result (λ _. EntriesPass F.family count joined.now at bytes.now) }
     ensures whole { IfOk result (λ _. count * source_length F.family ≤ length bytes.now) }
-    ensures stops { IfErr result (Stops F.family (entry_parts F.family count joined.now joined.now at bytes.now)) }
+    ensures stops { IfErr result
+        (Stops F.family (entry_parts F.family count joined.now joined.now at bytes.now)) }
 {
     match check_entries::<F>(count, bytes, types.star) {
         Ok(pruned) => {
@@ -199,7 +204,8 @@ fn check_lists<F: Family>(at: usize, bytes: &[u8]) -> Result<&[u8], JpFault>
 fn check_set<F: Family>(at: usize, bytes: &[u8]) -> Result<&[u8], JpFault>
     requires fits { at + length bytes.now < 2 ^ 64 }
     ensures passes { IfOk result (λ _. Passes F.family (set_then F.family at bytes.now)
-        (λ next. next (lists_end F.family (at + group_length F.family) (drop (group_length F.family) bytes.now))
+        (λ next. next
+        (lists_end F.family (at + group_length F.family) (drop (group_length F.family) bytes.now))
         (after_set F.family bytes.now))) }
     ensures whole { IfOk result (λ _. set_length F.family bytes.now ≤ length bytes.now) }
     ensures after { IfOk result (λ after. after.now ≡ after_set F.family bytes.now) }

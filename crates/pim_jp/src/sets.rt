@@ -2,7 +2,8 @@
 
 ghost use Rattle.std.specs.Prelude.{◌≡◌, ◌≤◌, length};
 ghost use Rattle.std.specs.Iterator.{YieldsFirst, item_count};
-ghost use Rattle.pim_jp.specs.Message.{joined_count, pruned_count, joined_bytes, pruned_bytes, after_set, set_of};
+ghost use Rattle.pim_jp.specs.Message.{joined_count, pruned_count, joined_bytes, pruned_bytes};
+ghost use Rattle.pim_jp.specs.Message.{after_set, set_of};
 ghost use Rattle.pim_jp.specs.Message.{sets_of};
 ghost use Rattle.pim_jp.specs.Whole.{set_length, HoldsSets};
 
@@ -58,7 +59,8 @@ pub struct SetView<'a, F: Family> {
 impl<'a, F: Family> Model for SetView<'a, F> {
     ghost use Rattle.std.specs.Prelude.{◌≤◌, length};
     ghost use Rattle.std.specs.Prelude.{◌≡◌};
-    ghost use Rattle.pim_jp.specs.Message.{GroupSet, joined_count, pruned_count, joined_bytes, pruned_bytes, set_of};
+    ghost use Rattle.pim_jp.specs.Message.{GroupSet, joined_count, pruned_count, joined_bytes};
+    ghost use Rattle.pim_jp.specs.Message.{pruned_bytes, set_of};
     ghost use Rattle.pim_jp.specs.Whole.{set_length};
 
     ghost Value = { GroupSet };

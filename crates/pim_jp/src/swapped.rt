@@ -30,7 +30,8 @@ fn from_listed<'a, F: Family>(
     requires sources { IsSorted F.Number.cmp sources.now }
     requires rpts { IsSorted F.Number.cmp rpts.now }
     ensures { (this : Entry (List ℕ)) → HasAddress F.family this
-        → is_listed F.value_of sources.now rpts.now this ≡ true → is_in entries.now this ≡ is_in result this }
+        → is_listed F.value_of sources.now rpts.now this ≡ true → is_in entries.now this
+        ≡ is_in result this }
 {
     let mut left = entries.again();
     while left.count_left() > 0 {
@@ -61,11 +62,13 @@ fn first_marked<F: Family, const N: usize>(
     requires copies { length sources.now + length rpts.now ≤ length copies.old }
     requires together { 64 ≤ length together.old }
     requires long { count * source_length F.family ≤ length bytes.now }
-    requires listed { (place : ℕ) → place < count → is_star (entry_at F.family place bytes.now) ≡ false
+    requires listed { (place : ℕ) → place < count → is_star (entry_at F.family place bytes.now)
+        ≡ false
         → is_listed F.value_of sources.now rpts.now (entry_at F.family place bytes.now) ≡ true }
     ensures bound { result ≤ count }
     ensures apart { AreApart F.family joined.entry result bytes.now }
-    ensures clash { result < count → is_in joined.entry (entry_at F.family result bytes.now) ≡ true }
+    ensures clash { result < count → is_in joined.entry (entry_at F.family result bytes.now)
+        ≡ true }
 {
     let mut source_marks = [false; N];
     let mut rpt_marks = [false; N];
@@ -98,7 +101,8 @@ fn first_clash_of_sorted<F: Family, const N: usize>(
     requires copies { length sources.now + length rpts.now ≤ length copies.old }
     requires together { 64 ≤ length together.old }
     requires long { count * source_length F.family ≤ length bytes.now }
-    requires listed { (place : ℕ) → place < count → is_star (entry_at F.family place bytes.now) ≡ false
+    requires listed { (place : ℕ) → place < count → is_star (entry_at F.family place bytes.now)
+        ≡ false
         → is_listed F.value_of sources.now rpts.now (entry_at F.family place bytes.now) ≡ true }
     ensures bound { result ≤ count }
     ensures apart { AreApart F.family joined.now result bytes.now }

@@ -7,7 +7,8 @@ ghost use Rattle.pim_addr.specs.Encoded.{source_faults, source_length, source_va
 ghost use Rattle.pim_jp.specs.Message.{entry_of, entries_of};
 ghost use Rattle.pim_jp.specs.Spelling.{is_star};
 ghost use Rattle.pim_jp.specs.Faults.{address_kind};
-ghost use Rattle.pim_jp.specs.Reading.{Judges, lone_kinds, AreClean, StopsAt, is_source_entry, is_rpt_entry};
+ghost use Rattle.pim_jp.specs.Reading.{Judges, lone_kinds, AreClean, StopsAt, is_source_entry};
+ghost use Rattle.pim_jp.specs.Reading.{is_rpt_entry};
 
 use crate::fault::JpKind;
 use bitflags::Flags;
@@ -83,10 +84,12 @@ fn check_star<F: Family>(bytes: &[u8], has_star: bool) -> Result<EntryTypes, JpK
     requires whole { source_length F.family ≤ length bytes.now }
     requires star { (source_value F.family bytes.now).wildcard ≡ true }
     ensures told { Judges result (lone_kinds F.family has_star bytes.now) }
-    ensures star { IfOk result (λ types. types.star ≡ is_star (entry_of (source_value F.family bytes.now))) }
+    ensures star { IfOk result (λ types. types.star
+        ≡ is_star (entry_of (source_value F.family bytes.now))) }
     ensures source { IfOk result (λ types. types.source
         ≡ is_source_entry (entry_of (source_value F.family bytes.now))) }
-    ensures rpt { IfOk result (λ types. types.rpt ≡ is_rpt_entry (entry_of (source_value F.family bytes.now))) }
+    ensures rpt { IfOk result (λ types. types.rpt
+        ≡ is_rpt_entry (entry_of (source_value F.family bytes.now))) }
 {
     let bits = SourceBits::from_bits_retain(bytes[2]);
     if !bits.is_rpt() {
@@ -109,10 +112,12 @@ fn check_star<F: Family>(bytes: &[u8], has_star: bool) -> Result<EntryTypes, JpK
 /// whether a (*,G) entry precedes it in its group set.
 fn check_entry<F: Family>(bytes: &[u8], has_star: bool) -> Result<EntryTypes, JpKind>
     ensures told { Judges result (lone_kinds F.family has_star bytes.now) }
-    ensures star { IfOk result (λ types. types.star ≡ is_star (entry_of (source_value F.family bytes.now))) }
+    ensures star { IfOk result (λ types. types.star
+        ≡ is_star (entry_of (source_value F.family bytes.now))) }
     ensures source { IfOk result (λ types. types.source
         ≡ is_source_entry (entry_of (source_value F.family bytes.now))) }
-    ensures rpt { IfOk result (λ types. types.rpt ≡ is_rpt_entry (entry_of (source_value F.family bytes.now))) }
+    ensures rpt { IfOk result (λ types. types.rpt
+        ≡ is_rpt_entry (entry_of (source_value F.family bytes.now))) }
     ensures whole { IfOk result (λ _. source_length F.family ≤ length bytes.now) }
 {
     check_front::<F>(bytes)?;
@@ -144,9 +149,11 @@ pub(crate) fn check_entries<F: Family>(
         ≡ (has_star || list_any is_star (entries_of F.family count bytes.now))) }
     ensures source { IfOk result (λ types. types.source
         ≡ list_any is_source_entry (entries_of F.family count bytes.now)) }
-    ensures rpt { IfOk result (λ types. types.rpt ≡ list_any is_rpt_entry (entries_of F.family count bytes.now)) }
+    ensures rpt { IfOk result (λ types. types.rpt
+        ≡ list_any is_rpt_entry (entries_of F.family count bytes.now)) }
     ensures whole { IfOk result (λ _. count * source_length F.family ≤ length bytes.now) }
-    ensures stop { IfErr result (λ stop. StopsAt F.family has_star count bytes.now stop.place stop.kind) }
+    ensures stop { IfErr result
+        (λ stop. StopsAt F.family has_star count bytes.now stop.place stop.kind) }
     ensures before { IfErr result (λ stop. stop.place * source_length F.family ≤ length bytes.now) }
 {
     let mut star = has_star;

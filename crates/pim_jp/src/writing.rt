@@ -2,14 +2,16 @@
 //! group set. The functions write what they are given, also an address or a list that no legal
 //! message has. Refusing is for the reader.
 
-ghost use Rattle.std.specs.Prelude.{◌≡◌, ℕ, ◌+◌, ◌*◌, ◌<◌, ◌≤◌, ◌^◌, List, ◌++◌, length, map, take, drop};
+ghost use Rattle.std.specs.Prelude.{◌≡◌, ℕ, ◌+◌, ◌*◌, ◌<◌, ◌≤◌, ◌^◌, List, ◌++◌, length, map, take};
+ghost use Rattle.std.specs.Prelude.{drop};
 ghost use Rattle.std.specs.List.{flat_map};
 ghost use Rattle.byteorder.specs.Endian.{big_bytes};
 ghost use Rattle.pim_addr.specs.Encoded.{source_length, group_length};
 ghost use Rattle.pim_addr.specs.Canonical.{canonical_group};
 ghost use Rattle.pim_addr.specs.Seen.{source_seen};
 ghost use Rattle.pim_jp.specs.Spelling.{source_of};
-ghost use Rattle.pim_jp.specs.Canonical.{canonical_entry, canonical_set, canonical_head, canonical_head_length};
+ghost use Rattle.pim_jp.specs.Canonical.{canonical_entry, canonical_set, canonical_head};
+ghost use Rattle.pim_jp.specs.Canonical.{canonical_head_length};
 ghost use Rattle.pim_jp.specs.Canonical.{canonical_set_length};
 ghost use Rattle.pim_jp.specs.Seen.{entry_seen, set_seen};
 
@@ -52,7 +54,8 @@ pub fn put_head<F: Family>(upstream: F::Addr, sets: u8, holdtime: u16, bytes: &m
 
 /// The encoded source of an entry, whose W and R bits name its type.
 fn source_of<A>(entry: Entry<A>) -> SourceAddress<A>
-    ensures { (bytes_of : A → List ℕ) → source_seen bytes_of result ≡ source_of (entry_seen bytes_of entry) }
+    ensures { (bytes_of : A → List ℕ) → source_seen bytes_of result
+        ≡ source_of (entry_seen bytes_of entry) }
 {
     match entry {
         Entry::Star(address) => SourceAddress {
@@ -83,7 +86,8 @@ pub fn put_entry<F: Family>(entry: Entry<F::Addr>, bytes: &mut [u8])
 /// Writes an entry at the offset `at`.
 fn put_entry_at<F: Family>(entry: Entry<F::Addr>, at: usize, bytes: &mut [u8])
     requires { at + source_length F.family ≤ length bytes.old }
-    ensures written { bytes.new ≡ take at bytes.old ++ canonical_entry F.family (entry_seen F.bytes_of entry)
+    ensures written { bytes.new ≡ take at bytes.old
+        ++ canonical_entry F.family (entry_seen F.bytes_of entry)
         ++ drop (at + source_length F.family) bytes.old }
     ensures length { length bytes.new ≡ length bytes.old }
 {
@@ -95,7 +99,8 @@ fn put_entry_at<F: Family>(entry: Entry<F::Addr>, at: usize, bytes: &mut [u8])
 /// Writes the entries of one list.
 fn put_entries<F: Family>(entries: &[Entry<F::Addr>], bytes: &mut [u8])
     requires { length bytes.old ≡ length entries.now * source_length F.family }
-    ensures { bytes.new ≡ flat_map (canonical_entry F.family) (map (entry_seen F.bytes_of) entries.now) }
+    ensures { bytes.new
+        ≡ flat_map (canonical_entry F.family) (map (entry_seen F.bytes_of) entries.now) }
 {
     for (index, entry) in entries.iter().enumerate() {
         put_entry_at::<F>(*entry, index * source_length::<F>(), bytes);
@@ -106,7 +111,8 @@ fn put_entries<F: Family>(entries: &[Entry<F::Addr>], bytes: &mut [u8])
 /// slice is 4 bytes longer than an encoded group.
 pub fn put_group_and_counts<F: Family>(group: F::Addr, joined: u16, pruned: u16, bytes: &mut [u8])
     requires { length bytes.old ≡ group_length F.family + 4 }
-    ensures { bytes.new ≡ canonical_group F.family (F.bytes_of group) ++ big_bytes 2 joined ++ big_bytes 2 pruned }
+    ensures { bytes.new ≡ canonical_group F.family (F.bytes_of group) ++ big_bytes 2 joined
+        ++ big_bytes 2 pruned }
 {
     let (address, counts) = bytes.split_at_mut(group_length::<F>());
     put_group::<F>(group, address);
@@ -125,7 +131,8 @@ pub fn put_set<F: Family>(
 )
     requires joined { length joined.now < 2 ^ 16 }
     requires pruned { length pruned.now < 2 ^ 16 }
-    requires length { length bytes.old ≡ canonical_set_length F.family (length joined.now) (length pruned.now) }
+    requires length { length bytes.old
+        ≡ canonical_set_length F.family (length joined.now) (length pruned.now) }
     ensures { bytes.new ≡ canonical_set F.family (set_seen F.bytes_of group joined.now pruned.now) }
 {
     let (front, behind) = bytes.split_at_mut(group_length::<F>() + 4);

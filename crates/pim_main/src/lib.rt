@@ -1,8 +1,8 @@
-//! The program `pimtree` but for its `main`, so that small programs beside it can be run by the gate,
-//! each with words of its own.
+//! The program `pimtree` but for its `main`, so that small programs beside it can be run by the
+//! gate, each with words of its own.
 //!
-//! `run_program` gives the engines of `pim_commands` and `pim_session` the process's own devices and
-//! files. It has no contract: what a file or a device holds, no contract can name.
+//! `run_program` gives the engines of `pim_commands` and `pim_session` the process's own devices
+//! and files. It has no contract: what a file or a device holds, no contract can name.
 #![tactic(auto)]
 
 mod files;

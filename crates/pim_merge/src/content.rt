@@ -1,12 +1,14 @@
 //! What the record of a turn holds for a router of one address family.
 
-ghost use Rattle.std.specs.Prelude.{◌≡◌, ◌<◌, ◌≤◌, ◌^◌, List, ℕ, length, Some, None, option_map, if◌then◌else◌};
+ghost use Rattle.std.specs.Prelude.{◌≡◌, ◌<◌, ◌≤◌, ◌^◌, List, ℕ, length, Some, None, option_map};
+ghost use Rattle.std.specs.Prelude.{if◌then◌else◌};
 ghost use Rattle.pim_addr.specs.Address.{address_length};
 ghost use Rattle.pim_addr.specs.Families.{is_same};
 ghost use Rattle.pim_capture.specs.Capture.{most_captured};
 ghost use Rattle.pim_capture.specs.Next.{PayloadLiesIn, event_seen};
 ghost use Rattle.pim_capture.specs.Seen.{ip_seen, LiesIn};
-ghost use Rattle.pim_merge.specs.Content.{ends_seen, ends_in, content_seen, datagram_in, content_in, IfDatagram};
+ghost use Rattle.pim_merge.specs.Content.{ends_seen, ends_in, content_seen, datagram_in};
+ghost use Rattle.pim_merge.specs.Content.{content_in, IfDatagram};
 
 use crate::merge::Turn;
 use pim_addr::{AddressFamily, Family};
@@ -97,7 +99,8 @@ fn ends_of<F: Family>(ip: &Ip) -> Option<Ends<F::Addr>>
 fn datagram_in<'a, F: Family>(ip: &Ip, bytes: &'a [u8]) -> Content<'a, F::Addr>
     requires payload { LiesIn bytes.now ip.now }
     requires bytes { length bytes.now ≤ most_captured }
-    ensures content { content_seen F.bytes_of result ≡ datagram_in F.family (ip_seen bytes.now ip.now) }
+    ensures content { content_seen F.bytes_of result
+        ≡ datagram_in F.family (ip_seen bytes.now ip.now) }
     ensures bytes { IfDatagram result (λ datagram. length datagram.payload.now < 2 ^ 32) }
 {
     let Some(ends) = ends_of::<F>(ip) else {

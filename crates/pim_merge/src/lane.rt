@@ -1,9 +1,11 @@
 //! A capture of a merge, with its head.
 
-ghost use Rattle.std.specs.Prelude.{◌≡◌, ◌≤◌, ◌⊎◌, ℕ, List, length, None, Some, Err, IfOk, IfErr, IsSome};
+ghost use Rattle.std.specs.Prelude.{◌≡◌, ◌≤◌, ◌⊎◌, ℕ, List, length, None, Some, Err, IfOk, IfErr};
+ghost use Rattle.std.specs.Prelude.{IsSome};
 ghost use Rattle.std.specs.Option.{option_map, IfSome};
 ghost use Rattle.pim_capture.specs.Capture.{answers, most_captured, most_records, Answer};
-ghost use Rattle.pim_capture.specs.Next.{event_seen, PayloadLiesIn, IsBy, latest_moment, IsRefusal, CountsReads};
+ghost use Rattle.pim_capture.specs.Next.{event_seen, PayloadLiesIn, IsBy, latest_moment, IsRefusal};
+ghost use Rattle.pim_capture.specs.Next.{CountsReads};
 ghost use Rattle.pim_capture.specs.Next.{OnMemory, named_in};
 ghost use Rattle.pim_capture.specs.declared.capture.State.TheVariants.{Unbegun};
 ghost use Rattle.pim_merge.specs.Lane.{coming_on, without_head, IsLooked, head_time, lane_left};
@@ -42,7 +44,8 @@ impl<R: Feed + Drop> Model for Lane<R> {
     ghost use Rattle.pim_capture.specs.Next.{PayloadLiesIn, IsBy, latest_moment};
 
     ghost invariant = { λ lane. (vec_len lane.buffer ≤ most_captured)
-        × IfSome lane.head (PayloadLiesIn lane.buffer.items) × IfSome lane.head (IsBy latest_moment) };
+        × IfSome lane.head (PayloadLiesIn lane.buffer.items)
+        × IfSome lane.head (IsBy latest_moment) };
 }
 
 impl<R: Feed + Drop> Lane<R> {

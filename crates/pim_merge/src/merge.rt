@@ -1,6 +1,7 @@
 //! The merge of captures.
 
-ghost use Rattle.std.specs.Prelude.{◌≡◌, ◌<◌, ◌≤◌, [], ◌∷◌, ◌++◌, List, length, map, None, Some, IfOk, IfErr, OnErr};
+ghost use Rattle.std.specs.Prelude.{◌≡◌, ◌<◌, ◌≤◌, [], ◌∷◌, ◌++◌, List, length, map, None, Some};
+ghost use Rattle.std.specs.Prelude.{IfOk, IfErr, OnErr};
 ghost use Rattle.std.specs.Prelude.{false};
 ghost use Rattle.std.specs.Prelude.{slice_set};
 ghost use Rattle.std.specs.Option.{option_map, IfSome};
@@ -10,9 +11,11 @@ ghost use Rattle.pim_capture.specs.Next.{latest_moment, event_seen, PayloadLiesI
 ghost use Rattle.pim_capture.specs.declared.capture.State.TheVariants.{Unbegun};
 ghost use Rattle.pim_time.specs.Text.{millis_of};
 ghost use Rattle.pim_merge.specs.Merge.{turn, fails, earliest_from, clock_by, is_past, moment_at};
-ghost use Rattle.pim_merge.specs.Lane.{IsComing, IsLooked, coming_on, failures_of, records_to_come, head_time, lane_at};
+ghost use Rattle.pim_merge.specs.Lane.{IsComing, IsLooked, coming_on, failures_of, records_to_come};
+ghost use Rattle.pim_merge.specs.Lane.{head_time, lane_at};
 ghost use Rattle.pim_merge.specs.Lane.{without_head, rooms_of, sizes_of, KeepRooms};
-ghost use Rattle.pim_merge.specs.Next.{TellsTurn, IsCause, CountsFailures, KeepsTime, IfTaken, HoldsRecord, turns_left};
+ghost use Rattle.pim_merge.specs.Next.{TellsTurn, IsCause, CountsFailures, KeepsTime, IfTaken};
+ghost use Rattle.pim_merge.specs.Next.{HoldsRecord, turns_left};
 ghost use Rattle.pim_merge.specs.Next.{TellsTurnBy};
 ghost use Rattle.pim_merge.specs.Next.{bytes_at, with_fault, LacksMemory};
 
@@ -114,7 +117,8 @@ impl<R: Feed + Drop> Merge<R> {
         ensures coming { IfOk result (λ _. (captures : List (List Answer)) →
             IsComing self.old.lanes captures → IsComing self.new.lanes captures) }
         ensures looked { IfOk result (λ _. AllByRecursion IsLooked self.new.lanes) }
-        ensures fault { IfErr result (λ told. (captures : List (List Answer)) → IsComing self.old.lanes captures →
+        ensures fault { IfErr result (λ told. (captures : List (List Answer))
+            → IsComing self.old.lanes captures →
             turn (with_fault told captures) ≡ fails told.capture told.fault) }
         ensures cause { IfErr result (IsCause self.old.lanes self.new.lanes) }
         ensures left { records_to_come self.new.lanes ≤ records_to_come self.old.lanes }

@@ -18,7 +18,8 @@ impl<R: Feed + Drop> Merge<R> {
     /// # Errors
     /// As in `next_by`. These were the turns before the fault.
     pub fn advance(&mut self, end: End) -> Result<Option<Turn>, MergeFault>
-        ensures run { (start : MergeState) (taken : List Taken) → HasTaken end start taken self.old →
+        ensures run { (start : MergeState) (taken : List Taken) → HasTaken end start taken self.old
+            →
             Advances end start taken self.new result }
         ensures moment { IfTaken result (λ next. next.moment ≤ latest_moment) }
         ensures bytes { IfTaken result (HoldsRecord self.new) }
@@ -29,8 +30,8 @@ impl<R: Feed + Drop> Merge<R> {
         self.next_by(end.last())
     }
 
-    /// The moment to which a router runs at the end of its run, if it is at the moment `now` and all
-    /// turns before the end were taken.
+    /// The moment to which a router runs at the end of its run, if it is at the moment `now` and
+    /// all turns before the end were taken.
     pub fn end_moment(&self, end: End, now: u64) -> u64
         requires moment { now ≤ latest_moment }
         requires end { IsBoundedEnd end }

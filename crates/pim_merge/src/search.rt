@@ -21,7 +21,8 @@ pub(crate) fn look_at_all<R: Feed + Drop>(lanes: &mut [Lane<R>]) -> Result<(), M
     ensures coming { IfOk result (λ _. (captures : List (List Answer)) →
         IsComing lanes.old captures → IsComing lanes.new captures) }
     ensures looked { IfOk result (λ _. AllByRecursion IsLooked lanes.new) }
-    ensures fault { IfErr result (λ told. (captures : List (List Answer)) → IsComing lanes.old captures →
+    ensures fault { IfErr result (λ told. (captures : List (List Answer))
+        → IsComing lanes.old captures →
         turn (with_fault told captures) ≡ fails told.capture told.fault) }
     ensures cause { IfErr result (IsCause lanes.old lanes.new) }
     ensures left { records_to_come lanes.new ≤ records_to_come lanes.old }

@@ -2,14 +2,16 @@
 //! the deliveries once for each message, since it can remember neither without memory. A time that
 //! ends exactly at the final moment is too short, and so is a holdtime of 0.
 
-ghost use Rattle.std.specs.Prelude.{◌≡◌, ◌<◌, ◌≤◌, ◌^◌, ◌↔◌, ◌&&◌, ◌==◌, ℕ, true, IsTrue, nat_le, nat_lt, not, length};
+ghost use Rattle.std.specs.Prelude.{◌≡◌, ◌<◌, ◌≤◌, ◌^◌, ◌↔◌, ◌&&◌, ◌==◌, ℕ, true, IsTrue, nat_le};
+ghost use Rattle.std.specs.Prelude.{nat_lt, not, length};
 ghost use Rattle.std.specs.Prelude.{map, None, nat_eq};
 ghost use Rattle.std.specs.List.{list_all, list_any};
 ghost use Rattle.std.specs.Cmp.Lexicographic.{pointwise};
 ghost use Rattle.pim_hello.specs.Neighbours.{lifetime};
 ghost use Rattle.pim_mirror.specs.Config.{fresh_seen, delivery_seen};
 ghost use Rattle.pim_mirror.specs.Fits.{Fits, expiry_of};
-ghost use Rattle.pim_mirror.specs.Tests.{is_shorter, is_alive, last_with, is_kept, is_in_order, are_different};
+ghost use Rattle.pim_mirror.specs.Tests.{is_shorter, is_alive, last_with, is_kept, is_in_order};
+ghost use Rattle.pim_mirror.specs.Tests.{are_different};
 ghost use Rattle.pim_mirror.specs.Tests.{RouterFits, OthersFit, DeliveriesFit, TimesFit};
 
 use crate::config::{Delivery, FreshConfig, OtherNeighbour};
@@ -60,7 +62,9 @@ fn is_limit_in_range(limit: usize) -> bool
 
 /// Whether one of the neighbours has this address.
 fn has_address<F: Family>(others: &[OtherNeighbour<F::Addr>], address: F::Addr) -> bool
-    ensures { result ≡ list_any (λ other. pointwise nat_eq (F.bytes_of address) (F.bytes_of other.address)) others.now }
+    ensures { result
+        ≡ list_any (λ other. pointwise nat_eq (F.bytes_of address) (F.bytes_of other.address))
+        others.now }
 {
     others.iter().any(|other| address == other.address)
 }
@@ -114,7 +118,8 @@ fn is_shorter(passed: u64, time: Option<u64>) -> bool
 
 /// Whether each of the neighbours has time left at the end.
 fn stay_until<A>(others: &[OtherNeighbour<A>], end: u64) -> bool
-    ensures { result ≡ list_all (λ other. is_shorter end (lifetime other.hello.holdtime)) others.now }
+    ensures { result
+        ≡ list_all (λ other. is_shorter end (lifetime other.hello.holdtime)) others.now }
 {
     others
         .iter()
@@ -300,7 +305,8 @@ pub fn fits<F: Family>(
     routes: &Routes<F>,
     fresh: &FreshConfig<'_, F>,
 ) -> bool
-    ensures { IsTrue result ↔ Fits messages.now writer.now routes.now (fresh_seen F.bytes_of fresh.now) }
+    ensures { IsTrue result
+        ↔ Fits messages.now writer.now routes.now (fresh_seen F.bytes_of fresh.now) }
 {
     let count = messages.count();
     if !router_fits(writer, routes, fresh) {

@@ -7,8 +7,10 @@
 //! only until the final moment, since the router hears nothing after it that depends on their
 //! delays.
 
-ghost use Rattle.pim_mirror.specs.Headline.{NormalisingTwiceIsOnce, FreshRouterMirrors, FreshRouterTellsNoEcho};
-ghost use Rattle.pim_mirror.specs.Headline.{RoomIsForTheUnits, FreshRouterIsThere, FreshRouterKnowsTheWriter};
+ghost use Rattle.pim_mirror.specs.Headline.{NormalisingTwiceIsOnce, FreshRouterMirrors};
+ghost use Rattle.pim_mirror.specs.Headline.{FreshRouterTellsNoEcho};
+ghost use Rattle.pim_mirror.specs.Headline.{RoomIsForTheUnits, FreshRouterIsThere};
+ghost use Rattle.pim_mirror.specs.Headline.{FreshRouterKnowsTheWriter};
 ghost use Rattle.pim_mirror.specs.Headline.{MirrorAnswersForTheForm, Headline};
 
 use crate::hello_laws::{hellos_are_heard, written_hellos_are_read};

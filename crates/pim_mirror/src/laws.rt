@@ -1,8 +1,11 @@
 //! Laws of canonical messages and of a router that hears them. These functions do nothing.
 
-ghost use Rattle.pim_mirror.specs.Laws.{PartIsAsking, CanonicalMessagesTellParts, PartsTellUnitsOnce, MessagesAreRead};
-ghost use Rattle.pim_mirror.specs.Laws.{CanonicalMessagesTellForm, AskedStarsHaveRps, HeardMessagesAreAskedAgain};
-ghost use Rattle.pim_mirror.specs.Laws.{CanonicalPacketIsHeard, RouterLeavesItsPort, DeliveryIsTaken};
+ghost use Rattle.pim_mirror.specs.Laws.{PartIsAsking, CanonicalMessagesTellParts};
+ghost use Rattle.pim_mirror.specs.Laws.{PartsTellUnitsOnce, MessagesAreRead};
+ghost use Rattle.pim_mirror.specs.Laws.{CanonicalMessagesTellForm, AskedStarsHaveRps};
+ghost use Rattle.pim_mirror.specs.Laws.{HeardMessagesAreAskedAgain};
+ghost use Rattle.pim_mirror.specs.Laws.{CanonicalPacketIsHeard, RouterLeavesItsPort};
+ghost use Rattle.pim_mirror.specs.Laws.{DeliveryIsTaken};
 ghost use Rattle.pim_mirror.specs.Laws.{WriterStaysHeard, CourseHearsAll, RouterAsksAgain};
 ghost use Rattle.pim_mirror.specs.Laws.{ReadPacketIsHeard, RouterRunsAsItsMachines};
 

@@ -9,7 +9,8 @@ ghost use Rattle.pim_hello.specs.Kept.{parameters_seen};
 ghost use Rattle.pim_hello.specs.Seen.{hello_seen};
 ghost use Rattle.pim_hello.specs.Spelling.{spelling_of, ParametersFit};
 ghost use Rattle.pim_router.specs.State.{new_router};
-ghost use Rattle.pim_mirror.specs.Config.{fresh_seen, neighbour_seen, neighbours, setup_of, sender_hello, port_of};
+ghost use Rattle.pim_mirror.specs.Config.{fresh_seen, neighbour_seen, neighbours, setup_of};
+ghost use Rattle.pim_mirror.specs.Config.{sender_hello, port_of};
 ghost use Rattle.pim_mirror.specs.Mirror.{PassesHello, PassesHellos};
 
 use crate::config::{FreshConfig, OtherNeighbour};
@@ -24,7 +25,8 @@ const LONGEST_HELLO: usize = 36;
 
 /// A Hello with these parameters and without an Address List.
 fn hello_of<F: Family>(said: Parameters) -> Hello<'static, F>
-    ensures { hello_seen F.family result ≡ record { parameters = parameters_seen said; addresses = [] } }
+    ensures { hello_seen F.family result
+        ≡ record { parameters = parameters_seen said; addresses = [] } }
 {
     Hello {
         holdtime: said.holdtime,
@@ -47,9 +49,11 @@ fn size_of_hello<F: Family>(hello: &Hello<'_, F>) -> usize
 
 /// Writes a Hello from this address, sealed for ALL-PIM-ROUTERS.
 fn put_hello<F: Family>(address: F::Addr, hello: &Hello<'_, F>, frame: &mut [u8])
-    requires size { length frame.old ≡ 4 + length (spelling_of F.family (hello_seen F.family hello.now)) }
+    requires size { length frame.old ≡ 4
+        + length (spelling_of F.family (hello_seen F.family hello.now)) }
     requires short { length frame.old ≤ 36 }
-    ensures sealed { IsSealed F.family (F.bytes_of address) (all_routers F.family) message_type.Hello
+    ensures sealed { IsSealed F.family (F.bytes_of address) (all_routers F.family)
+        message_type.Hello
         (spelling_of F.family (hello_seen F.family hello.now)) frame.new }
     ensures fits { ParametersFit (hello_seen F.family hello.now).parameters }
     ensures length { length frame.new ≡ length frame.old }
@@ -131,7 +135,8 @@ pub(crate) fn introduced<'a, F: Family>(
     requires one_port { length fresh.now.ports.now ≡ 1 }
     requires propagation { (port_of (fresh_seen F.bytes_of fresh.now)).propagation ≤ 32767 }
     ensures port { IfOk result (λ router. length router.ports ≡ 1) }
-    ensures passes { IfOk result (λ router. PassesHellos F.family (neighbours (fresh_seen F.bytes_of fresh.now))
+    ensures passes { IfOk result
+        (λ router. PassesHellos F.family (neighbours (fresh_seen F.bytes_of fresh.now))
         (new_router (setup_of (fresh_seen F.bytes_of fresh.now))) router) }
 {
     every_list_has_a_course();

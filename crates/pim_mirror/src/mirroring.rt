@@ -1,6 +1,7 @@
 //! The course of a fresh router over one sender's messages.
 
-ghost use Rattle.std.specs.Prelude.{◌≡◌, ◌<◌, ◌≤◌, ◌^◌, ◌↔◌, IsTrue, nat_lt, [], ◌∷◌, ◌++◌, length, map};
+ghost use Rattle.std.specs.Prelude.{◌≡◌, ◌<◌, ◌≤◌, ◌^◌, ◌↔◌, IsTrue, nat_lt, [], ◌∷◌, ◌++◌, length};
+ghost use Rattle.std.specs.Prelude.{map};
 ghost use Rattle.std.specs.Prelude.{slice_index_or, OnErr, IfErr};
 ghost use Rattle.std.specs.List.{AllByRecursion, flat_map};
 ghost use Rattle.pim_frame.specs.Frame.{all_routers};
@@ -188,7 +189,8 @@ fn hear<F: Family>(
     requires small { AllByRecursion (λ message. length message < 2 ^ 32) messages.now }
     requires early { AreEarly (map delivery_seen deliveries.now) }
     ensures ports { router.new.ports ≡ router.old.ports }
-    ensures passes { Passes F.family (flat_map (delivery_inputs F.family messages.now (F.bytes_of sender))
+    ensures passes { Passes F.family
+        (flat_map (delivery_inputs F.family messages.now (F.bytes_of sender))
         (map delivery_seen deliveries.now)) router.old result router.new }
     ensures stops { IfErr result (λ why. StopsAt F.family messages.now (F.bytes_of sender)
         (map delivery_seen deliveries.now) router.old why router.new) }
@@ -223,7 +225,8 @@ pub fn hear_deliveries<F: Family>(
     requires early { AreEarly (map delivery_seen deliveries.now) }
     requires moment { moment ≤ 10 ^ 15 }
     ensures ports { router.new.ports ≡ router.old.ports }
-    ensures passes { Passes F.family (flat_map (delivery_inputs F.family messages.now (F.bytes_of sender))
+    ensures passes { Passes F.family
+        (flat_map (delivery_inputs F.family messages.now (F.bytes_of sender))
         (map delivery_seen deliveries.now) ++ runs_to moment ∷ []) router.old result router.new }
     ensures stops { IfErr result (λ why. StopsAt F.family messages.now (F.bytes_of sender)
         (map delivery_seen deliveries.now) router.old why router.new) }
@@ -246,7 +249,8 @@ fn go_through<'a, F: Family>(
     writer: &Writer<F>,
     fresh: &FreshConfig<'a, F>,
 ) -> Result<Router<'a, F>, MirrorFault>
-    requires fits { Fits messages.now writer.now fresh.now.routes.now (fresh_seen F.bytes_of fresh.now) }
+    requires fits { Fits messages.now writer.now fresh.now.routes.now
+        (fresh_seen F.bytes_of fresh.now) }
     requires short { AllByRecursion (λ message. length message < 2 ^ 32) messages.now }
     ensures { Mirrors F.family messages.now (fresh_seen F.bytes_of fresh.now) result }
 {
@@ -288,7 +292,8 @@ pub fn mirror<'a, F: Family>(
     writer: &Writer<F>,
     fresh: &FreshConfig<'a, F>,
 ) -> Result<Router<'a, F>, MirrorFault>
-    requires fits { Fits messages.now writer.now fresh.now.routes.now (fresh_seen F.bytes_of fresh.now) }
+    requires fits { Fits messages.now writer.now fresh.now.routes.now
+        (fresh_seen F.bytes_of fresh.now) }
     requires short { AllByRecursion (λ message. length message < 2 ^ 32) messages.now }
     ensures course { Mirrors F.family messages.now (fresh_seen F.bytes_of fresh.now) result }
     ensures stands { StandsInTheWindow F.family writer.now messages.now

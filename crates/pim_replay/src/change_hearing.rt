@@ -29,7 +29,8 @@ fn hear_change<F: Family>(
     requires port { length router.old.ports ≡ 1 }
     requires short { AllByRecursion (λ message. length message < 2 ^ 32) change.now }
     requires early { router.old.machines.moment ≤ 3000 }
-    ensures { Passes F.family (change_inputs F.family change.now (F.bytes_of sender) router.old.machines.moment)
+    ensures { Passes F.family
+        (change_inputs F.family change.now (F.bytes_of sender) router.old.machines.moment)
         router.old result router.new }
 {
     every_list_has_a_course();
@@ -58,10 +59,12 @@ pub(crate) fn move_again<F: Family>(
     routes: &Routes<F>,
     limit: usize,
 ) -> Result<Messages, MirrorFault>
-    requires told { (wanted : List (List ℕ)) × AreTold F.family routes.now by.now before.now change.now wanted }
+    requires told { (wanted : List (List ℕ))
+        × AreTold F.family routes.now by.now before.now change.now wanted }
     requires least { 1 ≤ limit }
     requires most { limit ≤ 100000 }
-    ensures { (wanted : List (List ℕ)) → AreTold F.family routes.now by.now before.now change.now wanted →
+    ensures { (wanted : List (List ℕ))
+        → AreTold F.family routes.now by.now before.now change.now wanted →
         MovedAgain F.family routes.now by.now limit before.now change.now wanted result }
 {
     asked_stars_have_rps();

@@ -126,7 +126,8 @@ pub fn change_into<F: Family, R: Feed + Drop, W: Drain>(
     requires least { 1 ≤ limit }
     requires most { limit ≤ 100000 }
     requires routes { router_a.old.routes ≡ router_b.old.routes }
-    ensures text { TellsChange F.family end by.now limit merge_a.old merge_a.new router_a.old router_a.new
+    ensures text { TellsChange F.family end by.now limit merge_a.old merge_a.new router_a.old
+        router_a.new
         merge_b.old merge_b.new router_b.old router_b.new
         F.bytes_of (W.contents writer.old) (W.contents writer.new) result }
     ensures count { W.failures writer.new ≡ failures_of_mirror (W.failures writer.old) result }

@@ -54,8 +54,8 @@ fn send_asked<F: Family, W: Drain>(
 }
 
 /// Replays the captures of a router's ports, one for each port and in their order, up to the end of
-/// the run. It writes the canonical messages of the router's demand toward the upstream neighbour of
-/// `by`, as bytes. Two bytes with the length, big-endian, precede each message; nothing else is
+/// the run. It writes the canonical messages of the router's demand toward the upstream neighbour
+/// of `by`, as bytes. Two bytes with the length, big-endian, precede each message; nothing else is
 /// written. Returns the status, 0.
 ///
 /// Besides the router, it needs memory for one buffer for each capture, and at the end for one

@@ -8,7 +8,8 @@ ghost use Rattle.std.specs.Prelude.{◌≡◌, ◌≤◌, [], ◌∷◌, map, If
 ghost use Rattle.pim_mirror.specs.Config.{delivery_seen, fresh_seen};
 ghost use Rattle.pim_mirror.specs.Headline.{TellsOfForm};
 ghost use Rattle.pim_router.specs.Canonical.{IsTooBig};
-ghost use Rattle.pim_replay.specs.FreshHearing.{each_at, fresh_config, fresh_of, AreSent, Asks, Mirrored, HeardAgain};
+ghost use Rattle.pim_replay.specs.FreshHearing.{each_at, fresh_config, fresh_of, AreSent, Asks};
+ghost use Rattle.pim_replay.specs.FreshHearing.{Mirrored, HeardAgain};
 
 use pim_addr::{Family, Routes};
 use pim_form::{FormFault, Messages, Writer, one_normal_form};
@@ -29,7 +30,8 @@ const OVERRIDE: u16 = 2_500;
 
 /// The deliveries of the first `count` messages, each once, at this moment and in order.
 pub(crate) fn each_at(alloc: Global, count: usize, moment: u64) -> Result<Vec<Delivery>, AllocError>
-    ensures { IfOk result (λ deliveries. map delivery_seen deliveries.items ≡ each_at moment count) }
+    ensures { IfOk result (λ deliveries. map delivery_seen deliveries.items
+        ≡ each_at moment count) }
 {
     let mut deliveries = Vec::new(alloc);
     for message in 0..count {
@@ -66,7 +68,8 @@ pub(crate) fn mirror_once<'a, F: Family>(
         ≡ fresh_of fresh.now.routes.now by.now fresh.now.limit messages.now }
     requires least { 1 ≤ fresh.now.limit }
     requires most { fresh.now.limit ≤ 100000 }
-    ensures mirrored { Mirrored F.family fresh.now.routes.now by.now fresh.now.limit messages.now result }
+    ensures mirrored { Mirrored F.family fresh.now.routes.now by.now fresh.now.limit messages.now
+        result }
     ensures tells { (sent : AreSent F.family fresh.now.routes.now by.now messages.now) →
         TellsOfForm F.family fresh.now.routes.now by.now sent.asked.form messages.now
         (fresh_of fresh.now.routes.now by.now fresh.now.limit messages.now) result }

@@ -9,7 +9,8 @@ ghost use Rattle.std.specs.Prelude.{◌≡◌, ◌≤◌, length};
 ghost use Rattle.pim_capture.specs.Next.{latest_moment};
 ghost use Rattle.pim_merge.specs.Ends.{IsBoundedEnd};
 ghost use Rattle.pim_replay.specs.FreshHearing.{AreSent};
-ghost use Rattle.pim_replay.specs.MirrorText.{Judges, TellsMirror, TellsExchange, AsksBy, of_mirror};
+ghost use Rattle.pim_replay.specs.MirrorText.{Judges, TellsMirror, TellsExchange, AsksBy};
+ghost use Rattle.pim_replay.specs.MirrorText.{of_mirror};
 ghost use Rattle.pim_replay.specs.MirrorText.{failures_of_mirror};
 
 use crate::fresh_hearing::hear_again;
@@ -107,8 +108,8 @@ fn exchange<F: Family, W: Drain>(
 }
 
 /// Replays the captures of a router's ports, one for each port and in their order, up to the end of
-/// the run. It writes the canonical messages of the router's demand toward the upstream neighbour of
-/// `by`. Each is a line `message LENGTH HEX`, with the length in bytes; a line with their number
+/// the run. It writes the canonical messages of the router's demand toward the upstream neighbour
+/// of `by`. Each is a line `message LENGTH HEX`, with the length in bytes; a line with their number
 /// follows.
 ///
 /// Then a fresh router of one port hears each message once, at moment 0 and in order. It may hold

@@ -31,7 +31,8 @@ pub fn pass_time<F: Family, W: Drain>(
     ensures stopped { OnErr result (HasStopped F.family moment router.old
         (W.contents writer.old) (W.contents writer.new)) }
     ensures count { W.failures writer.new ≡ failures_after (W.failures writer.old) result }
-    ensures reached { OnOk result (router.new.machines.moment ≡ max router.old.machines.moment moment) }
+    ensures reached { OnOk result (router.new.machines.moment
+        ≡ max router.old.machines.moment moment) }
 {
     every_list_has_a_course();
     let mut count = refreshes;

@@ -10,7 +10,8 @@ ghost use Rattle.pim_merge.specs.Next.{MergeState, turns_left};
 ghost use Rattle.pim_merge.specs.Ends.{IsBoundedEnd};
 ghost use Rattle.pim_router.specs.State.{RouterState};
 ghost use Rattle.pim_replay.specs.Report.{Replays, failures_of_device};
-ghost use Rattle.pim_replay.specs.Underway.{stopped_by, of_text, IsUnderway, Steps, RunsTurns, RunsOn, IfMore};
+ghost use Rattle.pim_replay.specs.Underway.{stopped_by, of_text, IsUnderway, Steps, RunsTurns};
+ghost use Rattle.pim_replay.specs.Underway.{RunsOn, IfMore};
 
 use crate::passing::pass_time;
 use crate::turns::take_turn;

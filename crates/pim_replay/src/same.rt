@@ -8,7 +8,8 @@ ghost use Rattle.std.specs.Prelude.{◌≡◌, ◌≤◌, length};
 ghost use Rattle.pim_capture.specs.Next.{latest_moment};
 ghost use Rattle.pim_merge.specs.Ends.{IsBoundedEnd};
 ghost use Rattle.pim_form.specs.declared.fault.FormFault.TheVariants as form;
-ghost use Rattle.pim_replay.specs.Same.{Compares, Judges, Says, of_form, failures_of_answer, answer_line, answer_status};
+ghost use Rattle.pim_replay.specs.Same.{Compares, Judges, Says, of_form, failures_of_answer};
+ghost use Rattle.pim_replay.specs.Same.{answer_line, answer_status};
 
 use crate::quiet::replay_quietly;
 use crate::replay::ReplayFault;
@@ -119,7 +120,8 @@ pub fn same_into<F: Family, R: Feed + Drop, W: Drain>(
     requires moment_b { router_b.old.machines.moment ≤ latest_moment }
     requires end { IsBoundedEnd end }
     requires routes { router_a.old.routes ≡ router_b.old.routes }
-    ensures compares { Compares F.family end by.now merge_a.old merge_a.new router_a.old router_a.new
+    ensures compares { Compares F.family end by.now merge_a.old merge_a.new router_a.old
+        router_a.new
         merge_b.old merge_b.new router_b.old router_b.new
         F.bytes_of (W.contents writer.old) (W.contents writer.new) result }
     ensures count { W.failures writer.new ≡ failures_of_answer (W.failures writer.old) result }

@@ -6,7 +6,8 @@ ghost use Rattle.pim_capture.specs.Capture.{most_captured};
 ghost use Rattle.pim_capture.specs.Next.{PayloadLiesIn, event_seen};
 ghost use Rattle.pim_merge.specs.Run.{turn_seen};
 ghost use Rattle.pim_router.specs.Seen.{packet_seen};
-ghost use Rattle.pim_replay.specs.Turn.{HearsPacket, TakesRecord, failures_by, taking, TellsTurn, HasTold, HasBegun};
+ghost use Rattle.pim_replay.specs.Turn.{HearsPacket, TakesRecord, failures_by, taking, TellsTurn};
+ghost use Rattle.pim_replay.specs.Turn.{HasTold, HasBegun};
 
 use crate::passing::pass_time;
 use pim_addr::{Drain, Family};
@@ -25,7 +26,8 @@ fn hear_packet<F: Family, W: Drain>(
 ) -> Result<(), TextFault>
     requires port { port < length router.old.ports }
     requires bytes { length message.now < 2 ^ 32 }
-    ensures heard { HearsPacket F.family (packet_seen F.bytes_of port source destination message.now)
+    ensures heard { HearsPacket F.family
+        (packet_seen F.bytes_of port source destination message.now)
         router.old router.new (W.contents writer.old) (W.contents writer.new) result }
     ensures count { W.failures writer.new ≡ failures_by (W.failures writer.old) result }
 {
@@ -51,7 +53,8 @@ fn take_record<F: Family, W: Drain>(
     requires port { turn.now.capture < length router.old.ports }
     requires payload { PayloadLiesIn bytes.now turn.now.event }
     requires bytes { length bytes.now ≤ most_captured }
-    ensures taken { TakesRecord (taking F.family turn.now.capture (event_seen bytes.now turn.now.event) router.old)
+    ensures taken { TakesRecord
+        (taking F.family turn.now.capture (event_seen bytes.now turn.now.event) router.old)
         skipped router.new (W.contents writer.old) (W.contents writer.new) result }
     ensures count { W.failures writer.new ≡ failures_by (W.failures writer.old) result }
 {
@@ -95,10 +98,12 @@ pub fn take_turn<F: Family, W: Drain>(
         (λ account. TellsTurn F.family (turn_seen bytes.now turn.now) account router.old router.new)
         (W.contents writer.old) (W.contents writer.new) counts more) }
     ensures begun { OnErr result (HasBegun
-        (λ account after. TellsTurn F.family (turn_seen bytes.now turn.now) account router.old after)
+        (λ account after. TellsTurn F.family (turn_seen bytes.now turn.now) account router.old
+        after)
         (W.contents writer.old) (W.contents writer.new)) }
     ensures count { W.failures writer.new ≡ failures_by (W.failures writer.old) result }
-    ensures moment { OnOk result (router.new.machines.moment ≡ max router.old.machines.moment turn.now.moment) }
+    ensures moment { OnOk result (router.new.machines.moment
+        ≡ max router.old.machines.moment turn.now.moment) }
     ensures ports { OnOk result (router.new.ports ≡ router.old.ports) }
 {
     let Ok(refreshes) = pass_time::<F, W>(writer, router, turn.moment, counts.refreshes) else {

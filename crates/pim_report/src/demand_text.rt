@@ -4,7 +4,8 @@ ghost use Rattle.std.specs.Prelude.{◌≡◌, ◌++◌, true, map, option_map};
 ghost use Rattle.std.specs.List.{flat_map};
 ghost use Rattle.pim_device.specs.Device.{AppendsAll, failures_after};
 ghost use Rattle.pim_down.specs.Seen.{what_seen};
-ghost use Rattle.pim_report.specs.DemandText.{via_words, want_line, exception_line, starred_text, source_line};
+ghost use Rattle.pim_report.specs.DemandText.{via_words, want_line, exception_line, starred_text};
+ghost use Rattle.pim_report.specs.DemandText.{source_line};
 ghost use Rattle.pim_report.specs.DemandText.{star_text, group_text, demand_text};
 
 use crate::echo_line::show_what;
@@ -82,7 +83,8 @@ fn write_want_line<F: Family, W: Drain>(
     asked: Option<F::Addr>,
 ) -> Result<(), Failed>
     ensures bytes { AppendsAll (W.contents writer.old) (W.contents writer.new) result
-        (want_line F.family tells_via (F.bytes_of group) (what_seen F.bytes_of what) (option_map F.bytes_of asked)) }
+        (want_line F.family tells_via (F.bytes_of group) (what_seen F.bytes_of what)
+        (option_map F.bytes_of asked)) }
     ensures count { W.failures writer.new ≡ failures_after (W.failures writer.old) result }
 {
     let what = show_what::<F>(what);
@@ -111,7 +113,8 @@ fn write_exception_line<F: Family, W: Drain>(
     source: F::Addr,
 ) -> Result<(), Failed>
     ensures bytes { AppendsAll (W.contents writer.old) (W.contents writer.new) result
-        (exception_line F.family tells_via (F.bytes_of group) (option_map F.bytes_of asked) (F.bytes_of source)) }
+        (exception_line F.family tells_via (F.bytes_of group) (option_map F.bytes_of asked)
+        (F.bytes_of source)) }
     ensures count { W.failures writer.new ≡ failures_after (W.failures writer.old) result }
 {
     let source = Shown::address::<F>(source);
@@ -139,7 +142,8 @@ fn write_exceptions<F: Family, W: Drain>(
     exceptions: &[F::Addr],
 ) -> Result<(), Failed>
     ensures bytes { AppendsAll (W.contents writer.old) (W.contents writer.new) result
-        (flat_map (exception_line F.family tells_via (F.bytes_of group) (option_map F.bytes_of asked))
+        (flat_map
+        (exception_line F.family tells_via (F.bytes_of group) (option_map F.bytes_of asked))
         (map F.bytes_of exceptions.now)) }
     ensures count { W.failures writer.new ≡ failures_after (W.failures writer.old) result }
 {
@@ -158,7 +162,8 @@ fn write_sources<F: Family, W: Drain>(
     sources: &[F::Addr],
 ) -> Result<(), Failed>
     ensures bytes { AppendsAll (W.contents writer.old) (W.contents writer.new) result
-        (flat_map (source_line F.family tells_via routes.now (F.bytes_of group)) (map F.bytes_of sources.now)) }
+        (flat_map (source_line F.family tells_via routes.now (F.bytes_of group))
+        (map F.bytes_of sources.now)) }
     ensures count { W.failures writer.new ≡ failures_after (W.failures writer.old) result }
 {
     for &source in sources {
@@ -234,8 +239,9 @@ fn write_group<F: Family, W: Drain>(
     write_sources::<F, W>(writer, tells_via, routes, this.group(), this.sources())
 }
 
-/// Writes the lines of a demand in its normal form, group by group. If `tells_via` is set, each line
-/// names the upstream neighbour under this route table (RFC 7761, 4.1), or `-` if there is none.
+/// Writes the lines of a demand in its normal form, group by group. If `tells_via` is set, each
+/// line names the upstream neighbour under this route table (RFC 7761, 4.1), or `-` if there is
+/// none.
 ///
 /// # Errors
 /// The device failed: a prefix of the lines was written.

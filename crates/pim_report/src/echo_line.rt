@@ -49,7 +49,8 @@ impl ShownWhat {
 /// The words of a machine.
 pub(crate) fn show_what<F: Family>(what: What<F::Addr>) -> ShownWhat
     ensures kind { result.kind.now ≡ kind_of (what_seen F.bytes_of what) }
-    ensures source { result.source ++ result.gap.now ≡ source_words F.family (what_seen F.bytes_of what) }
+    ensures source { result.source ++ result.gap.now
+        ≡ source_words F.family (what_seen F.bytes_of what) }
 {
     match what {
         What::Star => ShownWhat {

@@ -3,7 +3,8 @@
 
 ghost use Rattle.std.specs.Prelude.{◌≡◌};
 ghost use Rattle.pim_device.specs.Device.{AppendsAll, failures_after};
-ghost use Rattle.pim_report.specs.Malformed.{frame_words, hello_kind_name, hello_words, kind_name, join_prune_words};
+ghost use Rattle.pim_report.specs.Malformed.{frame_words, hello_kind_name, hello_words, kind_name};
+ghost use Rattle.pim_report.specs.Malformed.{join_prune_words};
 ghost use Rattle.pim_report.specs.Malformed.{malformed_words};
 ghost use Rattle.pim_report.specs.Said.{said_text};
 
@@ -95,7 +96,8 @@ pub(crate) fn malformed_said(fault: Malformed) -> Said
 /// # Errors
 /// The device failed: a prefix of the words was written.
 pub fn write_malformed_words<W: Drain>(writer: &mut W, fault: Malformed) -> Result<(), Failed>
-    ensures bytes { AppendsAll (W.contents writer.old) (W.contents writer.new) result (malformed_words fault) }
+    ensures bytes { AppendsAll (W.contents writer.old) (W.contents writer.new) result
+        (malformed_words fault) }
     ensures count { W.failures writer.new ≡ failures_after (W.failures writer.old) result }
 {
     write_said(writer, &malformed_said(fault))

@@ -3,7 +3,8 @@
 ghost use Rattle.std.specs.Prelude.{◌≡◌, ◌<◌, slice_get};
 ghost use Rattle.std.specs.List.{flat_map};
 ghost use Rattle.pim_device.specs.Device.{AppendsAll, failures_after};
-ghost use Rattle.pim_report.specs.MessageText.{hex_digit, hex_of, length_words, message_line, told_line};
+ghost use Rattle.pim_report.specs.MessageText.{hex_digit, hex_of, length_words, message_line};
+ghost use Rattle.pim_report.specs.MessageText.{told_line};
 ghost use Rattle.pim_report.specs.MessageText.{count_line, messages_text};
 ghost use Rattle.pim_report.specs.Pieces.{line};
 
@@ -29,7 +30,8 @@ fn hex_of(byte: u8) -> [u8; 2]
 
 /// Writes bytes in hexadecimal.
 fn write_hex<W: Drain>(writer: &mut W, bytes: &[u8]) -> Result<(), Failed>
-    ensures bytes { AppendsAll (W.contents writer.old) (W.contents writer.new) result (flat_map hex_of bytes.now) }
+    ensures bytes { AppendsAll (W.contents writer.old) (W.contents writer.new) result
+        (flat_map hex_of bytes.now) }
     ensures count { W.failures writer.new ≡ failures_after (W.failures writer.old) result }
 {
     for &byte in bytes {
@@ -50,7 +52,8 @@ fn write_hex_line<W: Drain>(writer: &mut W, bytes: &[u8]) -> Result<(), Failed>
 
 /// Writes what precedes the digits of a message of this length in bytes.
 fn write_length<W: Drain>(writer: &mut W, length: usize) -> Result<(), Failed>
-    ensures bytes { AppendsAll (W.contents writer.old) (W.contents writer.new) result (length_words length) }
+    ensures bytes { AppendsAll (W.contents writer.old) (W.contents writer.new) result
+        (length_words length) }
     ensures count { W.failures writer.new ≡ failures_after (W.failures writer.old) result }
 {
     let mut digits = Buffer::new();
@@ -60,7 +63,8 @@ fn write_length<W: Drain>(writer: &mut W, length: usize) -> Result<(), Failed>
 
 /// Writes the line of a message.
 fn write_message<W: Drain>(writer: &mut W, message: &[u8]) -> Result<(), Failed>
-    ensures bytes { AppendsAll (W.contents writer.old) (W.contents writer.new) result (message_line message.now) }
+    ensures bytes { AppendsAll (W.contents writer.old) (W.contents writer.new) result
+        (message_line message.now) }
     ensures count { W.failures writer.new ≡ failures_after (W.failures writer.old) result }
 {
     write_length(writer, message.len())?;
@@ -97,7 +101,8 @@ fn write_each<W: Drain>(writer: &mut W, messages: &Messages) -> Result<(), Faile
 
 /// Writes the line with the number of messages.
 fn write_count<W: Drain>(writer: &mut W, count: usize) -> Result<(), Failed>
-    ensures bytes { AppendsAll (W.contents writer.old) (W.contents writer.new) result (count_line count) }
+    ensures bytes { AppendsAll (W.contents writer.old) (W.contents writer.new) result
+        (count_line count) }
     ensures count { W.failures writer.new ≡ failures_after (W.failures writer.old) result }
 {
     let mut digits = Buffer::new();
@@ -111,7 +116,8 @@ fn write_count<W: Drain>(writer: &mut W, count: usize) -> Result<(), Failed>
 /// # Errors
 /// The device failed: a prefix of the lines was written.
 pub fn write_messages<W: Drain>(writer: &mut W, messages: &Messages) -> Result<(), Failed>
-    ensures bytes { AppendsAll (W.contents writer.old) (W.contents writer.new) result (messages_text messages.now) }
+    ensures bytes { AppendsAll (W.contents writer.old) (W.contents writer.new) result
+        (messages_text messages.now) }
     ensures count { W.failures writer.new ≡ failures_after (W.failures writer.old) result }
 {
     write_each(writer, messages)?;

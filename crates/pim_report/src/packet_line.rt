@@ -3,7 +3,8 @@
 ghost use Rattle.std.specs.Prelude.{◌≡◌, codes, []};
 ghost use Rattle.pim_device.specs.Device.{AppendsAll, failures_after};
 ghost use Rattle.pim_report.specs.Said.{said_text};
-ghost use Rattle.pim_report.specs.PacketLine.{heard_words, full_words, told_words, mark_of, verdict_words};
+ghost use Rattle.pim_report.specs.PacketLine.{heard_words, full_words, told_words, mark_of};
+ghost use Rattle.pim_report.specs.PacketLine.{verdict_words};
 ghost use Rattle.pim_report.specs.PacketLine.{sender_words, verdict_line, packet_line};
 
 use crate::malformed::malformed_said;
@@ -92,7 +93,8 @@ fn write_sender<F: Family, W: Drain>(
 /// # Errors
 /// The device failed: a prefix of the words was written.
 pub fn write_verdict_words<W: Drain>(writer: &mut W, judged: Verdict) -> Result<(), Failed>
-    ensures bytes { AppendsAll (W.contents writer.old) (W.contents writer.new) result (verdict_words judged) }
+    ensures bytes { AppendsAll (W.contents writer.old) (W.contents writer.new) result
+        (verdict_words judged) }
     ensures count { W.failures writer.new ≡ failures_after (W.failures writer.old) result }
 {
     let said = verdict_said(judged);
@@ -112,7 +114,8 @@ pub fn write_verdict_words<W: Drain>(writer: &mut W, judged: Verdict) -> Result<
 /// # Errors
 /// The device failed: a prefix of the line was written.
 pub fn write_verdict_line<W: Drain>(writer: &mut W, verdict: Verdict) -> Result<(), Failed>
-    ensures bytes { AppendsAll (W.contents writer.old) (W.contents writer.new) result (verdict_line verdict) }
+    ensures bytes { AppendsAll (W.contents writer.old) (W.contents writer.new) result
+        (verdict_line verdict) }
     ensures count { W.failures writer.new ≡ failures_after (W.failures writer.old) result }
 {
     let said = verdict_said(verdict);

@@ -13,7 +13,8 @@ use pim_addr::{Drain, Failed};
 /// # Errors
 /// The device failed: a prefix of the line was written.
 pub fn write_refresh_line<W: Drain>(writer: &mut W, moment: u64) -> Result<(), Failed>
-    ensures bytes { AppendsAll (W.contents writer.old) (W.contents writer.new) result (refresh_line moment) }
+    ensures bytes { AppendsAll (W.contents writer.old) (W.contents writer.new) result
+        (refresh_line moment) }
     ensures count { W.failures writer.new ≡ failures_after (W.failures writer.old) result }
 {
     let mut at = Buffer::new();

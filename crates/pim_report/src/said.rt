@@ -95,7 +95,8 @@ impl Said {
 
 /// Writes the text.
 pub(crate) fn write_said<W: Drain>(writer: &mut W, said: &Said) -> Result<(), Failed>
-    ensures bytes { AppendsAll (W.contents writer.old) (W.contents writer.new) result (said_text said.now) }
+    ensures bytes { AppendsAll (W.contents writer.old) (W.contents writer.new) result
+        (said_text said.now) }
     ensures count { W.failures writer.new ≡ failures_after (W.failures writer.old) result }
 {
     let mut digits = Buffer::new();

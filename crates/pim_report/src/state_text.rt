@@ -4,7 +4,8 @@ ghost use Rattle.std.specs.Prelude.{◌≡◌};
 ghost use Rattle.std.specs.List.{flat_map};
 ghost use Rattle.pim_device.specs.Device.{AppendsAll, failures_after};
 ghost use Rattle.pim_report.specs.RecordLine.{record_line};
-ghost use Rattle.pim_report.specs.StateText.{moment_line, counts_line, machines_text, wants_text, text_with};
+ghost use Rattle.pim_report.specs.StateText.{moment_line, counts_line, machines_text, wants_text};
+ghost use Rattle.pim_report.specs.StateText.{text_with};
 ghost use Rattle.pim_report.specs.StateText.{WritesState, failures_of};
 
 use crate::demand_text::write_demand;
@@ -37,7 +38,8 @@ pub enum TextFault {
 
 /// Writes the line of a moment, in milliseconds.
 fn write_moment<W: Drain>(writer: &mut W, moment: u64) -> Result<(), Failed>
-    ensures bytes { AppendsAll (W.contents writer.old) (W.contents writer.new) result (moment_line moment) }
+    ensures bytes { AppendsAll (W.contents writer.old) (W.contents writer.new) result
+        (moment_line moment) }
     ensures count { W.failures writer.new ≡ failures_after (W.failures writer.old) result }
 {
     let mut at = Buffer::new();
@@ -47,7 +49,8 @@ fn write_moment<W: Drain>(writer: &mut W, moment: u64) -> Result<(), Failed>
 
 /// Writes the line of the counts.
 fn write_counts<W: Drain>(writer: &mut W, counts: Counts) -> Result<(), Failed>
-    ensures bytes { AppendsAll (W.contents writer.old) (W.contents writer.new) result (counts_line counts) }
+    ensures bytes { AppendsAll (W.contents writer.old) (W.contents writer.new) result
+        (counts_line counts) }
     ensures count { W.failures writer.new ≡ failures_after (W.failures writer.old) result }
 {
     let mut skipped = Buffer::new();

@@ -72,7 +72,8 @@ pub fn same_wants<F: Family>(
     writer: &Writer<F>,
 ) -> Result<bool, FormFault<F>>
     ensures wants { IfOk result (λ same. IsTrue same ↔
-        Agree F.family (asked F.family writer.now.upstream a.now) (asked F.family writer.now.upstream b.now)) }
+        Agree F.family (asked F.family writer.now.upstream a.now)
+        (asked F.family writer.now.upstream b.now)) }
     ensures tables { (result ≡ Err FormFault.Tables) ↔ (a.now.routes ≢ b.now.routes) }
     ensures too_big { a.now.routes ≡ b.now.routes →
         IsFirstTooBig F.family writer.now a.now b.now

@@ -70,7 +70,8 @@ pub enum ConfigFault {
 
 /// The first port whose address isn't a valid source.
 fn bad_address<F: Family>(ports: &[PortConfig<F::Addr>]) -> Option<usize>
-    ensures { result ≡ position (λ port. not (is_source F.family (F.bytes_of port.address))) ports.now }
+    ensures { result
+        ≡ position (λ port. not (is_source F.family (F.bytes_of port.address))) ports.now }
 {
     ports.iter().position(|port| !F::is_source(port.address))
 }

@@ -1,8 +1,11 @@
 //! Laws of the definitions: runs and courses. These functions do nothing.
 
-ghost use Rattle.pim_router.specs.Laws.{RunHasOneEnd, RunGoesOn, RunsComeNearer, CourseHasOneEnd, CourseGoesOn};
-ghost use Rattle.pim_router.specs.Laws.{EveryListHasACourse, PassingGoesOn, HappeningGoesOn, HappeningHasOneEnd};
-ghost use Rattle.pim_router.specs.Laws.{FiringPasses, NobodyGoesBeforeFirstTimeout, TheEndedGoAtFirstTimeout};
+ghost use Rattle.pim_router.specs.Laws.{RunHasOneEnd, RunGoesOn, RunsComeNearer, CourseHasOneEnd};
+ghost use Rattle.pim_router.specs.Laws.{CourseGoesOn};
+ghost use Rattle.pim_router.specs.Laws.{EveryListHasACourse, PassingGoesOn, HappeningGoesOn};
+ghost use Rattle.pim_router.specs.Laws.{HappeningHasOneEnd};
+ghost use Rattle.pim_router.specs.Laws.{FiringPasses, NobodyGoesBeforeFirstTimeout};
+ghost use Rattle.pim_router.specs.Laws.{TheEndedGoAtFirstTimeout};
 ghost use Rattle.pim_router.specs.Laws.{RunsPastAreTurns, EveryStateGoesOn};
 
 use pim_down::timers_run_out;

@@ -7,7 +7,8 @@
 //! In one millisecond neighbours go first, then timers fire, then the refresh comes: a refresh
 //! doesn't ask for a star whose time ends with it.
 
-ghost use Rattle.std.specs.Prelude.{◌≡◌, ◌≢◌, ◌<◌, ◌≤◌, ◌+◌, ◌*◌, ◌^◌, ℕ, length, replicate, map, max};
+ghost use Rattle.std.specs.Prelude.{◌≡◌, ◌≢◌, ◌<◌, ◌≤◌, ◌+◌, ◌*◌, ◌^◌, ℕ, length, replicate, map};
+ghost use Rattle.std.specs.Prelude.{max};
 ghost use Rattle.std.specs.Prelude.{IfOk, OnErr, IsTrue, not, nat_lt, None, option_map};
 ghost use Rattle.pim_hello.specs.Laws.{expired_at};
 ghost use Rattle.pim_frame.specs.Frame.{content, hello, join_prune};
@@ -15,9 +16,11 @@ ghost use Rattle.pim_hello.specs.Neighbours.{no_neighbours, needs_no_memory, soo
 ghost use Rattle.pim_hello.specs.Seen.{hello_seen};
 ghost use Rattle.pim_hello.specs.Walk.{neighbour_seen};
 ghost use Rattle.pim_router.specs.Config.{config_faults, IsMadeUnless};
-ghost use Rattle.pim_router.specs.Packets.{Receives, causes, received, body_causes, body_received, message_causes};
+ghost use Rattle.pim_router.specs.Packets.{Receives, causes, received, body_causes, body_received};
+ghost use Rattle.pim_router.specs.Packets.{message_causes};
 ghost use Rattle.pim_router.specs.Packets.{hello_causes, hello_taken, new_by, may_grow};
-ghost use Rattle.pim_router.specs.Packets.{message_taken, room_causes, unless, timing_on, knows, neighbours_on};
+ghost use Rattle.pim_router.specs.Packets.{message_taken, room_causes, unless, timing_on, knows};
+ghost use Rattle.pim_router.specs.Packets.{neighbours_on};
 ghost use Rattle.pim_router.specs.Seen.{setup_seen, port_seen, packet_seen, step_seen};
 ghost use Rattle.pim_router.specs.Time.{Runs, turns_left};
 ghost use Rattle.pim_router.specs.Refreshes.{RunsPast, told_behind, first_untold};
@@ -70,10 +73,13 @@ impl<'a, F: Family> Model for Router<'a, F> {
     ghost use Rattle.pim_router.specs.Seen.{router_seen};
     ghost use Rattle.pim_router.specs.Sound.{IsRouter};
 
-    ghost view = { λ r. router_seen F.bytes_of r.ports.now r.routes.now r.machines r.neighbours.items r.next_refresh };
+    ghost view = { λ r. router_seen F.bytes_of r.ports.now r.routes.now r.machines
+        r.neighbours.items r.next_refresh };
 
     ghost invariant = { λ r. (r.machines.moment ≤ r.next_refresh)
-        × IsRouter (router_seen F.bytes_of r.ports.now r.routes.now r.machines r.neighbours.items r.next_refresh) };
+        × IsRouter
+        (router_seen F.bytes_of r.ports.now r.routes.now r.machines r.neighbours.items
+        r.next_refresh) };
 }
 
 /// A table without neighbours for each of `ports` ports.
@@ -182,8 +188,11 @@ impl<'a, F: Family> Router<'a, F> {
     /// there is no other.
     pub fn new(alloc: Global, config: &Config<'a, F>) -> Result<Self, ConfigFault>
         ensures { IsMadeUnless
-            (config_faults F.family (setup_seen F.bytes_of config.now.ports.now config.now.routes.now config.now.limit))
-            (new_router (setup_seen F.bytes_of config.now.ports.now config.now.routes.now config.now.limit)) result }
+            (config_faults F.family
+            (setup_seen F.bytes_of config.now.ports.now config.now.routes.now config.now.limit))
+            (new_router
+            (setup_seen F.bytes_of config.now.ports.now config.now.routes.now config.now.limit))
+            result }
     {
         check(config)?;
         let Ok(neighbours) = no_neighbours(alloc, config.ports.len()) else {
@@ -358,8 +367,11 @@ impl<'a, F: Family> Router<'a, F> {
         hello: &Hello<'_, F>,
     ) -> Result<Verdict, AllocError>
         requires { port < length self.old.ports }
-        ensures told { Receives (hello_causes port (F.bytes_of src) self.old (hello_seen F.family hello.now).parameters)
-            (unless (hello_causes port (F.bytes_of src) self.old (hello_seen F.family hello.now).parameters) self.old
+        ensures told { Receives
+            (hello_causes port (F.bytes_of src) self.old (hello_seen F.family hello.now).parameters)
+            (unless
+            (hello_causes port (F.bytes_of src) self.old (hello_seen F.family hello.now).parameters)
+            self.old
             (hello_taken port (F.bytes_of src) self.old (hello_seen F.family hello.now).parameters))
             self.old result self.new }
         ensures memory { OnErr result (IsTrue (not (needs_no_memory (F.bytes_of src)
@@ -376,8 +388,10 @@ impl<'a, F: Family> Router<'a, F> {
     /// Receives the body of a Hello from `src`.
     fn take_hello(&mut self, port: usize, src: F::Addr, body: &[u8]) -> Result<Verdict, AllocError>
         requires { port < length self.old.ports }
-        ensures told { Receives (body_causes F.family port (F.bytes_of src) self.old (hello body.now))
-            (body_received F.family port (F.bytes_of src) self.old (hello body.now)) self.old result self.new }
+        ensures told { Receives
+            (body_causes F.family port (F.bytes_of src) self.old (hello body.now))
+            (body_received F.family port (F.bytes_of src) self.old (hello body.now)) self.old result
+            self.new }
         ensures memory { OnErr result
             (IsTrue (may_grow F.family port (F.bytes_of src) self.old (hello body.now))) }
     {
@@ -393,7 +407,8 @@ impl<'a, F: Family> Router<'a, F> {
         ensures told { Receives (room_causes F.family port self.old message.now)
             (unless (room_causes F.family port self.old message.now) self.old
             (message_taken F.family port self.old message.now)) self.old result self.new }
-        ensures memory { OnErr result (IsTrue (nat_lt 0 (new_by F.family port message.now self.old))) }
+        ensures memory { OnErr result
+            (IsTrue (nat_lt 0 (new_by F.family port message.now self.old))) }
     {
         self.gather_delays(port);
         let timing = self.timing(port);
@@ -412,7 +427,8 @@ impl<'a, F: Family> Router<'a, F> {
         ensures told { Receives (message_causes F.family port (F.bytes_of src) self.old message.now)
             (unless (message_causes F.family port (F.bytes_of src) self.old message.now) self.old
             (message_taken F.family port self.old message.now)) self.old result self.new }
-        ensures memory { OnErr result (IsTrue (nat_lt 0 (new_by F.family port message.now self.old))) }
+        ensures memory { OnErr result
+            (IsTrue (nat_lt 0 (new_by F.family port message.now self.old))) }
     {
         if !self.knows(port, src) {
             return Ok(Verdict::UnknownNeighbour);
@@ -431,8 +447,10 @@ impl<'a, F: Family> Router<'a, F> {
         body: &[u8],
     ) -> Result<Verdict, AllocError>
         requires { port < length self.old.ports }
-        ensures told { Receives (body_causes F.family port (F.bytes_of src) self.old (join_prune body.now))
-            (body_received F.family port (F.bytes_of src) self.old (join_prune body.now)) self.old result self.new }
+        ensures told { Receives
+            (body_causes F.family port (F.bytes_of src) self.old (join_prune body.now))
+            (body_received F.family port (F.bytes_of src) self.old (join_prune body.now)) self.old
+            result self.new }
         ensures memory { OnErr result
             (IsTrue (may_grow F.family port (F.bytes_of src) self.old (join_prune body.now))) }
     {
@@ -466,7 +484,8 @@ impl<'a, F: Family> Router<'a, F> {
         requires bytes { length bytes.now < 2 ^ 32 }
         ensures told { Receives
             (causes F.family (packet_seen F.bytes_of port src dst bytes.now) self.old)
-            (received F.family (packet_seen F.bytes_of port src dst bytes.now) self.old) self.old result self.new }
+            (received F.family (packet_seen F.bytes_of port src dst bytes.now) self.old) self.old
+            result self.new }
         ensures memory { OnErr result
             (IsTrue (may_grow F.family port (F.bytes_of src) self.old (content bytes.now))) }
         ensures setup { setup_of self.new ≡ setup_of self.old }
@@ -486,7 +505,8 @@ impl<'a, F: Family> Router<'a, F> {
         requires bytes { length bytes.now < 2 ^ 32 }
         ensures told { Receives
             (causes F.family (packet_seen F.bytes_of port src dst bytes.now) self.old)
-            (received F.family (packet_seen F.bytes_of port src dst bytes.now) self.old) self.old result self.new }
+            (received F.family (packet_seen F.bytes_of port src dst bytes.now) self.old) self.old
+            result self.new }
         ensures memory { OnErr result
             (IsTrue (may_grow F.family port (F.bytes_of src) self.old (content bytes.now))) }
     {
@@ -514,8 +534,10 @@ impl<'a, F: Family> Router<'a, F> {
         ensures run { Runs moment self.old (step_seen F.bytes_of result) self.new }
         ensures later { self.old.machines.moment ≤ self.new.machines.moment }
         ensures moment { self.new.machines.moment ≤ max self.old.machines.moment moment }
-        ensures reached { result ≡ Reached → self.new.machines.moment ≡ max self.old.machines.moment moment }
-        ensures nearer { result ≢ Reached → turns_left moment self.new < turns_left moment self.old }
+        ensures reached { result ≡ Reached → self.new.machines.moment
+            ≡ max self.old.machines.moment moment }
+        ensures nearer { result ≢ Reached → turns_left moment self.new
+            < turns_left moment self.old }
         ensures setup { setup_of self.new ≡ setup_of self.old }
     {
         runs_come_nearer();
@@ -529,7 +551,8 @@ impl<'a, F: Family> Router<'a, F> {
         ensures run { Runs moment self.old (step_seen F.bytes_of result) self.new }
         ensures later { self.old.machines.moment ≤ self.new.machines.moment }
         ensures moment { self.new.machines.moment ≤ max self.old.machines.moment moment }
-        ensures reached { result ≡ Reached → self.new.machines.moment ≡ max self.old.machines.moment moment }
+        ensures reached { result ≡ Reached → self.new.machines.moment
+            ≡ max self.old.machines.moment moment }
     {
         expiring_twice_is_expiring_once();
         let step = self.machines.run_to(moment.min(self.next_refresh));
@@ -555,12 +578,14 @@ impl<'a, F: Family> Router<'a, F> {
     /// division, so a jump of years costs no more than one of a minute. It takes no memory.
     pub fn run_past_refreshes(&mut self, moment: u64) -> (Fires<F::Addr>, u64)
         requires { moment ≤ 10 ^ 15 }
-        ensures run { RunsPast result.1 moment self.old (told_behind (fires_seen F.bytes_of result.0)) self.new }
+        ensures run { RunsPast result.1 moment self.old
+            (told_behind (fires_seen F.bytes_of result.0)) self.new }
         ensures later { self.old.machines.moment ≤ self.new.machines.moment }
         ensures moment { self.new.machines.moment ≤ max self.old.machines.moment moment }
         ensures reached { result.0 ≡ fires.Reached →
             self.new.machines.moment ≡ max self.old.machines.moment moment }
-        ensures nearer { result.0 ≢ fires.Reached → turns_left moment self.new < turns_left moment self.old }
+        ensures nearer { result.0 ≢ fires.Reached → turns_left moment self.new
+            < turns_left moment self.old }
         ensures setup { setup_of self.new ≡ setup_of self.old }
     {
         runs_come_nearer();
@@ -570,7 +595,8 @@ impl<'a, F: Family> Router<'a, F> {
     /// Runs the machines to this moment, and lets time pass for the neighbours.
     fn run_machines(&mut self, moment: u64) -> (Fires<F::Addr>, u64)
         requires { moment ≤ 10 ^ 15 }
-        ensures run { RunsPast result.1 moment self.old (told_behind (fires_seen F.bytes_of result.0)) self.new }
+        ensures run { RunsPast result.1 moment self.old
+            (told_behind (fires_seen F.bytes_of result.0)) self.new }
         ensures later { self.old.machines.moment ≤ self.new.machines.moment }
         ensures moment { self.new.machines.moment ≤ max self.old.machines.moment moment }
         ensures reached { result.0 ≡ fires.Reached →
@@ -596,10 +622,12 @@ impl<'a, F: Family> Router<'a, F> {
     /// no memory, and looks at one timer and at no neighbour whose time isn't over.
     pub fn fire_to(&mut self, moment: u64) -> Option<Firing<F::Addr>>
         requires { moment ≤ 10 ^ 15 }
-        ensures fires { FiresTo moment self.old (option_map (firing_seen F.bytes_of) result) self.new }
+        ensures fires { FiresTo moment self.old (option_map (firing_seen F.bytes_of) result)
+            self.new }
         ensures later { self.old.machines.moment ≤ self.new.machines.moment }
         ensures moment { self.new.machines.moment ≤ max self.old.machines.moment moment }
-        ensures reached { result ≡ None → self.new.machines.moment ≡ max self.old.machines.moment moment }
+        ensures reached { result ≡ None → self.new.machines.moment
+            ≡ max self.old.machines.moment moment }
         ensures nearer { result ≢ None → turns_left moment self.new < turns_left moment self.old }
         ensures setup { setup_of self.new ≡ setup_of self.old }
     {
@@ -611,10 +639,12 @@ impl<'a, F: Family> Router<'a, F> {
     /// neighbours.
     fn fire_machines(&mut self, moment: u64) -> Option<Firing<F::Addr>>
         requires { moment ≤ 10 ^ 15 }
-        ensures fires { FiresTo moment self.old (option_map (firing_seen F.bytes_of) result) self.new }
+        ensures fires { FiresTo moment self.old (option_map (firing_seen F.bytes_of) result)
+            self.new }
         ensures later { self.old.machines.moment ≤ self.new.machines.moment }
         ensures moment { self.new.machines.moment ≤ max self.old.machines.moment moment }
-        ensures reached { result ≡ None → self.new.machines.moment ≡ max self.old.machines.moment moment }
+        ensures reached { result ≡ None → self.new.machines.moment
+            ≡ max self.old.machines.moment moment }
         ensures setup { setup_of self.new ≡ setup_of self.old }
     {
         expiring_twice_is_expiring_once();

@@ -3,9 +3,12 @@
 ghost use Rattle.std.specs.Prelude.{◌≡◌, ◌≤◌, length, OnOk, OnErr, IfOk, IfErr, IfSome, vec_len};
 ghost use Rattle.pim_device.specs.Device.{ConsumesAtMost};
 ghost use Rattle.pim_addr.specs.Routes.{IsRefusedBy};
-ghost use Rattle.pim_routes_file.specs.RoutesFile.{lines_of, is_passed_over, file_limit, row_faults, with_file_row};
-ghost use Rattle.pim_routes_file.specs.RoutesFile.{Adds, Reads, IsBeforeRows, failures_after_reading};
-ghost use Rattle.pim_routes_file.specs.Seen.{file_row_seen, AddsLine, IsLineFault, StopsIn, GivesFile, IsFileFault};
+ghost use Rattle.pim_routes_file.specs.RoutesFile.{lines_of, is_passed_over, file_limit};
+ghost use Rattle.pim_routes_file.specs.RoutesFile.{row_faults, with_file_row};
+ghost use Rattle.pim_routes_file.specs.RoutesFile.{Adds, Reads, IsBeforeRows};
+ghost use Rattle.pim_routes_file.specs.RoutesFile.{failures_after_reading};
+ghost use Rattle.pim_routes_file.specs.Seen.{file_row_seen, AddsLine, IsLineFault, StopsIn};
+ghost use Rattle.pim_routes_file.specs.Seen.{GivesFile, IsFileFault};
 
 use crate::fault::RoutesFault;
 use crate::lines::Lines;
@@ -58,9 +61,11 @@ fn add_row<F: Family>(
     row: FileRow<Route<F::Addr>>,
     routes: &mut Routes<F>,
 ) -> Result<(), RouteFault>
-    ensures ok { OnOk result (routes.new ≡ with_file_row (file_row_seen F.bytes_of row) routes.old) }
+    ensures ok { OnOk result (routes.new
+        ≡ with_file_row (file_row_seen F.bytes_of row) routes.old) }
     ensures err { OnErr result (routes.new ≡ routes.old) }
-    ensures told { IsRefusedBy (row_faults F.family (file_row_seen F.bytes_of row) routes.old) result }
+    ensures told { IsRefusedBy (row_faults F.family (file_row_seen F.bytes_of row) routes.old)
+        result }
 {
     match row {
         FileRow::Rp(route) => routes.add_rp(route.prefix, route.length, route.to),
@@ -126,7 +131,8 @@ pub fn read_routes<F: Family, R: Feed>(
     reader: &mut R,
     routes: &mut Routes<F>,
 ) -> Result<(), RoutesFault>
-    ensures reads { IfSome (R.remaining reader.old) (λ file. Reads F.family file routes.old routes.new result) }
+    ensures reads { IfSome (R.remaining reader.old)
+        (λ file. Reads F.family file routes.old routes.new result) }
     ensures before_rows { IfErr result (λ fault. IsBeforeRows fault → routes.new ≡ routes.old) }
     ensures failed { R.failures reader.new ≡ failures_after_reading (R.failures reader.old) result }
     ensures taken { ConsumesAtMost 1048577 (R.remaining reader.old) (R.remaining reader.new) }

@@ -59,7 +59,8 @@ pub(crate) fn read_row<F: Family>(line: &[u8]) -> Option<FileRow<Route<F::Addr>>
     ensures read { IfSome result (λ row. IsRow F.family line.now (file_row_seen F.bytes_of row)) }
     ensures only { IfSome result (λ row. (other : FileRow Row) → IsRow F.family line.now other
         → other ≡ file_row_seen F.bytes_of row) }
-    ensures unread { IfNone result ((row : FileRow Row) → IsRow F.family line.now row → 255 < bits_of row) }
+    ensures unread { IfNone result ((row : FileRow Row) → IsRow F.family line.now row → 255
+        < bits_of row) }
 {
     let Ok(line) = str::from_utf8(line) else {
         return None;

@@ -2,9 +2,9 @@
 //!
 //! `session_into` reads commands to the end of the input and answers each before it reads on. Its
 //! contract says which text was written: that of `IsDialog` over the items of the input
-//! (`specs/Dialog.antt`), a fold of the commands over the state of a session. A session has a set-up
-//! before its start, then a router, and what is kept under names. A fault changes nothing; if a device
-//! fails, a prefix of such a text was written.
+//! (`specs/Dialog.antt`), a fold of the commands over the state of a session. A session has a
+//! set-up before its start, then a router, and what is kept under names. A fault changes nothing;
+//! if a device fails, a prefix of such a text was written.
 //!
 //! The answers of a router are those of `pim_answers`; the lines of the input and their words are
 //! those of `pim_request`. A command for which memory is refused is answered `fault memory`.

@@ -1,6 +1,7 @@
 //! The laws of this crate. Nothing in this module is to be called.
 
-ghost use Rattle.pim_settling.specs.Laws.{CoursesAreKept, ChangeSettles, RunsTellTheChange, ToldChangeSettles};
+ghost use Rattle.pim_settling.specs.Laws.{CoursesAreKept, ChangeSettles, RunsTellTheChange};
+ghost use Rattle.pim_settling.specs.Laws.{ToldChangeSettles};
 ghost use Rattle.pim_settling.specs.Laws.{SettledWants};
 
 /// A port whose machines each go some course hears messages, and no Expiry Timer ends. Then each

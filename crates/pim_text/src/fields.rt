@@ -1,7 +1,8 @@
 //! The words, numbers and addresses of a line. Each reader takes what is at the front of a
 //! text.
 
-ghost use Rattle.std.specs.Prelude.{◌≡◌, ◌≤◌, ◌∷◌, ◌++◌, ℕ, List, [], Some, None, true, decimal, nat_le};
+ghost use Rattle.std.specs.Prelude.{◌≡◌, ◌≤◌, ◌∷◌, ◌++◌, ℕ, List, [], Some, None, true, decimal};
+ghost use Rattle.std.specs.Prelude.{nat_le};
 ghost use Rattle.std.specs.Prelude.{IfSome, MatchOption};
 ghost use Rattle.std.specs.List.{position};
 ghost use Rattle.pim_text.specs.Fields.{IsField, IsLed};
@@ -44,7 +45,8 @@ fn first_end(text: &[u8]) -> Option<usize>
 /// Cuts a text before its first space or control character.
 fn cut_field(text: &[u8]) -> Cut<'_>
     ensures whole { text.now ≡ result.field.now ++ result.behind.now }
-    ensures only { (field behind : List ℕ) → IsField field → IsLed behind → text.now ≡ field ++ behind →
+    ensures only { (field behind : List ℕ) → IsField field → IsLed behind → text.now ≡ field
+        ++ behind →
         (result.field.now ≡ field) × (result.behind.now ≡ behind) }
 {
     match first_end(text) {
@@ -142,7 +144,8 @@ pub(crate) fn numbers_line(
     requires led { IsLed others.now }
     ensures read { IfSome result (λ two. (two.number ≤ limit) × (two.another ≤ other_limit)
         × (text.now ≡ numbers_text words.now two.number others.now two.another)) }
-    ensures only { (n m : ℕ) → n ≤ limit → m ≤ other_limit → text.now ≡ numbers_text words.now n others.now m →
+    ensures only { (n m : ℕ) → n ≤ limit → m ≤ other_limit → text.now
+        ≡ numbers_text words.now n others.now m →
         MatchOption result ⊥ (λ two. (two.number ≡ n) × (two.another ≡ m)) }
 {
     let rest = strip(text, words)?;
@@ -155,7 +158,8 @@ pub(crate) fn numbers_line(
 /// Returns the address that follows these words, and the text after it.
 pub(crate) fn read_named<'a>(text: &'a [u8], words: &[u8]) -> Option<Named<'a>>
     ensures read { IfSome result (λ n. IsNamed words.now n.address n.behind.now text.now) }
-    ensures only { (a : AnyAddress) (behind : List ℕ) → IsLed behind → IsNamed words.now a behind text.now →
+    ensures only { (a : AnyAddress) (behind : List ℕ) → IsLed behind
+        → IsNamed words.now a behind text.now →
         MatchOption result ⊥ (λ n. (n.address ≡ a) × (n.behind.now ≡ behind)) }
 {
     let rest = strip(text, words)?;

@@ -36,7 +36,8 @@ fn fits_32_bits(number: Option<u32>)
 
 /// A law: delays fit their bits.
 fn delays_fit(lan: Option<LanDelay>)
-    ensures { IfSome (option_map delays_seen lan) (λ d. (d.propagation < 2 ^ 15) × (d.override_ms < 2 ^ 16)) }
+    ensures { IfSome (option_map delays_seen lan) (λ d. (d.propagation < 2 ^ 15)
+        × (d.override_ms < 2 ^ 16)) }
 {
     if let Some(delays) = lan {
         let _propagation = delays.propagation;
@@ -63,10 +64,11 @@ fn addresses_are_of_the_family<F: Family>(addresses: Addresses<'_, F>)
     }
 }
 
-/// A law: the text of a Hello that was read states it. It passes over the addresses, and does nothing
-/// else.
+/// A law: the text of a Hello that was read states it. It passes over the addresses, and does
+/// nothing else.
 pub fn hello_text_states_it<F: Family>(hello: &Hello<'_, F>)
-    ensures { States (hello_text F.family (hello_seen F.family hello.now)) (hello_in F.family (hello_seen F.family hello.now)) }
+    ensures { States (hello_text F.family (hello_seen F.family hello.now))
+        (hello_in F.family (hello_seen F.family hello.now)) }
 {
     hello_text_states();
     parameters_fit(hello.parameters());

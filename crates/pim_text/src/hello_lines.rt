@@ -7,7 +7,8 @@ ghost use Rattle.pim_hello.specs.Delays.{delays_seen};
 ghost use Rattle.pim_hello.specs.Kept.{parameters_seen};
 ghost use Rattle.pim_hello.specs.Seen.{addresses_seen, hello_seen};
 ghost use Rattle.pim_text.specs.Text.{line};
-ghost use Rattle.pim_text.specs.HelloText.{number_text, bit, delays_line, delays_text, parameters_text, address_line};
+ghost use Rattle.pim_text.specs.HelloText.{number_text, bit, delays_line, delays_text};
+ghost use Rattle.pim_text.specs.HelloText.{parameters_text, address_line};
 ghost use Rattle.pim_text.specs.HelloText.{hello_text};
 
 use crate::pieces::{push_address, push_number};
@@ -25,7 +26,8 @@ fn push_number_line(text: &mut Vec<u8>, words: &[u8], number: usize) -> Result<(
 
 /// Adds the line of the holdtime, if there is one.
 fn push_holdtime(text: &mut Vec<u8>, holdtime: Option<u16>) -> Result<(), AllocError>
-    ensures { OnOk result (text.new.items ≡ text.old.items ++ number_text (codes "holdtime ") holdtime) }
+    ensures { OnOk result (text.new.items ≡ text.old.items
+        ++ number_text (codes "holdtime ") holdtime) }
 {
     match holdtime {
         Some(seconds) => push_number_line(text, b"holdtime ", usize::from(seconds)),
@@ -68,7 +70,8 @@ fn push_delays_line(text: &mut Vec<u8>, delays: LanDelay) -> Result<(), AllocErr
 
 /// Adds the line of the LAN Prune Delay option, if there is one.
 fn push_delays(text: &mut Vec<u8>, delays: Option<LanDelay>) -> Result<(), AllocError>
-    ensures { OnOk result (text.new.items ≡ text.old.items ++ delays_text (option_map delays_seen delays)) }
+    ensures { OnOk result (text.new.items ≡ text.old.items
+        ++ delays_text (option_map delays_seen delays)) }
 {
     match delays {
         Some(delays) => push_delays_line(text, delays),
@@ -78,7 +81,8 @@ fn push_delays(text: &mut Vec<u8>, delays: Option<LanDelay>) -> Result<(), Alloc
 
 /// Adds the lines of the options except the Address List.
 fn push_parameters(text: &mut Vec<u8>, parameters: Parameters) -> Result<(), AllocError>
-    ensures { OnOk result (text.new.items ≡ text.old.items ++ parameters_text (parameters_seen parameters)) }
+    ensures { OnOk result (text.new.items ≡ text.old.items
+        ++ parameters_text (parameters_seen parameters)) }
 {
     push_holdtime(text, parameters.holdtime)?;
     push_delays(text, parameters.lan)?;
@@ -89,7 +93,8 @@ fn push_parameters(text: &mut Vec<u8>, parameters: Parameters) -> Result<(), All
 
 /// Adds the line of a secondary address.
 fn push_address_line<F: Family>(text: &mut Vec<u8>, address: F::Addr) -> Result<(), AllocError>
-    ensures { OnOk result (text.new.items ≡ text.old.items ++ address_line F.family (F.bytes_of address)) }
+    ensures { OnOk result (text.new.items ≡ text.old.items
+        ++ address_line F.family (F.bytes_of address)) }
 {
     push_address::<F>(text, b"address ", address)?;
     text.extend_from_slice(b"\n")
@@ -101,7 +106,8 @@ fn push_addresses<F: Family>(
     addresses: Addresses<'_, F>,
 ) -> Result<(), AllocError>
     ensures { OnOk result (text.new.items
-        ≡ text.old.items ++ flat_map (address_line F.family) (addresses_seen F.family addresses.entry)) }
+        ≡ text.old.items
+        ++ flat_map (address_line F.family) (addresses_seen F.family addresses.entry)) }
 {
     for address in addresses {
         push_address_line::<F>(text, address)?;
@@ -111,7 +117,8 @@ fn push_addresses<F: Family>(
 
 /// The text of a Hello: a line of its own, then one for each option and each secondary address.
 pub fn hello_text<F: Family>(alloc: Global, hello: &Hello<'_, F>) -> Result<Vec<u8>, AllocError>
-    ensures { IfOk result (λ text. text.items ≡ hello_text F.family (hello_seen F.family hello.now)) }
+    ensures { IfOk result (λ text. text.items
+        ≡ hello_text F.family (hello_seen F.family hello.now)) }
 {
     let mut text = Vec::new(alloc);
     text.extend_from_slice(b"hello\n")?;

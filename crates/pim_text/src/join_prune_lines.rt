@@ -3,7 +3,8 @@
 ghost use Rattle.std.specs.Prelude.{◌≡◌, ◌++◌, OnOk, IfOk};
 ghost use Rattle.std.specs.List.{flat_map};
 ghost use Rattle.pim_jp.specs.Seen.{entry_seen};
-ghost use Rattle.pim_text.specs.JoinPruneText.{message_line, set_line, entry_words, entry_line, set_text, message_text};
+ghost use Rattle.pim_text.specs.JoinPruneText.{message_line, set_line, entry_words, entry_line};
+ghost use Rattle.pim_text.specs.JoinPruneText.{set_text, message_text};
 
 use crate::pieces::{push_address, push_number};
 use pim_addr::Family;
@@ -36,7 +37,8 @@ fn push_set_line<F: Family>(text: &mut Vec<u8>, set: &SetView<'_, F>) -> Result<
 
 /// Adds the kind of an entry, and its address.
 fn push_entry<F: Family>(text: &mut Vec<u8>, entry: Entry<F::Addr>) -> Result<(), AllocError>
-    ensures { OnOk result (text.new.items ≡ text.old.items ++ entry_words F.family (entry_seen F.bytes_of entry)) }
+    ensures { OnOk result (text.new.items ≡ text.old.items
+        ++ entry_words F.family (entry_seen F.bytes_of entry)) }
 {
     match entry {
         Entry::Star(rp) => push_address::<F>(text, b"star ", rp),
@@ -65,7 +67,8 @@ fn push_entries<F: Family>(
     list: &[u8],
     entries: Entries<'_, F>,
 ) -> Result<(), AllocError>
-    ensures { OnOk result (text.new.items ≡ text.old.items ++ flat_map (entry_line F.family list.now) entries.entry) }
+    ensures { OnOk result (text.new.items ≡ text.old.items
+        ++ flat_map (entry_line F.family list.now) entries.entry) }
 {
     for entry in entries {
         push_entry_line::<F>(text, list, entry)?;

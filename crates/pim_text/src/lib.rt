@@ -1,20 +1,19 @@
 //! The text of a Hello or a Join/Prune message: lines of words, decimals and addresses.
 //!
 //! - `message_text` and `hello_text` write the text of a message that was read: its own line, then
-//!   a
-//!   line for each option, address, group set and entry, in the order of the message. `check` prints
-//!   this text. `type_text` writes the line of a message of another type.
+//!   a line for each option, address, group set and entry, in the order of the message. `check`
+//!   prints this text. `type_text` writes the line of a message of another type.
 //! - `read_message_text` reads such a text, once and forward. An address may have any of its texts,
 //!   of either family; a number has its one decimal and fits its field. Ok: the text states one
-//!   message. `Err(n)`: line n, from 1, is the first wrong one. The lines before it begin the text of
-//!   some message, and with it, as they stand, they begin none; or the text ends where line n is
+//!   message. `Err(n)`: line n, from 1, is the first wrong one. The lines before it begin the text
+//!   of some message, and with it, as they stand, they begin none; or the text ends where line n is
 //!   missing. A last line without its line feed is wrong.
 //! - `spell` writes the body of the message that a text states, in the canonical spelling, whether
-//!   the message is legal or not. It returns the wrong line, that an address is not of the family, or
-//!   that the body is too long, each exactly where its cause is there.
+//!   the message is legal or not. It returns the wrong line, that an address is not of the family,
+//!   or that the body is too long, each exactly where its cause is there.
 //! - Laws: the text that is written of a message states that message (`message_text_states`,
-//!   `hello_text_states`; of a Hello that was read, `hello_text_states_it`), and a text whose addresses
-//!   are all of one family states a message of that family (`stated_in_its_family`).
+//!   `hello_text_states`; of a Hello that was read, `hello_text_states_it`), and a text whose
+//!   addresses are all of one family states a message of that family (`stated_in_its_family`).
 //!
 //! A reader keeps what the lines so far ask for, and no message: the options of a Hello are each
 //! optional, in their order, and the counts of a Join/Prune message say which lines follow. So

@@ -1,6 +1,7 @@
 //! The lines of a text, one by one.
 
-ghost use Rattle.std.specs.Prelude.{◌≡◌, ◌≤◌, ℕ, List, [], ◌∷◌, ◌++◌, Option, Some, None, codes, IfSome, MatchOption};
+ghost use Rattle.std.specs.Prelude.{◌≡◌, ◌≤◌, ℕ, List, [], ◌∷◌, ◌++◌, Option, Some, None, codes};
+ghost use Rattle.std.specs.Prelude.{IfSome, MatchOption};
 ghost use Rattle.pim_jp.specs.declared.entry.Entry.{Entry};
 ghost use Rattle.pim_text.specs.declared.line.AnyAddress.{AnyAddress};
 ghost use Rattle.pim_text.specs.declared.line.DelayLine.{DelayLine};
@@ -46,7 +47,8 @@ fn read_entry(text: &[u8]) -> Option<Entry<AnyAddress>>
 /// Returns the entry of a line of this list, `join ` or `prune `.
 pub(crate) fn entry_line(text: &[u8], list: &[u8]) -> Option<Entry<AnyAddress>>
     ensures read { IfSome result (λ entry. IsEntryLine list.now entry text.now) }
-    ensures only { (entry : Entry AnyAddress) → IsEntryLine list.now entry text.now → result ≡ Some entry }
+    ensures only { (entry : Entry AnyAddress) → IsEntryLine list.now entry text.now → result
+        ≡ Some entry }
 {
     let entry = strip(text, list)?;
     read_entry(entry)

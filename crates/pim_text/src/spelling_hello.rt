@@ -1,11 +1,13 @@
 //! The bytes of a Hello, from its text.
 
-ghost use Rattle.std.specs.Prelude.{◌≡◌, ◌≤◌, ◌++◌, ◌*◌, true, length, map, vec_len, OnOk, IfOk, IfErr};
+ghost use Rattle.std.specs.Prelude.{◌≡◌, ◌≤◌, ◌++◌, ◌*◌, true, length, map, vec_len, OnOk, IfOk};
+ghost use Rattle.std.specs.Prelude.{IfErr};
 ghost use Rattle.pim_addr.specs.Encoded.{unicast_length};
 ghost use Rattle.pim_hello.specs.Kept.{parameters_seen};
 ghost use Rattle.pim_hello.specs.Spelling.{spelling_of};
 ghost use Rattle.pim_text.specs.Families.{line_is_in};
-ghost use Rattle.pim_text.specs.SpelledHello.{with_line, line_addresses, DelaysFit, HaveLength, hello_of, StatesHello};
+ghost use Rattle.pim_text.specs.SpelledHello.{with_line, line_addresses, DelaysFit, HaveLength};
+ghost use Rattle.pim_text.specs.SpelledHello.{hello_of, StatesHello};
 ghost use Rattle.pim_text.specs.SpelledHello.{SpellsHello, IsHelloFault, IsTooLong};
 
 use crate::line::{Asked, Line};
@@ -73,9 +75,11 @@ fn write_hello<F: Family>(
 ) -> Result<Vec<u8>, SpellFault>
     requires { HaveLength F.family (map F.bytes_of addresses.now) }
     ensures spelled { IfOk result (λ body. body.items
-        ≡ spelling_of F.family (hello_of (parameters_seen parameters) (map F.bytes_of addresses.now))) }
+        ≡ spelling_of F.family
+        (hello_of (parameters_seen parameters) (map F.bytes_of addresses.now))) }
     ensures short { IfOk result (λ body. length body.items ≤ 65532) }
-    ensures fault { IfErr result (IsTooLong F.family (hello_of (parameters_seen parameters) (map F.bytes_of addresses.now))) }
+    ensures fault { IfErr result
+        (IsTooLong F.family (hello_of (parameters_seen parameters) (map F.bytes_of addresses.now))) }
 {
     let Ok(count) = u16::try_from(addresses.len()) else {
         return Err(SpellFault::TooLong);

@@ -38,7 +38,8 @@ fn entry_of<F: Family>(entry: Entry<AnyAddress>) -> Entry<F::Addr>
 #[tactic(auto, using(crate::proofs::OfFamily::head_is_small))]
 fn push_head<F: Family>(bytes: &mut Vec<u8>, head: Head) -> Result<(), AllocError>
     requires { is_in F.family head.upstream ≡ true }
-    ensures { OnOk result (bytes.new.items ≡ bytes.old.items ++ line_bytes F.family (Line.Head head)) }
+    ensures { OnOk result (bytes.new.items ≡ bytes.old.items
+        ++ line_bytes F.family (Line.Head head)) }
 {
     let mut room = [0; 22];
     let (place, _) = room.split_at_mut(head_length::<F>());
@@ -55,7 +56,8 @@ fn push_head<F: Family>(bytes: &mut Vec<u8>, head: Head) -> Result<(), AllocErro
 #[tactic(auto, using(crate::proofs::OfFamily::group_is_small))]
 fn push_set<F: Family>(bytes: &mut Vec<u8>, set: SetLine) -> Result<(), AllocError>
     requires { is_in F.family set.group ≡ true }
-    ensures { OnOk result (bytes.new.items ≡ bytes.old.items ++ line_bytes F.family (Line.Set set)) }
+    ensures { OnOk result (bytes.new.items ≡ bytes.old.items
+        ++ line_bytes F.family (Line.Set set)) }
 {
     let mut room = [0; 24];
     let (place, _) = room.split_at_mut(group_length::<F>() + 4);
@@ -67,7 +69,8 @@ fn push_set<F: Family>(bytes: &mut Vec<u8>, set: SetLine) -> Result<(), AllocErr
 #[tactic(auto, using(crate::proofs::OfFamily::source_is_small))]
 fn push_entry<F: Family>(bytes: &mut Vec<u8>, entry: Entry<AnyAddress>) -> Result<(), AllocError>
     requires { entry_is_in F.family entry ≡ true }
-    ensures { OnOk result (bytes.new.items ≡ bytes.old.items ++ line_bytes F.family (Line.Join entry)) }
+    ensures { OnOk result (bytes.new.items ≡ bytes.old.items
+        ++ line_bytes F.family (Line.Join entry)) }
 {
     let mut room = [0; 20];
     let (place, _) = room.split_at_mut(source_length::<F>());

@@ -3,7 +3,8 @@
 ghost use Rattle.std.specs.Prelude.{◌≡◌, ℕ, ◌∷◌, Option, Some, true, codes, IfSome};
 ghost use Rattle.pim_text.specs.declared.line.Line.{Line};
 ghost use Rattle.pim_text.specs.Lines.{IsLine};
-ghost use Rattle.pim_text.specs.Asked.{is_option, option_after, after_option, is_whole, ends, IsStep, OnlyStep};
+ghost use Rattle.pim_text.specs.Asked.{is_option, option_after, after_option, is_whole, ends};
+ghost use Rattle.pim_text.specs.Asked.{IsStep, OnlyStep};
 
 use crate::fields::number_line;
 use crate::line::{Asked, Body, Line, Step};
@@ -42,7 +43,8 @@ fn message_step(text: &[u8]) -> Option<Step>
 /// Returns the line of an option or of a secondary address.
 fn read_option(text: &[u8]) -> Option<Line>
     ensures read { IfSome result (λ line. IsLine line text.now) }
-    ensures only { (line : Line) → is_option line ≡ true → IsLine line text.now → result ≡ Some line }
+    ensures only { (line : Line) → is_option line ≡ true → IsLine line text.now → result
+        ≡ Some line }
 {
     if let Some(seconds) = number_line(text, b"holdtime ", 65_535) {
         return Some(Line::Holdtime(seconds as u16));

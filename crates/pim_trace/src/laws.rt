@@ -24,8 +24,8 @@ pub fn turns_tell_the_state()
     pim_down::hearing_leaves_other_ports();
 }
 
-/// The cause of each timer that fires in a trace is the packet of the last event before it that gave
-/// this timer another end, or began its machine. The events alone show it.
+/// The cause of each timer that fires in a trace is the packet of the last event before it that
+/// gave this timer another end, or began its machine. The events alone show it.
 pub fn trace_names_causes()
     ensures { TraceNamesCauses }
 {

@@ -1,11 +1,13 @@
-//! Turns the captures of a router into events: each change of each machine, in time, with its cause.
+//! Turns the captures of a router into events: each change of each machine, in time, with its
+//! cause.
 //!
 //! `trace_into` goes over the records of a merge as a replay does. It tells a `Teller` of
-//! `pim_events` what happens. The clause `Traces` of `specs/Trace.antt` says which events a run has,
-//! what was written of them at the end, and what was written before a fault.
+//! `pim_events` what happens. The clause `Traces` of `specs/Trace.antt` says which events a run
+//! has, what was written of them at the end, and what was written before a fault.
 //!
-//! A ledger remembers what the router doesn't: which packet set each timer, and how far each capture
-//! was read. `specs/Ledger.antt` has it as functions, so that each of its changes is one line.
+//! A ledger remembers what the router doesn't: which packet set each timer, and how far each
+//! capture was read. `specs/Ledger.antt` has it as functions, so that each of its changes is one
+//! line.
 //!
 //! Laws: the events tell the state of each machine. The first begins in its state at the start,
 //! each further one where the one before it ended, and the last ends in its state at the end. They

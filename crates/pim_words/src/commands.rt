@@ -6,8 +6,10 @@
 ghost use Rattle.std.specs.Prelude.{◌≡◌, IfOk, true, false, []};
 ghost use Rattle.clap.specs.declared.builder.command.Command.TheViews.{out-Command};
 ghost use Rattle.clap.specs.Words.{app_of, shape_of, rule_of, with_rule, with_subcommand};
-ghost use Rattle.pim_words.specs.CommandLine.{text_option, required_option, number_option, repeated_option, flag};
-ghost use Rattle.pim_words.specs.CommandLine.{words_rule, with_run_options, with_addresses, with_writing};
+ghost use Rattle.pim_words.specs.CommandLine.{text_option, required_option, number_option};
+ghost use Rattle.pim_words.specs.CommandLine.{repeated_option, flag};
+ghost use Rattle.pim_words.specs.CommandLine.{words_rule, with_run_options, with_addresses};
+ghost use Rattle.pim_words.specs.CommandLine.{with_writing};
 ghost use Rattle.pim_words.specs.CommandLine.{with_choices, with_shown, of_message, replay, trace};
 ghost use Rattle.pim_words.specs.CommandLine.{writing, session, bare, message_commands};
 ghost use Rattle.pim_words.specs.CommandLine.{reading_commands, writing_commands, pimtree};
@@ -460,7 +462,8 @@ fn words<'a>(alloc: Global, name: &'a str, help: &'a str) -> Arg<'a>
 fn with_option<'a>(command: Command<'a>, option: Arg<'a>) -> Result<Command<'a>, AllocError>
     requires local { (out-Command command).has_globals ≡ false }
     requires option { option.global ≡ false }
-    ensures app { IfOk result (λ c. app_of c ≡ with_rule (app_of command.entry) (rule_of option.entry)) }
+    ensures app { IfOk result (λ c. app_of c
+        ≡ with_rule (app_of command.entry) (rule_of option.entry)) }
     ensures local { IfOk result (λ c. (out-Command c).has_globals ≡ false) }
 {
     command.arg(option)
@@ -470,7 +473,8 @@ fn with_option<'a>(command: Command<'a>, option: Arg<'a>) -> Result<Command<'a>,
 fn with_command<'a>(whole: Command<'a>, command: Command<'a>) -> Result<Command<'a>, AllocError>
     requires local { (out-Command whole).has_globals ≡ false }
     requires command { (out-Command command).has_globals ≡ false }
-    ensures app { IfOk result (λ c. app_of c ≡ with_subcommand (app_of whole.entry) (shape_of command.entry)) }
+    ensures app { IfOk result (λ c. app_of c
+        ≡ with_subcommand (app_of whole.entry) (shape_of command.entry)) }
     ensures local { IfOk result (λ c. (out-Command c).has_globals ≡ false) }
 {
     whole.subcommand(command)
@@ -641,7 +645,8 @@ fn with_writing_command<'a>(
     texts: Texts<'a>,
 ) -> Result<Command<'a>, AllocError>
     requires { (out-Command whole).has_globals ≡ false }
-    ensures app { IfOk result (λ c. app_of c ≡ with_subcommand (app_of whole.entry) (writing name.entry.now)) }
+    ensures app { IfOk result (λ c. app_of c
+        ≡ with_subcommand (app_of whole.entry) (writing name.entry.now)) }
     ensures local { IfOk result (λ c. (out-Command c).has_globals ≡ false) }
 {
     let command = writing_command(alloc, name, texts)?;

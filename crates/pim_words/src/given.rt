@@ -48,8 +48,10 @@ pub(crate) fn number_of<'a>(
     low: u64,
     high: u64,
 ) -> u64
-    requires { IsUnsignedIn low high (option_or default.now name.now (rows_of (found_of options.now))) }
-    ensures { IsNumber low high (option_or default.entry.now name.now (rows_of (found_of options.now))) result }
+    requires { IsUnsignedIn low high
+        (option_or default.now name.now (rows_of (found_of options.now))) }
+    ensures { IsNumber low high
+        (option_or default.entry.now name.now (rows_of (found_of options.now))) result }
 {
     match number_between(option_or(options, name, default), low, high) {
         Some(number) => number,

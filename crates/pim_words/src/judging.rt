@@ -5,7 +5,8 @@ ghost use Rattle.std.specs.Prelude.{◌≡◌, ◌++◌, ◌&&◌, ◌||◌, not
 ghost use Rattle.std.specs.List.{list_any};
 ghost use Rattle.std.specs.Option.{option_map_or};
 ghost use Rattle.pim_addr.specs.Faults.{judged};
-ghost use Rattle.pim_words.specs.Faults.{is_valid, is_same, is_of, port_count, no_port_faults, writer_faults};
+ghost use Rattle.pim_words.specs.Faults.{is_valid, is_same, is_of, port_count, no_port_faults};
+ghost use Rattle.pim_words.specs.Faults.{writer_faults};
 ghost use Rattle.pim_words.specs.Faults.{router_faults, faults_of_two, setting_faults};
 
 use crate::addresses::Address;
@@ -71,7 +72,9 @@ fn is_bad_port(side: Side, port: &Port<'_, Address>) -> bool
 
 /// Whether this router has a port whose address isn't a valid source.
 fn has_bad_port(side: Side, captures: &Captures<'_, Address>) -> bool
-    ensures { result ≡ list_any (λ port. is_of side port && not (is_valid port.address)) captures.now.ports.items }
+    ensures { result
+        ≡ list_any (λ port. is_of side port
+        && not (is_valid port.address)) captures.now.ports.items }
 {
     captures.ports.iter().any(|port| is_bad_port(side, port))
 }
@@ -136,7 +139,8 @@ fn judge_router(side: Side, captures: &Captures<'_, Address>) -> Result<(), Faul
 
 /// Checks the ports and the RP of both routers.
 fn judge_routers(captures: &Captures<'_, Address>) -> Result<(), Fault<'static>>
-    ensures { result ≡ judged (router_faults Side.A captures.now ++ router_faults Side.B captures.now) tt }
+    ensures { result
+        ≡ judged (router_faults Side.A captures.now ++ router_faults Side.B captures.now) tt }
 {
     judge_router(Side::A, captures)?;
     judge_router(Side::B, captures)

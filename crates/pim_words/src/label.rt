@@ -2,7 +2,8 @@
 
 ghost use Rattle.std.specs.Prelude.{◌≡◌, true, map};
 ghost use Rattle.std.specs.List.{list_all, list_any};
-ghost use Rattle.pim_words.specs.Labels.{is_name, is_name_byte, is_named, has_name, is_fresh, IsLabelOf};
+ghost use Rattle.pim_words.specs.Labels.{is_name, is_name_byte, is_named, has_name, is_fresh};
+ghost use Rattle.pim_words.specs.Labels.{IsLabelOf};
 
 /// A word that is cut into its name and the rest.
 #[derive(Clone, Copy, Debug, PartialEq, Eq)]

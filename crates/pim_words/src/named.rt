@@ -3,7 +3,8 @@
 //! A word is `ADDRESS@FILE`, or `NAME=ADDRESS@FILE`.
 
 ghost use Rattle.std.specs.Prelude.{◌≡◌, MatchResult, [], map};
-ghost use Rattle.pim_words.specs.Labels.{IsLabelled, IsWrongLabelled, AreLabelled, IsFirstWrongLabelled};
+ghost use Rattle.pim_words.specs.Labels.{IsLabelled, IsWrongLabelled, AreLabelled};
+ghost use Rattle.pim_words.specs.Labels.{IsFirstWrongLabelled};
 ghost use Rattle.pim_words.specs.Seen.{OrMemory};
 
 use crate::addresses::{Address, read_address};
@@ -73,7 +74,8 @@ fn read_named<'a>(earlier: &[Option<&'a str>], word: &'a str) -> Result<Named<'a
 /// The ports that the words name, in order, with their names. Or the fault of the first wrong word.
 pub(crate) fn read_labelled<'a>(alloc: Global, words: &[&'a str]) -> Result<Labelled<'a>, Fault<'a>>
     ensures { MatchResult result
-        (λ labelled. AreLabelled (map (λ w. w.now) words.now) labelled.ports.items labelled.names.items)
+        (λ labelled. AreLabelled (map (λ w. w.now) words.now) labelled.ports.items
+        labelled.names.items)
         (OrMemory (IsFirstWrongLabelled [] (map (λ w. w.now) words.now))) }
 {
     let mut labelled = Labelled::none(alloc);

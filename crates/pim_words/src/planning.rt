@@ -3,15 +3,18 @@
 //! The family is known only after all addresses are read. So a task is read with addresses of
 //! either family, and `Address` and `Word` come before `Family`.
 
-ghost use Rattle.std.specs.Prelude.{◌≡◌, MatchOption, MatchResult, IfOk, IfErr, IsSomeAnd, true, false, map, codes};
+ghost use Rattle.std.specs.Prelude.{◌≡◌, MatchOption, MatchResult, IfOk, IfErr, IsSomeAnd, true};
+ghost use Rattle.std.specs.Prelude.{false, map, codes};
 ghost use Rattle.clap.specs.declared.builder.command.Command.TheViews.{out-Command};
-ghost use Rattle.clap.specs.Words.{found_of, rows_of, subcommand_rows_of, subcommand_of, takes, fault_of, FailsBy};
+ghost use Rattle.clap.specs.Words.{found_of, rows_of, subcommand_rows_of, subcommand_of, takes};
+ghost use Rattle.clap.specs.Words.{fault_of, FailsBy};
 ghost use Rattle.clap.specs.Words.{app_of, kind_of};
 ghost use Rattle.pim_addr.specs.declared.family.AddressFamily.TheVariants.{Ipv4};
 ghost use Rattle.pim_words.specs.CommandLine.{pimtree};
 ghost use Rattle.pim_words.specs.Faults.{are_in};
 ghost use Rattle.pim_words.specs.Given.{AsksForTask, kind_name};
-ghost use Rattle.pim_words.specs.Plan.{IsPlanOfTask, IsWrongTask, IsPlanOf, IsWrongOf, Plans, HasCause};
+ghost use Rattle.pim_words.specs.Plan.{IsPlanOfTask, IsWrongTask, IsPlanOf, IsWrongOf, Plans};
+ghost use Rattle.pim_words.specs.Plan.{HasCause};
 ghost use Rattle.pim_words.specs.Plan.{IsPlanInRange};
 ghost use Rattle.pim_words.specs.Seen.{HasNumbers, IsGiven, IsOffered};
 
@@ -36,7 +39,8 @@ fn matches_of<'a, S: AsStr>(whole: Command<'a>, words: &'a [S]) -> Result<ArgMat
         ≡ subcommand_of (app_of whole.entry) (map S.text words.entry.now)) }
     ensures given { IfOk result (λ m. IsSomeAnd (subcommand_rows_of m) IsGiven) }
     ensures refused { FailsBy (fault_of (app_of whole.entry) (map S.text words.entry.now)) result }
-    ensures taken { IfErr result (λ e. takes (app_of whole.entry) (map S.text words.entry.now) ≡ true
+    ensures taken { IfErr result (λ e. takes (app_of whole.entry) (map S.text words.entry.now)
+        ≡ true
         → kind_of e ≡ ErrorKind.OutOfMemory) }
 {
     let matches = whole.try_get_matches_from(words)?;

@@ -3,7 +3,8 @@
 //! The defaults are set in this module. A required option that is missing counts as the empty text;
 //! `clap` refuses words without it.
 
-ghost use Rattle.std.specs.Prelude.{◌≡◌, MatchResult, IfOk, IfErr, true, false, Some, [], option_map, codes, map};
+ghost use Rattle.std.specs.Prelude.{◌≡◌, MatchResult, IfOk, IfErr, true, false, Some, []};
+ghost use Rattle.std.specs.Prelude.{option_map, codes, map};
 ghost use Rattle.std.specs.List.{AllZip};
 ghost use Rattle.clap.specs.Words.{rows_of, found_of};
 ghost use Rattle.pim_words.specs.Addresses.{Names};
@@ -12,8 +13,10 @@ ghost use Rattle.pim_words.specs.declared.fault.Fault.TheVariants.{TwoEnds};
 ghost use Rattle.pim_words.specs.Given.{words_of, required, address_texts, is_sided};
 ghost use Rattle.pim_words.specs.Labels.{AreLabelled, IsFirstWrongLabelled};
 ghost use Rattle.pim_words.specs.Ports.{IsPort, IsFirstWrongOf};
-ghost use Rattle.pim_words.specs.Reading.{IsNamed, IsUnreadText, IsUnreadValue, IsFirstUnread, IsRun, AreCaptures};
-ghost use Rattle.pim_words.specs.Reading.{IsWriting, IsTraced, IsTask, IsUnreadable, IsWrongRun, IsWrongTrace};
+ghost use Rattle.pim_words.specs.Reading.{IsNamed, IsUnreadText, IsUnreadValue, IsFirstUnread};
+ghost use Rattle.pim_words.specs.Reading.{IsRun, AreCaptures};
+ghost use Rattle.pim_words.specs.Reading.{IsWriting, IsTraced, IsTask, IsUnreadable, IsWrongRun};
+ghost use Rattle.pim_words.specs.Reading.{IsWrongTrace};
 ghost use Rattle.pim_words.specs.Seen.{OrMemory, AreEnds, AreWritten, HasNumbers};
 
 use crate::addresses::{Address, read_address};
@@ -206,7 +209,8 @@ fn read_labelled_words<'a>(
     options: &ArgMatches<'a>,
 ) -> Result<Labelled<'a>, Fault<'a>>
     ensures { MatchResult result
-        (λ labelled. AreLabelled (words_of (rows_of (found_of options.now))) labelled.ports.items labelled.names.items)
+        (λ labelled. AreLabelled (words_of (rows_of (found_of options.now))) labelled.ports.items
+        labelled.names.items)
         (OrMemory (IsFirstWrongLabelled [] (words_of (rows_of (found_of options.now))))) }
 {
     match options.get_raw("words") {

@@ -5,7 +5,8 @@ ghost use Rattle.std.specs.List.{AllZip};
 ghost use Rattle.clap.specs.Words.{rows_of, found_of};
 ghost use Rattle.pim_words.specs.Addresses.{Names};
 ghost use Rattle.pim_words.specs.Seen.{OrMemory};
-ghost use Rattle.pim_words.specs.Shown.{values_of, form_name, IsFormless, AreShownAddresses, IsWrongChoice};
+ghost use Rattle.pim_words.specs.Shown.{values_of, form_name, IsFormless, AreShownAddresses};
+ghost use Rattle.pim_words.specs.Shown.{IsWrongChoice};
 ghost use Rattle.pim_words.specs.Shown.{IsShown, IsWrongShown};
 
 use crate::addresses::Address;
@@ -75,7 +76,8 @@ fn read_choice<'a>(
     name: &str,
 ) -> Result<Vec<Address>, Fault<'a>>
     ensures { MatchResult result
-        (λ addresses. AreShownAddresses (values_of name.now (rows_of (found_of options.now))) addresses.items)
+        (λ addresses. AreShownAddresses (values_of name.now (rows_of (found_of options.now)))
+        addresses.items)
         (OrMemory (IsWrongChoice 64 (values_of name.now (rows_of (found_of options.now))))) }
 {
     match options.get_raw(name) {

@@ -40,7 +40,8 @@ fn group_bits<F: Family>() -> u8
 fn add_rp<F: Family>(routes: &mut Routes<F>, rp: F::Addr) -> Result<(), AllocError>
     requires source { is_source F.family (F.bytes_of rp) ≡ true }
     requires empty { routes.old ≡ no_routes }
-    ensures { IfOk result (λ done. routes.new ≡ with_rp (all_groups F.family) (F.bytes_of rp) no_routes) }
+    ensures { IfOk result (λ done. routes.new
+        ≡ with_rp (all_groups F.family) (F.bytes_of rp) no_routes) }
 {
     match routes.add_rp(first_group::<F>(), group_bits::<F>(), rp) {
         Ok(()) => Ok(()),
@@ -54,7 +55,8 @@ fn add_rp<F: Family>(routes: &mut Routes<F>, rp: F::Addr) -> Result<(), AllocErr
 fn add_via<F: Family>(routes: &mut Routes<F>, neighbour: F::Addr) -> Result<(), AllocError>
     requires source { is_source F.family (F.bytes_of neighbour) ≡ true }
     requires empty { routes.old.vias ≡ [] }
-    ensures { IfOk result (λ done. routes.new ≡ with_via (all_addresses F.family) (F.bytes_of neighbour) routes.old) }
+    ensures { IfOk result (λ done. routes.new
+        ≡ with_via (all_addresses F.family) (F.bytes_of neighbour) routes.old) }
 {
     match routes.add_via(first_address::<F>(), 0, neighbour) {
         Ok(()) => Ok(()),

@@ -5,8 +5,10 @@ ghost use Rattle.std.specs.Prelude.{◌≡◌, MatchResult, true, map, option_ma
 ghost use Rattle.std.specs.List.{list_all};
 ghost use Rattle.std.specs.Option.{option_map_or};
 ghost use Rattle.pim_words.specs.declared.fault.Fault.TheVariants.{Memory};
-ghost use Rattle.pim_words.specs.Faults.{is_in, are_captures_in, is_tracing_in, is_writing_in, are_in};
-ghost use Rattle.pim_words.specs.Typed.{address_in, port_seen, SameCaptures, SameTracing, SameWriting, SameTask};
+ghost use Rattle.pim_words.specs.Faults.{is_in, are_captures_in, is_tracing_in, is_writing_in};
+ghost use Rattle.pim_words.specs.Faults.{are_in};
+ghost use Rattle.pim_words.specs.Typed.{address_in, port_seen, SameCaptures, SameTracing};
+ghost use Rattle.pim_words.specs.Typed.{SameWriting, SameTask};
 ghost use Rattle.pim_words.specs.Seen.{IsForeign};
 
 use crate::addresses::Address;
@@ -49,7 +51,8 @@ fn port_in_family<'a, F: Family>(
     port: &Port<'a, Address>,
 ) -> Result<Port<'a, F::Addr>, Fault<'static>>
     ensures { MatchResult result
-        (λ p. (is_in F.family port.now.address ≡ true) × (port_seen F.family F.bytes_of p ≡ port.now))
+        (λ p. (is_in F.family port.now.address ≡ true)
+        × (port_seen F.family F.bytes_of p ≡ port.now))
         (IsForeign (is_in F.family port.now.address)) }
 {
     let port = *port;
@@ -90,7 +93,8 @@ fn captures_in_family<'a, F: Family>(
     captures: &Captures<'a, Address>,
 ) -> Result<Captures<'a, F::Addr>, Fault<'static>>
     ensures { MatchResult result
-        (λ typed. (are_captures_in F.family captures.now ≡ true) × SameCaptures F.family F.bytes_of typed captures.now)
+        (λ typed. (are_captures_in F.family captures.now ≡ true)
+        × SameCaptures F.family F.bytes_of typed captures.now)
         (IsForeign (are_captures_in F.family captures.now)) }
 {
     let rp = rp_in_family::<F>(captures.rp)?;
@@ -147,7 +151,8 @@ fn tracing_in_family<'a, F: Family>(
     tracing: &Tracing<'a, Address>,
 ) -> Result<Tracing<'a, F::Addr>, Fault<'static>>
     ensures { MatchResult result
-        (λ typed. (is_tracing_in F.family tracing.now ≡ true) × SameTracing F.family F.bytes_of typed tracing.now)
+        (λ typed. (is_tracing_in F.family tracing.now ≡ true)
+        × SameTracing F.family F.bytes_of typed tracing.now)
         (IsForeign (is_tracing_in F.family tracing.now)) }
 {
     let groups = all_in_family::<F>(alloc, &tracing.groups)?;
@@ -169,7 +174,8 @@ fn writing_in_family<F: Family>(
     writing: Writing<Address>,
 ) -> Result<Writing<F::Addr>, Fault<'static>>
     ensures { MatchResult result
-        (λ typed. (is_writing_in F.family writing ≡ true) × SameWriting F.family F.bytes_of typed writing)
+        (λ typed. (is_writing_in F.family writing ≡ true)
+        × SameWriting F.family F.bytes_of typed writing)
         (IsForeign (is_writing_in F.family writing)) }
 {
     let upstream = in_family::<F>(writing.upstream)?;

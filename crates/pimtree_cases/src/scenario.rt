@@ -66,7 +66,8 @@ impl Comparison<'_> {
         self.tell(rt, b"", without_feed(line))
     }
 
-    /// Goes on by a line of the scenario, which has this number. Returns whether all is as expected.
+    /// Goes on by a line of the scenario, which has this number. Returns whether all is as
+    /// expected.
     fn go_on(&mut self, rt: &HostRuntime, line: &[u8], number: usize) -> io::Result<bool> {
         if self.is_text {
             self.is_text = line != b"send".as_slice();

@@ -4,7 +4,8 @@
 //! the memory of the block is full. All items then move down once. Lists of timers lose their items
 //! from the front, and each removal there would move half a block.
 
-ghost use Rattle.std.specs.Prelude.{◌≡◌, ℕ, ◌+◌, ◌<◌, ◌≤◌, [], ◌++◌, length, take, drop, slice_index_or, vec_len, vec_capacity, IfOk};
+ghost use Rattle.std.specs.Prelude.{◌≡◌, ℕ, ◌+◌, ◌<◌, ◌≤◌, [], ◌++◌, length, take, drop};
+ghost use Rattle.std.specs.Prelude.{slice_index_or, vec_len, vec_capacity, IfOk};
 ghost use Rattle.std.specs.List.{insert, remove};
 ghost use Rattle.sorted_blocks.specs.Shape.{cut};
 

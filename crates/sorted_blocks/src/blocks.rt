@@ -157,7 +157,8 @@ impl<T: Copy, const HALF: usize> Blocks<T, HALF> {
         requires { IsItem self.now place }
         ensures place { IsPlace self.now result }
         ensures before { before self.now result ≡ before self.now place + 1 }
-        ensures item { before self.now place + 1 < length (items self.now) → IsItem self.now result }
+        ensures item { before self.now place + 1 < length (items self.now)
+            → IsItem self.now result }
     {
         self.store.next(place)
     }
@@ -177,7 +178,8 @@ impl<T: Copy, const HALF: usize> Blocks<T, HALF> {
     /// where the list has no item there. It takes a step for each block in between.
     pub fn onward(&self, place: Place, count: usize) -> Option<Place>
         requires { IsPlace self.now place }
-        ensures item { IfSome result (λ there. IsItem self.now there × before self.now there ≡ before self.now place + count) }
+        ensures item { IfSome result (λ there. IsItem self.now there × before self.now there
+            ≡ before self.now place + count) }
         ensures none { IfNone result (length (items self.now) ≤ before self.now place + count) }
     {
         self.store.onward(place, count)

@@ -4,7 +4,8 @@
 //! together. They do not become one sooner, so that alternating inserts and removals at one place
 //! do not split and merge each time.
 
-ghost use Rattle.std.specs.Prelude.{◌≡◌, ℕ, ◌+◌, ◌-◌, ◌<◌, ◌≤◌, [], ◌∷◌, ◌++◌, length, slice_index_or, IsTrue, ◌↔◌};
+ghost use Rattle.std.specs.Prelude.{◌≡◌, ℕ, ◌+◌, ◌-◌, ◌<◌, ◌≤◌, [], ◌∷◌, ◌++◌, length};
+ghost use Rattle.std.specs.Prelude.{slice_index_or, IsTrue, ◌↔◌};
 ghost use Rattle.std.specs.List.{insert, remove};
 ghost use Rattle.sorted_blocks.specs.Shape.{items, block_total, block_at, together};
 ghost use Rattle.sorted_blocks.specs.Places.{before, IsPlace, IsItem};
@@ -83,7 +84,8 @@ impl<T: Copy, const HALF: usize> Store<T, HALF> {
     pub(crate) fn start_of(&self, block: usize) -> Place
         requires { block ≤ length self.now.blocks }
         ensures place { IsPlace self.now result }
-        ensures before { before self.now result ≡ before self.now (record { block = block; at = 0 }) }
+        ensures before { before self.now result
+            ≡ before self.now (record { block = block; at = 0 }) }
     {
         if block < self.block_count() || block == 0 {
             return Place { block, at: 0 };
@@ -112,7 +114,8 @@ impl<T: Copy, const HALF: usize> Store<T, HALF> {
         ensures at { result.at ≤ length (block_at self.new.blocks result.block) }
         ensures before { before self.new result ≡ before self.old place }
         ensures total { block_total self.new ≡ block_total self.old }
-        ensures front { IsDenseIn HALF self.old.blocks 0 place.block → IsDenseIn HALF self.new.blocks 0 result.block }
+        ensures front { IsDenseIn HALF self.old.blocks 0 place.block
+            → IsDenseIn HALF self.new.blocks 0 result.block }
         ensures back { IsDenseIn HALF self.old.blocks (place.block + 1) (length self.old.blocks) →
             IsDenseIn HALF self.new.blocks result.block (length self.new.blocks) }
     {
@@ -133,7 +136,8 @@ impl<T: Copy, const HALF: usize> Store<T, HALF> {
         ensures before { before self.new result ≡ before self.old place }
         ensures total { block_total self.new ≡ block_total self.old }
         ensures dense { IsDenseIn HALF self.old.blocks 0 place.block →
-            IsDenseIn HALF self.old.blocks place.block (length self.old.blocks) → IsDense HALF self.new.blocks }
+            IsDenseIn HALF self.old.blocks place.block (length self.old.blocks)
+            → IsDense HALF self.new.blocks }
     {
         if place.block == 0 || !self.are_short(place.block - 1) {
             return place;

@@ -4,12 +4,14 @@
 //! lookup near a place doubles its steps from there, over the first items of the blocks and then in
 //! a block. So it reads few items, which are near one another in memory.
 
-ghost use Rattle.std.specs.Prelude.{◌≡◌, ◌≢◌, ℕ, ◌+◌, ◌-◌, ◌<◌, ◌≤◌, List, [], length, slice_index_or};
+ghost use Rattle.std.specs.Prelude.{◌≡◌, ◌≢◌, ℕ, ◌+◌, ◌-◌, ◌<◌, ◌≤◌, List, [], length};
+ghost use Rattle.std.specs.Prelude.{slice_index_or};
 ghost use Rattle.std.specs.List.{All};
 ghost use Rattle.sorted_blocks.specs.Shape.{items, block_at};
 ghost use Rattle.sorted_blocks.specs.Places.{IsItem};
 ghost use Rattle.sorted_blocks.specs.Found.{IsFound};
-ghost use Rattle.sorted_blocks.specs.Sought.{IsSought, IsBlockSought, IsBlockGap, IsRowLeft, IsLessAt};
+ghost use Rattle.sorted_blocks.specs.Sought.{IsSought, IsBlockSought, IsBlockGap, IsRowLeft};
+ghost use Rattle.sorted_blocks.specs.Sought.{IsLessAt};
 
 use crate::place::Place;
 use crate::probe::Probe;
@@ -22,7 +24,8 @@ fn one_if_less<T: Copy, P: Probe<T>>(probe: &P, row: &[T], at: usize) -> usize
     requires at { at < length row.now }
     ensures most { result ≤ 1 }
     ensures less { result ≡ 1 → IsLessAt (P.order probe.now) row.now at }
-    ensures not_less { (d : T) → result ≡ 0 → P.order probe.now (slice_index_or row.now at d) ≢ Ordering.Less }
+    ensures not_less { (d : T) → result ≡ 0
+        → P.order probe.now (slice_index_or row.now at d) ≢ Ordering.Less }
 {
     usize::from(probe.compare(&row[at]).is_lt())
 }
@@ -33,8 +36,10 @@ fn seek<T: Copy, P: Probe<T>>(probe: &P, row: &[T], low: usize, high: usize) -> 
     requires can { All (P.can_compare probe.now) row.now }
     requires low { low ≤ high }
     requires high { high ≤ length row.now }
-    requires less { (d : T) → 0 < low → P.order probe.now (slice_index_or row.now (low - 1) d) ≡ Ordering.Less }
-    requires greater { (d : T) → high < length row.now → P.order probe.now (slice_index_or row.now high d) ≡ Ordering.Greater }
+    requires less { (d : T) → 0 < low → P.order probe.now (slice_index_or row.now (low - 1) d)
+        ≡ Ordering.Less }
+    requires greater { (d : T) → high < length row.now
+        → P.order probe.now (slice_index_or row.now high d) ≡ Ordering.Greater }
     ensures { IsSought (P.order probe.now) row.now low result }
 {
     let mut low = low;
@@ -60,7 +65,8 @@ fn seek<T: Copy, P: Probe<T>>(probe: &P, row: &[T], low: usize, high: usize) -> 
 fn seek_soon<T: Copy, P: Probe<T>>(probe: &P, row: &[T], low: usize) -> Result<usize, usize>
     requires can { All (P.can_compare probe.now) row.now }
     requires low { low ≤ length row.now }
-    requires less { (d : T) → 0 < low → P.order probe.now (slice_index_or row.now (low - 1) d) ≡ Ordering.Less }
+    requires less { (d : T) → 0 < low → P.order probe.now (slice_index_or row.now (low - 1) d)
+        ≡ Ordering.Less }
     ensures { IsSought (P.order probe.now) row.now low result }
 {
     let mut low = low;

@@ -1,8 +1,8 @@
-//! Memory for items to come. Only `reserve_capacity` takes memory. Both vectors then have memory for
-//! all blocks, so that no edit takes any.
+//! Memory for items to come. Only `reserve_capacity` takes memory. Both vectors then have memory
+//! for all blocks, so that no edit takes any.
 //!
-//! The capacity depends on the number of all blocks alone, so that a caller that only replaces items
-//! needs no memory.
+//! The capacity depends on the number of all blocks alone, so that a caller that only replaces
+//! items needs no memory.
 
 ghost use Rattle.std.specs.Prelude.{◌≡◌, ◌+◌, ◌≤◌, ◌<◌, length, OnOk, IsOk, IsTrue, ◌↔◌};
 ghost use Rattle.sorted_blocks.specs.Shape.{items, joined, capacity};
@@ -23,7 +23,8 @@ impl<T: Copy, const HALF: usize> Store<T, HALF> {
 
     /// Returns whether `additional` more items exceed the capacity.
     fn lacks(&self, additional: usize) -> bool
-        ensures { IsTrue result ↔ capacity HALF self.now < length (joined self.now.blocks) + additional }
+        ensures { IsTrue result ↔ capacity HALF self.now < length (joined self.now.blocks)
+            + additional }
     {
         let (capacity, count) = (self.capacity(), self.len());
         capacity < count || capacity - count < additional

@@ -3,9 +3,11 @@
 //! The first items of the blocks are in one row beside the blocks, so that a search over the blocks
 //! opens none of them. Spare blocks are freed only with the list.
 
-ghost use Rattle.std.specs.Prelude.{◌≡◌, ◌+◌, ◌-◌, ◌<◌, ◌≤◌, [], ◌∷◌, ◌++◌, length, take, drop, slice_index_or, vec_len, vec_capacity, OnOk, OnErr};
+ghost use Rattle.std.specs.Prelude.{◌≡◌, ◌+◌, ◌-◌, ◌<◌, ◌≤◌, [], ◌∷◌, ◌++◌, length, take, drop};
+ghost use Rattle.std.specs.Prelude.{slice_index_or, vec_len, vec_capacity, OnOk, OnErr};
 ghost use Rattle.std.specs.List.{remove};
-ghost use Rattle.sorted_blocks.specs.Shape.{Shape, joined, block_at, together, put_into, taken_out, split};
+ghost use Rattle.sorted_blocks.specs.Shape.{Shape, joined, block_at, together, put_into, taken_out};
+ghost use Rattle.sorted_blocks.specs.Shape.{split};
 ghost use Rattle.sorted_blocks.specs.Shape.{merged, block_total, cut, cut_from};
 ghost use Rattle.sorted_blocks.specs.Sound.{AllFilled};
 ghost use Rattle.sorted_blocks.specs.Sought.{IsLead};
@@ -50,7 +52,8 @@ impl<T: Copy, const HALF: usize> Model for Store<T, HALF> {
 /// Moves `count` items from `at` on to the end, in order.
 fn turn_to_end<X>(items: &mut [X], at: usize, count: usize)
     requires { at + count ≤ length items.old }
-    ensures { items.new ≡ take at items.old ++ (drop count (drop at items.old) ++ take count (drop at items.old)) }
+    ensures { items.new ≡ take at items.old
+        ++ (drop count (drop at items.old) ++ take count (drop at items.old)) }
 {
     let (_before, behind) = items.split_at_mut(at);
     behind.rotate_left(count);

@@ -1,6 +1,7 @@
 //! Reading of items: at a place, and from one place to the next.
 
-ghost use Rattle.std.specs.Prelude.{◌≡◌, ◌+◌, ◌<◌, ◌≤◌, [], length, slice_index_or, IsTrue, IfSome, IfNone, ◌↔◌};
+ghost use Rattle.std.specs.Prelude.{◌≡◌, ◌+◌, ◌<◌, ◌≤◌, [], length, slice_index_or, IsTrue, IfSome};
+ghost use Rattle.std.specs.Prelude.{IfNone, ◌↔◌};
 ghost use Rattle.sorted_blocks.specs.Shape.{items};
 ghost use Rattle.sorted_blocks.specs.Places.{before, IsPlace, IsItem};
 
@@ -55,7 +56,8 @@ impl<T: Copy, const HALF: usize> Store<T, HALF> {
         requires { IsItem self.now place }
         ensures place { IsPlace self.now result }
         ensures before { before self.now result ≡ before self.now place + 1 }
-        ensures item { before self.now place + 1 < length (items self.now) → IsItem self.now result }
+        ensures item { before self.now place + 1 < length (items self.now)
+            → IsItem self.now result }
     {
         let _len = self.block_len(place.block);
         self.settled(Place {
@@ -90,7 +92,8 @@ impl<T: Copy, const HALF: usize> Store<T, HALF> {
     /// where the list has no item there. It takes a step for each block in between.
     pub(crate) fn onward(&self, place: Place, count: usize) -> Option<Place>
         requires { IsPlace self.now place }
-        ensures item { IfSome result (λ there. IsItem self.now there × before self.now there ≡ before self.now place + count) }
+        ensures item { IfSome result (λ there. IsItem self.now there × before self.now there
+            ≡ before self.now place + count) }
         ensures none { IfNone result (length (items self.now) ≤ before self.now place + count) }
     {
         let mut here = self.settled(place);

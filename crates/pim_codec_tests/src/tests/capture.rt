@@ -7,8 +7,8 @@ use pim_capture::{Capture, CaptureFault, Event, Ip, Why};
 use std::alloc::AllocError;
 use std::test::Fail;
 
-/// A capture of two raw IPv4 packets, in the lowest byte first, with microseconds: a Hello at 100 s, and 5 ms later a
-/// Join/Prune.
+/// A capture of two raw IPv4 packets, in the lowest byte first, with microseconds: a Hello at 100
+/// s, and 5 ms later a Join/Prune.
 const CAPTURE: [u8; 140] = [
     212, 195, 178, 161, 2, 0, 4, 0, 0, 0, 0, 0, 0, 0, 0, 0, 0, 0, 4, 0, 101, 0, 0, 0, 100, 0, 0, 0,
     0, 0, 0, 0, 30, 0, 0, 0, 30, 0, 0, 0, 69, 0, 0, 30, 0, 0, 0, 0, 1, 103, 0, 0, 10, 0, 0, 9, 224,
@@ -28,8 +28,8 @@ const CAPTURE_V6: [u8; 180] = [
     0, 1, 0, 7, 32, 10, 9, 9, 9,
 ];
 
-/// A capture of one record, of no bytes yet. Behind its header stands an Ethernet frame with a tag of 802.1Q and the Hello
-/// over IPv6.
+/// A capture of one record, of no bytes yet. Behind its header stands an Ethernet frame with a tag
+/// of 802.1Q and the Hello over IPv6.
 const FRAMED: [u8; 108] = [
     212, 195, 178, 161, 2, 0, 4, 0, 0, 0, 0, 0, 0, 0, 0, 0, 0, 0, 4, 0, 1, 0, 0, 0, 100, 0, 0, 0,
     207, 7, 0, 0, 0, 0, 0, 0, 0, 0, 0, 0, 51, 51, 0, 0, 0, 13, 2, 0, 0, 0, 0, 9, 129, 0, 0, 5, 134,
@@ -122,8 +122,8 @@ fn answers(
     ends(&mut capture, buffer, fault)
 }
 
-/// The fault of a capture of two packets that is cut to this length, or whose reads fail from there on. Records begin at
-/// the byte 24 and at `first`.
+/// The fault of a capture of two packets that is cut to this length, or whose reads fail from there
+/// on. Records begin at the byte 24 and at `first`.
 fn fault_of(bytes: &[u8], first: usize, length: usize, fails: bool) -> Option<CaptureFault> {
     if fails {
         Some(CaptureFault::Read)
@@ -134,10 +134,12 @@ fn fault_of(bytes: &[u8], first: usize, length: usize, fails: bool) -> Option<Ca
     }
 }
 
-/// At most how many bytes a read gives, and whether reads fail from the length on, or else the bytes end there.
+/// At most how many bytes a read gives, and whether reads fail from the length on, or else the
+/// bytes end there.
 const WAYS: [(usize, bool); 5] = [(1, false), (7, false), (180, false), (1, true), (180, true)];
 
-/// Whether a capture that is cut in this way answers the packets that are whole before, and then its end.
+/// Whether a capture that is cut in this way answers the packets that are whole before, and then
+/// its end.
 fn is_cut(
     (bytes, first): (&[u8], usize),
     events: &[Event; 2],
@@ -188,7 +190,8 @@ fn cut_anywhere(rt: HostRuntime) {
     assert_eq!(rt; wrong_length((&CAPTURE_V6, 90), &events, &mut buffer), None);
 }
 
-/// Whether the only record of a capture is passed over as one that is cut, where it has so many of the bytes behind it.
+/// Whether the only record of a capture is passed over as one that is cut, where it has so many of
+/// the bytes behind it.
 fn is_passed_over(bytes: &mut [u8], buffer: &mut Vec<u8>, length: u8) -> bool {
     let end = 40 + usize::from(length);
     if end > bytes.len() {
@@ -218,7 +221,8 @@ fn ipv6_frames_cut_anywhere(rt: HostRuntime) {
     }
 }
 
-/// A byte of the Hello's packet that is changed, to which value, and why the packet is passed over then.
+/// A byte of the Hello's packet that is changed, to which value, and why the packet is passed over
+/// then.
 const CHANGES: [(usize, u8, Why); 7] = [
     (0, 0x00, Why::NotIp),
     (0, 0x44, Why::BadHeader),
@@ -257,7 +261,8 @@ fn packets_passed_over(rt: HostRuntime) {
     assert_eq!(rt; wrong, None);
 }
 
-/// Whether the next answer is this packet. Where memory is refused, each later answer has to be that it failed.
+/// Whether the next answer is this packet. Where memory is refused, each later answer has to be
+/// that it failed.
 fn is_next(
     capture: &mut Capture<ScriptedFeed<'_>>,
     buffer: &mut Vec<u8>,
@@ -277,8 +282,8 @@ fn is_next(
     }
 }
 
-// `tools/each_growth_refused.sh` runs it with each allocation refused in turn. Then it ends with this
-// error, if nothing else is wrong: so it passes only if each call succeeds.
+// `tools/each_growth_refused.sh` runs it with each allocation refused in turn. Then it ends with
+// this error, if nothing else is wrong: so it passes only if each call succeeds.
 #[test]
 fn refused_growth(rt: HostRuntime) -> Result<(), Fail> {
     let mut buffer = Vec::new(rt.alloc());

@@ -87,7 +87,8 @@ fn counted_counts_failures(rt: HostRuntime) {
     assert!(rt; counts_writes());
 }
 
-/// A scripted reader of 8 bytes that gives at most so many a call and fails from a byte on: whether 6 bytes are read.
+/// A scripted reader of 8 bytes that gives at most so many a call and fails from a byte on: whether
+/// 6 bytes are read.
 const FEEDS: [(usize, usize, bool); 5] = [
     (1, usize::MAX, true),
     (4, usize::MAX, true),
@@ -122,8 +123,8 @@ fn scripted_feed_fails_from_a_byte_on(rt: HostRuntime) {
     assert!(rt; is_fed_in_parts());
 }
 
-/// A scripted writer that takes at most so many bytes a call and fails from a byte on: whether `abcdef` goes out, and the
-/// front of it that does.
+/// A scripted writer that takes at most so many bytes a call and fails from a byte on: whether
+/// `abcdef` goes out, and the front of it that does.
 const DRAINS: [(usize, usize, bool, &[u8]); 5] = [
     (1, usize::MAX, true, b"abcdef"),
     (4, 6, true, b"abcdef"),

@@ -1,4 +1,5 @@
-//! Texts of times that no command reads or writes. The others are in `times.case` of `pimtree_cases`.
+//! Texts of times that no command reads or writes. The others are in `times.case` of
+//! `pimtree_cases`.
 
 use pim_time::{read_time, write_seconds};
 

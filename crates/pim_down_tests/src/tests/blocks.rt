@@ -48,8 +48,8 @@ fn holds<const HALF: usize>(list: &Blocks<u32, HALF>, plain: &[u32]) -> bool {
     !list.is_item(place) && are_left(list.iter(), plain)
 }
 
-/// Puts the number in, or takes it out where it is there; answers the place where it stood or stands. The look-up
-/// begins near a place.
+/// Puts the number in, or takes it out where it is there; answers the place where it stood or
+/// stands. The look-up begins near a place.
 fn turn(list: &mut Blocks<u32, 2>, plain: &mut Vec<u32>, near: Place, number: u32) -> Place {
     if list.reserve_capacity(1).is_err() || list.len() >= list.capacity() {
         return Place::START;
@@ -182,8 +182,8 @@ fn take_behind<const HALF: usize>(
     }
 }
 
-/// Puts a number before all others or behind them, or takes one out at the front or elsewhere. A higher step has a
-/// lower number for the front and a higher one for the end.
+/// Puts a number before all others or behind them, or takes one out at the front or elsewhere. A
+/// higher step has a lower number for the front and a higher one for the end.
 fn use_an_end<const HALF: usize>(
     list: &mut Blocks<u32, HALF>,
     plain: &mut Vec<u32>,
@@ -198,8 +198,8 @@ fn use_an_end<const HALF: usize>(
     }
 }
 
-/// Lets numbers come behind and go in front: whether each is there in its time. The queue is longer by one every hundred
-/// steps.
+/// Lets numbers come behind and go in front: whether each is there in its time. The queue is longer
+/// by one every hundred steps.
 fn queues(list: &mut Blocks<u32, 4>, plain: &mut Vec<u32>) -> bool {
     if list.reserve_capacity(40).is_err() {
         return false;

@@ -1,13 +1,16 @@
-//! One downstream machine by moments, and what events make of it, read off the transition tables of RFC 7761 (4.5).
+//! One downstream machine by moments, and what events make of it, read off the transition tables of
+//! RFC 7761 (4.5).
 
 use pim_down::{State, Timing};
 
-/// A machine that is held, and the moments at which its timers end; an expiry timer without an end never does.
+/// A machine that is held, and the moments at which its timers end; an expiry timer without an end
+/// never does.
 #[derive(Clone, Copy, PartialEq, Eq, Debug)]
 pub(super) struct Course {
     pub(super) state: State,
     pub(super) expires_at: Option<u64>,
-    /// Beside the end of a prune-pending timer stands whether the port had several neighbours when it started.
+    /// Beside the end of a prune-pending timer stands whether the port had several neighbours when
+    /// it started.
     pub(super) pending: Option<(u64, bool)>,
 }
 

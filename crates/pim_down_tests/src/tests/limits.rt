@@ -6,8 +6,8 @@ use pim_addr::{Routes, V4};
 use pim_down::{HearFault, Ports, State, Step, What};
 use std::alloc::Global;
 
-/// Upstream 10.0.0.2, holdtime 210, and three sets of the group: this source as an (S,G) joined and as an (S,G,rpt)
-/// pruned; another one as an (S,G,rpt) joined; and the same pruned again.
+/// Upstream 10.0.0.2, holdtime 210, and three sets of the group: this source as an (S,G) joined and
+/// as an (S,G,rpt) pruned; another one as an (S,G,rpt) joined; and the same pruned again.
 fn message(source: [u8; 4], before: [u8; 4]) -> [u8; 78] {
     let [a, b, c, d] = source;
     let [e, f, g, h] = before;
@@ -75,8 +75,8 @@ fn wrong(alloc: Global) -> Option<u8> {
     None
 }
 
-// With each allocation refused in turn (`tools/each_growth_refused.sh`): nothing has changed, and the same message,
-// with memory, leaves what it would have left.
+// With each allocation refused in turn (`tools/each_growth_refused.sh`): nothing has changed, and
+// the same message, with memory, leaves what it would have left.
 #[test]
 fn refusals_change_nothing(rt: HostRuntime) {
     assert_eq!(rt; wrong(rt.alloc()), None);

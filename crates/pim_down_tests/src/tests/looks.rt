@@ -75,7 +75,8 @@ fn wrong_under(
     turns.iter().position(|turn| !goes(&mut ports, turn))
 }
 
-/// The first of these runs that doesn't go so, behind a hearing at 0 and, where it is to be, a refresh at 100,000.
+/// The first of these runs that doesn't go so, behind a hearing at 0 and, where it is to be, a
+/// refresh at 100,000.
 fn wrong(alloc: Global, refreshes: bool, turns: &[Turn]) -> Option<usize> {
     match table(alloc, &ONE_RP) {
         Some(routes) => wrong_under(alloc, &routes, refreshes, turns),

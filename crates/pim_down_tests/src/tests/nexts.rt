@@ -135,7 +135,8 @@ const MANY: Row = Row::Hear(
 /// The machines of the group behind its star then, in key order.
 const TOLD: [What<[u8; 4]>; 3] = [What::Source(FIRST), What::Source(SECOND), What::Rpt(FIRST)];
 
-/// Whether these machines are told one after another, wherever they are looked for, and then no more.
+/// Whether these machines are told one after another, wherever they are looked for, and then no
+/// more.
 fn are_told(ports: &Ports<V4>, near: Near) -> bool {
     let mut left = ports.machines_after_near(0, GROUP, What::Star, near);
     for what in &TOLD {

@@ -8,7 +8,8 @@ use pim_down::{HearFault, Key, Machine, Near, Pending, Ports, Record, Timing, Wh
 use pim_jp::Entry;
 use std::alloc::{AllocError, Global};
 
-/// How many records a port may have: fewer than there would be without a limit, and together more than two blocks hold.
+/// How many records a port may have: fewer than there would be without a limit, and together more
+/// than two blocks hold.
 const LIMIT: usize = 700;
 
 const STEPS: u32 = 10_000;

@@ -1,5 +1,6 @@
-//! The machines of all ports as one plain list in key order, gone through from its start each time: slow, and read off
-//! the transition tables of RFC 7761 (4.5) and no other code. Random runs compare `Ports` with it.
+//! The machines of all ports as one plain list in key order, gone through from its start each time:
+//! slow, and read off the transition tables of RFC 7761 (4.5) and no other code. Random runs
+//! compare `Ports` with it.
 
 use super::RP;
 use super::courses::{Course, is_tmp, joined, pruned, rpt_pruned, star_joined, start_at};
@@ -181,7 +182,8 @@ impl Slow {
         count
     }
 
-    /// How many records a message needs: those of the port, and each entry that creates one which isn't held.
+    /// How many records a message needs: those of the port, and each entry that creates one which
+    /// isn't held.
     fn needed(&self, port: usize, message: &[Named]) -> usize {
         let mut needed = self.count_on(port);
         for named in message {
@@ -307,7 +309,8 @@ impl Slow {
         }
     }
 
-    /// Runs to a moment, or to the first echo. `None` where that takes more turns than any test needs.
+    /// Runs to a moment, or to the first echo. `None` where that takes more turns than any test
+    /// needs.
     pub(super) fn run_to(&mut self, moment: u64) -> Option<Step<[u8; 4]>> {
         let moment = moment.max(self.moment);
         for _ in 0..1_000_000u32 {

@@ -1,5 +1,5 @@
-//! Changes of what is asked of the group 239.1.1.1 while growths are refused. What changes are told, and how, is in the
-//! scenarios of `pimtree_cases`.
+//! Changes of what is asked of the group 239.1.1.1 while growths are refused. What changes are
+//! told, and how, is in the scenarios of `pimtree_cases`.
 
 mod refused;
 mod units;

@@ -1,5 +1,6 @@
-//! What goes out to a device, byte by byte: the group 239.1.1.1 with the RP 10.9.9.9, asked of 10.0.0.2. Ports whose wants
-//! merge are in `emit-ports.case` of `pimtree_cases`, and in its scenarios.
+//! What goes out to a device, byte by byte: the group 239.1.1.1 with the RP 10.9.9.9, asked of
+//! 10.0.0.2. Ports whose wants merge are in `emit-ports.case` of `pimtree_cases`, and in its
+//! scenarios.
 
 mod long;
 
@@ -11,7 +12,8 @@ use pim_form::{Messages, NormalForm, is_toward, pack};
 use std::alloc::Global;
 use std::test::Fail;
 
-/// What is answered where the canonical messages are written to this device; `None` where there is no buffer.
+/// What is answered where the canonical messages are written to this device; `None` where there is
+/// no buffer.
 fn write_to(
     alloc: Global,
     state: &State,
@@ -73,12 +75,14 @@ fn are_bytes(found: Option<Messages>, bytes: &[u8]) -> bool {
     }
 }
 
-/// Whether the packed messages of this state are these bytes, and those that are kept straight from the records too.
+/// Whether the packed messages of this state are these bytes, and those that are kept straight from
+/// the records too.
 fn is_packed(alloc: Global, state: &State, bytes: &[u8]) -> bool {
     are_bytes(packed(alloc, state), bytes) && are_bytes(kept(alloc, state), bytes)
 }
 
-/// Whether so many messages of these bytes are written to a device that takes one byte a call, and kept, and packed.
+/// Whether so many messages of these bytes are written to a device that takes one byte a call, and
+/// kept, and packed.
 fn is_written(alloc: Global, state: &State, messages: u64, bytes: &[u8]) -> bool {
     let mut out = ScriptedDrain::new(alloc, 1, 10_000);
     written(alloc, state, &mut out) == Some(messages)

@@ -1,5 +1,5 @@
-//! Some ports, and the table and the writer by which their wants are told: the group 239.1.1.1 with the RP 10.9.9.9, asked
-//! of 10.0.0.2.
+//! Some ports, and the table and the writer by which their wants are told: the group 239.1.1.1 with
+//! the RP 10.9.9.9, asked of 10.0.0.2.
 
 use pim_addr::{Routes, V4};
 use pim_down::{Ports, Step, Timing};
@@ -123,8 +123,8 @@ pub(super) fn hear(
     hear_on(alloc, state, (port, ALONE), group, joined, pruned)
 }
 
-/// What a test tells of a call that was refused memory: that it is wrong, or that memory is wanting.
-/// So a test passes only if its call succeeds at once.
+/// What a test tells of a call that was refused memory: that it is wrong, or that memory is
+/// wanting. So a test passes only if its call succeeds at once.
 pub(super) fn refused(is_right: bool) -> Result<bool, AllocError> {
     if is_right { Err(AllocError) } else { Ok(false) }
 }

@@ -34,7 +34,8 @@ fn tell(
 const UNWRITTEN: &str = "pimtree: output\n";
 
 /// Whether a fault, written to a device that fails from this byte on, leaves the text up to there
-/// and one failure. The other device has the line of the failure where the words asked for the text.
+/// and one failure. The other device has the line of the failure where the words asked for the
+/// text.
 fn leaves(
     alloc: Global,
     fault: &Fault<'_>,

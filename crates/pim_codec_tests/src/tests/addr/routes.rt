@@ -3,7 +3,8 @@
 use pim_addr::{Family, Route, RouteFault, Routes, V4, read_text};
 use std::alloc::Global;
 
-/// A row as a text would tell it: for an RP or a neighbour, its prefix and length, and where it leads.
+/// A row as a text would tell it: for an RP or a neighbour, its prefix and length, and where it
+/// leads.
 type Told<'a> = (bool, &'a str, u8, &'a str);
 
 /// The address that this text names; the address of zeros where it names none.
@@ -156,7 +157,8 @@ fn has_rows(routes: &Routes<V4>, count: usize, address: [u8; 4], to: Option<[u8;
     routes.vias().count() == count && routes.rps().count() == 0 && routes.via(address) == to
 }
 
-/// Whether a row is added behind so many, at once or, where a growth is refused, with nothing changed and then again.
+/// Whether a row is added behind so many, at once or, where a growth is refused, with nothing
+/// changed and then again.
 fn is_added(routes: &mut Routes<V4>, number: u8) -> bool {
     let count = usize::from(number);
     let (prefix, length, to) = ([10, number, 0, 0], 16 + number % 5, [10, 0, 0, 1]);
@@ -172,8 +174,8 @@ fn is_added(routes: &mut Routes<V4>, number: u8) -> bool {
     added && has_rows(routes, count + 1, address, Some(to))
 }
 
-// With each allocation refused in turn (`tools/each_growth_refused.sh`): the table is as it was, and the same row,
-// with memory, is added.
+// With each allocation refused in turn (`tools/each_growth_refused.sh`): the table is as it was,
+// and the same row, with memory, is added.
 #[test]
 fn refusals_change_nothing(rt: HostRuntime) {
     let mut routes: Routes<V4> = Routes::new(rt.alloc());

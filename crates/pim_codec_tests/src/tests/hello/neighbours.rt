@@ -75,7 +75,8 @@ enum Row {
     Expires(u64),
     Knows([u8; 4], bool),
     Count(usize),
-    /// The override interval of a port with this propagation delay and this override delay of its own.
+    /// The override interval of a port with this propagation delay and this override delay of its
+    /// own.
     Interval(u16, u16, u32),
 }
 
@@ -144,7 +145,8 @@ fn is_left(neighbours: &mut Neighbours<V4>, (sender, says, want): Left) -> bool 
     heard && goes(neighbours, Row::Interval(100, 100, want))
 }
 
-/// The first of these Hellos, which come one after the other, that leaves another override interval.
+/// The first of these Hellos, which come one after the other, that leaves another override
+/// interval.
 fn first_otherwise(alloc: Global, rows: &[Left]) -> Option<usize> {
     let mut neighbours: Neighbours<V4> = Neighbours::new(alloc);
     rows.iter().position(|row| !is_left(&mut neighbours, *row))
@@ -168,7 +170,8 @@ const GREATEST: [Left; 14] = [
     (OTHER, Says::Holdtime(0), 200),
 ];
 
-// A router gathers the delays before it asks (`neighbours-delays-left.session` of `pimtree_cases`). Here nobody does.
+// A router gathers the delays before it asks (`neighbours-delays-left.session` of `pimtree_cases`).
+// Here nobody does.
 #[test]
 fn goes_by_the_greatest_delays_that_are_left(rt: HostRuntime) {
     assert_eq!(rt; first_otherwise(rt.alloc(), &GREATEST), None);
@@ -187,8 +190,8 @@ fn ends_times_until_the_last_moment(rt: HostRuntime) {
     assert_eq!(rt; first_wrong(rt.alloc(), &TIMES), None);
 }
 
-/// Whether a Hello is told so, at once or, where a growth is refused, with nothing changed and then again; so many are
-/// known before.
+/// Whether a Hello is told so, at once or, where a growth is refused, with nothing changed and then
+/// again; so many are known before.
 fn is_told(
     neighbours: &mut Neighbours<V4>,
     sender: [u8; 4],
@@ -235,8 +238,8 @@ const ENDS: [Row; 4] = [
     Row::Count(0),
 ];
 
-// With each allocation refused in turn (`tools/each_growth_refused.sh`): the table is as it was, and the
-// same Hello, with memory, is told as it would have been.
+// With each allocation refused in turn (`tools/each_growth_refused.sh`): the table is as it was,
+// and the same Hello, with memory, is told as it would have been.
 #[test]
 fn refusals_change_nothing(rt: HostRuntime) {
     let mut neighbours: Neighbours<V4> = Neighbours::new(rt.alloc());

@@ -1,4 +1,5 @@
-//! Bodies with any one byte changed to any other, beside what a reader of its own, in another language, tells of them.
+//! Bodies with any one byte changed to any other, beside what a reader of its own, in another
+//! language, tells of them.
 
 ghost use Rattle.std.specs.Prelude.{◌≤◌};
 
@@ -6,8 +7,8 @@ use super::STAR;
 use pim_addr::V4;
 use pim_jp::{JpFault, JpKind, JpView};
 
-/// A set that joins the RP 10.9.9.9, the source 192.0.2.1 and, on the RP's tree, 192.0.2.2, and prunes 192.0.2.2 and,
-/// on the RP's tree, 192.0.2.1.
+/// A set that joins the RP 10.9.9.9, the source 192.0.2.1 and, on the RP's tree, 192.0.2.2, and
+/// prunes 192.0.2.2 and, on the RP's tree, 192.0.2.1.
 const LISTS: [u8; 62] = [
     1, 0, 10, 0, 0, 2, 0, 1, 0, 210, 1, 0, 0, 32, 239, 1, 1, 1, 0, 3, 0, 2, 1, 0, 7, 32, 10, 9, 9,
     9, 1, 0, 4, 32, 192, 0, 2, 1, 1, 0, 5, 32, 192, 0, 2, 2, 1, 0, 4, 32, 192, 0, 2, 2, 1, 0, 5,
@@ -17,10 +18,11 @@ const LISTS: [u8; 62] = [
 /// What was told of many bodies.
 #[derive(Clone, Copy, Debug, PartialEq, Eq)]
 struct Told {
-    /// Of how many there was no fault, and of how many one of each kind, in the order in which kinds are told.
+    /// Of how many there was no fault, and of how many one of each kind, in the order in which
+    /// kinds are told.
     counts: [u32; 11],
-    /// All offsets and kinds, in the order of the bodies: 31 times what came before, and 16 times the offset and the
-    /// kind's number more, modulo 2^32.
+    /// All offsets and kinds, in the order of the bodies: 31 times what came before, and 16 times
+    /// the offset and the kind's number more, modulo 2^32.
     digest: u32,
 }
 

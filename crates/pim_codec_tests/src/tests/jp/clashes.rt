@@ -28,8 +28,8 @@ const FORM_V6: Form<'static> = Form {
 };
 
 /// The number of sources that are joined, and that are pruned. Then the place of the first pruned
-/// source that is joined too, and its place among the joined ones. Later pruned sources are joined as
-/// well where there is a step: their places among the joined ones are that far apart, in a ring.
+/// source that is joined too, and its place among the joined ones. Later pruned sources are joined
+/// as well where there is a step: their places among the joined ones are that far apart, in a ring.
 type Row = (u16, u16, Option<(u16, u16)>, Option<u16>);
 
 const ROWS: [Row; 32] = [

@@ -56,8 +56,8 @@ fn next_number(number: u32) -> u32 {
     number.wrapping_mul(1_664_525).wrapping_add(1_013_904_223)
 }
 
-/// Takes turns with numbers that look random: whether the list goes as the vector. No turn changes its room, and no
-/// memory is wanted for what is left of it.
+/// Takes turns with numbers that look random: whether the list goes as the vector. No turn changes
+/// its room, and no memory is wanted for what is left of it.
 fn goes_beside(list: &mut SortedSlab<u32, 2>, plain: &mut Vec<u32>) -> bool {
     if list.reserve(300).is_err() {
         return false;

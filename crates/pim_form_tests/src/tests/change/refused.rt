@@ -55,7 +55,8 @@ fn refusals_leave(alloc: Global, old: &NormalForm<V4>) -> Result<bool, AllocErro
     }
 }
 
-// With each allocation refused in turn (`tools/each_growth_refused.sh`): the same call, with memory, tells the change.
+// With each allocation refused in turn (`tools/each_growth_refused.sh`): the same call, with
+// memory, tells the change.
 #[test]
 fn refusals_leave_what_is_told(rt: HostRuntime) -> Result<(), Fail> {
     let old = old_form(rt.alloc()).ok_or(AllocError)?;

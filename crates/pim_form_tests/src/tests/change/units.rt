@@ -16,7 +16,8 @@ fn is_of(unit: Unit<'_, [u8; 4]>, kind: Kind, source: [u8; 4]) -> bool {
     }
 }
 
-/// Whether the units of the change are of the exception that went, of the one that came, and of the source that came.
+/// Whether the units of the change are of the exception that went, of the one that came, and of the
+/// source that came.
 fn are_units(
     alloc: Global,
     old: &NormalForm<V4>,
@@ -50,7 +51,8 @@ fn refusals_leave(alloc: Global, old: &NormalForm<V4>) -> Result<bool, AllocErro
     }
 }
 
-// With each allocation refused in turn (`tools/each_growth_refused.sh`): the same call, with memory, gives the change.
+// With each allocation refused in turn (`tools/each_growth_refused.sh`): the same call, with
+// memory, gives the change.
 #[test]
 fn refusals_leave_the_forms(rt: HostRuntime) -> Result<(), Fail> {
     let old = old_form(rt.alloc()).ok_or(AllocError)?;
@@ -65,7 +67,8 @@ fn big_of_new(alloc: Global, new: &NormalForm<V4>, budget: usize) -> Option<[u8;
     too_big(&nothing, new, budget)
 }
 
-/// Whether the star is too big where it is new and has no room. A message of it, with one exception, has 42 bytes.
+/// Whether the star is too big where it is new and has no room. A message of it, with one
+/// exception, has 42 bytes.
 fn is_big_at_41(alloc: Global, form: &NormalForm<V4>) -> bool {
     big_of_new(alloc, form, 42).is_none()
         && big_of_new(alloc, form, 41) == Some(GROUP)

@@ -42,7 +42,8 @@ fn is_cut(alloc: Global, state: &State, bytes: &[u8], fails_from: usize) -> bool
         && out.failures() == 1
 }
 
-/// Whether these are the bytes of two messages, and a device that fails at any of them was written the ones before.
+/// Whether these are the bytes of two messages, and a device that fails at any of them was written
+/// the ones before.
 fn are_told(alloc: Global, state: &State, bytes: &[u8]) -> bool {
     bytes.len() == 1656
         && is_written(alloc, state, 2, bytes)

@@ -23,7 +23,8 @@ fn hear_held(alloc: Global, state: &mut State) -> bool {
         && hear(alloc, state, 2, GROUP, &[JOIN_SECOND], &[])
 }
 
-/// Whether the form holds nothing but the star of the group except the second source, and both sources.
+/// Whether the form holds nothing but the star of the group except the second source, and both
+/// sources.
 fn holds(form: &NormalForm<V4>) -> bool {
     let mut groups = form.groups();
     let Some(group) = groups.next() else {
@@ -69,8 +70,8 @@ fn forms_by_the_macros(rt: HostRuntime) {
     assert!(rt; is_wanted(rt.alloc()));
 }
 
-/// Whether the ports want what they should: at once or, where memory is refused, when they hold what
-/// they held and are asked again.
+/// Whether the ports want what they should: at once or, where memory is refused, when they hold
+/// what they held and are asked again.
 fn want_at_last(alloc: Global, ports: &Ports<V4>) -> Result<bool, AllocError> {
     if let Ok(answer) = want(alloc, ports) {
         return Ok(answer);
@@ -89,8 +90,8 @@ fn heard_want_at_last(alloc: Global) -> Result<bool, AllocError> {
     }
 }
 
-// With each allocation refused in turn (`tools/each_growth_refused.sh`): the ports hold what they held, and with
-// memory their form is what it would have been.
+// With each allocation refused in turn (`tools/each_growth_refused.sh`): the ports hold what they
+// held, and with memory their form is what it would have been.
 #[test]
 fn refusals_leave_the_ports(rt: HostRuntime) -> Result<(), Fail> {
     assert!(rt; heard_want_at_last(rt.alloc())?);

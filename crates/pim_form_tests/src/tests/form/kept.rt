@@ -41,7 +41,8 @@ fn is_at(messages: &Messages, index: usize, bytes: &[u8]) -> bool {
     messages.get(index) == Some(bytes)
 }
 
-/// How many messages there are, whether the first three are those that were pushed, and whether no other is there.
+/// How many messages there are, whether the first three are those that were pushed, and whether no
+/// other is there.
 fn are_kept(messages: &Messages) -> (usize, [bool; 4]) {
     let are = [
         is_at(messages, 0, &[0x23, 0, 0xc4, 0xd4]),
@@ -59,7 +60,8 @@ fn keeps_what_is_pushed(rt: HostRuntime) -> Result<(), Fail> {
     Ok(())
 }
 
-/// Whether the form wants the first source on its own tree, and all sources but the second on the shared one.
+/// Whether the form wants the first source on its own tree, and all sources but the second on the
+/// shared one.
 fn wants_as_heard(form: &NormalForm<V4>) -> bool {
     form.wants(FIRST, GROUP, Tree::Source)
         && form.wants(FIRST, GROUP, Tree::Shared)
@@ -95,8 +97,8 @@ fn heard_is_wanted_at_last(alloc: Global, state: &mut State) -> Result<bool, All
     }
 }
 
-// With each allocation refused in turn (`tools/each_growth_refused.sh`): the form is as before, and the same call, with
-// memory, gives it again.
+// With each allocation refused in turn (`tools/each_growth_refused.sh`): the form is as before, and
+// the same call, with memory, gives it again.
 #[test]
 fn refusals_leave_the_form(rt: HostRuntime) -> Result<(), Fail> {
     let mut state = state4(rt.alloc(), 1, 1480).ok_or(AllocError)?;

@@ -30,8 +30,8 @@ fn are_one(messages: &Messages, bytes: &[u8]) -> bool {
     messages.count() == 1 && messages.get(0) == Some(bytes) && messages.get(1).is_none()
 }
 
-/// Whether the messages of this form are one of these bytes; `None` where the router's neighbour isn't asked for all of
-/// it.
+/// Whether the messages of this form are one of these bytes; `None` where the router's neighbour
+/// isn't asked for all of it.
 fn is_told_so(alloc: Global, state: &State, form: &NormalForm<V4>, bytes: &[u8]) -> Option<bool> {
     match form_told(alloc, state, form) {
         Some(Ok(messages)) => Some(are_one(&messages, bytes)),
@@ -58,7 +58,8 @@ fn both_told_so(alloc: Global, state: &State, bytes: &[u8]) -> Option<[bool; 2]>
     Some([first, second])
 }
 
-/// The same of a router when it has heard the star without 192.0.2.1; `None` where that isn't taken.
+/// The same of a router when it has heard the star without 192.0.2.1; `None` where that isn't
+/// taken.
 fn hears_and_tells_an_exception(alloc: Global, state: &mut State) -> Option<[bool; 2]> {
     if hear(alloc, state, 0, GROUP, &[STAR], &[RPT_FIRST]) {
         both_told_so(alloc, state, &EXCEPT_MESSAGE)
@@ -134,8 +135,8 @@ enum Refusal {
 
 const OF_200: (usize, [usize; 2]) = (2, [1474, 178]);
 
-/// Whether the form of 200 sources is packed: at once or, where a growth is refused, with its group as it was and then
-/// again.
+/// Whether the form of 200 sources is packed: at once or, where a growth is refused, with its group
+/// as it was and then again.
 fn is_packed(alloc: Global, state: &State, form: &NormalForm<V4>) -> Result<bool, AllocError> {
     let first = packed(alloc, state, form);
     if first == Err(Refusal::Memory) {
@@ -159,8 +160,8 @@ fn heard_are_packed(alloc: Global, state: &mut State) -> Result<bool, AllocError
     }
 }
 
-// With each allocation refused in turn (`tools/each_growth_refused.sh`): the form is as it was, and the same call,
-// with memory, gives its messages.
+// With each allocation refused in turn (`tools/each_growth_refused.sh`): the form is as it was, and
+// the same call, with memory, gives its messages.
 #[test]
 fn refusals_change_nothing(rt: HostRuntime) -> Result<(), Fail> {
     let mut state = state4(rt.alloc(), 1, 1480).ok_or(AllocError)?;

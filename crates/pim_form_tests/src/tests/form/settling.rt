@@ -40,8 +40,9 @@ fn hear_told(alloc: Global, state: &mut State, told: Told, timing: Timing) -> bo
     hear_on(alloc, state, (port, timing), GROUP, joined, pruned)
 }
 
-/// What is told at 0, one after the other, to a router of two ports; with how many neighbours; until which moment it runs;
-/// what another router was told, whose form is asked about; and whether the first port is settled at it then.
+/// What is told at 0, one after the other, to a router of two ports; with how many neighbours;
+/// until which moment it runs; what another router was told, whose form is asked about; and whether
+/// the first port is settled at it then.
 type Case = ([Told; 2], Timing, u64, Told, bool);
 
 const CASES: [Case; 20] = [
@@ -92,7 +93,8 @@ fn form_of(alloc: Global, told: Told) -> Option<NormalForm<V4>> {
     NormalForm::of(alloc, &state.ports).ok()
 }
 
-/// Whether the first port is settled at the form of a router that was told this; `None` where memory is wanting.
+/// Whether the first port is settled at the form of a router that was told this; `None` where
+/// memory is wanting.
 fn is_settled(alloc: Global, state: &State, asked: Told) -> Option<bool> {
     let form = form_of(alloc, asked)?;
     Some(settled(&state.ports, 0, &form))
@@ -115,8 +117,8 @@ fn settles_machine_by_machine(rt: HostRuntime) {
     assert_eq!(rt; wrong, None);
 }
 
-/// A port is told the star and, at 10, that it is gone, at 2,000 perhaps once more, and time passes until just before
-/// the echo: whether all is taken.
+/// A port is told the star and, at 10, that it is gone, at 2,000 perhaps once more, and time passes
+/// until just before the echo: whether all is taken.
 fn hear_gone(alloc: Global, state: &mut State, again: bool) -> bool {
     let last = if again { Told::Gone } else { Told::Nil };
     [(Told::Star, 10), (Told::Gone, 2000), (last, 3009)]
@@ -130,7 +132,8 @@ const ECHO: Step<[u8; 4]> = Step::Echo {
     what: What::Star,
 };
 
-/// Whether a port that was told so is settled at nothing when the echo comes, at 3,010, and not before.
+/// Whether a port that was told so is settled at nothing when the echo comes, at 3,010, and not
+/// before.
 fn is_left(alloc: Global, state: &mut State, again: bool) -> bool {
     hear_gone(alloc, state, again)
         && is_settled(alloc, state, Told::Nil) == Some(false)
@@ -147,7 +150,8 @@ fn new_is_left(alloc: Global, again: bool) -> bool {
     }
 }
 
-// The echo comes when the other neighbours could have overridden the prune, and the port is settled then.
+// The echo comes when the other neighbours could have overridden the prune, and the port is settled
+// then.
 #[test]
 fn settles_when_the_echo_comes(rt: HostRuntime) {
     assert!(rt; new_is_left(rt.alloc(), false));

@@ -32,8 +32,8 @@ fn lead(routes: &mut Routes<V4>) -> bool {
         && routes.add_via(SECOND, 32, TWO).is_ok()
 }
 
-/// Of the first group the star except the first source, and the second source, and of the other the star and the first
-/// source are heard: whether they are taken.
+/// Of the first group the star except the first source, and the second source, and of the other the
+/// star and the first source are heard: whether they are taken.
 fn hear_both(alloc: Global, state: &mut State) -> bool {
     let first = [Entry::Star(NEARER_RP), JOIN_SECOND];
     hear(alloc, state, 0, GROUP, &first, &[RPT_FIRST])
@@ -130,8 +130,8 @@ fn none_is_wrong(alloc: Global, state: &State) -> Result<bool, AllocError> {
     }
 }
 
-// With each allocation refused in turn (`tools/each_growth_refused.sh`): the answer is want of memory, and the same
-// call, with memory, answers what it would have answered.
+// With each allocation refused in turn (`tools/each_growth_refused.sh`): the answer is want of
+// memory, and the same call, with memory, answers what it would have answered.
 #[test]
 fn refusals_of_toward_change_nothing(rt: HostRuntime) -> Result<(), Fail> {
     let state = heard(rt.alloc()).ok_or(AllocError)?;

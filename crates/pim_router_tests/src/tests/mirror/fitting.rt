@@ -1,5 +1,5 @@
-//! For which deliveries a fresh router is a mirror of the messages that 10.0.0.1 writes to 10.0.0.2.
-//! They ask for 200 sources of the group 239.1.1.1, in two messages, or for its star.
+//! For which deliveries a fresh router is a mirror of the messages that 10.0.0.1 writes to
+//! 10.0.0.2. They ask for 200 sources of the group 239.1.1.1, in two messages, or for its star.
 
 use super::asked::{STAR, UP, UPSTREAM, WRITER, asked_for, asking, deliveries, two_hundred};
 use pim_addr::V4;

@@ -93,8 +93,8 @@ fn asks(
     Ok(messages.count() == 1 && messages.get(0) == Some(ASKED.as_slice()))
 }
 
-/// What a test tells of a call that was refused memory: that it is wrong, or that memory is wanting.
-/// So a test passes only if its call succeeds at once.
+/// What a test tells of a call that was refused memory: that it is wrong, or that memory is
+/// wanting. So a test passes only if its call succeeds at once.
 fn refused(is_right: bool) -> Result<bool, AllocError> {
     if is_right { Err(AllocError) } else { Ok(false) }
 }

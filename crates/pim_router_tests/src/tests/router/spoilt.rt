@@ -302,7 +302,8 @@ const PORT_V6: PortConfig<[u8; 16]> = PortConfig {
 /// fe80::9
 const SENDER_V6: [u8; 16] = [0xfe, 0x80, 0, 0, 0, 0, 0, 0, 0, 0, 0, 0, 0, 0, 0, 9];
 
-/// A message, whether its sender is a neighbour, what is answered when it is spoilt, and how many records the port keeps.
+/// A message, whether its sender is a neighbour, what is answered when it is spoilt, and how many
+/// records the port keeps.
 struct Row {
     bytes: &'static [u8],
     greets: bool,
