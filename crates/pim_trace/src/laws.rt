@@ -24,8 +24,9 @@ pub fn turns_tell_the_state()
     pim_down::hearing_leaves_other_ports();
 }
 
-/// The cause of each timer that fires in a trace is the packet of the last event before it that
-/// gave this timer another end, or began its machine. The events alone show it.
+/// The cause of each timer that fires in a trace is the packet of the last event before it that gave
+/// this timer another end, or began its machine. A message that ends a Prune-Pending overrides the
+/// packet of the last event that set its timer. The events alone show both.
 pub fn trace_names_causes()
     ensures { TraceNamesCauses }
 {
@@ -35,7 +36,7 @@ pub fn trace_names_causes()
     pim_down::hearing_leaves_other_ports();
 }
 
-/// So it is for each timer that fires in some first turns of a trace.
+/// So it is in some first turns of a trace.
 pub fn turns_name_causes()
     ensures { TurnsNameCauses }
 {

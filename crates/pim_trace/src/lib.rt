@@ -11,7 +11,7 @@
 //!
 //! Laws: the events tell the state of each machine. The first begins in its state at the start,
 //! each further one where the one before it ended, and the last ends in its state at the end. They
-//! also show the cause of each timer that fires, without a ledger.
+//! also show the cause of each timer that fires, and what a message overrides, without a ledger.
 #![tactic(auto)]
 
 mod by_machine;
