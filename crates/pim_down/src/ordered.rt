@@ -1,6 +1,7 @@
-//! Puts the events of a message in key order, if its entries are far from it. In no order each
-//! look-up waits for memory at each comparison; in key order look-ups go onward through adjacent
-//! records.
+//! Puts the events of a message in key order, if its entries are far from it or a group comes
+//! again. In no order each look-up waits for memory at each comparison; in key order look-ups go
+//! onward through adjacent records. From a list, many Joins(*,G) of a large group cost one walk
+//! through the group.
 //!
 //! What events leave depends only on the order of the events of each machine, which a stable sort
 //! keeps. A Join(*,G) is the exception: it also acts on the (S,G,rpt) machines of its group (RFC
