@@ -24,9 +24,9 @@ pub fn turns_tell_the_state()
     pim_down::hearing_leaves_other_ports();
 }
 
-/// The cause of each timer that fires in a trace is the packet of the last event before it that gave
-/// this timer another end, or began its machine. A message that ends a Prune-Pending overrides the
-/// packet of the last event that set its timer. The events alone show both.
+/// The cause of each timer that fires in a trace is the packet of the last event before it that
+/// gave this timer another end, or began its machine. A message that ends a Prune-Pending overrides
+/// the packet of the last event that set its timer. The events alone show both.
 pub fn trace_names_causes()
     ensures { TraceNamesCauses }
 {
