@@ -1,0 +1,3 @@
+//! Events as JSON.
+
+mod objects;
