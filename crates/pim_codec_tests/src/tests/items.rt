@@ -43,14 +43,14 @@ const INPUTS: [(&[u8], &[u8]); 22] = [
 ];
 
 /// Writes a text as the rows have it: of one that isn't held, only what is known.
-fn show_text(
+fn show_text<'a>(
     out: &mut Vec<u8>,
     text: TextItem,
-    from: &[u8],
-    lines: &[u8],
+    from: &'a [u8],
+    lines: &'a [u8],
 ) -> Result<(), AllocError> {
-    let end: &[u8] = if text.is_sent { b".;" } else { b",;" };
-    let pieces: [&[u8]; 5] = match text.fault {
+    let end: &'a [u8] = if text.is_sent { b".;" } else { b",;" };
+    let pieces: [&'a [u8]; 5] = match text.fault {
         _ if text.has_long_line => [b"T?;", b"", b"", b"", b""],
         Some(Unheld::Memory) => [b"TM;", b"", b"", b"", b""],
         Some(Unheld::TooLong) => [b"T", from, b"!;", b"", b""],
