@@ -1,0 +1,176 @@
+//! The place of the IP packet in a frame.
+
+ghost use Rattle.std.specs.Prelude.{◌≡◌, ◌/◌, ◌≤◌, length, drop, IfOk, IfSome};
+ghost use Rattle.pim_container.specs.Link.{number, socket_family, family_or, untagged_place, place_in, typed_place};
+ghost use Rattle.pim_container.specs.Link.{whole_place, place_of, carried};
+ghost use Rattle.pim_capture.specs.Frame.{ethernet_family, raw_family, version};
+ghost use Rattle.pim_container.specs.declared.link.Link.TheVariants as link;
+
+use crate::link::{Endianness, Link};
+use crate::tags::{Carried, Vlan, after_tags, stacked};
+use pim_addr::AddressFamily;
+use pim_capture::Why;
+
+/// Where the IP packet of a frame begins, and on which link it was captured.
+#[derive(Clone, Copy, Debug, PartialEq, Eq)]
+pub struct Place {
+    /// The address family of the packet.
+    pub family: AddressFamily,
+    /// The index of its first byte in the frame.
+    pub at: usize,
+    /// The VLAN of the frame.
+    pub vlan: Vlan,
+    /// The index of the interface in a cooked header of version 2, else 0.
+    pub index: u32,
+    /// The capturing host sent the packet itself.
+    pub sent: bool,
+}
+
+/// The family that an Ethernet type names.
+fn ethernet_family(number: u16) -> Option<AddressFamily>
+    ensures { result ≡ ethernet_family number }
+{
+    match number {
+        0x0800 => Some(AddressFamily::Ipv4),
+        0x86dd => Some(AddressFamily::Ipv6),
+        _ => None,
+    }
+}
+
+/// The family that the first byte of an IP packet names.
+fn raw_family(byte: u8) -> Option<AddressFamily>
+    ensures { result ≡ raw_family (byte / 16) }
+{
+    match byte >> 4 {
+        4 => Some(AddressFamily::Ipv4),
+        6 => Some(AddressFamily::Ipv6),
+        _ => None,
+    }
+}
+
+/// The family that the number of a BSD loopback header names.
+fn socket_family(number: u32) -> Option<AddressFamily>
+    ensures { result ≡ socket_family number }
+{
+    match number {
+        2 => Some(AddressFamily::Ipv4),
+        10 | 24 | 28 | 30 => Some(AddressFamily::Ipv6),
+        _ => None,
+    }
+}
+
+/// The place of a packet of this family without tags.
+fn untagged_place(family: Option<AddressFamily>, at: usize) -> Result<Place, Why>
+    ensures { result ≡ untagged_place family at }
+{
+    let Some(family) = family else {
+        return Err(Why::NotIp);
+    };
+    Ok(Place {
+        family,
+        at,
+        vlan: stacked(0, 0),
+        index: 0,
+        sent: false,
+    })
+}
+
+/// The place of the packet that an Ethernet type names.
+fn typed_place(carrier: Option<Carried>, index: u32, sent: bool) -> Result<Place, Why>
+    ensures place { result ≡ typed_place carrier index sent }
+    ensures at { IfSome carrier (λ it. IfOk result (λ place. place.at ≡ it.at)) }
+{
+    let Some(carrier) = carrier else {
+        return Err(Why::Cut);
+    };
+    let Some(family) = ethernet_family(carrier.type_number) else {
+        return Err(Why::NotIp);
+    };
+    Ok(Place {
+        family,
+        at: carrier.at,
+        vlan: carrier.vlan,
+        index,
+        sent,
+    })
+}
+
+/// The place of the packet in an Ethernet frame.
+fn ethernet_place(frame: &[u8]) -> Result<Place, Why>
+    ensures place { result ≡ place_of link.Ethernet frame.now }
+    ensures within { IfOk result (λ place. place.at ≤ length frame.now) }
+{
+    if frame.len() < 14 {
+        return Err(Why::Cut);
+    }
+    let type_number = Endianness::Big.read_u16_at(frame, 12);
+    typed_place(after_tags(type_number, 14, frame), 0, false)
+}
+
+/// The place of the packet in a frame of a Linux cooked capture.
+fn cooked_place(frame: &[u8]) -> Result<Place, Why>
+    ensures place { result ≡ place_of link.Cooked frame.now }
+    ensures within { IfOk result (λ place. place.at ≤ length frame.now) }
+{
+    if frame.len() < 16 {
+        return Err(Why::Cut);
+    }
+    let type_number = Endianness::Big.read_u16_at(frame, 14);
+    let sent = Endianness::Big.read_u16_at(frame, 0) == 4;
+    typed_place(after_tags(type_number, 16, frame), 0, sent)
+}
+
+/// The place of the packet in a frame of a Linux cooked capture of version 2.
+fn cooked_v2_place(frame: &[u8]) -> Result<Place, Why>
+    ensures place { result ≡ place_of link.CookedV2 frame.now }
+    ensures within { IfOk result (λ place. place.at ≤ length frame.now) }
+{
+    if frame.len() < 20 {
+        return Err(Why::Cut);
+    }
+    let type_number = Endianness::Big.read_u16_at(frame, 0);
+    let index = Endianness::Big.read_u32_at(frame, 4);
+    typed_place(after_tags(type_number, 20, frame), index, frame[10] == 4)
+}
+
+/// The place of the packet in a frame of a BSD loopback.
+fn loopback_place(order: Endianness, frame: &[u8]) -> Result<Place, Why>
+    ensures place { result ≡ place_of (link.Loopback order) frame.now }
+    ensures within { IfOk result (λ place. place.at ≤ length frame.now) }
+{
+    if frame.len() < 4 {
+        return Err(Why::Cut);
+    }
+    let family = match socket_family(order.read_u32_at(frame, 0)) {
+        Some(family) => Some(family),
+        None => socket_family(Endianness::Big.read_u32_at(frame, 0)),
+    };
+    untagged_place(family, 4)
+}
+
+/// The place of the packet in a frame without a link layer.
+fn raw_place(frame: &[u8]) -> Result<Place, Why>
+    ensures place { result ≡ place_of link.Raw frame.now }
+    ensures within { IfOk result (λ place. place.at ≤ length frame.now) }
+{
+    if frame.is_empty() {
+        return Err(Why::Cut);
+    }
+    untagged_place(raw_family(frame[0]), 0)
+}
+
+/// The place of the IP packet in a frame, or the first reason why there is none.
+pub fn place_of(link: Link, frame: &[u8]) -> Result<Place, Why>
+    ensures place { result ≡ place_of link frame.now }
+    ensures within { IfOk result (λ place. place.at ≤ length frame.now) }
+{
+    match link {
+        Link::Ethernet => ethernet_place(frame),
+        Link::Raw => raw_place(frame),
+        Link::Ipv4 => untagged_place(Some(AddressFamily::Ipv4), 0),
+        Link::Ipv6 => untagged_place(Some(AddressFamily::Ipv6), 0),
+        Link::Cooked => cooked_place(frame),
+        Link::CookedV2 => cooked_v2_place(frame),
+        Link::Loopback(order) => loopback_place(order, frame),
+    }
+}
