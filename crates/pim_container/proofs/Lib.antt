@@ -1,0 +1,3 @@
+pub mod Ranges
+pub mod Times
+pub mod Options

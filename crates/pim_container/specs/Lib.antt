@@ -1,1 +1,6 @@
 pub mod Link
+pub mod Told
+pub mod Interface
+pub mod Block
+pub mod Classic
+pub mod Pieces

@@ -1,0 +1,148 @@
+-- What a pcapng block gives (draft-ietf-opsawg-pcapng, 3 and 4): a type and a length of four bytes
+-- each, the body, and the length again.
+use Rattle.std.specs.Prelude.{ℕ, ◌+◌, ◌-◌, ◌*◌, ◌%◌, ◌^◌, Bool, ◌&&◌, ◌||◌, ◌==◌, not, List, [], ◌∷◌, ◌++◌, length, take, drop}
+use Rattle.std.specs.Prelude.{nat_lt, slice_range, Option, None, Some, Result, Ok, Err, if◌then◌else◌}
+use Rattle.std.specs.List.{slice_get}
+use Rattle.byteorder.specs.Endian.{big_number}
+use Rattle.pim_addr.specs.Faults.{fault_if}
+use Rattle.pim_container.specs.declared.link.Endianness.{Endianness}
+use Rattle.pim_container.specs.declared.link.Endianness.TheVariants.{Big, Little}
+use Rattle.pim_container.specs.declared.fault.Fault.{Fault}
+use Rattle.pim_container.specs.declared.fault.Fault.TheVariants as fault
+use Rattle.pim_container.specs.declared.block.Head.{Head}
+use Rattle.pim_container.specs.declared.interface.Interface.{Interface}
+use Rattle.pim_container.specs.declared.interface.Settings.{Settings}
+use Rattle.pim_container.specs.Link.{number}
+use Rattle.pim_container.specs.Told.{Told, untimed, section, described, passed, frame_told}
+use Rattle.pim_container.specs.Interface.{settings_of, interface_of, moment_of}
+
+-- ---- the head of a block
+
+-- The type of a section header block, the same in both byte orders.
+abbrev pub section_type : ℕ
+section_type = 0x0a0d0d0a
+
+-- The number at 8 of a section header block, in the byte order of its section.
+abbrev pub order_magic : ℕ
+order_magic = 0x1a2b3c4d
+
+abbrev pub is_section : List ℕ → Bool
+is_section block = big_number 4 block == section_type
+
+abbrev pub has_order : Endianness → List ℕ → Bool
+has_order order block = number order 4 (drop 8 block) == order_magic
+
+-- The byte order of a block: a section header names it for its section, up to the next one.
+abbrev pub order_of : Endianness → List ℕ → Endianness
+order_of before block = if is_section block then (if has_order Big block then Big else Little) else before
+
+abbrev pub block_type : Endianness → List ℕ → ℕ
+block_type order block = number order 4 block
+
+-- The length of a block, with all of itself.
+abbrev pub block_length : Endianness → List ℕ → ℕ
+block_length order block = number order 4 (drop 4 block)
+
+-- The greatest length of a block that is read.
+abbrev pub most_block : ℕ
+most_block = 16777216
+
+-- The length of a block of this type without options, names and bytes of a packet.
+abbrev pub least_block : ℕ → ℕ
+least_block type =
+    if type == section_type then 28
+    else (if type == 1 then 20
+    else (if type == 2 || type == 6 then 32
+    else (if type == 3 then 16 else 12)))
+
+-- What is wrong with the first 12 bytes of a block, in a section of this byte order.
+abbrev pub head_faults : Endianness → List ℕ → List Fault
+head_faults before head =
+    fault_if (is_section head && not (has_order Big head) && not (has_order Little head)) fault.Magic
+    ++ fault_if (nat_lt (block_length (order_of before head) head) (least_block (block_type (order_of before head) head))
+    || not (block_length (order_of before head) head % 4 == 0)) fault.Block
+    ++ fault_if (nat_lt most_block (block_length (order_of before head) head)) fault.TooLong
+
+-- The byte order of a block, or the fault of a section header that names none.
+abbrev pub order_named : Endianness → List ℕ → Result Endianness Fault
+order_named before block =
+    if is_section block && not (has_order Big block) && not (has_order Little block) then Err fault.Magic
+    else Ok (order_of before block)
+
+-- What the head of a block says.
+abbrev pub head_said : Endianness → List ℕ → Head
+head_said before head =
+    record { order = order_of before head; length = block_length (order_of before head) head }
+
+-- The length at the end of a block is another one than that at its head.
+abbrev pub is_unequal : Endianness → List ℕ → Bool
+is_unequal order block = not (number order 4 (drop (length block - 4) block) == length block)
+
+-- ---- packets
+
+-- The number of a packet's interface: of four bytes, or of two in the obsolete packet block.
+abbrev pub interface_number : Endianness → List ℕ → ℕ
+interface_number order block =
+    if block_type order block == 2 then number order 2 (drop 8 block) else number order 4 (drop 8 block)
+
+-- The time stamp: its high half, then its low half.
+abbrev pub stamp_of : Endianness → List ℕ → ℕ
+stamp_of order block = number order 4 (drop 12 block) * 2 ^ 32 + number order 4 (drop 16 block)
+
+abbrev pub captured_length : Endianness → List ℕ → ℕ
+captured_length order block = number order 4 (drop 20 block)
+
+-- The captured bytes, without the padding after them.
+abbrev pub frame_of : Endianness → List ℕ → List ℕ
+frame_of order block = drop 28 (take (28 + captured_length order block) block)
+
+-- What the packet gives at this time.
+abbrev pub timed_told : Option ℕ → ℕ → Interface → List ℕ → Result Told Fault
+timed_told None number interface frame = Err fault.Time
+timed_told (Some millis) number interface frame = Ok (frame_told millis number interface.link frame)
+
+-- What the packet gives, by its interface.
+abbrev pub packet_block : Option Interface → Endianness → List ℕ → Result Told Fault
+packet_block None order block = Err fault.Block
+packet_block (Some interface) order block =
+    if nat_lt (length block - 32) (captured_length order block) then Err fault.Block
+    else timed_told (moment_of interface (stamp_of order block)) (interface_number order block) interface
+    (frame_of order block)
+
+-- ---- other blocks
+
+-- A block without the length at its end.
+abbrev pub without_end : List ℕ → List ℕ
+without_end block = take (length block - 4) block
+
+-- The name of an interface with these settings.
+abbrev pub name_of : List ℕ → Settings → List ℕ
+name_of block settings = slice_range block settings.name_at settings.name_end
+
+-- An interface description gives the interface's name.
+abbrev pub interface_block : Option Settings → List ℕ → Result Told Fault
+interface_block None block = Err fault.Block
+interface_block (Some settings) block = Ok (described (name_of block settings))
+
+-- A section header, an interface description, a packet and an obsolete packet, a simple packet
+-- (which has no time), or a block that is passed over.
+abbrev pub block_told : Endianness → List Interface → List ℕ → Result Told Fault
+block_told order interfaces block =
+    if is_unequal order block then Err fault.Block
+    else (if block_type order block == section_type then Ok section
+    else (if block_type order block == 1 then interface_block (settings_of order (without_end block)) block
+    else (if block_type order block == 2 || block_type order block == 6
+    then packet_block (slice_get interfaces (interface_number order block)) order block
+    else (if block_type order block == 3 then Ok untimed else Ok passed))))
+
+-- The interfaces of the section with a further one.
+abbrev pub with_interface : List Interface → Option Settings → Endianness → List ℕ → List Interface
+with_interface interfaces None order block = interfaces
+with_interface interfaces (Some settings) order block = interfaces ++ interface_of order block settings ∷ []
+
+-- The interfaces of the section after a block: a section begins with none.
+abbrev pub interfaces_after : Endianness → List Interface → List ℕ → List Interface
+interfaces_after order interfaces block =
+    if block_type order block == section_type then []
+    else (if block_type order block == 1
+    then with_interface interfaces (settings_of order (without_end block)) order block else interfaces)

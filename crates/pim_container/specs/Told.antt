@@ -1,0 +1,74 @@
+-- What a capture returns, and what of it a frame gives.
+use Rattle.std.specs.Prelude.{◌≤◌, ℕ, List, drop, length, slice_range, Option, None, Some, Result, Ok, Err, ⊤}
+use Rattle.pim_capture.specs.declared.event.Why.{Why}
+use Rattle.pim_capture.specs.Frame.{Datagram, judge_packet}
+use Rattle.pim_capture.specs.Seen.{ip_seen, LiesIn}
+use Rattle.pim_container.specs.declared.link.Link.{Link}
+use Rattle.pim_container.specs.declared.place.Place.{Place}
+use Rattle.pim_container.specs.declared.event.Origin.{Origin}
+use Rattle.pim_container.specs.declared.event.Event.{Event}
+use Rattle.pim_container.specs.declared.event.Event.TheVariants as event
+use Rattle.pim_container.specs.Link.{place_of}
+
+-- A result of a capture. A packet has its time in milliseconds since 1970, and a described interface
+-- its name.
+pub data Told : Type 0 where
+  packet : ℕ → Origin → Datagram → Told
+  skipped : ℕ → Why → Told
+  unread : Told
+  untimed : Told
+  section : Told
+  described : List ℕ → Told
+  passed : Told
+  ended : Told
+
+-- The origin of a packet at this place, in a frame of this interface.
+abbrev pub origin_of : ℕ → Place → Origin
+origin_of interface place =
+    record { interface = interface; index = place.index; vlan = place.vlan; sent = place.sent }
+
+-- What an IP packet gives.
+abbrev pub packet_told : ℕ → Origin → Result Datagram Why → Told
+packet_told millis origin (Ok datagram) = packet millis origin datagram
+packet_told millis origin (Err why) = skipped millis why
+
+-- What a frame gives, by the place of its IP packet.
+abbrev pub placed_told : ℕ → ℕ → List ℕ → Result Place Why → Told
+placed_told millis interface frame (Ok place) =
+    packet_told millis (origin_of interface place) (judge_packet (Some place.family) (drop place.at frame))
+placed_told millis interface frame (Err why) = skipped millis why
+
+-- What a frame gives that was captured at this time on an interface with this number and link. A
+-- link of another type is not read.
+abbrev pub frame_told : ℕ → ℕ → Option Link → List ℕ → Told
+frame_told millis interface None frame = unread
+frame_told millis interface (Some layer) frame = placed_told millis interface frame (place_of layer frame)
+
+-- ---- an event, with the bytes in the buffer
+
+-- What an event means if the buffer holds these bytes.
+abbrev pub event_seen : List ℕ → Event → Told
+event_seen bytes (event.Packet millis origin ip) = packet millis origin (ip_seen bytes ip)
+event_seen bytes (event.Skipped millis why) = skipped millis why
+event_seen bytes event.Unread = unread
+event_seen bytes event.Untimed = untimed
+event_seen bytes event.Section = section
+event_seen bytes (event.Interface name) = described (slice_range bytes name.start name.end)
+event_seen bytes event.Passed = passed
+event_seen bytes event.End = ended
+
+-- The ranges of an event lie within these bytes.
+abbrev pub EventLiesIn : List ℕ → Event → Type 0
+EventLiesIn bytes (event.Packet millis origin ip) = LiesIn bytes ip
+EventLiesIn bytes (event.Interface name) = (name.start ≤ name.end) × (name.end ≤ length bytes)
+EventLiesIn bytes _ = ⊤
+
+-- The latest time that a packet or a skipped frame can have: that of a classic file.
+abbrev pub latest_moment : ℕ
+latest_moment = 4294971589967
+
+-- The time of an event is at most this.
+abbrev pub IsBy : ℕ → Event → Type 0
+IsBy moment (event.Packet millis origin ip) = millis ≤ moment
+IsBy moment (event.Skipped millis why) = millis ≤ moment
+IsBy moment _ = ⊤

@@ -1,0 +1,108 @@
+//! The file header and the records of a classic pcap file.
+
+ghost use Rattle.std.specs.Prelude.{◌≡◌, ◌+◌, ◌*◌, ◌<◌, ◌≤◌, length};
+ghost use Rattle.pim_addr.specs.Faults.{Answers, judged};
+ghost use Rattle.pim_container.specs.Classic.{is_magic, file_order, format_with, link_type, judge_header};
+ghost use Rattle.pim_container.specs.Classic.{captured_length, head_faults, millis_of};
+ghost use Rattle.pim_container.specs.Link.{link_of};
+ghost use Rattle.pim_container.specs.Told.{latest_moment};
+
+use crate::fault::Fault;
+use crate::link::{Endianness, Link, link_of};
+
+/// What the header of a classic file says of its records.
+#[derive(Clone, Copy, Debug, PartialEq, Eq)]
+pub struct Format {
+    /// The byte order of all numbers in the file.
+    pub order: Endianness,
+    /// The number of units of a fraction that make one millisecond.
+    pub per_millisecond: u32,
+    /// What the frames begin with.
+    pub link: Link,
+}
+
+/// The magic of a file whose fractions count microseconds.
+const MICROSECONDS_MAGIC: u32 = 0xa1b2_c3d4;
+
+/// The magic of a file whose fractions count nanoseconds.
+const NANOSECONDS_MAGIC: u32 = 0xa1b2_3c4d;
+
+/// The greatest captured length of a record that is read, in bytes.
+const MOST_CAPTURED: u32 = 262_144;
+
+/// Whether a file begins with a magic in this byte order.
+fn is_magic(order: Endianness, header: &[u8]) -> bool
+    requires { 4 ≤ length header.now }
+    ensures { result ≡ is_magic order header.now }
+{
+    let magic = order.read_u32_at(header, 0);
+    magic == MICROSECONDS_MAGIC || magic == NANOSECONDS_MAGIC
+}
+
+/// The format of a file with this byte order and link word.
+fn format_in(order: Endianness, header: &[u8]) -> Result<Format, Fault>
+    requires whole { 24 ≤ length header.now }
+    requires order { order ≡ file_order header.now }
+    ensures { Answers (λ format. format) result
+        (format_with header.now (link_of order (link_type header.now))) }
+{
+    let number = (order.read_u32_at(header, 20) & 0xffff) as u16;
+    let Some(link) = link_of(order, number) else {
+        return Err(Fault::LinkType(number));
+    };
+    let per_millisecond = if order.read_u32_at(header, 0) == NANOSECONDS_MAGIC {
+        1_000_000
+    } else {
+        1_000
+    };
+    Ok(Format {
+        order,
+        per_millisecond,
+        link,
+    })
+}
+
+/// The format that a file header of 24 bytes gives.
+///
+/// # Errors
+/// `Magic` or `LinkType`, in this order.
+pub fn read_header(header: &[u8]) -> Result<Format, Fault>
+    requires { 24 ≤ length header.now }
+    ensures { Answers (λ format. format) result (judge_header header.now) }
+{
+    if is_magic(Endianness::Big, header) {
+        return format_in(Endianness::Big, header);
+    }
+    if is_magic(Endianness::Little, header) {
+        return format_in(Endianness::Little, header);
+    }
+    Err(Fault::Magic)
+}
+
+/// The length of the record with this head of 16 bytes.
+///
+/// # Errors
+/// `TooLong` if its captured length is above 262,144.
+pub fn record_length(format: Format, head: &[u8]) -> Result<usize, Fault>
+    requires { 16 ≤ length head.now }
+    ensures { Answers (λ size. size) result
+        (judged (head_faults format head.now) (16 + captured_length format head.now)) }
+{
+    let captured = format.order.read_u32_at(head, 8);
+    if captured > MOST_CAPTURED {
+        return Err(Fault::TooLong);
+    }
+    Ok(16 + captured as usize)
+}
+
+/// The time of a record, in milliseconds since 1970.
+pub fn millis_of(format: Format, record: &[u8]) -> u64
+    requires whole { 8 ≤ length record.now }
+    requires units { 1000 ≤ format.per_millisecond }
+    ensures value { result ≡ millis_of format record.now }
+    ensures bound { result ≤ latest_moment }
+{
+    let seconds = format.order.read_u32_at(record, 0);
+    let fraction = format.order.read_u32_at(record, 4);
+    u64::from(seconds) * 1_000 + u64::from(fraction / format.per_millisecond)
+}

@@ -1,0 +1,54 @@
+//! The events of a capture.
+
+use crate::tags::Vlan;
+use pim_capture::{Ip, Why};
+use std::ops::Range;
+
+/// The link on which a packet was captured.
+#[derive(Clone, Copy, Debug, PartialEq, Eq)]
+pub struct Origin {
+    /// The number of its interface in the section of a pcapng file, else 0.
+    pub interface: u32,
+    /// The index of its interface in a cooked header of version 2, else 0.
+    pub index: u32,
+    /// Its VLAN.
+    pub vlan: Vlan,
+    /// The capturing host sent the packet itself: the packet type of a cooked header is 4.
+    pub sent: bool,
+}
+
+/// What a record or a block of a capture holds.
+#[derive(Clone, Debug, PartialEq, Eq, Drop)]
+pub enum Event {
+    /// A PIM packet. The buffer holds its bytes.
+    Packet {
+        /// The time of capture, in milliseconds since 1970.
+        millis: u64,
+        /// The link on which it was captured.
+        origin: Origin,
+        /// Its addresses, and the range of its message in the buffer.
+        ip: Ip,
+    },
+    /// A frame that holds no whole PIM packet.
+    Skipped {
+        /// The time of capture, in milliseconds since 1970.
+        millis: u64,
+        /// Why it is skipped.
+        why: Why,
+    },
+    /// A packet on an interface with a link type that isn't read.
+    Unread,
+    /// A simple packet block, which has no time.
+    Untimed,
+    /// A section of a pcapng file begins, with no interfaces; or a classic file begins.
+    Section,
+    /// An interface is described. Its number is that of interfaces before it in the section.
+    Interface {
+        /// The range of its name in the buffer.
+        name: Range<usize>,
+    },
+    /// A block of another type.
+    Passed,
+    /// Nothing is left.
+    End,
+}

@@ -1,0 +1,58 @@
+//! The faults of a capture.
+
+ghost use Rattle.std.specs.Prelude.{◌≡◌};
+ghost use Rattle.pim_container.specs.declared.fault.Fault.TheVariants.{Read, Memory};
+
+use pim_addr::Failed;
+use std::alloc::AllocError;
+use thiserror::Error;
+
+/// Why a capture can't be read any further. Every later call returns `Failed`.
+#[derive(Clone, Copy, Debug, PartialEq, Eq, Error)]
+pub enum Fault {
+    /// It begins with the magic of neither container, or a section with no known byte order.
+    #[error("magic")]
+    Magic,
+    /// A classic file has this link type, which isn't read.
+    #[error("link-type")]
+    LinkType(u16),
+    /// It ends inside its header, a record or a block.
+    #[error("truncated")]
+    Truncated,
+    /// A record's captured length is above 262,144 bytes, or a block's length above 16,777,216.
+    #[error("too-long")]
+    TooLong,
+    /// A block is shorter than its head, has unequal lengths or a length that four does not divide,
+    /// has a cut option, or a packet that is longer than it or of an interface that isn't
+    /// described.
+    #[error("block")]
+    Block,
+    /// The time of a packet is before 1970 or after 4,294,971,589,967 ms.
+    #[error("time")]
+    Time,
+    /// The reader failed, or a piece begins after 4,294,967,295 others.
+    #[error("read")]
+    Read,
+    /// Memory was refused.
+    #[error("memory")]
+    Memory,
+    /// An earlier call returned a fault.
+    #[error("failed")]
+    Failed,
+}
+
+impl From<Failed> for Fault {
+    ghost from_gives = { λ _ fault. fault ≡ Read };
+
+    fn from(_failed: Failed) -> Fault {
+        Fault::Read
+    }
+}
+
+impl From<AllocError> for Fault {
+    ghost from_gives = { λ _ fault. fault ≡ Memory };
+
+    fn from(_error: AllocError) -> Fault {
+        Fault::Memory
+    }
+}
