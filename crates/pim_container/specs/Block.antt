@@ -10,6 +10,7 @@ use Rattle.pim_container.specs.declared.link.Endianness.TheVariants.{Big, Little
 use Rattle.pim_container.specs.declared.fault.Fault.{Fault}
 use Rattle.pim_container.specs.declared.fault.Fault.TheVariants as fault
 use Rattle.pim_container.specs.declared.block.Head.{Head}
+use Rattle.pim_container.specs.declared.block.Captured.{Captured}
 use Rattle.pim_container.specs.declared.interface.Interface.{Interface}
 use Rattle.pim_container.specs.declared.interface.Settings.{Settings}
 use Rattle.pim_container.specs.Link.{number}
@@ -92,22 +93,34 @@ stamp_of order block = number order 4 (drop 12 block) * 2 ^ 32 + number order 4 
 abbrev pub captured_length : Endianness → List ℕ → ℕ
 captured_length order block = number order 4 (drop 20 block)
 
--- The captured bytes, without the padding after them.
-abbrev pub frame_of : Endianness → List ℕ → List ℕ
-frame_of order block = drop 28 (take (28 + captured_length order block) block)
+-- When and on which interface the packet was captured, and where its captured bytes end in the
+-- block.
+abbrev pub captured_at : Option ℕ → Interface → Endianness → List ℕ → Result Captured Fault
+captured_at None interface order block = Err fault.Time
+captured_at (Some millis) interface order block = Ok (record {
+  millis = millis;
+  interface = interface_number order block;
+  link = interface.link;
+  end = 28 + captured_length order block;
+})
 
--- What the packet gives at this time.
-abbrev pub timed_told : Option ℕ → ℕ → Interface → List ℕ → Result Told Fault
-timed_told None number interface frame = Err fault.Time
-timed_told (Some millis) number interface frame = Ok (frame_told millis number interface.link frame)
+-- The capture of the packet on its interface. `None` is an interface that isn't described.
+abbrev pub captured_on : Option Interface → Endianness → List ℕ → Result Captured Fault
+captured_on None order block = Err fault.Block
+captured_on (Some interface) order block =
+    if nat_lt (length block) (32 + captured_length order block) then Err fault.Block
+    else captured_at (moment_of interface (stamp_of order block)) interface order block
 
--- What the packet gives, by its interface.
-abbrev pub packet_block : Option Interface → Endianness → List ℕ → Result Told Fault
-packet_block None order block = Err fault.Block
-packet_block (Some interface) order block =
-    if nat_lt (length block - 32) (captured_length order block) then Err fault.Block
-    else timed_told (moment_of interface (stamp_of order block)) (interface_number order block) interface
-    (frame_of order block)
+-- What a packet block with this capture gives. Padding, options and the last length follow the
+-- captured bytes.
+abbrev pub packet_told : Result Captured Fault → List ℕ → Result Told Fault
+packet_told (Ok captured) block =
+    Ok (frame_told captured.millis captured.interface captured.link (drop 28 (take captured.end block)))
+packet_told (Err fault) block = Err fault
+
+abbrev pub packet_block : Endianness → List Interface → List ℕ → Result Told Fault
+packet_block order interfaces block =
+    packet_told (captured_on (slice_get interfaces (interface_number order block)) order block) block
 
 -- ---- other blocks
 
@@ -132,7 +145,7 @@ block_told order interfaces block =
     else (if block_type order block == section_type then Ok section
     else (if block_type order block == 1 then interface_block (settings_of order (without_end block)) block
     else (if block_type order block == 2 || block_type order block == 6
-    then packet_block (slice_get interfaces (interface_number order block)) order block
+    then packet_block order interfaces block
     else (if block_type order block == 3 then Ok untimed else Ok passed))))
 
 -- The interfaces of the section with a further one.

@@ -1,11 +1,20 @@
 //! The blocks of a pcapng file (draft-ietf-opsawg-pcapng).
 
-ghost use Rattle.std.specs.Prelude.{◌≡◌, ◌≤◌, length};
+ghost use Rattle.std.specs.Prelude.{◌≡◌, ◌+◌, ◌≤◌, length, take, IfOk, Some, Err, ◌⊎◌, vec_len, vec_capacity};
 ghost use Rattle.pim_addr.specs.Faults.{Answers, judged};
 ghost use Rattle.pim_container.specs.Block.{is_section, order_named, least_block, head_faults, head_said};
+ghost use Rattle.std.specs.List.{slice_get};
+ghost use Rattle.pim_container.specs.Block.{is_unequal, block_type, interface_number, stamp_of, captured_length};
+ghost use Rattle.pim_container.specs.Block.{captured_on, packet_block, interface_block, without_end, block_told};
+ghost use Rattle.pim_container.specs.Block.{interfaces_after, with_interface};
+ghost use Rattle.pim_container.specs.Interface.{settings_of};
+ghost use Rattle.pim_container.specs.Told.{latest_moment, event_seen, EventLiesIn, IsBy};
 
+use crate::event::Event;
 use crate::fault::Fault;
-use crate::link::Endianness;
+use crate::interface::{Interface, moment_of, settings_of};
+use crate::link::{Endianness, Link, link_of};
+use crate::packet::event_of;
 
 /// The type of a section header block, the same in both byte orders.
 const SECTION: u32 = 0x0a0d_0d0a;
@@ -35,6 +44,19 @@ pub struct Head {
     pub order: Endianness,
     /// Its length, with all of itself.
     pub length: usize,
+}
+
+/// How a packet was captured.
+#[derive(Clone, Copy, Debug, PartialEq, Eq)]
+pub struct Captured {
+    /// The time of capture, in milliseconds since 1970.
+    pub millis: u64,
+    /// The number of its interface in the section.
+    pub interface: u32,
+    /// What its frame begins with. `None` for a link type that isn't read.
+    pub link: Option<Link>,
+    /// The index after its frame in the block.
+    pub end: usize,
 }
 
 /// Whether a block is a section header.
@@ -98,4 +120,85 @@ pub fn read_head(before: Endianness, head: &[u8]) -> Result<Head, Fault>
         order,
         length: length as usize,
     })
+}
+
+/// Whether the length at the end of a block is another one than its own.
+fn is_unequal(order: Endianness, block: &[u8]) -> bool
+    requires least { 12 ≤ length block.now }
+    ensures { result ≡ is_unequal order block.now }
+{
+    order.read_u32_at(block, block.len() - 4) as usize != block.len()
+}
+
+/// The number of the interface of a packet block.
+fn interface_number(order: Endianness, block: &[u8]) -> u32
+    requires { 12 ≤ length block.now }
+    ensures { result ≡ interface_number order block.now }
+{
+    if order.read_u32_at(block, 0) == OBSOLETE_PACKET {
+        u32::from(order.read_u16_at(block, 8))
+    } else {
+        order.read_u32_at(block, 8)
+    }
+}
+
+/// The time stamp of a packet block.
+fn stamp_of(order: Endianness, block: &[u8]) -> u64
+    requires { 32 ≤ length block.now }
+    ensures { result ≡ stamp_of order block.now }
+{
+    let high = order.read_u32_at(block, 12);
+    let low = order.read_u32_at(block, 16);
+    u64::from(high) * 4_294_967_296 + u64::from(low)
+}
+
+/// The capture of the packet of a block on its interface.
+fn captured_on(interface: Interface, order: Endianness, block: &[u8]) -> Result<Captured, Fault>
+    requires { 32 ≤ length block.now }
+    ensures answer { Answers (λ it. it) result (captured_on (Some interface) order block.now) }
+    ensures moment { IfOk result (λ captured. captured.millis ≤ latest_moment) }
+    ensures start { IfOk result (λ captured. 28 ≤ captured.end) }
+    ensures end { IfOk result (λ captured. captured.end ≤ length block.now) }
+{
+    let captured_length = order.read_u32_at(block, 20) as usize;
+    if block.len() < 32 + captured_length {
+        return Err(Fault::Block);
+    }
+    let Some(millis) = moment_of(interface, stamp_of(order, block)) else {
+        return Err(Fault::Time);
+    };
+    Ok(Captured {
+        millis,
+        interface: interface_number(order, block),
+        link: interface.link,
+        end: 28 + captured_length,
+    })
+}
+
+/// The event of a packet block. The buffer then ends with the captured bytes.
+pub fn tell_packet(
+    order: Endianness,
+    interfaces: &[Interface],
+    buffer: &mut Vec<u8>,
+) -> Result<Event, Fault>
+    requires { 32 ≤ vec_len buffer.now }
+    ensures answer { Answers (event_seen buffer.new.items) result
+        (packet_block order interfaces.now buffer.old.items) }
+    ensures ranges { IfOk result (EventLiesIn buffer.new.items) }
+    ensures moment { IfOk result (IsBy latest_moment) }
+    ensures capacity { vec_capacity buffer.new ≡ vec_capacity buffer.old }
+{
+    let number = interface_number(order, buffer.as_slice());
+    let Some(interface) = interfaces.get(number as usize) else {
+        return Err(Fault::Block);
+    };
+    let captured = captured_on(*interface, order, buffer.as_slice())?;
+    buffer.truncate(captured.end);
+    Ok(event_of(
+        captured.millis,
+        captured.interface,
+        captured.link,
+        buffer.as_slice(),
+        28,
+    ))
 }

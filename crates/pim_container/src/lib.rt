@@ -12,7 +12,7 @@ mod packet;
 mod place;
 mod tags;
 
-pub use block::{Head, is_section, read_head};
+pub use block::{Captured, Head, is_section, read_head, tell_packet};
 pub use classic::{Format, millis_of, read_header, record_length};
 pub use container::Container;
 pub use event::{Event, Origin};
