@@ -1,3 +1,5 @@
 pub mod Ranges
 pub mod Times
 pub mod Options
+pub mod Steps
+pub mod Whole

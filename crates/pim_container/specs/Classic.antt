@@ -10,6 +10,8 @@ use Rattle.pim_container.specs.declared.link.Link.{Link}
 use Rattle.pim_container.specs.declared.fault.Fault.{Fault}
 use Rattle.pim_container.specs.declared.fault.Fault.TheVariants as fault
 use Rattle.pim_container.specs.declared.classic.Format.{Format}
+use Rattle.pim_container.specs.declared.classic.Resolution.{Resolution}
+use Rattle.pim_container.specs.declared.classic.Resolution.TheVariants.{Microseconds, Nanoseconds}
 use Rattle.pim_container.specs.Link.{number, link_of}
 use Rattle.pim_container.specs.Told.{Told, frame_told}
 
@@ -22,9 +24,10 @@ is_magic order header = number order 4 header == microseconds_magic || number or
 abbrev pub file_order : List ℕ → Endianness
 file_order header = if is_magic Big header then Big else Little
 
--- The number of units of a fraction that make one millisecond.
-abbrev pub per_millisecond : List ℕ → ℕ
-per_millisecond header = if number (file_order header) 4 header == nanoseconds_magic then 1000000 else 1000
+-- The unit of the fractions of seconds, by the magic.
+abbrev pub resolution_of : List ℕ → Resolution
+resolution_of header =
+    if number (file_order header) 4 header == nanoseconds_magic then Nanoseconds else Microseconds
 
 -- The link type: the low 16 bits of the link word.
 abbrev pub link_type : List ℕ → ℕ
@@ -34,7 +37,7 @@ link_type header = number (file_order header) 4 (drop 20 header) % 2 ^ 16
 abbrev pub format_with : List ℕ → Option Link → Result Format Fault
 format_with header None = Err (fault.LinkType (link_type header))
 format_with header (Some layer) =
-    Ok (record { order = file_order header; per_millisecond = per_millisecond header; link = layer })
+    Ok (record { order = file_order header; resolution = resolution_of header; link = layer })
 
 -- The format that a file header gives, or its first fault.
 abbrev pub judge_header : List ℕ → Result Format Fault
@@ -51,10 +54,15 @@ captured_length format head = number format.order 4 (drop 8 head)
 abbrev pub head_faults : Format → List ℕ → List Fault
 head_faults format head = fault_if (nat_lt most_captured (captured_length format head)) fault.TooLong
 
+-- The number of units of a fraction that make one millisecond.
+abbrev pub per_millisecond : Resolution → ℕ
+per_millisecond Microseconds = 1000
+per_millisecond Nanoseconds = 1000000
+
 -- The time of a record, in milliseconds since 1970, rounded down.
 abbrev pub millis_of : Format → List ℕ → ℕ
 millis_of format bytes =
-    number format.order 4 bytes * 1000 + number format.order 4 (drop 4 bytes) / format.per_millisecond
+    number format.order 4 bytes * 1000 + number format.order 4 (drop 4 bytes) / per_millisecond format.resolution
 
 -- What a whole record gives.
 abbrev pub record_told : Format → List ℕ → Told

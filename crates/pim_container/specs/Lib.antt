@@ -4,3 +4,4 @@ pub mod Interface
 pub mod Block
 pub mod Classic
 pub mod Pieces
+pub mod Next

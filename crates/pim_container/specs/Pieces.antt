@@ -9,7 +9,9 @@ use Rattle.pim_container.specs.declared.link.Endianness.TheVariants.{Big}
 use Rattle.pim_container.specs.declared.fault.Fault.{Fault}
 use Rattle.pim_container.specs.declared.fault.Fault.TheVariants as fault
 use Rattle.pim_container.specs.declared.interface.Interface.{Interface}
+use Rattle.pim_container.specs.declared.classic.Format.{Format}
 use Rattle.pim_container.specs.declared.container.Container.{Container}
+use Rattle.pim_container.specs.declared.container.Extent.{Extent}
 use Rattle.pim_container.specs.declared.container.Container.TheVariants.{Classic, Blocks}
 use Rattle.pim_container.specs.Told.{Told, section, ended}
 use Rattle.pim_container.specs.Block as block
@@ -34,6 +36,11 @@ head_faults (Blocks order) head = block.head_faults order head
 abbrev pub container_after : Container → List ℕ → Container
 container_after (Classic format) head = Classic format
 container_after (Blocks order) head = Blocks (block.order_of order head)
+
+-- What the head of a piece says.
+abbrev pub extent_of : Container → List ℕ → Extent
+extent_of container head =
+    record { container = container_after container head; length = piece_length container head }
 
 -- What a whole piece gives, in a container in whose byte order it is written.
 abbrev pub piece_told : Container → List Interface → List ℕ → Result Told Fault
@@ -102,15 +109,18 @@ pieces (suc left) container interfaces bytes =
     (interfaces_after (container_after container (head_of container bytes)) interfaces (piece_of container bytes))
     (after_piece container bytes))
 
+-- The format of a classic file that begins with these bytes, or the first fault.
+abbrev pub judge_beginning : List ℕ → Result Format Fault
+judge_beginning bytes =
+    if nat_lt (length bytes) 24 then Err fault.Truncated else classic.judge_header (take 24 bytes)
+
 -- The results for a classic file: its header begins its only section.
 abbrev pub classic_answers : List ℕ → List Answer
 classic_answers bytes =
-    unless_fault (classic.judge_header (take 24 bytes))
+    unless_fault (judge_beginning bytes)
     (λ format. Ok section ∷ pieces most_records (Classic format) [] (drop 24 bytes))
 
--- The results for the bytes of a file. Each container begins with at least 24 bytes, and a pcapng
--- file with a section header.
+-- The results for the bytes of a file. A pcapng file begins with a section header.
 abbrev pub answers : List ℕ → List Answer
 answers bytes =
-    if nat_lt (length bytes) 24 then Err fault.Truncated ∷ []
-    else (if block.is_section bytes then pieces most_records (Blocks Big) [] bytes else classic_answers bytes)
+    if block.is_section bytes then pieces most_records (Blocks Big) [] bytes else classic_answers bytes

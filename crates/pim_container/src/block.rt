@@ -1,18 +1,18 @@
 //! The blocks of a pcapng file (draft-ietf-opsawg-pcapng).
 
-ghost use Rattle.std.specs.Prelude.{◌≡◌, ◌+◌, ◌≤◌, length, take, IfOk, Some, Err, ◌⊎◌, vec_len, vec_capacity};
+ghost use Rattle.std.specs.Prelude.{◌≡◌, ◌≢◌, ◌+◌, ◌≤◌, length, take, IfOk, Some, Err, ◌⊎◌, vec_len, vec_capacity};
 ghost use Rattle.pim_addr.specs.Faults.{Answers, judged};
 ghost use Rattle.pim_container.specs.Block.{is_section, order_named, least_block, head_faults, head_said};
 ghost use Rattle.std.specs.List.{slice_get};
 ghost use Rattle.pim_container.specs.Block.{is_unequal, block_type, interface_number, stamp_of, captured_length};
 ghost use Rattle.pim_container.specs.Block.{captured_on, packet_block, interface_block, without_end, block_told};
 ghost use Rattle.pim_container.specs.Block.{interfaces_after, with_interface};
-ghost use Rattle.pim_container.specs.Interface.{settings_of};
+ghost use Rattle.pim_container.specs.Interface.{settings_of, interface_of};
 ghost use Rattle.pim_container.specs.Told.{latest_moment, event_seen, EventLiesIn, IsBy};
 
 use crate::event::Event;
 use crate::fault::Fault;
-use crate::interface::{Interface, moment_of, settings_of};
+use crate::interface::{Interface, Settings, moment_of, settings_of};
 use crate::link::{Endianness, Link, link_of};
 use crate::packet::event_of;
 
@@ -176,7 +176,7 @@ fn captured_on(interface: Interface, order: Endianness, block: &[u8]) -> Result<
 }
 
 /// The event of a packet block. The buffer then ends with the captured bytes.
-pub fn tell_packet(
+fn tell_packet(
     order: Endianness,
     interfaces: &[Interface],
     buffer: &mut Vec<u8>,
@@ -186,6 +186,7 @@ pub fn tell_packet(
         (packet_block order interfaces.now buffer.old.items) }
     ensures ranges { IfOk result (EventLiesIn buffer.new.items) }
     ensures moment { IfOk result (IsBy latest_moment) }
+    ensures record { IfOk result (λ event. event ≢ Event.End) }
     ensures capacity { vec_capacity buffer.new ≡ vec_capacity buffer.old }
 {
     let number = interface_number(order, buffer.as_slice());
@@ -201,4 +202,76 @@ pub fn tell_packet(
         buffer.as_slice(),
         28,
     ))
+}
+
+/// The interface that a block describes, with these settings.
+fn interface_of(order: Endianness, block: &[u8], settings: Settings) -> Interface
+    requires { 20 ≤ length block.now }
+    ensures { result ≡ interface_of order block.now settings }
+{
+    Interface {
+        link: link_of(order, order.read_u16_at(block, 8)),
+        resolution: settings.resolution,
+        offset: settings.offset,
+    }
+}
+
+/// The event of an interface description. The interface is added to those of the section.
+fn tell_interface(
+    order: Endianness,
+    interfaces: &mut Vec<Interface>,
+    block: &[u8],
+) -> Result<Event, Fault>
+    requires least { 20 ≤ length block.now }
+    requires most { length block.now ≤ 16777216 }
+    ensures answer { (result ≡ Err Fault.Memory) ⊎ Answers (event_seen block.now) result
+        (interface_block (settings_of order (without_end block.now)) block.now) }
+    ensures interfaces { IfOk result (λ _. interfaces.new.items
+        ≡ with_interface interfaces.old.items (settings_of order (without_end block.now)) order block.now) }
+    ensures ranges { IfOk result (EventLiesIn block.now) }
+    ensures moment { IfOk result (IsBy latest_moment) }
+    ensures record { IfOk result (λ event. event ≢ Event.End) }
+{
+    let (front, _) = block.split_at(block.len() - 4);
+    let Some(settings) = settings_of(order, front) else {
+        return Err(Fault::Block);
+    };
+    let Ok(()) = interfaces.push(interface_of(order, block, settings)) else {
+        return Err(Fault::Memory);
+    };
+    Ok(Event::Interface {
+        name: settings.name_at..settings.name_end,
+    })
+}
+
+/// The event of a whole block in the buffer. Interfaces are added or, by a new section, removed.
+pub fn tell_block(
+    order: Endianness,
+    interfaces: &mut Vec<Interface>,
+    buffer: &mut Vec<u8>,
+) -> Result<Event, Fault>
+    requires least { least_block (block_type order buffer.now.items) ≤ vec_len buffer.now }
+    requires most { vec_len buffer.now ≤ 16777216 }
+    ensures answer { (result ≡ Err Fault.Memory) ⊎ Answers (event_seen buffer.new.items) result
+        (block_told order interfaces.old.items buffer.old.items) }
+    ensures interfaces { IfOk result (λ _. interfaces.new.items
+        ≡ interfaces_after order interfaces.old.items buffer.old.items) }
+    ensures ranges { IfOk result (EventLiesIn buffer.new.items) }
+    ensures moment { IfOk result (IsBy latest_moment) }
+    ensures record { IfOk result (λ event. event ≢ Event.End) }
+    ensures capacity { vec_capacity buffer.new ≡ vec_capacity buffer.old }
+{
+    if is_unequal(order, buffer.as_slice()) {
+        return Err(Fault::Block);
+    }
+    match order.read_u32_at(buffer.as_slice(), 0) {
+        SECTION => {
+            interfaces.clear();
+            Ok(Event::Section)
+        }
+        INTERFACE => tell_interface(order, interfaces, buffer.as_slice()),
+        OBSOLETE_PACKET | ENHANCED_PACKET => tell_packet(order, interfaces.as_slice(), buffer),
+        SIMPLE_PACKET => Ok(Event::Untimed),
+        _ => Ok(Event::Passed),
+    }
 }

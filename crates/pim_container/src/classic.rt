@@ -1,22 +1,33 @@
 //! The file header and the records of a classic pcap file.
 
-ghost use Rattle.std.specs.Prelude.{◌≡◌, ◌+◌, ◌*◌, ◌<◌, ◌≤◌, length};
+ghost use Rattle.std.specs.Prelude.{◌≡◌, ◌≢◌, ◌+◌, ◌*◌, ◌<◌, ◌≤◌, length};
 ghost use Rattle.pim_addr.specs.Faults.{Answers, judged};
 ghost use Rattle.pim_container.specs.Classic.{is_magic, file_order, format_with, link_type, judge_header};
-ghost use Rattle.pim_container.specs.Classic.{captured_length, head_faults, millis_of};
+ghost use Rattle.pim_container.specs.Classic.{captured_length, head_faults, millis_of, record_told};
 ghost use Rattle.pim_container.specs.Link.{link_of};
-ghost use Rattle.pim_container.specs.Told.{latest_moment};
+ghost use Rattle.pim_container.specs.Told.{event_seen, EventLiesIn, IsBy, latest_moment};
 
+use crate::event::Event;
 use crate::fault::Fault;
 use crate::link::{Endianness, Link, link_of};
+use crate::packet::event_of;
+
+/// The unit of the fraction of a record's time.
+#[derive(Clone, Copy, Debug, PartialEq, Eq)]
+pub enum Resolution {
+    /// Millionths of a second.
+    Microseconds,
+    /// Billionths of a second.
+    Nanoseconds,
+}
 
 /// What the header of a classic file says of its records.
 #[derive(Clone, Copy, Debug, PartialEq, Eq)]
 pub struct Format {
     /// The byte order of all numbers in the file.
     pub order: Endianness,
-    /// The number of units of a fraction that make one millisecond.
-    pub per_millisecond: u32,
+    /// The unit of the fractions of its times.
+    pub resolution: Resolution,
     /// What the frames begin with.
     pub link: Link,
 }
@@ -50,14 +61,14 @@ fn format_in(order: Endianness, header: &[u8]) -> Result<Format, Fault>
     let Some(link) = link_of(order, number) else {
         return Err(Fault::LinkType(number));
     };
-    let per_millisecond = if order.read_u32_at(header, 0) == NANOSECONDS_MAGIC {
-        1_000_000
+    let resolution = if order.read_u32_at(header, 0) == NANOSECONDS_MAGIC {
+        Resolution::Nanoseconds
     } else {
-        1_000
+        Resolution::Microseconds
     };
     Ok(Format {
         order,
-        per_millisecond,
+        resolution,
         link,
     })
 }
@@ -96,13 +107,28 @@ pub fn record_length(format: Format, head: &[u8]) -> Result<usize, Fault>
 }
 
 /// The time of a record, in milliseconds since 1970.
-pub fn millis_of(format: Format, record: &[u8]) -> u64
-    requires whole { 8 ≤ length record.now }
-    requires units { 1000 ≤ format.per_millisecond }
+fn millis_of(format: Format, record: &[u8]) -> u64
+    requires { 8 ≤ length record.now }
     ensures value { result ≡ millis_of format record.now }
     ensures bound { result ≤ latest_moment }
 {
     let seconds = format.order.read_u32_at(record, 0);
     let fraction = format.order.read_u32_at(record, 4);
-    u64::from(seconds) * 1_000 + u64::from(fraction / format.per_millisecond)
+    let per_millisecond = match format.resolution {
+        Resolution::Microseconds => 1_000,
+        Resolution::Nanoseconds => 1_000_000,
+    };
+    u64::from(seconds) * 1_000 + u64::from(fraction / per_millisecond)
+}
+
+/// The event of a whole record.
+pub fn tell_record(format: Format, record: &[u8]) -> Event
+    requires { 16 ≤ length record.now }
+    ensures event { event_seen record.now result ≡ record_told format record.now }
+    ensures ranges { EventLiesIn record.now result }
+    ensures moment { IsBy latest_moment result }
+    ensures record { result ≢ Event.End }
+{
+    let millis = millis_of(format, record);
+    event_of(millis, 0, Some(format.link), record, 16)
 }

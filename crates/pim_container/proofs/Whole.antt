@@ -1,0 +1,181 @@
+-- The first piece of known bytes: its head, its bytes, and what follows.
+use Rattle.std.proofs.Common.{◌≡◌, ◌≢◌, ℕ, ◌+◌, ◌-◌, ◌<◌, ◌≤◌, ◌⊎◌, Bool, true, false, nat_lt, List, [], ◌∷◌, ◌++◌, length, take, drop, Option, Some, None, Result, Ok, Err, ap, sym, ◌∙◌, subst, arith, refl, inl, inr, is_ok, false≢true, if◌then◌else◌}
+use Rattle.std.proofs.lemmas.List.{take_at, drop_at, length-append, append-nil}
+use Rattle.std.proofs.lemmas.Grind.{common_steps}
+use Rattle.byteorder.specs.Endian.{big_number, little_number}
+use Rattle.pim_addr.specs.Faults.{fault_if, judged}
+use Rattle.pim_container.specs.declared.link.Endianness.{Endianness}
+use Rattle.pim_container.specs.declared.link.Endianness.TheVariants.{Big, Little}
+use Rattle.pim_container.specs.declared.fault.Fault.{Fault}
+use Rattle.pim_container.specs.declared.fault.Fault.TheVariants as fault
+use Rattle.pim_container.specs.declared.interface.Interface.{Interface}
+use Rattle.pim_container.specs.declared.container.Container.{Container}
+use Rattle.pim_container.specs.declared.container.Container.TheVariants.{Classic, Blocks}
+use Rattle.pim_container.specs.declared.container.Extent.{Extent}
+use Rattle.pim_container.specs.declared.piece.Found.{Found}
+use Rattle.pim_container.specs.Link.{number}
+use Rattle.pim_container.specs.Told.{Told, event_seen}
+use Rattle.pim_container.specs.Block as block
+use Rattle.pim_container.specs.Pieces.{head_length, piece_length, head_faults, extent_of, container_after, piece_told, head_of, piece_of, after_piece, judge_piece, unless_faults, piece_faults, interfaces_after}
+use Rattle.pim_container.specs.Next.{IsPiece, IsOfBytes, FillsAfter, TakesPiece, behind}
+
+-- ---- the head
+
+pub head_is : (c : Container) (head xs : List ℕ) → length head ≡ head_length c → head_of c (head ++ xs) ≡ head
+head_is c head xs l = take_at head xs (head_length c) l
+
+enough : (c : Container) (head xs : List ℕ) → length head ≡ head_length c → nat_lt (length (head ++ xs)) (head_length c) ≡ false
+enough c head xs l = let n = length-append head xs in grind (arith, common_steps)
+
+-- the faults of the first piece, where its head is whole
+faults_are : (c : Container) (head xs : List ℕ) → length head ≡ head_length c
+    → piece_faults c (head ++ xs) ≡ head_faults c head ++ fault_if (nat_lt (length (head ++ xs)) (piece_length c head)) fault.Truncated
+faults_are c head xs l =
+    ap (λ b. if b then fault.Truncated ∷ [] else head_faults c (head_of c (head ++ xs)) ++ fault_if (nat_lt (length (head ++ xs)) (piece_length c (head_of c (head ++ xs)))) fault.Truncated) (enough c head xs l)
+    ∙ ap (λ h. head_faults c h ++ fault_if (nat_lt (length (head ++ xs)) (piece_length c h)) fault.Truncated) (head_is c head xs l)
+
+-- ---- the judgment of its head
+
+first_of : {A B : Type 0} (faults others : List Fault) (value : A) (f : Fault) (r : Result B Fault) → judged faults value ≡ Err f → unless_faults (faults ++ others) r ≡ Err f
+first_of [] others value f r e = absurd (false≢true (sym (ap is_ok e)))
+first_of (g ∷ faults) others value f r e = grind (arith, common_steps)
+
+none_of : {A : Type 0} (faults : List Fault) (value value' : A) → judged faults value ≡ Ok value' → (faults ≡ []) × (value ≡ value')
+none_of [] value value' e = grind (arith, common_steps)
+none_of (g ∷ faults) value value' e = absurd (false≢true (ap is_ok e))
+
+pub extent_is : (c : Container) (head : List ℕ) (extent : Extent) → judged (head_faults c head) (extent_of c head) ≡ Ok extent
+    → (head_faults c head ≡ []) × (extent.container ≡ container_after c head) × (extent.length ≡ piece_length c head)
+extent_is c head extent e =
+    let n = none_of (head_faults c head) (extent_of c head) extent e in
+    (n.0, sym (ap (λ it. it.container) n.1), sym (ap (λ it. it.length) n.1))
+
+-- a fault of the piece is that of the call
+as_fault : (c : Container) (is is' : List Interface) (bytes xs ys : List ℕ) (f : Fault) → judge_piece c is xs ≡ Err f → TakesPiece c is (Some xs) (Some ys) is' bytes (Err f)
+as_fault c is is' bytes xs ys fault.Magic e = e
+as_fault c is is' bytes xs ys (fault.LinkType n) e = e
+as_fault c is is' bytes xs ys fault.Truncated e = e
+as_fault c is is' bytes xs ys fault.TooLong e = e
+as_fault c is is' bytes xs ys fault.Block e = e
+as_fault c is is' bytes xs ys fault.Time e = e
+as_fault c is is' bytes xs ys fault.Read e = tt
+as_fault c is is' bytes xs ys fault.Memory e = tt
+as_fault c is is' bytes xs ys fault.Failed e = e
+
+pub head_fault_known : (c : Container) (is is' : List Interface) (head bytes : List ℕ) (old : Option (List ℕ)) (f : Fault) → length head ≡ head_length c
+    → judged (head_faults c head) (extent_of c head) ≡ Err f → TakesPiece c is (behind head old) old is' bytes (Err f)
+head_fault_known c is is' head bytes None f l e = tt
+head_fault_known c is is' head bytes (Some xs) f l e =
+    let told = piece_told (container_after c (head_of c (head ++ xs))) is (piece_of c (head ++ xs)) in
+    as_fault c is is' bytes (head ++ xs) xs f
+    (ap (λ faults. unless_faults faults told) (faults_are c head xs l)
+    ∙ first_of (head_faults c head) (fault_if (nat_lt (length (head ++ xs)) (piece_length c head)) fault.Truncated) (extent_of c head) f told e)
+
+-- ---- its bytes aren't whole
+
+cut : (c : Container) (is : List Interface) (head xs : List ℕ) → length head ≡ head_length c → head_faults c head ≡ [] → length (head ++ xs) < piece_length c head
+    → judge_piece c is (head ++ xs) ≡ Err fault.Truncated
+cut c is head xs l none short =
+    let told = piece_told (container_after c (head_of c (head ++ xs))) is (piece_of c (head ++ xs)) in
+    let test : nat_lt (length (head ++ xs)) (piece_length c head) ≡ true = grind (arith, common_steps) in
+    ap (λ faults. unless_faults faults told) (faults_are c head xs l)
+    ∙ ap (λ faults. unless_faults (faults ++ fault_if (nat_lt (length (head ++ xs)) (piece_length c head)) fault.Truncated) told) none
+    ∙ ap (λ b. unless_faults (fault_if b fault.Truncated) told) test
+
+pub rest_fault_known : (c : Container) (is is' : List Interface) (head bytes : List ℕ) (size : ℕ) (old new : Option (List ℕ)) (f : Fault) → length head ≡ head_length c
+    → head_faults c head ≡ [] → size ≡ piece_length c head → FillsAfter head size old new bytes (Err f) → TakesPiece c is (behind head old) new is' bytes (Err f)
+rest_fault_known c is is' head bytes size None new f l none e fills = tt
+rest_fault_known c is is' head bytes size (Some xs) None f l none e fills = absurd fills
+rest_fault_known c is is' head bytes size (Some xs) (Some ys) fault.Truncated l none e fills = cut c is head xs l none (subst (λ n. length (head ++ xs) < n) e fills)
+rest_fault_known c is is' head bytes size (Some xs) (Some ys) fault.Read l none e fills = tt
+rest_fault_known c is is' head bytes size (Some xs) (Some ys) fault.Memory l none e fills = tt
+rest_fault_known c is is' head bytes size (Some xs) (Some ys) fault.Magic l none e fills = absurd fills
+rest_fault_known c is is' head bytes size (Some xs) (Some ys) (fault.LinkType n) l none e fills = absurd fills
+rest_fault_known c is is' head bytes size (Some xs) (Some ys) fault.TooLong l none e fills = absurd fills
+rest_fault_known c is is' head bytes size (Some xs) (Some ys) fault.Block l none e fills = absurd fills
+rest_fault_known c is is' head bytes size (Some xs) (Some ys) fault.Time l none e fills = absurd fills
+rest_fault_known c is is' head bytes size (Some xs) (Some ys) fault.Failed l none e fills = absurd fills
+
+-- ---- it is whole
+
+-- its judgment, its bytes, and those after it
+pub whole : (c : Container) (is : List Interface) (head bytes xs ys : List ℕ) → length head ≡ head_length c → head_faults c head ≡ []
+    → length bytes ≡ piece_length c head → head ++ xs ≡ bytes ++ ys
+    → (judge_piece c is (head ++ xs) ≡ piece_told (container_after c head) is bytes) × (piece_of c (head ++ xs) ≡ bytes) × (after_piece c (head ++ xs) ≡ ys)
+whole c is head bytes xs ys l none size e =
+    let n : length (head ++ xs) ≡ length bytes + length ys = ap length e ∙ length-append bytes ys in
+    let test : nat_lt (length (head ++ xs)) (piece_length c head) ≡ false = grind (arith, common_steps) in
+    let told = piece_told (container_after c (head_of c (head ++ xs))) is (piece_of c (head ++ xs)) in
+    let h = head_is c head xs l in
+    let same : piece_of c (head ++ xs) ≡ bytes =
+    ap (λ it. take (piece_length c it) (head ++ xs)) h ∙ ap (take (piece_length c head)) e ∙ take_at bytes ys (piece_length c head) size in
+    let after : after_piece c (head ++ xs) ≡ ys =
+    ap (λ it. drop (piece_length c it) (head ++ xs)) h ∙ ap (drop (piece_length c head)) e ∙ drop_at bytes ys (piece_length c head) size in
+    let judged : judge_piece c is (head ++ xs) ≡ piece_told (container_after c head) is bytes =
+    ap (λ faults. unless_faults faults told) (faults_are c head xs l)
+    ∙ ap (λ faults. unless_faults (faults ++ fault_if (nat_lt (length (head ++ xs)) (piece_length c head)) fault.Truncated) told) none
+    ∙ ap (λ b. unless_faults (fault_if b fault.Truncated) told) test
+    ∙ ap (λ it. piece_told (container_after c it) is (piece_of c (head ++ xs))) h
+    ∙ ap (piece_told (container_after c head) is) same in
+    (judged, same, after)
+
+-- the fault of a whole piece
+pub told_fault_known : (c c' : Container) (is is' : List Interface) (head bytes bytes' : List ℕ) (size : ℕ) (old new : Option (List ℕ)) (f : Fault) → length head ≡ head_length c
+    → head_faults c head ≡ [] → c' ≡ container_after c head → size ≡ piece_length c head → FillsAfter head size old new bytes (Ok unit) → (Err {A = Told} f ≡ Err fault.Memory) ⊎ (piece_told c' is bytes ≡ Err f)
+    → TakesPiece c is (behind head old) new is' bytes' (Err f)
+told_fault_known c c' is is' head bytes bytes' size None new f l none k e fills told = tt
+told_fault_known c c' is is' head bytes bytes' size (Some xs) None f l none k e fills told = absurd fills.2
+told_fault_known c c' is is' head bytes bytes' size (Some xs) (Some ys) f l none k e fills (inl memory) = ?
+told_fault_known c c' is is' head bytes bytes' size (Some xs) (Some ys) f l none k e fills (inr told) =
+    let w = whole c is head bytes xs ys l none (fills.0 ∙ e) fills.2 in
+    as_fault c is is' bytes' (head ++ xs) ys f (w.0 ∙ ap (λ it. piece_told it is bytes) (sym k) ∙ told)
+
+-- what a whole piece gives
+pub told_known : (c : Container) (is is' : List Interface) (head bytes bytes' : List ℕ) (size : ℕ) (old new : Option (List ℕ)) (found : Found) → length head ≡ head_length c
+    → head_faults c head ≡ [] → found.container ≡ container_after c head → size ≡ piece_length c head → FillsAfter head size old new bytes (Ok unit)
+    → piece_told found.container is bytes ≡ Ok (event_seen bytes' found.event) → is' ≡ interfaces_after found.container is bytes
+    → TakesPiece c is (behind head old) new is' bytes' (Ok found)
+told_known c is is' head bytes bytes' size None new found l none k e fills told i = tt
+told_known c is is' head bytes bytes' size (Some xs) None found l none k e fills told i = absurd fills.2
+told_known c is is' head bytes bytes' size (Some xs) (Some ys) found l none k e fills told i =
+    let w = whole c is head bytes xs ys l none (fills.0 ∙ e) fills.2 in
+    (w.0 ∙ ap (λ it. piece_told it is bytes) (sym k) ∙ told,
+    k ∙ ap (container_after c) (sym (head_is c head xs l)),
+    i ∙ ap (interfaces_after found.container is) (sym w.1),
+    sym w.2)
+
+-- ---- it is as long as its head says
+
+big_front : (xs : List ℕ) → big_number 4 (take 12 xs) ≡ big_number 4 xs
+big_front [] = refl
+big_front (a ∷ []) = refl
+big_front (a ∷ b ∷ []) = refl
+big_front (a ∷ b ∷ d ∷ []) = refl
+big_front (a ∷ b ∷ d ∷ e ∷ xs) = refl
+
+little_front : (xs : List ℕ) → little_number 4 (take 12 xs) ≡ little_number 4 xs
+little_front [] = refl
+little_front (a ∷ []) = refl
+little_front (a ∷ b ∷ []) = refl
+little_front (a ∷ b ∷ d ∷ []) = refl
+little_front (a ∷ b ∷ d ∷ e ∷ xs) = refl
+
+front : (order : Endianness) (xs : List ℕ) → number order 4 (take 12 xs) ≡ number order 4 xs
+front Big xs = big_front xs
+front Little xs = little_front xs
+
+least_is : (order : Endianness) (head : List ℕ) → block.head_faults order head ≡ []
+    → (block.least_block (block.block_type (block.order_of order head) head) ≤ block.block_length (block.order_of order head) head)
+    × (block.block_length (block.order_of order head) head ≤ block.most_block)
+least_is order head none = ?
+
+pub is_piece : (c : Container) (head bytes : List ℕ) → length head ≡ head_length c → head_faults c head ≡ [] → length bytes ≡ piece_length c head → take (length head) bytes ≡ head
+    → IsPiece (container_after c head) bytes
+is_piece (Classic format) head bytes l none size e = omega arith
+is_piece (Blocks order) head bytes l none size e =
+    let least = least_is order head none in
+    let same : take 12 bytes ≡ head = ap (λ n. take n bytes) (sym l) ∙ e in
+    let type : block.block_type (block.order_of order head) head ≡ block.block_type (block.order_of order head) bytes =
+    ap (number (block.order_of order head) 4) (sym same) ∙ front (block.order_of order head) bytes in
+    (subst (λ n. block.least_block n ≤ length bytes) type (subst (λ n. block.least_block (block.block_type (block.order_of order head) head) ≤ n) (sym size) least.0),
+    subst (λ n. n ≤ block.most_block) (sym size) least.1)

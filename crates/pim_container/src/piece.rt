@@ -1,0 +1,90 @@
+//! The pieces of a capture, read one after the other.
+//!
+//! The buffer is filled with zeros in reserved room, since `resize` of the standard library doesn't
+//! promise that the capacity stays.
+
+ghost use Rattle.std.specs.Prelude.{◌≡◌, ◌≢◌, ◌+◌, ◌<◌, ◌≤◌, ◌⊎◌, ℕ, length, max, IfOk, OnOk, OnErr, vec_len, vec_capacity};
+ghost use Rattle.pim_container.specs.Pieces.{head_length};
+ghost use Rattle.pim_container.specs.Block.{most_block};
+ghost use Rattle.pim_container.specs.Next.{FillsAfter, TakesPiece, CountsReads, behind};
+ghost use Rattle.pim_container.specs.Told.{EventLiesIn, IsBy, latest_moment};
+
+use crate::container::Container;
+use crate::event::Event;
+use crate::fault::Fault;
+use crate::interface::Interface;
+use pim_addr::{Feed, read_up_to};
+use std::alloc::AllocError;
+
+/// What a piece gives.
+#[derive(Clone, Debug, PartialEq, Eq, Drop)]
+pub struct Found {
+    /// How the pieces after it are written.
+    pub container: Container,
+    /// Its event.
+    pub event: Event,
+}
+
+/// Sets the length of the buffer. It grows only if its capacity is less, and then to exactly this
+/// length.
+fn fit(buffer: &mut Vec<u8>, size: usize) -> Result<(), AllocError>
+    ensures length { OnOk result (vec_len buffer.new ≡ size) }
+    ensures capacity { vec_capacity buffer.new ≤ max (vec_capacity buffer.old) size }
+{
+    let more = size.saturating_sub(buffer.len());
+    buffer.reserve_exact(more)?;
+    buffer.truncate(size);
+    while buffer.len() < size {
+        buffer.push_reserved(0);
+    }
+    Ok(())
+}
+
+/// Fills the buffer with a head that was read and the bytes after it, `size` bytes in all.
+pub fn read_after<R: Feed>(
+    device: &mut R,
+    head: &[u8],
+    size: usize,
+    buffer: &mut Vec<u8>,
+) -> Result<(), Fault>
+    requires { length head.now ≤ size }
+    ensures answer { FillsAfter head.now size (R.remaining device.old) (R.remaining device.new)
+        buffer.new.items result }
+    ensures reads { CountsReads ⊥ (R.failures device.old) (R.failures device.new) result }
+    ensures capacity { vec_capacity buffer.new ≤ max (vec_capacity buffer.old) size }
+{
+    fit(buffer, size)?;
+    let (front, rest) = buffer.as_mut_slice().split_at_mut(head.len());
+    front.copy_from_slice(head);
+    let got = read_up_to(device, rest)?;
+    if got < size - head.len() {
+        return Err(Fault::Truncated);
+    }
+    Ok(())
+}
+
+/// Reads the piece of which this head was read.
+pub fn take_piece<R: Feed>(
+    device: &mut R,
+    container: Container,
+    head: &[u8],
+    interfaces: &mut Vec<Interface>,
+    buffer: &mut Vec<u8>,
+) -> Result<Found, Fault>
+    requires { length head.now ≡ head_length container }
+    ensures answer { TakesPiece container interfaces.old.items (behind head.now (R.remaining device.old))
+        (R.remaining device.new) interfaces.new.items buffer.new.items result }
+    ensures reads { CountsReads ⊥ (R.failures device.old) (R.failures device.new) result }
+    ensures ranges { IfOk result (λ found. EventLiesIn buffer.new.items found.event) }
+    ensures moment { IfOk result (λ found. IsBy latest_moment found.event) }
+    ensures record { IfOk result (λ found. found.event ≢ Event.End) }
+    ensures capacity { vec_capacity buffer.new ≤ max (vec_capacity buffer.old) most_block }
+{
+    let extent = container.extent_of(head)?;
+    read_after(device, head, extent.length, buffer)?;
+    let event = extent.container.tell(interfaces, buffer)?;
+    Ok(Found {
+        container: extent.container,
+        event,
+    })
+}

@@ -1,0 +1,210 @@
+//! A capture that is read event by event.
+
+ghost use Rattle.std.specs.Prelude.{◌≡◌, ◌<◌, ◌≤◌, ◌⊎◌, [], length, IfOk, Ok, max, vec_capacity};
+ghost use Rattle.std.specs.Option.{option_map};
+ghost use Rattle.pim_container.specs.declared.reader.State.TheVariants.{Unbegun};
+ghost use Rattle.pim_container.specs.Block.{most_block};
+ghost use Rattle.pim_container.specs.Pieces.{answers, pieces, head_length};
+ghost use Rattle.pim_container.specs.Next.{coming, seen, device_of, state_of, IsNext, IsRefusal, CountsReads};
+ghost use Rattle.pim_container.specs.Next.{pieces_left, IsRepeated, StaysOver, Tells, behind};
+ghost use Rattle.pim_container.specs.Told.{EventLiesIn, IsBy, latest_moment};
+
+use crate::block::is_section;
+use crate::classic::read_header;
+use crate::container::Container;
+use crate::event::Event;
+use crate::fault::Fault;
+use crate::interface::Interface;
+use crate::link::Endianness;
+use crate::piece::{read_after, take_piece};
+use pim_addr::{Feed, read_up_to};
+use std::alloc::Global;
+
+/// The greatest number of records or blocks that are read of a file.
+const MOST_PIECES: u32 = 4_294_967_295;
+
+/// How far a file was read.
+#[derive(Clone, Copy, Debug)]
+pub enum State {
+    /// Nothing was read.
+    Unbegun,
+    /// Its beginning, and none or some pieces, were read.
+    Pieces {
+        /// How the next piece is written.
+        container: Container,
+        /// The number of pieces that may still be read.
+        left: u32,
+    },
+    /// Nothing is left.
+    Ended,
+    /// A call returned a fault.
+    Failed,
+}
+
+/// A capture, read event by event from any device.
+#[derive(Debug, Drop)]
+pub struct Reader<R> {
+    device: R,
+    state: State,
+    interfaces: Vec<Interface>,
+}
+
+/// An event, and the state after it.
+#[derive(Debug, Drop)]
+struct Step {
+    state: State,
+    event: Event,
+}
+
+/// Reads the piece of which this head was read.
+fn go_on<R: Feed>(
+    device: &mut R,
+    container: Container,
+    left: u32,
+    head: &[u8],
+    interfaces: &mut Vec<Interface>,
+    buffer: &mut Vec<u8>,
+) -> Result<Step, Fault>
+    requires head { length head.now ≡ head_length container }
+    requires left { 0 < left }
+    ensures answer { Tells (R.failures device.old) (R.failures device.new)
+        (option_map (pieces left container interfaces.old.items) (behind head.now (R.remaining device.old)))
+        (R.remaining device.new) interfaces.new.items buffer.new.items result }
+    ensures reads { CountsReads ⊥ (R.failures device.old) (R.failures device.new) result }
+    ensures ranges { IfOk result (λ step. EventLiesIn buffer.new.items step.event) }
+    ensures moment { IfOk result (λ step. IsBy latest_moment step.event) }
+    ensures over { IfOk result (λ step. StaysOver (Ok step.event) step.state) }
+    ensures capacity { vec_capacity buffer.new ≤ max (vec_capacity buffer.old) most_block }
+{
+    let found = take_piece(device, container, head, interfaces, buffer)?;
+    Ok(Step {
+        state: State::Pieces {
+            container: found.container,
+            left: left - 1,
+        },
+        event: found.event,
+    })
+}
+
+/// Reads the beginning of a file: the header of a classic file, or the first section header.
+fn begin<R: Feed>(
+    device: &mut R,
+    interfaces: &mut Vec<Interface>,
+    buffer: &mut Vec<u8>,
+) -> Result<Step, Fault>
+    requires { interfaces.now.items ≡ [] }
+    ensures answer { Tells (R.failures device.old) (R.failures device.new)
+        (option_map answers (R.remaining device.old))
+        (R.remaining device.new) interfaces.new.items buffer.new.items result }
+    ensures reads { CountsReads ⊥ (R.failures device.old) (R.failures device.new) result }
+    ensures ranges { IfOk result (λ step. EventLiesIn buffer.new.items step.event) }
+    ensures moment { IfOk result (λ step. IsBy latest_moment step.event) }
+    ensures over { IfOk result (λ step. StaysOver (Ok step.event) step.state) }
+    ensures capacity { vec_capacity buffer.new ≤ max (vec_capacity buffer.old) most_block }
+{
+    let mut head = [0; 12];
+    let got = read_up_to(device, &mut head)?;
+    if got < 12 {
+        return Err(Fault::Truncated);
+    }
+    if is_section(&head) {
+        let blocks = Container::Blocks(Endianness::Big);
+        return go_on(device, blocks, MOST_PIECES, &head, interfaces, buffer);
+    }
+    read_after(device, &head, 24, buffer)?;
+    let format = read_header(buffer.as_slice())?;
+    Ok(Step {
+        state: State::Pieces {
+            container: Container::Classic(format),
+            left: MOST_PIECES,
+        },
+        event: Event::Section,
+    })
+}
+
+/// Reads the next piece, or finds the end.
+fn next_piece<R: Feed>(
+    device: &mut R,
+    container: Container,
+    left: u32,
+    interfaces: &mut Vec<Interface>,
+    buffer: &mut Vec<u8>,
+) -> Result<Step, Fault>
+    ensures answer { Tells (R.failures device.old) (R.failures device.new)
+        (option_map (pieces left container interfaces.old.items) (R.remaining device.old))
+        (R.remaining device.new) interfaces.new.items buffer.new.items result }
+    ensures reads { CountsReads (left ≡ 0) (R.failures device.old) (R.failures device.new) result }
+    ensures ranges { IfOk result (λ step. EventLiesIn buffer.new.items step.event) }
+    ensures moment { IfOk result (λ step. IsBy latest_moment step.event) }
+    ensures over { IfOk result (λ step. StaysOver (Ok step.event) step.state) }
+    ensures capacity { vec_capacity buffer.new ≤ max (vec_capacity buffer.old) most_block }
+{
+    let mut first = [0; 16];
+    let (head, _) = first.split_at_mut(container.head_length());
+    let got = read_up_to(device, head)?;
+    if got == 0 {
+        return Ok(Step {
+            state: State::Ended,
+            event: Event::End,
+        });
+    }
+    if left == 0 {
+        return Err(Fault::Read);
+    }
+    if got < head.len() {
+        return Err(Fault::Truncated);
+    }
+    go_on(device, container, left, head, interfaces, buffer)
+}
+
+impl<R: Feed> Reader<R> {
+    /// A capture of which nothing was read.
+    pub fn new(alloc: Global, device: R) -> Self
+        ensures device { device_of result ≡ device }
+        ensures state { state_of result ≡ Unbegun }
+        ensures coming { coming R.remaining result ≡ option_map answers (R.remaining device) }
+    {
+        Reader {
+            device,
+            state: State::Unbegun,
+            interfaces: Vec::new(alloc),
+        }
+    }
+
+    /// Reads the next event. After a packet the buffer holds its bytes.
+    ///
+    /// # Errors
+    /// The first fault of the bytes, a failed read, or refused memory. Later calls return `Failed`.
+    pub fn next(&mut self, buffer: &mut Vec<u8>) -> Result<Event, Fault>
+        // Where the bytes of the device are known, the results are those of the file, in order.
+        ensures answer { IsRefusal (R.failures (device_of self.old)) (R.failures (device_of self.new)) result
+            ⊎ IsNext (coming R.remaining self.old) (seen buffer.new.items result) (coming R.remaining self.new) }
+        ensures reads { CountsReads (pieces_left (state_of self.old) ≡ 0)
+            (R.failures (device_of self.old)) (R.failures (device_of self.new)) result }
+        ensures ranges { IfOk result (EventLiesIn buffer.new.items) }
+        ensures moment { IfOk result (IsBy latest_moment) }
+        ensures capacity { vec_capacity buffer.new ≤ max (vec_capacity buffer.old) most_block }
+        ensures repeated { IsRepeated (state_of self.old) result }
+        ensures over { StaysOver result (state_of self.new) }
+    {
+        let state = self.state;
+        self.state = State::Failed;
+        let step = match state {
+            State::Unbegun => begin(&mut self.device, &mut self.interfaces, buffer)?,
+            State::Pieces { container, left } => next_piece(
+                &mut self.device,
+                container,
+                left,
+                &mut self.interfaces,
+                buffer,
+            )?,
+            State::Ended => Step {
+                state: State::Ended,
+                event: Event::End,
+            },
+            State::Failed => return Err(Fault::Failed),
+        };
+        self.state = step.state;
+        Ok(step.event)
+    }
+}
