@@ -3,3 +3,4 @@ pub mod Times
 pub mod Options
 pub mod Steps
 pub mod Whole
+pub mod Beginnings

@@ -12,8 +12,14 @@ use Rattle.pim_container.specs.declared.container.Container.{Container}
 use Rattle.pim_container.specs.declared.piece.Found.{Found}
 use Rattle.pim_container.specs.declared.reader.Step.{Step}
 use Rattle.pim_container.specs.Told.{Told, ended, event_seen}
-use Rattle.pim_container.specs.Pieces.{Answer, pieces, judge_piece, unless_fault, head_of, piece_of, after_piece, container_after, interfaces_after}
+use Rattle.pim_container.specs.declared.container.Container.TheVariants.{Classic, Blocks}
+use Rattle.pim_container.specs.Pieces.{head_length, Answer, pieces, judge_piece, unless_fault, head_of, piece_of, after_piece, container_after, interfaces_after}
 use Rattle.pim_container.specs.Next.{IsNext, IsRefusal, CountsReads, TakesPiece, in_front, behind}
+
+-- a head has some bytes
+pub head_some : (c : Container) → 0 < head_length c
+head_some (Classic format) = omega arith
+head_some (Blocks order) = omega arith
 
 pub pieces_end : (left : ℕ) (c : Container) (is : List Interface) → pieces left c is [] ≡ Ok ended ∷ []
 unfolding pieces
@@ -31,7 +37,7 @@ rest_of : ℕ → Container → List Interface → List ℕ → List Answer
 rest_of left c is bytes =
     pieces left (container_after c (head_of c bytes)) (interfaces_after (container_after c (head_of c bytes)) is (piece_of c bytes)) (after_piece c bytes)
 
-pub pieces_step : (left : ℕ) (c : Container) (is : List Interface) (bytes : List ℕ) → 0 < left → 0 < length bytes
+pieces_step : (left : ℕ) (c : Container) (is : List Interface) (bytes : List ℕ) → 0 < left → 0 < length bytes
     → pieces left c is bytes ≡ unless_fault (judge_piece c is bytes) (λ told. Ok told ∷ rest_of (left - 1) c is bytes)
 unfolding pieces rest_of
 pieces_step zero c is bytes e h = absurd (omega arith)

@@ -1,5 +1,6 @@
 -- The first piece of known bytes: its head, its bytes, and what follows.
-use Rattle.std.proofs.Common.{◌≡◌, ◌≢◌, ℕ, ◌+◌, ◌-◌, ◌<◌, ◌≤◌, ◌⊎◌, Bool, true, false, nat_lt, List, [], ◌∷◌, ◌++◌, length, take, drop, Option, Some, None, Result, Ok, Err, ap, sym, ◌∙◌, subst, arith, refl, inl, inr, is_ok, false≢true, if◌then◌else◌}
+use Rattle.std.proofs.Common.{◌≡◌, ◌≢◌, ℕ, ◌+◌, ◌-◌, ◌<◌, ◌≤◌, ◌⊎◌, Bool, true, false, nat_lt, List, [], ◌∷◌, ◌++◌, length, take, drop, Option, Some, None, Result, Ok, Err, ap, sym, ◌∙◌, subst, arith, refl, inl, inr, is_ok, if◌then◌else◌, not, ◌||◌, ◌&&◌, ◌==◌, ◌%◌}
+use Rattle.std.proofs.lemmas.Bool.{false≢true}
 use Rattle.std.proofs.lemmas.List.{take_at, drop_at, length-append, append-nil}
 use Rattle.std.proofs.lemmas.Grind.{common_steps}
 use Rattle.byteorder.specs.Endian.{big_number, little_number}
@@ -8,6 +9,7 @@ use Rattle.pim_container.specs.declared.link.Endianness.{Endianness}
 use Rattle.pim_container.specs.declared.link.Endianness.TheVariants.{Big, Little}
 use Rattle.pim_container.specs.declared.fault.Fault.{Fault}
 use Rattle.pim_container.specs.declared.fault.Fault.TheVariants as fault
+use Rattle.pim_container.specs.declared.event.Event.{Event}
 use Rattle.pim_container.specs.declared.interface.Interface.{Interface}
 use Rattle.pim_container.specs.declared.container.Container.{Container}
 use Rattle.pim_container.specs.declared.container.Container.TheVariants.{Classic, Blocks}
@@ -119,25 +121,32 @@ whole c is head bytes xs ys l none size e =
     ∙ ap (piece_told (container_after c head) is) same in
     (judged, same, after)
 
+fault_of : Result Event Fault → Fault
+fault_of (Ok event) = fault.Memory
+fault_of (Err fault) = fault
+
 -- the fault of a whole piece
 pub told_fault_known : (c c' : Container) (is is' : List Interface) (head bytes bytes' : List ℕ) (size : ℕ) (old new : Option (List ℕ)) (f : Fault) → length head ≡ head_length c
-    → head_faults c head ≡ [] → c' ≡ container_after c head → size ≡ piece_length c head → FillsAfter head size old new bytes (Ok unit) → (Err {A = Told} f ≡ Err fault.Memory) ⊎ (piece_told c' is bytes ≡ Err f)
+    → head_faults c head ≡ [] → c' ≡ container_after c head → size ≡ piece_length c head → FillsAfter head size old new bytes (Ok tt) → (◌≡◌ {A = Result Event Fault} (Err f) (Err fault.Memory)) ⊎ (piece_told c' is bytes ≡ Err f)
     → TakesPiece c is (behind head old) new is' bytes' (Err f)
+unfolding fault_of
 told_fault_known c c' is is' head bytes bytes' size None new f l none k e fills told = tt
 told_fault_known c c' is is' head bytes bytes' size (Some xs) None f l none k e fills told = absurd fills.2
-told_fault_known c c' is is' head bytes bytes' size (Some xs) (Some ys) f l none k e fills (inl memory) = ?
+told_fault_known c c' is is' head bytes bytes' size (Some xs) (Some ys) f l none k e fills (inl memory) =
+    subst (λ it. TakesPiece c is (Some (head ++ xs)) (Some ys) is' bytes' (Err it)) (sym (ap fault_of memory)) tt
 told_fault_known c c' is is' head bytes bytes' size (Some xs) (Some ys) f l none k e fills (inr told) =
     let w = whole c is head bytes xs ys l none (fills.0 ∙ e) fills.2 in
     as_fault c is is' bytes' (head ++ xs) ys f (w.0 ∙ ap (λ it. piece_told it is bytes) (sym k) ∙ told)
 
 -- what a whole piece gives
 pub told_known : (c : Container) (is is' : List Interface) (head bytes bytes' : List ℕ) (size : ℕ) (old new : Option (List ℕ)) (found : Found) → length head ≡ head_length c
-    → head_faults c head ≡ [] → found.container ≡ container_after c head → size ≡ piece_length c head → FillsAfter head size old new bytes (Ok unit)
-    → piece_told found.container is bytes ≡ Ok (event_seen bytes' found.event) → is' ≡ interfaces_after found.container is bytes
+    → head_faults c head ≡ [] → found.container ≡ container_after c head → size ≡ piece_length c head → FillsAfter head size old new bytes (Ok tt)
+    → (◌≡◌ {A = Result Event Fault} (Ok found.event) (Err fault.Memory)) ⊎ (piece_told found.container is bytes ≡ Ok (event_seen bytes' found.event)) → is' ≡ interfaces_after found.container is bytes
     → TakesPiece c is (behind head old) new is' bytes' (Ok found)
 told_known c is is' head bytes bytes' size None new found l none k e fills told i = tt
 told_known c is is' head bytes bytes' size (Some xs) None found l none k e fills told i = absurd fills.2
-told_known c is is' head bytes bytes' size (Some xs) (Some ys) found l none k e fills told i =
+told_known c is is' head bytes bytes' size (Some xs) (Some ys) found l none k e fills (inl memory) i = absurd (false≢true (sym (ap is_ok memory)))
+told_known c is is' head bytes bytes' size (Some xs) (Some ys) found l none k e fills (inr told) i =
     let w = whole c is head bytes xs ys l none (fills.0 ∙ e) fills.2 in
     (w.0 ∙ ap (λ it. piece_told it is bytes) (sym k) ∙ told,
     k ∙ ap (container_after c) (sym (head_is c head xs l)),
@@ -145,6 +154,10 @@ told_known c is is' head bytes bytes' size (Some xs) (Some ys) found l none k e 
     sym w.2)
 
 -- ---- it is as long as its head says
+
+is_nil : List Fault → Bool
+is_nil [] = true
+is_nil (f ∷ fs) = false
 
 big_front : (xs : List ℕ) → big_number 4 (take 12 xs) ≡ big_number 4 xs
 big_front [] = refl
@@ -164,10 +177,28 @@ front : (order : Endianness) (xs : List ℕ) → number order 4 (take 12 xs) ≡
 front Big xs = big_front xs
 front Little xs = little_front xs
 
+none_if : (a b d : Bool) → fault_if a fault.Magic ++ fault_if b fault.Block ++ fault_if d fault.TooLong ≡ [] → (b ≡ false) × (d ≡ false)
+unfolding is_nil
+none_if true b d e = absurd (false≢true (ap is_nil e))
+none_if false true d e = absurd (false≢true (ap is_nil e))
+none_if false false true e = absurd (false≢true (ap is_nil e))
+none_if false false false e = (refl, refl)
+
+no_less : (size least : ℕ) (b : Bool) → (nat_lt size least || b) ≡ false → least ≤ size
+no_less size least b e = grind (arith, common_steps)
+
+no_more : (size most : ℕ) → nat_lt most size ≡ false → size ≤ most
+no_more size most e = grind (arith, common_steps)
+
 least_is : (order : Endianness) (head : List ℕ) → block.head_faults order head ≡ []
     → (block.least_block (block.block_type (block.order_of order head) head) ≤ block.block_length (block.order_of order head) head)
     × (block.block_length (block.order_of order head) head ≤ block.most_block)
-least_is order head none = ?
+least_is order head none =
+    let o = block.order_of order head in
+    let size = block.block_length o head in
+    let n = none_if (block.is_section head && not (block.has_order Big head) && not (block.has_order Little head))
+    (nat_lt size (block.least_block (block.block_type o head)) || not (size % 4 == 0)) (nat_lt block.most_block size) none in
+    (no_less size (block.least_block (block.block_type o head)) (not (size % 4 == 0)) n.0, no_more size block.most_block n.1)
 
 pub is_piece : (c : Container) (head bytes : List ℕ) → length head ≡ head_length c → head_faults c head ≡ [] → length bytes ≡ piece_length c head → take (length head) bytes ≡ head
     → IsPiece (container_after c head) bytes

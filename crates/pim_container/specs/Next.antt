@@ -9,6 +9,7 @@ use Rattle.pim_container.specs.declared.fault.Fault.TheVariants as fault
 use Rattle.pim_container.specs.declared.event.Event.{Event}
 use Rattle.pim_container.specs.declared.event.Event.TheVariants as event
 use Rattle.pim_container.specs.declared.interface.Interface.{Interface}
+use Rattle.pim_container.specs.declared.classic.Format.{Format}
 use Rattle.pim_container.specs.declared.container.Container.{Container}
 use Rattle.pim_container.specs.declared.container.Container.TheVariants.{Classic, Blocks}
 use Rattle.pim_container.specs.declared.container.Extent.{Extent}
@@ -19,7 +20,7 @@ use Rattle.pim_container.specs.declared.reader.State.TheVariants.{Unbegun, Piece
 use Rattle.pim_container.specs.declared.reader.Reader.{Reader}
 use Rattle.pim_container.specs.Told.{Told, packet, skipped, unread, untimed, section, described, passed, ended, event_seen}
 use Rattle.pim_container.specs.Block.{block_type, least_block, most_block}
-use Rattle.pim_container.specs.Pieces.{Answer, answers, pieces, judge_piece, head_of, piece_of, after_piece}
+use Rattle.pim_container.specs.Pieces.{Answer, answers, pieces, judge_beginning, judge_piece, head_of, piece_of, after_piece}
 use Rattle.pim_container.specs.Pieces.{container_after, interfaces_after}
 
 -- What the result of a call means if the buffer holds these bytes.
@@ -96,6 +97,16 @@ FillsAfter head size (Some xs) (Some ys) bytes (Err fault.Truncated) = length (h
 FillsAfter head size (Some xs) (Some ys) bytes (Err fault.Read) = ⊤
 FillsAfter head size (Some xs) (Some ys) bytes (Err fault.Memory) = ⊤
 FillsAfter head size (Some xs) (Some ys) bytes (Err _) = ⊥
+
+-- The beginning of a classic file was taken: Ok means that it has this format. A fault other than a
+-- failed read and refused memory is that of the beginning.
+abbrev pub BeginsClassic : Option (List ℕ) → Option (List ℕ) → Result Format Fault → Type 0
+BeginsClassic None new answer = ⊤
+BeginsClassic (Some xs) None answer = ⊥
+BeginsClassic (Some xs) (Some ys) (Ok format) = (judge_beginning xs ≡ Ok format) × (ys ≡ drop 24 xs)
+BeginsClassic (Some xs) (Some ys) (Err fault.Read) = ⊤
+BeginsClassic (Some xs) (Some ys) (Err fault.Memory) = ⊤
+BeginsClassic (Some xs) (Some ys) (Err fault) = judge_beginning xs ≡ Err fault
 
 -- The first piece of known bytes was taken and gives this; a fault other than a failed read and
 -- refused memory is that of the piece.

@@ -159,6 +159,7 @@ fn captured_on(interface: Interface, order: Endianness, block: &[u8]) -> Result<
     ensures moment { IfOk result (λ captured. captured.millis ≤ latest_moment) }
     ensures start { IfOk result (λ captured. 28 ≤ captured.end) }
     ensures end { IfOk result (λ captured. captured.end ≤ length block.now) }
+    ensures not_read { result ≢ Err Fault.Read }
 {
     let captured_length = order.read_u32_at(block, 20) as usize;
     if block.len() < 32 + captured_length {
@@ -187,6 +188,7 @@ fn tell_packet(
     ensures ranges { IfOk result (EventLiesIn buffer.new.items) }
     ensures moment { IfOk result (IsBy latest_moment) }
     ensures record { IfOk result (λ event. event ≢ Event.End) }
+    ensures not_read { result ≢ Err Fault.Read }
     ensures capacity { vec_capacity buffer.new ≡ vec_capacity buffer.old }
 {
     let number = interface_number(order, buffer.as_slice());
@@ -231,6 +233,7 @@ fn tell_interface(
     ensures ranges { IfOk result (EventLiesIn block.now) }
     ensures moment { IfOk result (IsBy latest_moment) }
     ensures record { IfOk result (λ event. event ≢ Event.End) }
+    ensures not_read { result ≢ Err Fault.Read }
 {
     let (front, _) = block.split_at(block.len() - 4);
     let Some(settings) = settings_of(order, front) else {
@@ -259,6 +262,7 @@ pub fn tell_block(
     ensures ranges { IfOk result (EventLiesIn buffer.new.items) }
     ensures moment { IfOk result (IsBy latest_moment) }
     ensures record { IfOk result (λ event. event ≢ Event.End) }
+    ensures not_read { result ≢ Err Fault.Read }
     ensures capacity { vec_capacity buffer.new ≡ vec_capacity buffer.old }
 {
     if is_unequal(order, buffer.as_slice()) {

@@ -1,6 +1,6 @@
 //! The file header and the records of a classic pcap file.
 
-ghost use Rattle.std.specs.Prelude.{◌≡◌, ◌≢◌, ◌+◌, ◌*◌, ◌<◌, ◌≤◌, length};
+ghost use Rattle.std.specs.Prelude.{◌≡◌, ◌≢◌, ◌+◌, ◌≤◌, length, Err};
 ghost use Rattle.pim_addr.specs.Faults.{Answers, judged};
 ghost use Rattle.pim_container.specs.Classic.{is_magic, file_order, format_with, link_type, judge_header};
 ghost use Rattle.pim_container.specs.Classic.{captured_length, head_faults, millis_of, record_told};
@@ -54,8 +54,9 @@ fn is_magic(order: Endianness, header: &[u8]) -> bool
 fn format_in(order: Endianness, header: &[u8]) -> Result<Format, Fault>
     requires whole { 24 ≤ length header.now }
     requires order { order ≡ file_order header.now }
-    ensures { Answers (λ format. format) result
+    ensures answer { Answers (λ format. format) result
         (format_with header.now (link_of order (link_type header.now))) }
+    ensures not_read { result ≢ Err Fault.Read }
 {
     let number = (order.read_u32_at(header, 20) & 0xffff) as u16;
     let Some(link) = link_of(order, number) else {
@@ -79,7 +80,8 @@ fn format_in(order: Endianness, header: &[u8]) -> Result<Format, Fault>
 /// `Magic` or `LinkType`, in this order.
 pub fn read_header(header: &[u8]) -> Result<Format, Fault>
     requires { 24 ≤ length header.now }
-    ensures { Answers (λ format. format) result (judge_header header.now) }
+    ensures answer { Answers (λ format. format) result (judge_header header.now) }
+    ensures not_read { result ≢ Err Fault.Read }
 {
     if is_magic(Endianness::Big, header) {
         return format_in(Endianness::Big, header);

@@ -85,6 +85,7 @@ impl Container {
         ensures ranges { IfOk result (EventLiesIn buffer.new.items) }
         ensures moment { IfOk result (IsBy latest_moment) }
         ensures record { IfOk result (λ event. event ≢ Event.End) }
+        ensures not_read { result ≢ Err Fault.Read }
         ensures capacity { vec_capacity buffer.new ≡ vec_capacity buffer.old }
     {
         match self {

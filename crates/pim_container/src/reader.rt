@@ -6,11 +6,11 @@ ghost use Rattle.pim_container.specs.declared.reader.State.TheVariants.{Unbegun}
 ghost use Rattle.pim_container.specs.Block.{most_block};
 ghost use Rattle.pim_container.specs.Pieces.{answers, pieces, head_length};
 ghost use Rattle.pim_container.specs.Next.{coming, seen, device_of, state_of, IsNext, IsRefusal, CountsReads};
-ghost use Rattle.pim_container.specs.Next.{pieces_left, IsRepeated, StaysOver, Tells, behind};
+ghost use Rattle.pim_container.specs.Next.{pieces_left, IsRepeated, StaysOver, Tells, behind, BeginsClassic};
 ghost use Rattle.pim_container.specs.Told.{EventLiesIn, IsBy, latest_moment};
 
 use crate::block::is_section;
-use crate::classic::read_header;
+use crate::classic::{Format, read_header};
 use crate::container::Container;
 use crate::event::Event;
 use crate::fault::Fault;
@@ -86,13 +86,27 @@ fn go_on<R: Feed>(
     })
 }
 
+/// Reads the header of a classic file, of which this head was read.
+fn begin_classic<R: Feed>(
+    device: &mut R,
+    head: &[u8],
+    buffer: &mut Vec<u8>,
+) -> Result<Format, Fault>
+    requires { length head.now ≡ 12 }
+    ensures answer { BeginsClassic (behind head.now (R.remaining device.old)) (R.remaining device.new) result }
+    ensures reads { CountsReads ⊥ (R.failures device.old) (R.failures device.new) result }
+    ensures capacity { vec_capacity buffer.new ≤ max (vec_capacity buffer.old) 24 }
+{
+    read_after(device, head, 24, buffer)?;
+    read_header(buffer.as_slice())
+}
+
 /// Reads the beginning of a file: the header of a classic file, or the first section header.
 fn begin<R: Feed>(
     device: &mut R,
     interfaces: &mut Vec<Interface>,
     buffer: &mut Vec<u8>,
 ) -> Result<Step, Fault>
-    requires { interfaces.now.items ≡ [] }
     ensures answer { Tells (R.failures device.old) (R.failures device.new)
         (option_map answers (R.remaining device.old))
         (R.remaining device.new) interfaces.new.items buffer.new.items result }
@@ -102,6 +116,7 @@ fn begin<R: Feed>(
     ensures over { IfOk result (λ step. StaysOver (Ok step.event) step.state) }
     ensures capacity { vec_capacity buffer.new ≤ max (vec_capacity buffer.old) most_block }
 {
+    interfaces.clear();
     let mut head = [0; 12];
     let got = read_up_to(device, &mut head)?;
     if got < 12 {
@@ -111,8 +126,7 @@ fn begin<R: Feed>(
         let blocks = Container::Blocks(Endianness::Big);
         return go_on(device, blocks, MOST_PIECES, &head, interfaces, buffer);
     }
-    read_after(device, &head, 24, buffer)?;
-    let format = read_header(buffer.as_slice())?;
+    let format = begin_classic(device, &head, buffer)?;
     Ok(Step {
         state: State::Pieces {
             container: Container::Classic(format),

@@ -1,5 +1,8 @@
-use Rattle.std.proofs.Common.{List, ℕ, arith}
+use Rattle.std.proofs.Common.{List, ℕ, arith, subst, sym, ◌∙◌}
 use Rattle.std.proofs.lemmas.Result.{err_from_is_err_and}
+use Rattle.pim_container.specs.declared.container.Container.{Container}
+use Rattle.pim_container.specs.declared.piece.Found.{Found}
+use Rattle.pim_container.specs.Next.{IsPiece}
 use Rattle.pim_container.proofs.Whole.{extent_is, head_fault_known, rest_fault_known, told_fault_known, told_known, is_piece}
 use Rattle.pim_container.proofs.piece.take_piece.Goals as goal
 
@@ -8,3 +11,32 @@ returns-in_err-extent-clause-answer g c =
     let p = err_from_is_err_and c.from_residual.result c.from_residual.ensures.1 in
     rw (p.1, p.2) (head_fault_known c.args.container c.args.interfaces.now.items c.args.interfaces.now.items c.args.head.now c.args.buffer.now.items
     (g.R.Feed.remaining c.args.device.now) c.in_err-extent.field-0.0 c.requires c.in_err-extent.ensures.answer)
+
+pub returns-in_err-read_after-clause-answer : goal.returns-in_err-read_after-clause-answer
+returns-in_err-read_after-clause-answer g c =
+    let p = err_from_is_err_and c.from_residual-in_err-read_after.result c.from_residual-in_err-read_after.ensures.1 in
+    let x = extent_is c.args.container c.args.head.now c.in_ok-extent.extent c.in_ok-extent.ensures.answer in
+    rw (p.1, p.2) (rest_fault_known c.args.container c.args.interfaces.now.items c.args.interfaces.now.items c.args.head.now c.read_after.new.buffer.items c.in_ok-extent.extent.length
+    (g.R.Feed.remaining c.args.device.now) (g.R.Feed.remaining c.read_after.new.device) c.in_err-read_after.field-0.0 c.requires x.0 x.2 c.in_err-read_after.ensures.answer)
+
+pub tell-requires : goal.tell-requires
+tell-requires g c =
+    let x = extent_is c.args.container c.args.head.now c.in_ok-extent.extent c.in_ok-extent.ensures.answer in
+    let P : Container → Type 0 = λ it. IsPiece it c.read_after.new.buffer.items in
+    subst P (sym x.1) (is_piece c.args.container c.args.head.now c.read_after.new.buffer.items c.requires x.0 (c.in_ok-read_after.ensures.answer.0 ∙ x.2) c.in_ok-read_after.ensures.answer.1)
+
+pub returns-in_err-event-clause-answer : goal.returns-in_err-event-clause-answer
+returns-in_err-event-clause-answer g c =
+    let p = err_from_is_err_and c.from_residual-in_err-event.result c.from_residual-in_err-event.ensures.1 in
+    let x = extent_is c.args.container c.args.head.now c.in_ok-extent.extent c.in_ok-extent.ensures.answer in
+    rw (p.1, p.2) (told_fault_known c.args.container c.in_ok-extent.extent.container c.args.interfaces.now.items c.tell.new.interfaces.items c.args.head.now c.read_after.new.buffer.items c.tell.new.buffer.items
+    c.in_ok-extent.extent.length (g.R.Feed.remaining c.args.device.now) (g.R.Feed.remaining c.read_after.new.device) c.in_err-event.field-0.0 c.requires x.0 x.1 x.2
+    c.in_ok-read_after.ensures.answer c.in_err-event.ensures.answer)
+
+pub returns-clause-answer : goal.returns-clause-answer
+returns-clause-answer g c =
+    let x = extent_is c.args.container c.args.head.now c.in_ok-extent.extent c.in_ok-extent.ensures.answer in
+    let found : Found = record { container = c.in_ok-extent.extent.container; event = c.in_ok-event.event } in
+    told_known c.args.container c.args.interfaces.now.items c.tell.new.interfaces.items c.args.head.now c.read_after.new.buffer.items c.tell.new.buffer.items
+    c.in_ok-extent.extent.length (g.R.Feed.remaining c.args.device.now) (g.R.Feed.remaining c.read_after.new.device) found c.requires x.0 x.1 x.2
+    c.in_ok-read_after.ensures.answer c.in_ok-event.ensures.answer c.in_ok-event.ensures.interfaces

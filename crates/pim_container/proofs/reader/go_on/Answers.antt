@@ -2,7 +2,7 @@ use Rattle.std.proofs.Common.{List, ℕ, arith}
 use Rattle.std.proofs.lemmas.Result.{err_from_is_err_and}
 use Rattle.pim_container.specs.declared.reader.State.TheVariants.{Failed}
 use Rattle.pim_container.specs.Next.{answers_in}
-use Rattle.pim_container.proofs.Steps.{found_known, fault_known}
+use Rattle.pim_container.proofs.Steps.{head_some, found_known, fault_known}
 use Rattle.pim_container.proofs.reader.go_on.Goals as goal
 
 pub returns-in_err-found-clause-answer : goal.returns-in_err-found-clause-answer
@@ -10,9 +10,9 @@ returns-in_err-found-clause-answer g c =
     let p = err_from_is_err_and c.from_residual.result c.from_residual.ensures.1 in
     rw (p.1, p.2) (fault_known c.args.left c.args.container c.args.interfaces.now.items c.take_piece.new.interfaces.items c.args.head.now c.take_piece.new.buffer.items
     (g.R.Feed.remaining c.args.device.now) (g.R.Feed.remaining c.take_piece.new.device) c.in_err-found.field-0.0 (g.R.Feed.failures c.args.device.now) (g.R.Feed.failures c.take_piece.new.device)
-    (answers_in Failed c.take_piece.new.interfaces.items) (omega arith) (omega arith) c.in_err-found.ensures.answer c.in_err-found.ensures.reads)
+    (answers_in Failed c.take_piece.new.interfaces.items) (omega arith) (omega (arith, head_some c.args.container)) c.in_err-found.ensures.answer c.in_err-found.ensures.reads)
 
 pub returns-clause-answer : goal.returns-clause-answer
 returns-clause-answer g c =
     found_known c.args.left c.args.container c.args.interfaces.now.items c.take_piece.new.interfaces.items c.args.head.now c.take_piece.new.buffer.items
-    (g.R.Feed.remaining c.args.device.now) (g.R.Feed.remaining c.take_piece.new.device) c.in_ok-found.found (omega arith) (omega arith) c.in_ok-found.ensures.record c.in_ok-found.ensures.answer
+    (g.R.Feed.remaining c.args.device.now) (g.R.Feed.remaining c.take_piece.new.device) c.in_ok-found.found (omega arith) (omega (arith, head_some c.args.container)) c.in_ok-found.ensures.record c.in_ok-found.ensures.answer
