@@ -1,10 +1,9 @@
 -- How a capture begins, and how the reading of its next piece begins.
-use Rattle.std.proofs.Common.{◌≡◌, ℕ, ◌+◌, ◌-◌, ◌<◌, ◌≤◌, ◌⊎◌, min, Bool, true, false, nat_lt, List, [], ◌∷◌, ◌++◌, length, take, drop, Option, Some, None, Result, Ok, Err, IfSome, ap, sym, ◌∙◌, subst, arith, refl, inl, inr, if◌then◌else◌}
+use Rattle.std.proofs.Common.{◌≡◌, ℕ, ◌+◌, ◌<◌, ◌≤◌, ◌⊎◌, Bool, true, false, nat_lt, List, [], ◌∷◌, ◌++◌, length, take, drop, Option, Some, None, Result, Ok, Err, IfSome, ap, sym, ◌∙◌, subst, arith, refl, inl, inr, if◌then◌else◌}
 use Rattle.std.specs.Option.{option_map}
 use Rattle.std.specs.Io.KnownBytes.{Consumes, IsAtEnd}
 use Rattle.std.proofs.lemmas.List.{take_at, drop_at, take_all, length-append, length-take-le}
 use Rattle.std.proofs.lemmas.Grind.{common_steps}
-use Rattle.byteorder.specs.Endian.{big_number}
 use Rattle.pim_addr.specs.Faults.{Answers}
 use Rattle.pim_capture.specs.Capture.{most_records}
 use Rattle.pim_container.specs.declared.link.Endianness.TheVariants.{Big}
@@ -15,12 +14,12 @@ use Rattle.pim_container.specs.declared.classic.Format.{Format}
 use Rattle.pim_container.specs.declared.container.Container.{Container}
 use Rattle.pim_container.specs.declared.container.Container.TheVariants.{Classic, Blocks}
 use Rattle.pim_container.specs.declared.reader.Step.{Step}
-use Rattle.pim_container.specs.Told.{Told, section, ended}
-use Rattle.pim_container.specs.Block.{is_section, section_type}
+use Rattle.pim_container.specs.Told.{section, ended}
+use Rattle.pim_container.specs.Block.{is_section}
 use Rattle.pim_container.specs.Classic.{judge_header}
-use Rattle.pim_container.specs.Pieces.{Answer, answers, classic_answers, judge_beginning, pieces, judge_piece, piece_told, container_after, unless_fault, unless_faults, head_length, head_of, piece_of, piece_length, head_faults, piece_faults}
+use Rattle.pim_container.specs.Pieces.{Answer, answers, classic_answers, judge_beginning, pieces, judge_piece, piece_told, container_after, unless_fault, unless_faults, head_length, head_of, piece_of, piece_length, head_faults}
 use Rattle.pim_addr.specs.Faults.{fault_if}
-use Rattle.pim_container.specs.Next.{IsNext, IsRefusal, CountsReads, FillsAfter, BeginsClassic, Tells, behind, in_front}
+use Rattle.pim_container.specs.Next.{IsNext, IsRefusal, CountsReads, FillsAfter, BeginsClassic, Tells, behind}
 use Rattle.pim_container.proofs.Steps.{pieces_end, pieces_bound, at_fault, failed}
 
 -- ---- what came of known bytes

@@ -1,5 +1,5 @@
 -- Time stamps of resolutions that are finer than all that 64 bits can count in milliseconds.
-use Rattle.std.proofs.Common.{◌≡◌, ℕ, ◌*◌, ◌^◌, ◌<◌, ◌≤◌, Bool, true, sym, ap, ◌∙◌, arith, nat_lt}
+use Rattle.std.proofs.Common.{◌≡◌, ℕ, ◌*◌, ◌^◌, ◌<◌, ◌≤◌, sym, arith}
 use Rattle.std.proofs.lemmas.Grind.{common_steps}
 use Rattle.std.proofs.Math.Nat.{pow-le-pow_right, div-eq_of_lt}
 use Rattle.pim_container.specs.Interface.{units_of, stamp_millis}

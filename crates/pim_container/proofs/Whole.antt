@@ -1,7 +1,7 @@
 -- The first piece of known bytes: its head, its bytes, and what follows.
-use Rattle.std.proofs.Common.{◌≡◌, ◌≢◌, ℕ, ◌+◌, ◌-◌, ◌<◌, ◌≤◌, ◌⊎◌, Bool, true, false, nat_lt, List, [], ◌∷◌, ◌++◌, length, take, drop, Option, Some, None, Result, Ok, Err, ap, sym, ◌∙◌, subst, arith, refl, inl, inr, is_ok, if◌then◌else◌, not, ◌||◌, ◌&&◌, ◌==◌, ◌%◌}
+use Rattle.std.proofs.Common.{◌≡◌, ℕ, ◌+◌, ◌<◌, ◌≤◌, ◌⊎◌, Bool, true, false, nat_lt, List, [], ◌∷◌, ◌++◌, length, take, drop, Option, Some, None, Result, Ok, Err, ap, sym, ◌∙◌, subst, arith, refl, inl, inr, is_ok, if◌then◌else◌, not, ◌||◌, ◌&&◌, ◌==◌, ◌%◌}
 use Rattle.std.proofs.lemmas.Bool.{false≢true}
-use Rattle.std.proofs.lemmas.List.{take_at, drop_at, length-append, append-nil}
+use Rattle.std.proofs.lemmas.List.{take_at, drop_at, length-append}
 use Rattle.std.proofs.lemmas.Grind.{common_steps}
 use Rattle.byteorder.specs.Endian.{big_number, little_number}
 use Rattle.pim_addr.specs.Faults.{fault_if, judged}
@@ -16,10 +16,10 @@ use Rattle.pim_container.specs.declared.container.Container.TheVariants.{Classic
 use Rattle.pim_container.specs.declared.container.Extent.{Extent}
 use Rattle.pim_container.specs.declared.piece.Found.{Found}
 use Rattle.pim_container.specs.Link.{number}
-use Rattle.pim_container.specs.Told.{Told, event_seen}
+use Rattle.pim_container.specs.Told.{event_seen}
 use Rattle.pim_container.specs.Block as block
 use Rattle.pim_container.specs.Pieces.{head_length, piece_length, head_faults, extent_of, container_after, piece_told, head_of, piece_of, after_piece, judge_piece, unless_faults, piece_faults, interfaces_after}
-use Rattle.pim_container.specs.Next.{IsPiece, IsOfBytes, FillsAfter, TakesPiece, behind}
+use Rattle.pim_container.specs.Next.{IsPiece, FillsAfter, TakesPiece, behind}
 
 -- ---- the head
 

@@ -1,7 +1,7 @@
 -- An interface of a pcapng section (draft-ietf-opsawg-pcapng, 4.2): its link, and of its options the
 -- name (if_name), the resolution (if_tsresol) and the offset (if_tsoffset) of its times.
-use Rattle.std.specs.Prelude.{◌≤◌, ℕ, zero, suc, ◌+◌, ◌-◌, ◌*◌, ◌/◌, ◌^◌, Bool, ◌&&◌, ◌||◌, ◌==◌, not, List, length, take, drop}
-use Rattle.std.specs.Prelude.{nat_lt, slice_index, slice_range, Option, None, Some, if◌then◌else◌}
+use Rattle.std.specs.Prelude.{◌≤◌, ℕ, zero, suc, ◌+◌, ◌-◌, ◌*◌, ◌/◌, ◌^◌, Bool, ◌&&◌, ◌||◌, ◌==◌, not, List, length, drop}
+use Rattle.std.specs.Prelude.{nat_lt, slice_index, Option, None, Some, if◌then◌else◌}
 use Rattle.pim_container.specs.declared.link.Endianness.{Endianness}
 use Rattle.pim_container.specs.declared.interface.Settings.{Settings}
 use Rattle.pim_container.specs.declared.interface.Interface.{Interface}

@@ -1,7 +1,7 @@
 -- Where the IP packet of a captured frame begins, or why there is none. Restates the headers of the
 -- link types of pcap files: Ethernet, Linux cooked capture and its second version, BSD loopback, and
 -- IP without a link layer; and the tags of IEEE 802.1Q and 802.1ad.
-use Rattle.std.specs.Prelude.{ℕ, ◌+◌, ◌*◌, ◌%◌, Bool, false, ◌||◌, ◌==◌, not, List, length, drop, slice_index, nat_lt}
+use Rattle.std.specs.Prelude.{ℕ, ◌+◌, ◌%◌, Bool, false, ◌||◌, ◌==◌, not, List, length, drop, slice_index, nat_lt}
 use Rattle.std.specs.Prelude.{Option, None, Some, Result, Ok, Err, if◌then◌else◌}
 use Rattle.byteorder.specs.Endian.{big_number, little_number}
 use Rattle.pim_addr.specs.declared.family.AddressFamily.{AddressFamily}

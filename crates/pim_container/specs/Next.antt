@@ -12,13 +12,12 @@ use Rattle.pim_container.specs.declared.interface.Interface.{Interface}
 use Rattle.pim_container.specs.declared.classic.Format.{Format}
 use Rattle.pim_container.specs.declared.container.Container.{Container}
 use Rattle.pim_container.specs.declared.container.Container.TheVariants.{Classic, Blocks}
-use Rattle.pim_container.specs.declared.container.Extent.{Extent}
 use Rattle.pim_container.specs.declared.piece.Found.{Found}
 use Rattle.pim_container.specs.declared.reader.Step.{Step}
 use Rattle.pim_container.specs.declared.reader.State.{State}
 use Rattle.pim_container.specs.declared.reader.State.TheVariants.{Unbegun, Pieces, Ended, Failed}
 use Rattle.pim_container.specs.declared.reader.Reader.{Reader}
-use Rattle.pim_container.specs.Told.{Told, packet, skipped, unread, untimed, section, described, passed, ended, event_seen}
+use Rattle.pim_container.specs.Told.{ended, event_seen}
 use Rattle.pim_container.specs.Block.{block_type, least_block, most_block}
 use Rattle.pim_container.specs.Pieces.{Answer, answers, pieces, judge_beginning, judge_piece, head_of, piece_of, after_piece}
 use Rattle.pim_container.specs.Pieces.{container_after, interfaces_after}

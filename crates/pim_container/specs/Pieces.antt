@@ -3,7 +3,7 @@
 -- file.
 use Rattle.std.specs.Prelude.{ℕ, zero, suc, ◌+◌, Bool, true, false, List, [], ◌∷◌, ◌++◌, length, take, drop, nat_lt}
 use Rattle.std.specs.Prelude.{Result, Ok, Err, if◌then◌else◌}
-use Rattle.pim_addr.specs.Faults.{fault_if, judged}
+use Rattle.pim_addr.specs.Faults.{fault_if}
 use Rattle.pim_capture.specs.Capture.{most_records}
 use Rattle.pim_container.specs.declared.link.Endianness.TheVariants.{Big}
 use Rattle.pim_container.specs.declared.fault.Fault.{Fault}

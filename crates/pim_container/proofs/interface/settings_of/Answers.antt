@@ -1,5 +1,5 @@
-use Rattle.std.proofs.Common.{◌≡◌, ◌+◌, ◌≤◌, ℕ, List, length, sym, ap, ◌∙◌, arith, Some}
-use Rattle.pim_container.specs.Interface.{option_code, option_size, option_end, padded, settings_with, settings_of, settings_from}
+use Rattle.std.proofs.Common.{◌≡◌, ◌+◌, length, sym, ap, ◌∙◌, arith}
+use Rattle.pim_container.specs.Interface.{option_end, padded, settings_of, settings_from}
 use Rattle.pim_container.proofs.Options.{read, cut, at_end, at_code}
 use Rattle.pim_container.proofs.interface.settings_of.Goals as goal
 

@@ -1,4 +1,4 @@
-use Rattle.std.proofs.Common.{◌≡◌, ◌≤◌, ◌-◌, max, vec_len, vec_capacity}
+use Rattle.std.proofs.Common.{◌≡◌, ◌≤◌, ◌-◌, vec_len, vec_capacity}
 use Rattle.pim_container.proofs.piece.fit.Given as goal
 
 abbrev pub invariant-loop-buffer : goal.invariant-loop-buffer

@@ -1,4 +1,4 @@
-use Rattle.std.proofs.Common.{◌≡◌, ℕ, List, length, arith, inr, subst, false, true, Err}
+use Rattle.std.proofs.Common.{◌≡◌, length, arith, inr, subst, false, Err}
 use Rattle.std.proofs.lemmas.Result.{err_from_is_err_and}
 use Rattle.pim_container.specs.declared.classic.Format.{Format}
 use Rattle.pim_container.specs.declared.reader.State.TheVariants.{Failed}

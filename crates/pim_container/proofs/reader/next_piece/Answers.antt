@@ -1,4 +1,4 @@
-use Rattle.std.proofs.Common.{◌≡◌, ℕ, List, length, arith, inr, subst}
+use Rattle.std.proofs.Common.{arith, inr}
 use Rattle.pim_container.specs.declared.reader.State.TheVariants.{Ended, Failed}
 use Rattle.pim_container.specs.Next.{answers_in}
 use Rattle.pim_container.proofs.Beginnings.{end_known, bound_known, cut_known}
