@@ -5,3 +5,4 @@ pub mod Block
 pub mod Classic
 pub mod Pieces
 pub mod Next
+pub mod Choice

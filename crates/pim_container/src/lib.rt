@@ -1,7 +1,29 @@
-//! Reads captures as tools write them.
+//! Reads captures as tools write them, as a stream of PIM packets.
+//!
+//! `Reader::next` returns one event a call, over any `Feed`, of a classic pcap file or a pcapng file.
+//! The events are a function of the bytes of the file, however the device cuts them (`answers` in
+//! `specs/Pieces.antt`): the file is cut into pieces, which are records or blocks, and each piece
+//! gives one event. Only a failed read and refused memory don't follow from the bytes. After the end
+//! each call returns `End`, and after a fault `Failed`.
+//!
+//! - Links: Ethernet, raw IP, Linux cooked captures of both versions and BSD loopbacks, with at most
+//!   two VLAN tags (`place_of` in `specs/Link.antt`). A packet has the link on which it was captured.
+//! - pcapng: sections in either byte order, each with interfaces of its own; times by the resolution
+//!   and the offset of the packet's interface. Blocks of other types are passed over.
+//! - `Chooser` takes packets of one VLAN or interface, and returns a fault where packets have more
+//!   than one and none is chosen.
+//!
+//! The buffer is the caller's. A piece is read whole into it, since a block says at its end how long
+//! it is. After a packet it ends with the captured bytes, of which the message is a range. A block
+//! above 16,777,216 bytes is refused before it is read, so that no file makes the buffer grow beyond
+//! it. Only the list of a section's interfaces takes other memory.
+//!
+//! `pim_capture` is the case of classic files over Ethernet and raw IP that the other commands read.
+//! It knows one 802.1Q tag.
 #![tactic(auto)]
 
 mod block;
+mod choice;
 mod classic;
 mod container;
 mod event;
@@ -14,6 +36,7 @@ mod place;
 mod reader;
 mod tags;
 
+pub use choice::{Choice, Chooser, Mixed, one_link_is_a_filter};
 pub use event::{Event, Origin};
 pub use fault::Fault;
 pub use reader::Reader;

@@ -1,0 +1,71 @@
+-- Which packets of a capture are taken, by their origins.
+use Rattle.std.specs.Prelude.{◌≡◌, ℕ, Bool, true, false, ◌&&◌, ◌||◌, ◌==◌, not, List, ◌++◌, Option, None, Some, Result, Ok, is_none, is_some}
+use Rattle.std.specs.Prelude.{if◌then◌else◌}
+use Rattle.pim_addr.specs.Faults.{fault_if, judged}
+use Rattle.pim_container.specs.declared.tags.Vlan.{Vlan}
+use Rattle.pim_container.specs.declared.event.Origin.{Origin}
+use Rattle.pim_container.specs.declared.choice.Choice.{Choice}
+use Rattle.pim_container.specs.declared.choice.Chooser.{Chooser}
+use Rattle.pim_container.specs.declared.choice.Mixed.{Mixed}
+use Rattle.pim_container.specs.declared.choice.Mixed.TheVariants.{Interfaces, Vlans}
+
+-- The choice of a chooser.
+abbrev pub choice_of : Chooser → Choice
+choice_of chooser = chooser.choice
+
+-- The origin of the first packet that a chooser took.
+abbrev pub first_of : Chooser → Option Origin
+first_of chooser = chooser.first
+
+-- `None` chooses each number.
+abbrev pub fits : Option ℕ → ℕ → Bool
+fits None number = true
+fits (Some chosen) number = chosen == number
+
+abbrev pub is_same_vlan : Vlan → Vlan → Bool
+is_same_vlan one other = one.outer == other.outer && one.inner == other.inner
+
+abbrev pub fits_vlan : Option Vlan → Vlan → Bool
+fits_vlan None vlan = true
+fits_vlan (Some chosen) vlan = is_same_vlan chosen vlan
+
+-- A packet of this origin is chosen.
+abbrev pub is_chosen : Choice → Origin → Bool
+is_chosen choice origin =
+    (choice.sent || not origin.sent) && fits_vlan choice.vlan origin.vlan
+    && fits choice.interface origin.interface && fits choice.index origin.index
+
+-- What is mixed in two packets of these origins, where none is chosen.
+abbrev pub mixed : Choice → Origin → Origin → List Mixed
+mixed choice first origin =
+    fault_if (is_none choice.interface && not (first.interface == origin.interface)) Interfaces
+    ++ fault_if (is_none choice.index && not (first.index == origin.index)) Interfaces
+    ++ fault_if (is_none choice.vlan && not (is_same_vlan first.vlan origin.vlan)) Vlans
+
+-- A chosen packet is taken if it is of one link with the first one.
+abbrev pub judge_second : Choice → Origin → Origin → Result Bool Mixed
+judge_second choice first origin = judged (mixed choice first origin) true
+
+abbrev pub judge_chosen : Choice → Option Origin → Origin → Result Bool Mixed
+judge_chosen choice None origin = Ok true
+judge_chosen choice (Some first) origin = judge_second choice first origin
+
+-- Whether a packet is taken, after a first one of that origin.
+abbrev pub judge_origin : Choice → Option Origin → Origin → Result Bool Mixed
+judge_origin choice first origin =
+    if is_chosen choice origin then judge_chosen choice first origin else Ok false
+
+-- The origin of the first packet that was taken, after this one.
+abbrev pub first_or : Option Origin → Origin → Option Origin
+first_or None origin = Some origin
+first_or (Some first) origin = Some first
+
+abbrev pub first_after : Choice → Option Origin → Origin → Option Origin
+first_after choice first origin = if is_chosen choice origin then first_or first origin else first
+
+-- Where a VLAN, an interface and an index are chosen, packets are never mixed, and those that are
+-- taken are those of the choice.
+abbrev pub OneLinkIsAFilter : Type 0
+OneLinkIsAFilter = (choice : Choice) (first : Option Origin) (origin : Origin) (vlan : Vlan) (interface index : ℕ)
+    → choice.vlan ≡ Some vlan → choice.interface ≡ Some interface → choice.index ≡ Some index
+    → judge_origin choice first origin ≡ Ok (is_chosen choice origin)

@@ -1,0 +1,133 @@
+//! Which packets of a capture are taken.
+
+ghost use Rattle.std.specs.Prelude.{◌≡◌, None};
+ghost use Rattle.pim_addr.specs.Faults.{Answers};
+ghost use Rattle.pim_container.specs.Choice.{choice_of, first_of, fits, is_same_vlan, fits_vlan, is_chosen};
+ghost use Rattle.pim_container.specs.Choice.{first_after, judge_origin, judge_second, OneLinkIsAFilter};
+
+use crate::event::Origin;
+use crate::tags::Vlan;
+
+/// Which packets are taken: those of one VLAN or interface, or of each.
+#[derive(Clone, Copy, Debug, PartialEq, Eq)]
+pub struct Choice {
+    /// The VLAN. `None` is each, as long as the packets have one.
+    pub vlan: Option<Vlan>,
+    /// The number of the interface in a section of a pcapng file. `None` is each, as long as the
+    /// packets have one.
+    pub interface: Option<u32>,
+    /// The index of the interface in a cooked header of version 2. `None` is each, as long as the
+    /// packets have one.
+    pub index: Option<u32>,
+    /// Packets that the capturing host sent itself are taken too.
+    pub sent: bool,
+}
+
+/// The packets have more than one link, and none is chosen.
+#[derive(Clone, Copy, Debug, PartialEq, Eq)]
+pub enum Mixed {
+    /// A packet is of another interface than the first one.
+    Interfaces,
+    /// A packet is of another VLAN than the first one.
+    Vlans,
+}
+
+/// Takes packets by a choice.
+#[derive(Clone, Copy, Debug)]
+pub struct Chooser {
+    choice: Choice,
+    first: Option<Origin>,
+}
+
+/// Whether a number is the chosen one.
+fn fits(chosen: Option<u32>, number: u32) -> bool
+    ensures { result ≡ fits chosen number }
+{
+    match chosen {
+        Some(it) => it == number,
+        None => true,
+    }
+}
+
+/// Whether two VLANs are the same.
+fn is_same_vlan(one: Vlan, other: Vlan) -> bool
+    ensures { result ≡ is_same_vlan one other }
+{
+    one.outer == other.outer && one.inner == other.inner
+}
+
+/// Whether a VLAN is the chosen one.
+fn fits_vlan(chosen: Option<Vlan>, vlan: Vlan) -> bool
+    ensures { result ≡ fits_vlan chosen vlan }
+{
+    match chosen {
+        Some(it) => is_same_vlan(it, vlan),
+        None => true,
+    }
+}
+
+/// Whether a packet of this origin is of the chosen link.
+fn is_chosen(choice: Choice, origin: Origin) -> bool
+    ensures { result ≡ is_chosen choice origin }
+{
+    (choice.sent || !origin.sent)
+        && fits_vlan(choice.vlan, origin.vlan)
+        && fits(choice.interface, origin.interface)
+        && fits(choice.index, origin.index)
+}
+
+/// Judges a chosen packet by the origin of the first one.
+fn judge_second(choice: Choice, first: Origin, origin: Origin) -> Result<bool, Mixed>
+    ensures { Answers (λ it. it) result (judge_second choice first origin) }
+{
+    if choice.interface.is_none() && first.interface != origin.interface {
+        return Err(Mixed::Interfaces);
+    }
+    if choice.index.is_none() && first.index != origin.index {
+        return Err(Mixed::Interfaces);
+    }
+    if choice.vlan.is_none() && !is_same_vlan(first.vlan, origin.vlan) {
+        return Err(Mixed::Vlans);
+    }
+    Ok(true)
+}
+
+impl Chooser {
+    /// A chooser that has taken nothing.
+    pub fn new(choice: Choice) -> Self
+        ensures choice { choice_of result ≡ choice }
+        ensures first { first_of result ≡ None }
+    {
+        Chooser {
+            choice,
+            first: None,
+        }
+    }
+
+    /// Whether the packet of this origin is taken.
+    ///
+    /// # Errors
+    /// It is chosen, and of another interface or VLAN than the first packet that was taken, where no
+    /// interface or VLAN is chosen.
+    pub fn take(&mut self, origin: Origin) -> Result<bool, Mixed>
+        ensures answer { Answers (λ it. it) result
+            (judge_origin (choice_of self.old) (first_of self.old) origin) }
+        ensures choice { choice_of self.new ≡ choice_of self.old }
+        ensures first { first_of self.new ≡ first_after (choice_of self.old) (first_of self.old) origin }
+    {
+        if !is_chosen(self.choice, origin) {
+            return Ok(false);
+        }
+        let first = self.first;
+        let Some(first) = first else {
+            self.first = Some(origin);
+            return Ok(true);
+        };
+        judge_second(self.choice, first, origin)
+    }
+}
+
+/// A law: where a VLAN, an interface and an index are chosen, a choice is a filter, packet by packet.
+pub fn one_link_is_a_filter()
+    ensures { OneLinkIsAFilter }
+{}
