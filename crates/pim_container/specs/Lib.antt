@@ -6,3 +6,4 @@ pub mod Classic
 pub mod Pieces
 pub mod Next
 pub mod Choice
+pub mod Agreement

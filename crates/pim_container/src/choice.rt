@@ -3,7 +3,7 @@
 ghost use Rattle.std.specs.Prelude.{◌≡◌, None};
 ghost use Rattle.pim_addr.specs.Faults.{Answers};
 ghost use Rattle.pim_container.specs.Choice.{choice_of, first_of, fits, is_same_vlan, fits_vlan, is_chosen};
-ghost use Rattle.pim_container.specs.Choice.{first_after, judge_origin, judge_second, OneLinkIsAFilter};
+ghost use Rattle.pim_container.specs.Choice.{first_after, judge_origin, judge_second};
 
 use crate::event::Origin;
 use crate::tags::Vlan;
@@ -126,8 +126,3 @@ impl Chooser {
         judge_second(self.choice, first, origin)
     }
 }
-
-/// A law: where a VLAN, an interface and an index are chosen, a choice is a filter, packet by packet.
-pub fn one_link_is_a_filter()
-    ensures { OneLinkIsAFilter }
-{}

@@ -18,8 +18,8 @@
 //! above 16,777,216 bytes is refused before it is read, so that no file makes the buffer grow beyond
 //! it. Only the list of a section's interfaces takes other memory.
 //!
-//! `pim_capture` is the case of classic files over Ethernet and raw IP that the other commands read.
-//! It knows one 802.1Q tag.
+//! `pim_capture` reads classic files over Ethernet and raw IP, with one 802.1Q tag. For these files
+//! both crates return the same, but for frames with further tags (the law `classic_agrees`).
 #![tactic(auto)]
 
 mod block;
@@ -29,6 +29,7 @@ mod container;
 mod event;
 mod fault;
 mod interface;
+mod laws;
 mod link;
 mod packet;
 mod piece;
@@ -36,8 +37,9 @@ mod place;
 mod reader;
 mod tags;
 
-pub use choice::{Choice, Chooser, Mixed, one_link_is_a_filter};
+pub use choice::{Choice, Chooser, Mixed};
 pub use event::{Event, Origin};
 pub use fault::Fault;
+pub use laws::{classic_agrees, one_link_is_a_filter};
 pub use reader::Reader;
 pub use tags::Vlan;

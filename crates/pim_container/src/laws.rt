@@ -1,0 +1,15 @@
+//! Laws of the definitions. Nothing in this module is to be called.
+
+ghost use Rattle.pim_container.specs.Agreement.{AgreesOnClassic};
+ghost use Rattle.pim_container.specs.Choice.{OneLinkIsAFilter};
+
+/// For a classic file whose header `pim_capture` accepts, this crate returns the same after the
+/// beginning of the section, but for frames with further tags.
+pub fn classic_agrees()
+    ensures { AgreesOnClassic }
+{}
+
+/// Where a VLAN, an interface and an index are chosen, a choice is a filter, packet by packet.
+pub fn one_link_is_a_filter()
+    ensures { OneLinkIsAFilter }
+{}
