@@ -1,9 +1,9 @@
 -- The results for a classic file agree with those of `pim_capture`.
-use Rattle.std.proofs.Common.{◌≡◌, ℕ, zero, suc, ◌+◌, ◌-◌, ◌*◌, ◌/◌, ◌%◌, ◌^◌, ◌<◌, ◌≤◌, Bool, true, false, not, ◌&&◌, ◌||◌, ◌==◌, nat_lt, List, [], ◌∷◌, ◌++◌, length, take, drop, Option, Some, None, Result, Ok, Err, ap, sym, ◌∙◌, subst, arith, refl, if◌then◌else◌, is_ok}
+use Rattle.std.proofs.Common.{◌≡◌, ℕ, zero, suc, ◌+◌, ◌-◌, ◌*◌, ◌/◌, ◌%◌, ◌^◌, ◌≤◌, Bool, true, false, not, ◌&&◌, ◌||◌, ◌==◌, nat_lt, List, [], ◌∷◌, ◌++◌, length, take, drop, Option, Some, None, Result, Ok, Err, ap, sym, ◌∙◌, subst, arith, refl, if◌then◌else◌, is_ok}
 use Rattle.std.proofs.lemmas.Bool.{false≢true}
-use Rattle.std.proofs.lemmas.List.{drop-take, take-take, drop-drop, length-drop, length-take-le}
+use Rattle.std.proofs.lemmas.List.{drop-take, take-take, drop-drop, length-drop}
 use Rattle.std.proofs.lemmas.Grind.{common_steps}
-use Rattle.byteorder.specs.Endian.{big_number, little_number}
+use Rattle.byteorder.specs.Endian.{big_number}
 use Rattle.pim_addr.specs.declared.family.AddressFamily.{AddressFamily}
 use Rattle.pim_addr.specs.Faults.{fault_if, judged}
 use Rattle.pim_capture.specs.declared.event.Why.{Why}
@@ -30,17 +30,16 @@ use Rattle.pim_container.specs.declared.classic.Format.{Format}
 use Rattle.pim_container.specs.declared.classic.Resolution.{Resolution}
 use Rattle.pim_container.specs.declared.classic.Resolution.TheVariants.{Microseconds, Nanoseconds}
 use Rattle.pim_container.specs.declared.container.Container.TheVariants.{Classic, Blocks}
-use Rattle.pim_container.specs.declared.fault.Fault.{Fault}
 use Rattle.pim_container.specs.declared.fault.Fault.TheVariants as fault
 use Rattle.pim_container.specs.declared.tags.Carried.{Carried}
 use Rattle.pim_container.specs.declared.place.Place.{Place}
 use Rattle.pim_container.specs.declared.event.Origin.{Origin}
 use Rattle.pim_container.specs.Link.{number, is_tag, second_type, after_one, after_two, tagged, link_of, place_in, typed_place, untagged_place, place_of}
-use Rattle.pim_container.specs.Told.{Told, packet, skipped, section, ended, packet_told, placed_told, frame_told}
+use Rattle.pim_container.specs.Told.{Told, section, packet_told, placed_told, frame_told}
 use Rattle.pim_container.specs.Block.{is_section}
 use Rattle.pim_container.specs.Classic as classic
 use Rattle.pim_container.specs.Pieces.{Answer, answers, classic_answers, judge_beginning, pieces, unless_fault, unless_faults}
-use Rattle.pim_container.specs.Agreement.{IsAt, SameTold, SameAnswer, SameAnswers, AfterSection}
+use Rattle.pim_container.specs.Agreement.{IsAt, SameTold, SameAnswers, AfterSection}
 
 -- ---- what stands for what
 

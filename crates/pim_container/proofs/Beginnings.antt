@@ -139,9 +139,10 @@ short_known (Some xs) (Some ys) h got after cut b e d =
 header_read : (head bytes xs ys : List ℕ) → length bytes ≡ 24 → head ++ xs ≡ bytes ++ ys → (judge_beginning (head ++ xs) ≡ judge_header bytes) × (ys ≡ drop 24 (head ++ xs))
 header_read head bytes xs ys l e =
     let n : length (head ++ xs) ≡ length bytes + length ys = ap length e ∙ length-append bytes ys in
-    let test : nat_lt (length (head ++ xs)) 24 ≡ false = grind (arith, common_steps) in
-    (ap (λ b. if b then Err fault.Truncated else judge_header (take 24 (head ++ xs))) test ∙ ap (λ it. judge_header (take 24 it)) e ∙ ap judge_header (take_at bytes ys 24 l),
-    sym (ap (drop 24) e ∙ drop_at bytes ys 24 l))
+    let test : nat_lt (length (head ++ xs)) 24 ≡ false = grind (arith, common_steps) in (
+      ap (λ b. if b then Err fault.Truncated else judge_header (take 24 (head ++ xs))) test ∙ ap (λ it. judge_header (take 24 it)) e ∙ ap judge_header (take_at bytes ys 24 l),
+      sym (ap (drop 24) e ∙ drop_at bytes ys 24 l),
+    )
 
 classic_fault : (xs ys : List ℕ) (f : Fault) → judge_beginning xs ≡ Err f → BeginsClassic (Some xs) (Some ys) (Err f)
 classic_fault xs ys fault.Magic e = e

@@ -147,11 +147,12 @@ told_known c is is' head bytes bytes' size None new found l none k e fills told 
 told_known c is is' head bytes bytes' size (Some xs) None found l none k e fills told i = absurd fills.2
 told_known c is is' head bytes bytes' size (Some xs) (Some ys) found l none k e fills (inl memory) i = absurd (false≢true (sym (ap is_ok memory)))
 told_known c is is' head bytes bytes' size (Some xs) (Some ys) found l none k e fills (inr told) i =
-    let w = whole c is head bytes xs ys l none (fills.0 ∙ e) fills.2 in
-    (w.0 ∙ ap (λ it. piece_told it is bytes) (sym k) ∙ told,
-    k ∙ ap (container_after c) (sym (head_is c head xs l)),
-    i ∙ ap (interfaces_after found.container is) (sym w.1),
-    sym w.2)
+    let w = whole c is head bytes xs ys l none (fills.0 ∙ e) fills.2 in (
+      w.0 ∙ ap (λ it. piece_told it is bytes) (sym k) ∙ told,
+      k ∙ ap (container_after c) (sym (head_is c head xs l)),
+      i ∙ ap (interfaces_after found.container is) (sym w.1),
+      sym w.2,
+    )
 
 -- ---- it is as long as its head says
 
@@ -207,6 +208,7 @@ is_piece (Blocks order) head bytes l none size e =
     let least = least_is order head none in
     let same : take 12 bytes ≡ head = ap (λ n. take n bytes) (sym l) ∙ e in
     let type : block.block_type (block.order_of order head) head ≡ block.block_type (block.order_of order head) bytes =
-    ap (number (block.order_of order head) 4) (sym same) ∙ front (block.order_of order head) bytes in
-    (subst (λ n. block.least_block n ≤ length bytes) type (subst (λ n. block.least_block (block.block_type (block.order_of order head) head) ≤ n) (sym size) least.0),
-    subst (λ n. n ≤ block.most_block) (sym size) least.1)
+    ap (number (block.order_of order head) 4) (sym same) ∙ front (block.order_of order head) bytes in (
+      subst (λ n. block.least_block n ≤ length bytes) type (subst (λ n. block.least_block (block.block_type (block.order_of order head) head) ≤ n) (sym size) least.0),
+      subst (λ n. n ≤ block.most_block) (sym size) least.1,
+    )

@@ -1,6 +1,6 @@
 -- What `pim_capture` returns for a classic file, and what this crate returns for it. `pim_capture`
 -- reads Ethernet and raw IP alone, and passes over one 802.1Q tag.
-use Rattle.std.specs.Prelude.{◌≡◌, ℕ, false, List, [], ◌∷◌, take, Result, Ok, Err, ⊤}
+use Rattle.std.specs.Prelude.{◌≡◌, ℕ, false, List, [], ◌∷◌, take, Ok, Err, ⊤}
 use Rattle.pim_capture.specs.declared.event.Why.TheVariants.{NotIp}
 use Rattle.pim_capture.specs.declared.fault.CaptureFault.{CaptureFault}
 use Rattle.pim_capture.specs.declared.fault.CaptureFault.TheVariants as theirs

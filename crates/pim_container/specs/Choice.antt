@@ -1,5 +1,5 @@
 -- Which packets of a capture are taken, by their origins.
-use Rattle.std.specs.Prelude.{◌≡◌, ℕ, Bool, true, false, ◌&&◌, ◌||◌, ◌==◌, not, List, ◌++◌, Option, None, Some, Result, Ok, is_none, is_some}
+use Rattle.std.specs.Prelude.{◌≡◌, ℕ, Bool, true, false, ◌&&◌, ◌||◌, ◌==◌, not, List, ◌++◌, Option, None, Some, Result, Ok, is_none}
 use Rattle.std.specs.Prelude.{if◌then◌else◌}
 use Rattle.pim_addr.specs.Faults.{fault_if, judged}
 use Rattle.pim_container.specs.declared.tags.Vlan.{Vlan}

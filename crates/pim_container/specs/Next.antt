@@ -151,9 +151,9 @@ StaysOver (Ok event.End) state = state ≡ Ended
 StaysOver (Err fault) state = state ≡ Failed
 StaysOver (Ok _) state = ⊤
 
--- The number of pieces that may still be read in this state.
+-- The number of events before the end that may still be returned in this state.
 abbrev pub pieces_left : State → ℕ
-pieces_left Unbegun = 4294967295
+pieces_left Unbegun = 4294967296
 pieces_left (Pieces container left) = left
 pieces_left Ended = 0
 pieces_left Failed = 0

@@ -189,6 +189,7 @@ fn tell_packet(
     ensures moment { IfOk result (IsBy latest_moment) }
     ensures record { IfOk result (λ event. event ≢ Event.End) }
     ensures not_read { result ≢ Err Fault.Read }
+    ensures length { vec_len buffer.new ≤ vec_len buffer.old }
     ensures capacity { vec_capacity buffer.new ≡ vec_capacity buffer.old }
 {
     let number = interface_number(order, buffer.as_slice());
@@ -263,6 +264,7 @@ pub fn tell_block(
     ensures moment { IfOk result (IsBy latest_moment) }
     ensures record { IfOk result (λ event. event ≢ Event.End) }
     ensures not_read { result ≢ Err Fault.Read }
+    ensures length { vec_len buffer.new ≤ vec_len buffer.old }
     ensures capacity { vec_capacity buffer.new ≡ vec_capacity buffer.old }
 {
     if is_unequal(order, buffer.as_slice()) {

@@ -1,6 +1,6 @@
 //! The containers, and the heads of their pieces.
 
-ghost use Rattle.std.specs.Prelude.{◌≡◌, ◌≤◌, ◌⊎◌, length, IfOk, IfErr, Err, ◌≢◌, vec_capacity};
+ghost use Rattle.std.specs.Prelude.{◌≡◌, ◌≤◌, ◌⊎◌, length, IfOk, IfErr, Err, ◌≢◌, vec_len, vec_capacity};
 ghost use Rattle.pim_addr.specs.Faults.{Answers, judged};
 ghost use Rattle.pim_container.specs.Pieces.{head_length, head_faults, extent_of, piece_told, interfaces_after};
 ghost use Rattle.pim_container.specs.Block.{most_block};
@@ -72,11 +72,7 @@ impl Container {
     }
 
     /// The event of a whole piece in the buffer. Interfaces are added or, by a new section, removed.
-    pub fn tell(
-        self,
-        interfaces: &mut Vec<Interface>,
-        buffer: &mut Vec<u8>,
-    ) -> Result<Event, Fault>
+    pub fn tell(self, interfaces: &mut Vec<Interface>, buffer: &mut Vec<u8>) -> Result<Event, Fault>
         requires { IsPiece self buffer.now.items }
         ensures answer { (result ≡ Err Fault.Memory) ⊎ Answers (event_seen buffer.new.items) result
             (piece_told self interfaces.old.items buffer.old.items) }
@@ -86,6 +82,7 @@ impl Container {
         ensures moment { IfOk result (IsBy latest_moment) }
         ensures record { IfOk result (λ event. event ≢ Event.End) }
         ensures not_read { result ≢ Err Fault.Read }
+        ensures length { vec_len buffer.new ≤ vec_len buffer.old }
         ensures capacity { vec_capacity buffer.new ≡ vec_capacity buffer.old }
     {
         match self {

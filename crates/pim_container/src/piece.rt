@@ -29,6 +29,7 @@ pub struct Found {
 /// length.
 fn fit(buffer: &mut Vec<u8>, size: usize) -> Result<(), AllocError>
     ensures length { OnOk result (vec_len buffer.new ≡ size) }
+    ensures same_length { OnErr result (vec_len buffer.new ≡ vec_len buffer.old) }
     ensures capacity { vec_capacity buffer.new ≤ max (vec_capacity buffer.old) size }
 {
     let more = size.saturating_sub(buffer.len());
@@ -51,6 +52,7 @@ pub fn read_after<R: Feed>(
     ensures answer { FillsAfter head.now size (R.remaining device.old) (R.remaining device.new)
         buffer.new.items result }
     ensures reads { CountsReads ⊥ (R.failures device.old) (R.failures device.new) result }
+    ensures length { vec_len buffer.new ≤ max (vec_len buffer.old) size }
     ensures capacity { vec_capacity buffer.new ≤ max (vec_capacity buffer.old) size }
 {
     fit(buffer, size)?;
@@ -78,6 +80,7 @@ pub fn take_piece<R: Feed>(
     ensures ranges { IfOk result (λ found. EventLiesIn buffer.new.items found.event) }
     ensures moment { IfOk result (λ found. IsBy latest_moment found.event) }
     ensures record { IfOk result (λ found. found.event ≢ Event.End) }
+    ensures length { vec_len buffer.new ≤ max (vec_len buffer.old) most_block }
     ensures capacity { vec_capacity buffer.new ≤ max (vec_capacity buffer.old) most_block }
 {
     let extent = container.extent_of(head)?;

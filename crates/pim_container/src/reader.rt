@@ -1,6 +1,6 @@
 //! A capture that is read event by event.
 
-ghost use Rattle.std.specs.Prelude.{◌≡◌, ◌<◌, ◌≤◌, ◌⊎◌, [], length, IfOk, Ok, max, vec_capacity};
+ghost use Rattle.std.specs.Prelude.{◌≡◌, ◌<◌, ◌≤◌, ◌⊎◌, [], length, IfOk, Ok, max, vec_len, vec_capacity};
 ghost use Rattle.std.specs.Option.{option_map};
 ghost use Rattle.pim_container.specs.declared.reader.State.TheVariants.{Unbegun};
 ghost use Rattle.pim_container.specs.Block.{most_block};
@@ -74,6 +74,8 @@ fn go_on<R: Feed>(
     ensures ranges { IfOk result (λ step. EventLiesIn buffer.new.items step.event) }
     ensures moment { IfOk result (λ step. IsBy latest_moment step.event) }
     ensures over { IfOk result (λ step. StaysOver (Ok step.event) step.state) }
+    ensures fewer { IfOk result (λ step. step.event ≡ Event.End ⊎ pieces_left step.state < left) }
+    ensures length { vec_len buffer.new ≤ max (vec_len buffer.old) most_block }
     ensures capacity { vec_capacity buffer.new ≤ max (vec_capacity buffer.old) most_block }
 {
     let found = take_piece(device, container, head, interfaces, buffer)?;
@@ -95,6 +97,7 @@ fn begin_classic<R: Feed>(
     requires { length head.now ≡ 12 }
     ensures answer { BeginsClassic (behind head.now (R.remaining device.old)) (R.remaining device.new) result }
     ensures reads { CountsReads ⊥ (R.failures device.old) (R.failures device.new) result }
+    ensures length { vec_len buffer.new ≤ max (vec_len buffer.old) 24 }
     ensures capacity { vec_capacity buffer.new ≤ max (vec_capacity buffer.old) 24 }
 {
     read_after(device, head, 24, buffer)?;
@@ -114,6 +117,8 @@ fn begin<R: Feed>(
     ensures ranges { IfOk result (λ step. EventLiesIn buffer.new.items step.event) }
     ensures moment { IfOk result (λ step. IsBy latest_moment step.event) }
     ensures over { IfOk result (λ step. StaysOver (Ok step.event) step.state) }
+    ensures fewer { IfOk result (λ step. step.event ≡ Event.End ⊎ pieces_left step.state < 4294967296) }
+    ensures length { vec_len buffer.new ≤ max (vec_len buffer.old) most_block }
     ensures capacity { vec_capacity buffer.new ≤ max (vec_capacity buffer.old) most_block }
 {
     interfaces.clear();
@@ -151,6 +156,8 @@ fn next_piece<R: Feed>(
     ensures ranges { IfOk result (λ step. EventLiesIn buffer.new.items step.event) }
     ensures moment { IfOk result (λ step. IsBy latest_moment step.event) }
     ensures over { IfOk result (λ step. StaysOver (Ok step.event) step.state) }
+    ensures fewer { IfOk result (λ step. step.event ≡ Event.End ⊎ pieces_left step.state < left) }
+    ensures length { vec_len buffer.new ≤ max (vec_len buffer.old) most_block }
     ensures capacity { vec_capacity buffer.new ≤ max (vec_capacity buffer.old) most_block }
 {
     let mut first = [0; 16];
@@ -195,8 +202,12 @@ impl<R: Feed> Reader<R> {
             ⊎ IsNext (coming R.remaining self.old) (seen buffer.new.items result) (coming R.remaining self.new) }
         ensures reads { CountsReads (pieces_left (state_of self.old) ≡ 0)
             (R.failures (device_of self.old)) (R.failures (device_of self.new)) result }
+        // Each event but the end leaves fewer pieces to read.
+        ensures fewer { IfOk result (λ event. event ≡ Event.End
+            ⊎ pieces_left (state_of self.new) < pieces_left (state_of self.old)) }
         ensures ranges { IfOk result (EventLiesIn buffer.new.items) }
         ensures moment { IfOk result (IsBy latest_moment) }
+        ensures length { vec_len buffer.new ≤ max (vec_len buffer.old) most_block }
         ensures capacity { vec_capacity buffer.new ≤ max (vec_capacity buffer.old) most_block }
         ensures repeated { IsRepeated (state_of self.old) result }
         ensures over { StaysOver result (state_of self.new) }

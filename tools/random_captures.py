@@ -1,0 +1,218 @@
+#!/usr/bin/env python3
+"""Compares a program's reading of random captures with that of a slow reader, which is written by the
+pcapng draft and the pcap format alone.
+
+    tools/random_captures.py PROGRAM [COUNT [SEED]]
+
+PROGRAM prints the events of the file that it is given, as tools/captures_of_tools.py says; of the others
+it prints the first word: `skipped`, `unread`, `untimed`, `section`, `interface`, `passed`, `end`, `fault NAME`.
+"""
+import random
+import struct
+import subprocess
+import sys
+import tempfile
+
+import captures_of_tools as made
+
+LATEST = 4294971589967
+ETHERNET, RAW = (1,), (101, 12, 14)
+
+
+def packet_of(link, order, frame):
+    """(address bytes before the packet, VLANs, index, sent) or None where there is no IP."""
+    vlans, index, sent = [], 0, False
+    if link in RAW:
+        return (0, vlans, index, sent) if frame else None
+    if link == 228 or link == 229:
+        return 0, vlans, index, sent
+    if link in (0, 108):
+        if len(frame) < 4:
+            return None
+        words = [int.from_bytes(frame[:4], "big")]
+        if link == 0 and order == "<":
+            words.insert(0, int.from_bytes(frame[:4], "little"))
+        return (4, vlans, index, sent) if any(it in (2, 10, 24, 28, 30) for it in words) else None
+    at = {1: 14, 113: 16, 276: 20}[link]
+    if len(frame) < at:
+        return None
+    kind = int.from_bytes(frame[0:2] if link == 276 else frame[at - 2:at], "big")
+    if link == 113:
+        sent = frame[1] == 4 and frame[0] == 0
+    if link == 276:
+        sent, index = frame[10] == 4, int.from_bytes(frame[4:8], "big")
+    for _ in range(2):
+        if kind in (0x8100, 0x88A8, 0x9100):
+            if len(frame) < at + 4:
+                return None
+            vlans.append(int.from_bytes(frame[at:at + 2], "big") & 4095)
+            kind, at = int.from_bytes(frame[at + 2:at + 4], "big"), at + 4
+    return (at, [it for it in vlans if it], index, sent) if kind in (0x800, 0x86DD) else None
+
+
+def told(link, order, millis, interface, frame):
+    place = packet_of(link, order, frame)
+    if place is None:
+        return "skipped"
+    at, vlans, index, sent = place
+    ip = frame[at:]
+    if len(ip) < 20 or ip[0] >> 4 != 4 or ip[9] != 103 or ip[6] & 0x3F or ip[7]:
+        return "skipped"
+    head, size = 4 * (ip[0] & 15), int.from_bytes(ip[2:4], "big")
+    if head < 20 or size < head or len(ip) < size:
+        return "skipped"
+    outer, inner = (vlans + [0, 0])[:2]
+    return (f"packet {millis} interface {interface} index {index} vlan {outer}.{inner} sent {int(sent)} "
+            f"payload {size - head} {'.'.join(map(str, ip[12:16]))} {'.'.join(map(str, ip[16:20]))}")
+
+
+def options(order, data):
+    """The last name's length, resolution and offset, or None where an option is cut."""
+    resolution, offset = 6, 0
+    while len(data) >= 4:
+        code, size = struct.unpack(order + "HH", data[:4])
+        if code == 0:
+            break
+        end = 4 + size + -size % 4
+        if len(data) < end:
+            return None
+        if code == 9 and size == 1:
+            resolution = data[4]
+        if code == 14 and size == 8:
+            offset = struct.unpack(order + "q", data[4:12])[0]
+        data = data[end:]
+    return resolution, offset
+
+
+def millis_of(stamp, resolution, offset):
+    units = 2 ** (resolution - 128) if resolution > 127 else 10 ** resolution
+    return stamp * 1000 // units + offset * 1000
+
+
+def blocks(data):
+    order, interfaces = ">", []
+    while data:
+        if len(data) < 12:
+            return (yield "fault truncated")
+        if data[:4] == b"\x0a\x0d\x0d\x0a":
+            order = {b"\x1a\x2b\x3c\x4d": ">", b"\x4d\x3c\x2b\x1a": "<"}.get(data[8:12])
+            if order is None:
+                return (yield "fault magic")
+        kind, size = struct.unpack(order + "II", data[:8])
+        if size % 4 or size < {0x0A0D0D0A: 28, 1: 20, 2: 32, 6: 32, 3: 16}.get(kind, 12):
+            return (yield "fault block")
+        if size > 16 * 2**20:
+            return (yield "fault too-long")
+        if size > len(data):
+            return (yield "fault truncated")
+        block, data = data[:size], data[size:]
+        if block[-4:] != block[4:8]:
+            return (yield "fault block")
+        if kind == 0x0A0D0D0A:
+            interfaces = []
+            yield "section"
+        elif kind == 1:
+            said = options(order, block[16:-4])
+            if said is None:
+                return (yield "fault block")
+            interfaces.append((struct.unpack(order + "H", block[8:10])[0], *said))
+            yield "interface"
+        elif kind in (2, 6):
+            number = struct.unpack(order + ("H" if kind == 2 else "I"), block[8:10 if kind == 2 else 12])[0]
+            high, low, length = struct.unpack(order + "III", block[12:24])
+            if number >= len(interfaces) or length > size - 32:
+                return (yield "fault block")
+            link, *units = interfaces[number]
+            millis = millis_of(high * 2**32 + low, *units)
+            if not 0 <= millis <= LATEST:
+                return (yield "fault time")
+            known = link in made_links
+            yield told(link, order, millis, number, block[28:28 + length]) if known else "unread"
+        else:
+            yield "untimed" if kind == 3 else "passed"
+    yield "end"
+
+
+made_links = {link for link, _ in made.FRAMES.values() if link != 147} | {12, 14, 229}
+
+
+def records(data):
+    if len(data) < 24:
+        return (yield "fault truncated")
+    order = next((it for it in "<>" if struct.unpack(it + "I", data[:4])[0] in (0xA1B2C3D4, 0xA1B23C4D)), None)
+    if order is None:
+        return (yield "fault magic")
+    link = struct.unpack(order + "I", data[20:24])[0] & 0xFFFF
+    per = 1000 if struct.unpack(order + "I", data[:4])[0] == 0xA1B2C3D4 else 1000000
+    if link not in made_links:
+        return (yield "fault link-type")
+    yield "section"
+    data = data[24:]
+    while data:
+        if len(data) < 16:
+            return (yield "fault truncated")
+        seconds, fraction, length = struct.unpack(order + "III", data[:12])
+        if length > 262144:
+            return (yield "fault too-long")
+        if len(data) < 16 + length:
+            return (yield "fault truncated")
+        yield told(link, order, seconds * 1000 + fraction // per, 0, data[16:16 + length])
+        data = data[16 + length:]
+    yield "end"
+
+
+def expected(data):
+    return list(blocks(data) if data[:4] == b"\x0a\x0d\x0d\x0a" else records(data))
+
+
+def found(program, data):
+    with tempfile.NamedTemporaryFile() as file:
+        file.write(data)
+        file.flush()
+        lines = subprocess.run([program, file.name], check=True, capture_output=True, text=True).stdout.splitlines()
+    return [it if it.split()[0] in ("packet", "fault") else it.split()[0] for it in lines]
+
+
+def some_file(source):
+    """A file of random sections or records, with some bytes changed, or cut."""
+    frames = [(link, frame) for link, frames in made.FRAMES.values() for frame in frames]
+    data = b""
+    for _ in range(source.randint(1, 2)):
+        order = source.choice("<>")
+        chosen = [source.choice(frames) for _ in range(source.randint(1, 3))]
+        listed = []
+        for link, _ in chosen:
+            given = [(9, bytes([source.choice([0, 3, 6, 9, 30, 0x80, 0x94, 0xFF])]))] if source.random() < 0.5 else []
+            given += [(14, struct.pack(order + "q", source.choice([5, -3600, -2**40])))] if source.random() < 0.3 else []
+            given += [(2, b"eth0")] if source.random() < 0.5 else [(1, b"xyz"), (0, b"")]
+            listed.append((link, given))
+        stamps = [source.choice([1700000000123456, 1700000000, 2**52, 2**64 - 1]) for _ in chosen]
+        data += made.section(order, listed, [(at, stamps[at], chosen[at][1]) for at in range(len(chosen))])
+        if source.random() < 0.3:
+            data += made.block(order, source.choice([2, 3, 4, 0xBAD]), bytes(source.randint(0, 40)))
+    if source.random() < 0.3:
+        order, link = source.choice("<>"), source.choice(frames)[0]
+        data = struct.pack(order + "IHHIIII", source.choice([0xA1B2C3D4, 0xA1B23C4D]), 2, 4, 0, 0, 65535, link)
+        for _ in range(source.randint(0, 3)):
+            frame = source.choice([it for kind, it in frames if kind == link])
+            data += struct.pack(order + "IIII", 1700000000, 123456789, len(frame), len(frame)) + frame
+    if source.random() < 0.5:
+        at = source.randrange(len(data))
+        data = data[:at] + bytes([source.choice([0, 1, 4, 255, source.randrange(256)])]) + data[at + 1:]
+    return data[:source.randrange(len(data) + 1)] if source.random() < 0.3 else data
+
+
+def main():
+    program, count = sys.argv[1], int(sys.argv[2]) if len(sys.argv) > 2 else 500
+    source = random.Random(int(sys.argv[3]) if len(sys.argv) > 3 else 1)
+    for at in range(count):
+        data = some_file(source)
+        if expected(data) != found(program, data):
+            print(f"file {at}: {data.hex()}\n  expected {expected(data)}\n  found    {found(program, data)}")
+            return 1
+    print(f"{count} files: equal")
+    return 0
+
+
+if __name__ == "__main__":
+    sys.exit(main())
