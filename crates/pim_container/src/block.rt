@@ -106,7 +106,8 @@ fn least_block(block_type: u32) -> u32
 /// `Magic`, `Block` or `TooLong`, in this order.
 pub fn read_head(before: Endianness, head: &[u8]) -> Result<Head, Fault>
     requires { 12 ≤ length head.now }
-    ensures { Answers (λ it. it) result (judged (head_faults before head.now) (head_said before head.now)) }
+    ensures { Answers (λ it. it) result
+        (judged (head_faults before head.now) (head_said before head.now)) }
 {
     let order = order_of(before, head)?;
     let length = order.read_u32_at(head, 4);
@@ -230,7 +231,8 @@ fn tell_interface(
     ensures answer { (result ≡ Err Fault.Memory) ⊎ Answers (event_seen block.now) result
         (interface_block (settings_of order (without_end block.now)) block.now) }
     ensures interfaces { IfOk result (λ _. interfaces.new.items
-        ≡ with_interface interfaces.old.items (settings_of order (without_end block.now)) order block.now) }
+        ≡ with_interface interfaces.old.items (settings_of order (without_end block.now)) order
+        block.now) }
     ensures ranges { IfOk result (EventLiesIn block.now) }
     ensures moment { IfOk result (IsBy latest_moment) }
     ensures record { IfOk result (λ event. event ≢ Event.End) }

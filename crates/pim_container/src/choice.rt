@@ -107,13 +107,14 @@ impl Chooser {
     /// Whether the packet of this origin is taken.
     ///
     /// # Errors
-    /// It is chosen, and of another interface or VLAN than the first packet that was taken, where no
-    /// interface or VLAN is chosen.
+    /// It is chosen, and of another interface or VLAN than the first packet that was taken, where
+    /// no interface or VLAN is chosen.
     pub fn take(&mut self, origin: Origin) -> Result<bool, Mixed>
         ensures answer { Answers (λ it. it) result
             (judge_origin (choice_of self.old) (first_of self.old) origin) }
         ensures choice { choice_of self.new ≡ choice_of self.old }
-        ensures first { first_of self.new ≡ first_after (choice_of self.old) (first_of self.old) origin }
+        ensures first { first_of self.new
+            ≡ first_after (choice_of self.old) (first_of self.old) origin }
     {
         if !is_chosen(self.choice, origin) {
             return Ok(false);

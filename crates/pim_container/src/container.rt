@@ -71,7 +71,8 @@ impl Container {
         }
     }
 
-    /// The event of a whole piece in the buffer. Interfaces are added or, by a new section, removed.
+    /// The event of a whole piece in the buffer. Interfaces are added or, by a new section,
+    /// removed.
     pub fn tell(self, interfaces: &mut Vec<Interface>, buffer: &mut Vec<u8>) -> Result<Event, Fault>
         requires { IsPiece self buffer.now.items }
         ensures answer { (result ≡ Err Fault.Memory) ⊎ Answers (event_seen buffer.new.items) result

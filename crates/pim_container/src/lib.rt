@@ -1,22 +1,23 @@
 //! Reads captures as tools write them, as a stream of PIM packets.
 //!
-//! `Reader::next` returns one event a call, over any `Feed`, of a classic pcap file or a pcapng file.
-//! The events are a function of the bytes of the file, however the device cuts them (`answers` in
+//! `Reader::next` returns one event a call, over any `Feed`, of a classic pcap or a pcapng file. The
+//! events are a function of the bytes of the file, however the device cuts them (`answers` in
 //! `specs/Pieces.antt`): the file is cut into pieces, which are records or blocks, and each piece
-//! gives one event. Only a failed read and refused memory don't follow from the bytes. After the end
-//! each call returns `End`, and after a fault `Failed`.
+//! gives one event. Only a failed read and refused memory don't follow from the bytes. After the
+//! end each call returns `End`, and after a fault `Failed`.
 //!
-//! - Links: Ethernet, raw IP, Linux cooked captures of both versions and BSD loopbacks, with at most
-//!   two VLAN tags (`place_of` in `specs/Link.antt`). A packet has the link on which it was captured.
-//! - pcapng: sections in either byte order, each with interfaces of its own; times by the resolution
-//!   and the offset of the packet's interface. Blocks of other types are passed over.
+//! - Links: Ethernet, raw IP, Linux cooked captures of both versions and BSD loopbacks, with at
+//!   most two VLAN tags (`place_of` in `specs/Link.antt`). A packet has the link on which it was
+//!   captured.
+//! - pcapng: sections in either byte order, each with interfaces of its own; times by the
+//!   resolution and the offset of the packet's interface. Blocks of other types are passed over.
 //! - `Chooser` takes packets of one VLAN or interface, and returns a fault where packets have more
 //!   than one and none is chosen.
 //!
-//! The buffer is the caller's. A piece is read whole into it, since a block says at its end how long
-//! it is. After a packet it ends with the captured bytes, of which the message is a range. A block
-//! above 16,777,216 bytes is refused before it is read, so that no file makes the buffer grow beyond
-//! it. Only the list of a section's interfaces takes other memory.
+//! The buffer is the caller's. A piece is read whole into it, since a block has its length at its
+//! end too. After a packet it ends with the captured bytes, of which the message is a range. A block
+//! above 16,777,216 bytes is refused before it is read, so that no file makes the buffer grow
+//! beyond it. Only the list of a section's interfaces takes other memory.
 //!
 //! `pim_capture` reads classic files over Ethernet and raw IP, with one 802.1Q tag. For these files
 //! both crates return the same, but for frames with further tags (the law `classic_agrees`).

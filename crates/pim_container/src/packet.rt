@@ -130,7 +130,8 @@ fn judge_v6(bytes: &[u8], at: usize) -> Result<Ip, Why>
 /// none.
 fn judge(family: AddressFamily, bytes: &[u8], at: usize) -> Result<Ip, Why>
     requires { at ≤ length bytes.now }
-    ensures answer { Answers (ip_seen bytes.now) result (judge_packet (Some family) (drop at bytes.now)) }
+    ensures answer { Answers (ip_seen bytes.now) result
+        (judge_packet (Some family) (drop at bytes.now)) }
     ensures range { IfOk result (LiesIn bytes.now) }
 {
     match family {
@@ -148,7 +149,8 @@ pub fn event_of(
     start: usize,
 ) -> Event
     requires { start ≤ length bytes.now }
-    ensures event { event_seen bytes.now result ≡ frame_told millis interface link (drop start bytes.now) }
+    ensures event { event_seen bytes.now result
+        ≡ frame_told millis interface link (drop start bytes.now) }
     ensures ranges { EventLiesIn bytes.now result }
     ensures moment { IsBy millis result }
     ensures record { result ≢ Event.End }

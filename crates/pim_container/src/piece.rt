@@ -74,8 +74,8 @@ pub fn take_piece<R: Feed>(
     buffer: &mut Vec<u8>,
 ) -> Result<Found, Fault>
     requires { length head.now ≡ head_length container }
-    ensures answer { TakesPiece container interfaces.old.items (behind head.now (R.remaining device.old))
-        (R.remaining device.new) interfaces.new.items buffer.new.items result }
+    ensures answer { TakesPiece container interfaces.old.items
+        (behind head.now (R.remaining device.old)) (R.remaining device.new) interfaces.new.items buffer.new.items result }
     ensures reads { CountsReads ⊥ (R.failures device.old) (R.failures device.new) result }
     ensures ranges { IfOk result (λ found. EventLiesIn buffer.new.items found.event) }
     ensures moment { IfOk result (λ found. IsBy latest_moment found.event) }

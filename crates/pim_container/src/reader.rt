@@ -68,7 +68,8 @@ fn go_on<R: Feed>(
     requires head { length head.now ≡ head_length container }
     requires left { 0 < left }
     ensures answer { Tells (R.failures device.old) (R.failures device.new)
-        (option_map (pieces left container interfaces.old.items) (behind head.now (R.remaining device.old)))
+        (option_map (pieces left container interfaces.old.items)
+        (behind head.now (R.remaining device.old)))
         (R.remaining device.new) interfaces.new.items buffer.new.items result }
     ensures reads { CountsReads ⊥ (R.failures device.old) (R.failures device.new) result }
     ensures ranges { IfOk result (λ step. EventLiesIn buffer.new.items step.event) }
@@ -95,7 +96,8 @@ fn begin_classic<R: Feed>(
     buffer: &mut Vec<u8>,
 ) -> Result<Format, Fault>
     requires { length head.now ≡ 12 }
-    ensures answer { BeginsClassic (behind head.now (R.remaining device.old)) (R.remaining device.new) result }
+    ensures answer { BeginsClassic (behind head.now (R.remaining device.old))
+        (R.remaining device.new) result }
     ensures reads { CountsReads ⊥ (R.failures device.old) (R.failures device.new) result }
     ensures length { vec_len buffer.new ≤ max (vec_len buffer.old) 24 }
     ensures capacity { vec_capacity buffer.new ≤ max (vec_capacity buffer.old) 24 }
@@ -117,7 +119,8 @@ fn begin<R: Feed>(
     ensures ranges { IfOk result (λ step. EventLiesIn buffer.new.items step.event) }
     ensures moment { IfOk result (λ step. IsBy latest_moment step.event) }
     ensures over { IfOk result (λ step. StaysOver (Ok step.event) step.state) }
-    ensures fewer { IfOk result (λ step. step.event ≡ Event.End ⊎ pieces_left step.state < 4294967296) }
+    ensures fewer { IfOk result (λ step.
+        step.event ≡ Event.End ⊎ pieces_left step.state < 4294967296) }
     ensures length { vec_len buffer.new ≤ max (vec_len buffer.old) most_block }
     ensures capacity { vec_capacity buffer.new ≤ max (vec_capacity buffer.old) most_block }
 {
@@ -198,8 +201,10 @@ impl<R: Feed> Reader<R> {
     /// The first fault of the bytes, a failed read, or refused memory. Later calls return `Failed`.
     pub fn next(&mut self, buffer: &mut Vec<u8>) -> Result<Event, Fault>
         // Where the bytes of the device are known, the results are those of the file, in order.
-        ensures answer { IsRefusal (R.failures (device_of self.old)) (R.failures (device_of self.new)) result
-            ⊎ IsNext (coming R.remaining self.old) (seen buffer.new.items result) (coming R.remaining self.new) }
+        ensures answer { IsRefusal (R.failures (device_of self.old))
+            (R.failures (device_of self.new)) result
+            ⊎ IsNext (coming R.remaining self.old) (seen buffer.new.items result)
+            (coming R.remaining self.new) }
         ensures reads { CountsReads (pieces_left (state_of self.old) ≡ 0)
             (R.failures (device_of self.old)) (R.failures (device_of self.new)) result }
         // Each event but the end leaves fewer pieces to read.
