@@ -5,7 +5,8 @@ them with what tshark reads.
     tools/captures_of_tools.py FOLDER [PROGRAM]
 
 PROGRAM prints a line for each PIM packet of the file that it is given: `packet MILLIS interface N index N
-vlan N.N sent N payload N SOURCE DESTINATION`, addresses of IPv4. It needs Debian's tshark and tcpdump.
+vlan N.N sent N payload N SOURCE DESTINATION`, addresses of IPv4; `tools/quick_build.sh container` builds one. It
+needs Debian's tshark.
 """
 import os
 import struct
