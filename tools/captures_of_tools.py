@@ -1,5 +1,5 @@
 #!/usr/bin/env python3
-"""Makes small captures by text2pcap, editcap, mergecap and tcpdump, and compares what a program reads of
+"""Makes small captures by text2pcap, editcap and mergecap, and compares what a program reads of
 them with what tshark reads.
 
     tools/captures_of_tools.py FOLDER [PROGRAM]
