@@ -1,11 +1,15 @@
 //! The blocks of a pcapng file (draft-ietf-opsawg-pcapng).
 
-ghost use Rattle.std.specs.Prelude.{◌≡◌, ◌≢◌, ◌+◌, ◌≤◌, length, take, IfOk, Some, Err, ◌⊎◌, vec_len, vec_capacity};
+ghost use Rattle.std.specs.Prelude.{◌≡◌, ◌≢◌, ◌+◌, ◌≤◌, length, take, IfOk, Some, Err, ◌⊎◌};
+ghost use Rattle.std.specs.Prelude.{vec_len, vec_capacity};
 ghost use Rattle.pim_addr.specs.Faults.{Answers, judged};
-ghost use Rattle.pim_container.specs.Block.{is_section, order_named, least_block, head_faults, head_said};
+ghost use Rattle.pim_container.specs.Block.{is_section, order_named, least_block, head_faults};
+ghost use Rattle.pim_container.specs.Block.{head_said};
 ghost use Rattle.std.specs.List.{slice_get};
-ghost use Rattle.pim_container.specs.Block.{is_unequal, block_type, interface_number, stamp_of, captured_length};
-ghost use Rattle.pim_container.specs.Block.{captured_on, packet_block, interface_block, without_end, block_told};
+ghost use Rattle.pim_container.specs.Block.{is_unequal, block_type, interface_number, stamp_of};
+ghost use Rattle.pim_container.specs.Block.{captured_length};
+ghost use Rattle.pim_container.specs.Block.{captured_on, packet_block, interface_block};
+ghost use Rattle.pim_container.specs.Block.{without_end, block_told};
 ghost use Rattle.pim_container.specs.Block.{interfaces_after, with_interface};
 ghost use Rattle.pim_container.specs.Interface.{settings_of, interface_of};
 ghost use Rattle.pim_container.specs.Told.{latest_moment, event_seen, EventLiesIn, IsBy};

@@ -2,7 +2,8 @@
 
 ghost use Rattle.std.specs.Prelude.{◌≡◌, None};
 ghost use Rattle.pim_addr.specs.Faults.{Answers};
-ghost use Rattle.pim_container.specs.Choice.{choice_of, first_of, fits, is_same_vlan, fits_vlan, is_chosen};
+ghost use Rattle.pim_container.specs.Choice.{choice_of, first_of, fits, is_same_vlan, fits_vlan};
+ghost use Rattle.pim_container.specs.Choice.{is_chosen};
 ghost use Rattle.pim_container.specs.Choice.{first_after, judge_origin, judge_second};
 
 use crate::event::Origin;

@@ -2,7 +2,8 @@
 
 ghost use Rattle.std.specs.Prelude.{◌≡◌, ◌≢◌, ◌+◌, ◌≤◌, length, Err};
 ghost use Rattle.pim_addr.specs.Faults.{Answers, judged};
-ghost use Rattle.pim_container.specs.Classic.{is_magic, file_order, format_with, link_type, judge_header};
+ghost use Rattle.pim_container.specs.Classic.{is_magic, file_order, format_with, link_type};
+ghost use Rattle.pim_container.specs.Classic.{judge_header};
 ghost use Rattle.pim_container.specs.Classic.{captured_length, head_faults, millis_of, record_told};
 ghost use Rattle.pim_container.specs.Link.{link_of};
 ghost use Rattle.pim_container.specs.Told.{event_seen, EventLiesIn, IsBy, latest_moment};

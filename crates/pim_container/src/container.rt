@@ -1,8 +1,10 @@
 //! The containers, and the heads of their pieces.
 
-ghost use Rattle.std.specs.Prelude.{◌≡◌, ◌≤◌, ◌⊎◌, length, IfOk, IfErr, Err, ◌≢◌, vec_len, vec_capacity};
+ghost use Rattle.std.specs.Prelude.{◌≡◌, ◌≤◌, ◌⊎◌, length, IfOk, IfErr, Err, ◌≢◌, vec_len};
+ghost use Rattle.std.specs.Prelude.{vec_capacity};
 ghost use Rattle.pim_addr.specs.Faults.{Answers, judged};
-ghost use Rattle.pim_container.specs.Pieces.{head_length, head_faults, extent_of, piece_told, interfaces_after};
+ghost use Rattle.pim_container.specs.Pieces.{head_length, head_faults, extent_of, piece_told};
+ghost use Rattle.pim_container.specs.Pieces.{interfaces_after};
 ghost use Rattle.pim_container.specs.Block.{most_block};
 ghost use Rattle.pim_container.specs.Next.{IsPiece, IsOfBytes};
 ghost use Rattle.pim_container.specs.Told.{event_seen, EventLiesIn, IsBy, latest_moment};

@@ -1,7 +1,8 @@
 //! The interfaces of a pcapng section and their times.
 
 ghost use Rattle.std.specs.Prelude.{◌≡◌, ◌+◌, ◌*◌, ◌^◌, ◌<◌, ◌≤◌, length, drop, IfSome};
-ghost use Rattle.pim_container.specs.Interface.{option_code, option_size, option_end, settings_with, settings_of, HasName};
+ghost use Rattle.pim_container.specs.Interface.{option_code, option_size, option_end};
+ghost use Rattle.pim_container.specs.Interface.{settings_with, settings_of, HasName};
 ghost use Rattle.pim_container.specs.Interface.{stamp_millis, moved, moment_of};
 ghost use Rattle.pim_container.specs.Told.{latest_moment};
 

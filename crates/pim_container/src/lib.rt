@@ -1,7 +1,7 @@
 //! Reads captures as tools write them, as a stream of PIM packets.
 //!
-//! `Reader::next` returns one event a call, over any `Feed`, of a classic pcap or a pcapng file. The
-//! events are a function of the bytes of the file, however the device cuts them (`answers` in
+//! `Reader::next` returns one event a call, over any `Feed`, of a classic pcap or a pcapng file.
+//! The events are a function of the bytes of the file, however the device cuts them (`answers` in
 //! `specs/Pieces.antt`): the file is cut into pieces, which are records or blocks, and each piece
 //! gives one event. Only a failed read and refused memory don't follow from the bytes. After the
 //! end each call returns `End`, and after a fault `Failed`.
@@ -15,8 +15,8 @@
 //!   than one and none is chosen.
 //!
 //! The buffer is the caller's. A piece is read whole into it, since a block has its length at its
-//! end too. After a packet it ends with the captured bytes, of which the message is a range. A block
-//! above 16,777,216 bytes is refused before it is read, so that no file makes the buffer grow
+//! end too. After a packet it ends with the captured bytes, of which the message is a range. A
+//! block above 16,777,216 bytes is refused before it is read, so that no file makes the buffer grow
 //! beyond it. Only the list of a section's interfaces takes other memory.
 //!
 //! `pim_capture` reads classic files over Ethernet and raw IP, with one 802.1Q tag. For these files

@@ -7,7 +7,8 @@ ghost use Rattle.std.specs.Prelude.{◌≡◌, ◌≢◌, ◌+◌, ◌≤◌, le
 ghost use Rattle.byteorder.specs.Endian.{big_number};
 ghost use Rattle.pim_addr.specs.Faults.{judged, Answers};
 ghost use Rattle.pim_addr.specs.declared.family.AddressFamily.TheVariants.{Ipv4, Ipv6};
-ghost use Rattle.pim_capture.specs.Frame.{header_length, is_bad_header, is_fragment, packet_whys, datagram_of};
+ghost use Rattle.pim_capture.specs.Frame.{header_length, is_bad_header, is_fragment, packet_whys};
+ghost use Rattle.pim_capture.specs.Frame.{datagram_of};
 ghost use Rattle.pim_capture.specs.Frame.{judge_packet};
 ghost use Rattle.pim_capture.specs.Seen.{ip_seen, LiesIn};
 ghost use Rattle.pim_container.specs.Told.{event_seen, EventLiesIn, IsBy, frame_told};

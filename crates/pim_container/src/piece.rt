@@ -3,7 +3,8 @@
 //! The buffer is filled with zeros in reserved room, since `resize` of the standard library doesn't
 //! promise that the capacity stays.
 
-ghost use Rattle.std.specs.Prelude.{◌≡◌, ◌≢◌, ◌+◌, ◌<◌, ◌≤◌, ◌⊎◌, ℕ, length, max, IfOk, OnOk, OnErr, vec_len, vec_capacity};
+ghost use Rattle.std.specs.Prelude.{◌≡◌, ◌≢◌, ◌+◌, ◌<◌, ◌≤◌, ◌⊎◌, ℕ, length, max, IfOk, OnOk};
+ghost use Rattle.std.specs.Prelude.{OnErr, vec_len, vec_capacity};
 ghost use Rattle.pim_container.specs.Pieces.{head_length};
 ghost use Rattle.pim_container.specs.Block.{most_block};
 ghost use Rattle.pim_container.specs.Next.{FillsAfter, TakesPiece, CountsReads, behind};
@@ -75,7 +76,8 @@ pub fn take_piece<R: Feed>(
 ) -> Result<Found, Fault>
     requires { length head.now ≡ head_length container }
     ensures answer { TakesPiece container interfaces.old.items
-        (behind head.now (R.remaining device.old)) (R.remaining device.new) interfaces.new.items buffer.new.items result }
+        (behind head.now (R.remaining device.old)) (R.remaining device.new) interfaces.new.items
+        buffer.new.items result }
     ensures reads { CountsReads ⊥ (R.failures device.old) (R.failures device.new) result }
     ensures ranges { IfOk result (λ found. EventLiesIn buffer.new.items found.event) }
     ensures moment { IfOk result (λ found. IsBy latest_moment found.event) }

@@ -1,7 +1,8 @@
 //! The place of the IP packet in a frame.
 
 ghost use Rattle.std.specs.Prelude.{◌≡◌, ◌/◌, ◌≤◌, length, drop, IfOk, IfSome};
-ghost use Rattle.pim_container.specs.Link.{number, socket_family, family_or, untagged_place, place_in, typed_place};
+ghost use Rattle.pim_container.specs.Link.{number, socket_family, family_or, untagged_place};
+ghost use Rattle.pim_container.specs.Link.{place_in, typed_place};
 ghost use Rattle.pim_container.specs.Link.{whole_place, place_of, carried};
 ghost use Rattle.pim_capture.specs.Frame.{ethernet_family, raw_family, version};
 ghost use Rattle.pim_container.specs.declared.link.Link.TheVariants as link;

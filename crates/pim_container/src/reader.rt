@@ -1,12 +1,15 @@
 //! A capture that is read event by event.
 
-ghost use Rattle.std.specs.Prelude.{◌≡◌, ◌<◌, ◌≤◌, ◌⊎◌, [], length, IfOk, Ok, max, vec_len, vec_capacity};
+ghost use Rattle.std.specs.Prelude.{◌≡◌, ◌<◌, ◌≤◌, ◌⊎◌, [], length, IfOk, Ok, max, vec_len};
+ghost use Rattle.std.specs.Prelude.{vec_capacity};
 ghost use Rattle.std.specs.Option.{option_map};
 ghost use Rattle.pim_container.specs.declared.reader.State.TheVariants.{Unbegun};
 ghost use Rattle.pim_container.specs.Block.{most_block};
 ghost use Rattle.pim_container.specs.Pieces.{answers, pieces, head_length};
-ghost use Rattle.pim_container.specs.Next.{coming, seen, device_of, state_of, IsNext, IsRefusal, CountsReads};
-ghost use Rattle.pim_container.specs.Next.{pieces_left, IsRepeated, StaysOver, Tells, behind, BeginsClassic};
+ghost use Rattle.pim_container.specs.Next.{coming, seen, device_of, state_of, IsNext, IsRefusal};
+ghost use Rattle.pim_container.specs.Next.{CountsReads};
+ghost use Rattle.pim_container.specs.Next.{pieces_left, IsRepeated, StaysOver, Tells, behind};
+ghost use Rattle.pim_container.specs.Next.{BeginsClassic};
 ghost use Rattle.pim_container.specs.Told.{EventLiesIn, IsBy, latest_moment};
 
 use crate::block::is_section;
