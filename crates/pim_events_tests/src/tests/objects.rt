@@ -181,11 +181,8 @@ const SKIP: &str =
     r#"{ "ms": 1500, "epoch": "1000001.500", "port": "1", "event": "skipped", "frame": 8, "why":
     "fragment" }"#;
 
-const TIME_OUT: [Member; 3] = [
-    ("event", "\"timed-out\""),
-    ("neighbour", "\"10.0.0.9\""),
-    ("cause", "{\"frame\":6,\"ms\":400}"),
-];
+const TIME_OUT: &str = r#"{ "ms": 1500, "epoch": "1000001.500", "port": "1", "event": "timed-out",
+    "neighbour": "10.0.0.9", "cause": { "frame": 6, "ms": 400 } }"#;
 
 /// Whether a restart of the port's own router, a record that is skipped and a neighbour whose time
 /// is over are written so.
