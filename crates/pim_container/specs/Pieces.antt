@@ -1,6 +1,6 @@
--- The results of a capture as a function of the bytes of its file, for both containers: a list whose
--- last item is the end or a fault. A piece is a record of a classic file or a block of a pcapng
--- file.
+-- The results of a capture as a function of the bytes of its file, for both containers. They are a
+-- list whose last item is the end or a fault. A piece is a record of a classic file or a block of a
+-- pcapng file.
 use Rattle.std.specs.Prelude.{ℕ, zero, suc, ◌+◌, Bool, true, false, List, [], ◌∷◌, ◌++◌, length, take, drop, nat_lt}
 use Rattle.std.specs.Prelude.{Result, Ok, Err, if◌then◌else◌}
 use Rattle.pim_addr.specs.Faults.{fault_if}

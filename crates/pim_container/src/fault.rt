@@ -22,8 +22,8 @@ pub enum Fault {
     /// A record's captured length is above 262,144 bytes, or a block's length above 16,777,216.
     #[error("too-long")]
     TooLong,
-    /// A block is shorter than its head, has unequal lengths or a length that four does not divide,
-    /// has a cut option, or a packet that is longer than it or of an interface that isn't
+    /// A block is shorter than its head, or its lengths are unequal or no multiples of four. Or an
+    /// option is cut, or a packet is longer than its block, or of an interface that isn't
     /// described.
     #[error("block")]
     Block,

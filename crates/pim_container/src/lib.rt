@@ -2,7 +2,7 @@
 //!
 //! `Reader::next` returns one event a call, over any `Feed`, of a classic pcap or a pcapng file.
 //! The events are a function of the bytes of the file, however the device cuts them (`answers` in
-//! `specs/Pieces.antt`): the file is cut into pieces, which are records or blocks, and each piece
+//! `specs/Pieces.antt`). The file is cut into pieces, which are records or blocks, and each piece
 //! gives one event. Only a failed read and refused memory don't follow from the bytes. After the
 //! end each call returns `End`, and after a fault `Failed`.
 //!
