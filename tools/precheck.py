@@ -43,7 +43,7 @@ WORDS = {
     "docs/PROFILE.md": 1500,
     "docs/PROVING.md": 3000,
     "docs/SESSION.md": 1000,
-    "docs/SPEED.md": 1500,
+    "docs/SPEED.md": 750,
     "docs/TRACE.md": 1000,
     "docs/WALKTHROUGH.md": 900,
 }
