@@ -8,6 +8,7 @@ pub mod Orders
 pub mod Passed
 pub mod Planned
 pub mod Refusals
+pub mod Tables
 pub mod Unread
 pub mod Unreadable
 pub mod Values

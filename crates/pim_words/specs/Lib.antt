@@ -8,6 +8,7 @@ pub mod Labels
 pub mod Ports
 pub mod Shown
 pub mod Reading
+pub mod Rows
 pub mod Seen
 pub mod Table
 pub mod Typed

@@ -1,0 +1,12 @@
+use Rattle.std.proofs.Common.{◌≡◌, drop, false}
+use Rattle.std.specs.List.{fold}
+use Rattle.clap.specs.Words.{app_of, with_subcommand}
+use Rattle.clap.specs.declared.builder.command.Command.TheViews.{out-Command}
+use Rattle.pim_words.specs.Rows.{program, shape_by}
+use Rattle.pim_words.proofs.commands.program.Given as goal
+
+abbrev pub invariant-loop-offer : goal.invariant-loop-offer
+invariant-loop-offer l = record {
+  app : fold (λ app offer. with_subcommand app (shape_by offer)) (app_of l.whole) (drop l.offer-index l.offers) ≡ program l.offers;
+  local : (out-Command l.whole).has_globals ≡ false;
+}
