@@ -6,7 +6,7 @@ ghost use Rattle.pim_words.specs.Labels.{is_name, is_name_byte, is_named, has_na
 ghost use Rattle.pim_words.specs.Labels.{IsLabelOf};
 
 /// A word that is cut into its name and the rest.
-#[derive(Clone, Copy, Debug, PartialEq, Eq)]
+#[derive(Clone, Copy)]
 pub(crate) struct Label<'a> {
     /// The name, if the word has one.
     pub name: Option<&'a str>,

@@ -15,14 +15,14 @@ use crate::task::Port;
 use std::alloc::Global;
 
 /// A port and its name, if it has one.
-#[derive(Clone, Copy, Debug, PartialEq, Eq)]
+#[derive(Clone, Copy)]
 struct Named<'a> {
     port: Port<'a, Address>,
     name: Option<&'a str>,
 }
 
 /// The ports of a trace, and the name of each if it has one.
-#[derive(Debug, Drop)]
+#[derive(Drop)]
 pub(crate) struct Labelled<'a> {
     /// The ports, in the order of the words.
     pub ports: Vec<Port<'a, Address>>,

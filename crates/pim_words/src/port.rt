@@ -15,7 +15,7 @@ use crate::task::Port;
 use std::alloc::Global;
 
 /// A word that is cut into its parts.
-#[derive(Clone, Copy, Debug, PartialEq, Eq)]
+#[derive(Clone, Copy)]
 pub(crate) struct Cut<'a> {
     /// The router of the word.
     pub side: Side,

@@ -149,7 +149,7 @@ fn read_captures<'a>(
 }
 
 /// The addresses of a command on one message.
-#[derive(Clone, Copy, Debug, PartialEq, Eq)]
+#[derive(Clone, Copy)]
 struct Ends {
     /// The source address.
     src: Address,
@@ -258,7 +258,7 @@ fn read_trace<'a>(alloc: Global, options: &ArgMatches<'a>) -> Result<Task<'a, Ad
 }
 
 /// The addresses of a command that writes messages.
-#[derive(Clone, Copy, Debug, PartialEq, Eq)]
+#[derive(Clone, Copy)]
 struct Addresses {
     /// The RP.
     rp: Address,

@@ -22,7 +22,7 @@ use std::alloc::Global;
 const MOST_SHOWN: usize = 64;
 
 /// What a trace shows.
-#[derive(Debug, Drop)]
+#[derive(Drop)]
 pub(crate) struct Shown {
     /// The time before which nothing is shown, if one is given.
     pub from: Option<Time>,
