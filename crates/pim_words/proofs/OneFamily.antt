@@ -1,32 +1,51 @@
--- Ports that are all of one family, looked at one by one.
-use Rattle.std.proofs.Common.{◌≡◌, sym, subst, ℕ, Bool, true, List, ◌++◌, map, ◌&&◌}
+-- Ports and addresses that are all of one family, looked at one by one.
+use Rattle.std.proofs.Common.{◌≡◌, ◌∙◌, sym, ap, subst, ℕ, ◌+◌, ◌<◌, ◌≤◌, Bool, true, List, [], ◌∷◌, ◌++◌, length, drop, get_or, map, ◌&&◌, append_assoc, append-nil}
 use Rattle.std.specs.List.{list_all}
 use Rattle.std.specs.Option.{option_map_or}
+use Rattle.std.proofs.lemmas.List.{drop_all, drop_more, map-append}
 use Rattle.pim_addr.specs.declared.family.AddressFamily.{AddressFamily}
-use Rattle.pim_words.specs.declared.addresses.Address.{Address}
 use Rattle.pim_words.specs.declared.task.Captures.{Captures}
 use Rattle.pim_words.specs.declared.task.Port.{Port}
+use Rattle.pim_words.specs.declared.addresses.Address.{Address}
 use Rattle.pim_words.specs.declared.fault.Fault.{Fault}
+use Rattle.pim_words.specs.declared.fault.Fault.TheVariants.{Family, Memory}
 use Rattle.pim_words.specs.Faults.{is_in, are_captures_in}
 use Rattle.pim_words.specs.Seen.{IsForeign}
-use Rattle.pim_words.specs.Typed.{address_in, port_seen}
 
-module _ {A : Type 0} (family : AddressFamily) (bytes_of : A → List ℕ) where
-  abbrev are_in : List (Port Address) → Bool
-  are_in ports = list_all (λ port. is_in family port.address) ports
+-- the first of two tests fails
+fails_first : (first second : Bool) (fault : Fault) → IsForeign first fault → IsForeign (first && second) fault
+fails_first first second Memory is = tt
+fails_first first second Family is = ap (λ (b : Bool). b && second) is
+fails_first first second fault is = absurd is
 
-  abbrev seen : List (Port A) → List (Port Address)
-  seen typed = map (port_seen family bytes_of) typed
+module _ {A X : Type 0} (test : X → Bool) (seen : A → X) (all : List X) where
+  -- The items before those that are left are these, and all of them pass the test.
+  pub record IsSoFar (left : List X) (typed : List A) : Type 0 where
+    pub tests : list_all test all ≡ list_all test left
+    pub whole : map seen typed ++ left ≡ all
 
-  -- The ports before those that are left are these.
-  pub record IsSoFar (all left : List (Port Address)) (typed : List (Port A)) : Type 0 where
-    pub tests : are_in all ≡ are_in left
-    pub whole : seen typed ++ left ≡ all
+  pub all_typed : (i : ℕ) (typed : List A) → length all ≤ i → IsSoFar (drop i all) typed → (list_all test all ≡ true) × (map seen typed ≡ all)
+  all_typed i typed past is =
+      let none : drop i all ≡ [] = drop_all i all past in
+      (is.tests ∙ ap (list_all test) none, sym (append-nil (map seen typed)) ∙ ap (λ (l : List X). map seen typed ++ l) (sym none) ∙ is.whole)
 
-  -- The addresses before those that are left are these.
-  pub record AreSoFar (all left : List Address) (typed : List A) : Type 0 where
-    pub tests : list_all (is_in family) all ≡ list_all (is_in family) left
-    pub whole : map (λ a. address_in family (bytes_of a)) typed ++ left ≡ all
+  module _ (i : ℕ) (past : X) (inside : i < length all) (typed : List A) (is : IsSoFar (drop i all) typed) where
+    abbrev left : List X
+    left = drop (i + 1) all
+
+    next : drop i all ≡ get_or all i past ∷ left
+    next = drop_more all i past inside
+
+    pub one_more : (more : List A) (item : A) → (test (get_or all i past) ≡ true) × (seen item ≡ get_or all i past) → more ≡ typed ++ item ∷ [] → IsSoFar left more
+    one_more more item passed pushed = record {
+      tests = is.tests ∙ ap (list_all test) next ∙ ap (λ (b : Bool). b && list_all test left) passed.0;
+      whole = ap (λ (l : List A). map seen l ++ left) pushed ∙ ap (λ (l : List X). l ++ left) (map-append seen typed (item ∷ [])) ∙ append_assoc (map seen typed) (seen item ∷ []) left
+          ∙ ap (λ (x : X). map seen typed ++ x ∷ left) passed.1 ∙ ap (λ (l : List X). map seen typed ++ l) (sym next) ∙ is.whole;
+    }
+
+    pub foreign : (fault : Fault) → IsForeign (test (get_or all i past)) fault → IsForeign (list_all test all) fault
+    foreign fault fails =
+        subst (λ (b : Bool). IsForeign b fault) (sym (is.tests ∙ ap (list_all test) next)) (fails_first (test (get_or all i past)) (list_all test left) fault fails)
 
 -- the second of two tests fails
 fails_behind : (first second : Bool) (fault : Fault) → first ≡ true → IsForeign second fault → IsForeign (first && second) fault
