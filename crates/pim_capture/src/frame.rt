@@ -4,20 +4,20 @@
 //! where the packet begins is worse than a skipped record. Extension headers of IPv6 aren't walked,
 //! since routers send PIM without them.
 
-ghost use Rattle.std.specs.Prelude.{◌≡◌, ◌+◌, ◌≤◌, length, take, drop, IfOk};
+ghost use Rattle.std.specs.Prelude.{◌≡◌, ◌+◌, ◌≤◌, length, take, drop, IfOk, Some};
 ghost use Rattle.byteorder.specs.Endian.{big_number};
 ghost use Rattle.pim_addr.specs.Faults.{judged, Answers};
 ghost use Rattle.pim_addr.specs.declared.family.AddressFamily.TheVariants.{Ipv4, Ipv6};
 ghost use Rattle.pim_capture.specs.Frame.{header_length, is_bad_header, is_fragment, packet_whys};
 ghost use Rattle.pim_capture.specs.Frame.{datagram_of};
-ghost use Rattle.pim_capture.specs.Frame.{judge_frame};
-ghost use Rattle.pim_capture.specs.Seen.{ip_seen, LiesIn};
+ghost use Rattle.pim_capture.specs.Frame.{judge_frame, judge_packet};
+ghost use Rattle.pim_capture.specs.Seen.{ip_seen, LiesIn, IsShort};
 ghost use Rattle.pim_capture.specs.declared.header.Link.TheVariants.{Ethernet, Raw};
 
 use crate::event::{Ip, Why};
 use crate::header::Link;
 use byteorder::{BigEndian, ByteOrder};
-use pim_addr::{Family, V4, V6};
+use pim_addr::{AddressFamily, Family, V4, V6};
 
 /// The IP protocol number of PIM (RFC 7761, 4.9).
 const PIM: u8 = 103;
@@ -73,6 +73,7 @@ fn judge_v4(frame: &[u8], at: usize) -> Result<Ip, Why>
     ensures answer { Answers (ip_seen frame.now) result
         (judged (packet_whys Ipv4 (drop at frame.now)) (datagram_of Ipv4 (drop at frame.now))) }
     ensures range { IfOk result (LiesIn frame.now) }
+    ensures short { IfOk result IsShort }
 {
     let (_, packet) = frame.split_at(at);
     if packet.len() < 20 {
@@ -107,6 +108,7 @@ fn judge_v6(frame: &[u8], at: usize) -> Result<Ip, Why>
     ensures answer { Answers (ip_seen frame.now) result
         (judged (packet_whys Ipv6 (drop at frame.now)) (datagram_of Ipv6 (drop at frame.now))) }
     ensures range { IfOk result (LiesIn frame.now) }
+    ensures short { IfOk result IsShort }
 {
     let (_, packet) = frame.split_at(at);
     if packet.len() < 40 {
@@ -127,6 +129,21 @@ fn judge_v6(frame: &[u8], at: usize) -> Result<Ip, Why>
         destination: address_at::<V6>(packet, 24),
         payload: at + 40..at + packet_length,
     })
+}
+
+/// The PIM packet in the IP packet of this family at the index `at` of the bytes, or the first
+/// reason why it holds none.
+pub fn judge_packet(family: AddressFamily, bytes: &[u8], at: usize) -> Result<Ip, Why>
+    requires { at ≤ length bytes.now }
+    ensures answer { Answers (ip_seen bytes.now) result
+        (judge_packet (Some family) (drop at bytes.now)) }
+    ensures range { IfOk result (LiesIn bytes.now) }
+    ensures short { IfOk result IsShort }
+{
+    match family {
+        AddressFamily::Ipv4 => judge_v4(bytes, at),
+        AddressFamily::Ipv6 => judge_v6(bytes, at),
+    }
 }
 
 /// Judges an Ethernet frame, with at most one 802.1Q tag.

@@ -15,7 +15,8 @@
 //! makes the buffer grow beyond it. A record after 4,294,967,295 others counts as a failed read, so
 //! that no count wraps.
 //!
-//! A pcapng file is refused (`Magic`); `editcap -F pcap IN OUT` converts it.
+//! A pcapng file is refused (`Magic`); `pim_container` reads it. `judge_packet` judges an IP packet
+//! alone, for that crate too.
 #![tactic(auto)]
 
 mod capture;
@@ -28,3 +29,4 @@ mod record;
 pub use capture::Capture;
 pub use event::{Event, Ip, Why};
 pub use fault::CaptureFault;
+pub use frame::judge_packet;

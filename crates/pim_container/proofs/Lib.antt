@@ -1,4 +1,3 @@
-pub mod Ranges
 pub mod Times
 pub mod Options
 pub mod Steps

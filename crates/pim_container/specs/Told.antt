@@ -2,7 +2,7 @@
 use Rattle.std.specs.Prelude.{◌≤◌, ℕ, List, drop, length, slice_range, Option, None, Some, Result, Ok, Err, ⊤}
 use Rattle.pim_capture.specs.declared.event.Why.{Why}
 use Rattle.pim_capture.specs.Frame.{Datagram, judge_packet}
-use Rattle.pim_capture.specs.Seen.{ip_seen, LiesIn}
+use Rattle.pim_capture.specs.Seen.{ip_seen, LiesIn, IsShort}
 use Rattle.pim_container.specs.declared.link.Link.{Link}
 use Rattle.pim_container.specs.declared.place.Place.{Place}
 use Rattle.pim_container.specs.declared.event.Origin.{Origin}
@@ -57,9 +57,9 @@ event_seen bytes (event.Interface name) = described (slice_range bytes name.star
 event_seen bytes event.Passed = passed
 event_seen bytes event.End = ended
 
--- The ranges of an event lie within these bytes.
+-- The ranges of an event lie within these bytes, and a message is shorter than 2^16 bytes.
 abbrev pub EventLiesIn : List ℕ → Event → Type 0
-EventLiesIn bytes (event.Packet millis origin ip) = LiesIn bytes ip
+EventLiesIn bytes (event.Packet millis origin ip) = LiesIn bytes ip × IsShort ip
 EventLiesIn bytes (event.Interface name) = (name.start ≤ name.end) × (name.end ≤ length bytes)
 EventLiesIn bytes _ = ⊤
 
