@@ -6,7 +6,7 @@ use Rattle.std.proofs.lemmas.Grind.{common_steps}
 use Rattle.std.proofs.lemmas.List.{take_all, length-append}
 use Rattle.pim_addr.specs.Faults.{Answers, judged}
 use Rattle.pim_capture.specs.declared.fault.CaptureFault.{CaptureFault}
-use Rattle.pim_capture.specs.declared.fault.CaptureFault.TheVariants.{Magic, LinkType, Truncated, TooLong, Read, Memory, Failed}
+use Rattle.pim_capture.specs.declared.fault.CaptureFault.TheVariants.{Magic, LinkType, Truncated, TooLong, Read, Memory, Failed, Block, Time, Vlans, Interfaces}
 use Rattle.pim_capture.specs.declared.header.Format.{Format}
 use Rattle.pim_capture.specs.Header.{judge_header, IsOfBytes}
 use Rattle.pim_capture.specs.Frame.{Datagram, judge_frame}
@@ -29,6 +29,10 @@ header_answer xs ys header (Err TooLong) e d a k = ap judge_header e ∙ a
 header_answer xs ys header (Err Read) e d a k = absurd k
 header_answer xs ys header (Err Memory) e d a k = absurd k
 header_answer xs ys header (Err Failed) e d a k = absurd k
+header_answer xs ys header (Err Block) e d a k = ap judge_header e ∙ a
+header_answer xs ys header (Err Time) e d a k = ap judge_header e ∙ a
+header_answer xs ys header (Err (Vlans first other)) e d a k = ap judge_header e ∙ a
+header_answer xs ys header (Err (Interfaces first other)) e d a k = ap judge_header e ∙ a
 
 pub header_known : (old new : Option (List ℕ)) (h : List ℕ) (got : ℕ) (r : Result Format CaptureFault) → length h ≡ 24 → got ≤ length h
     → Consumes old new (take got h) → (got < length h → IsAtEnd new)
@@ -119,6 +123,10 @@ frame_fault_known left format (Some xs) (Some ms) (Some ns) h bytes Magic failur
 frame_fault_known left format (Some xs) (Some ms) (Some ns) h bytes LinkType failures failures' some l e short fills counts = absurd fills
 frame_fault_known left format (Some xs) (Some ms) (Some ns) h bytes TooLong failures failures' some l e short fills counts = absurd fills
 frame_fault_known left format (Some xs) (Some ms) (Some ns) h bytes Failed failures failures' some l e short fills counts = absurd fills
+frame_fault_known left format (Some xs) (Some ms) (Some ns) h bytes Block failures failures' some l e short fills counts = absurd fills
+frame_fault_known left format (Some xs) (Some ms) (Some ns) h bytes Time failures failures' some l e short fills counts = absurd fills
+frame_fault_known left format (Some xs) (Some ms) (Some ns) h bytes (Vlans first other) failures failures' some l e short fills counts = absurd fills
+frame_fault_known left format (Some xs) (Some ms) (Some ns) h bytes (Interfaces first other) failures failures' some l e short fills counts = absurd fills
 
 -- ---- it is whole
 

@@ -5,7 +5,7 @@ use Rattle.std.proofs.lemmas.List.{drop_at, drop-drop, length-append, length-dro
 use Rattle.pim_device.specs.Device.{ConsumesAtMost}
 use Rattle.pim_capture.specs.declared.event.Event.{Event}
 use Rattle.pim_capture.specs.declared.fault.CaptureFault.{CaptureFault}
-use Rattle.pim_capture.specs.declared.fault.CaptureFault.TheVariants.{Magic, LinkType, Truncated, TooLong, Read, Memory, Failed}
+use Rattle.pim_capture.specs.declared.fault.CaptureFault.TheVariants.{Magic, LinkType, Truncated, TooLong, Read, Memory, Failed, Block, Time, Vlans, Interfaces}
 use Rattle.pim_capture.specs.Capture.{most_captured}
 use Rattle.pim_capture.specs.Next.{most_taken}
 
@@ -44,6 +44,10 @@ most_with_frame headers TooLong h = absurd (h refl)
 most_with_frame headers Read h = refl
 most_with_frame headers Memory h = refl
 most_with_frame headers Failed h = refl
+most_with_frame headers Block h = refl
+most_with_frame headers Time h = refl
+most_with_frame headers (Vlans first other) h = refl
+most_with_frame headers (Interfaces first other) h = refl
 
 -- the capture's header beside the record's
 pub most_with_header : (r : Result Event CaptureFault) → most_taken 40 r ≡ 24 + most_taken 16 r
@@ -55,3 +59,7 @@ most_with_header (Err TooLong) = refl
 most_with_header (Err Read) = refl
 most_with_header (Err Memory) = refl
 most_with_header (Err Failed) = refl
+most_with_header (Err Block) = refl
+most_with_header (Err Time) = refl
+most_with_header (Err (Vlans first other)) = refl
+most_with_header (Err (Interfaces first other)) = refl

@@ -3,11 +3,13 @@
 ghost use Rattle.std.specs.Prelude.{◌≡◌};
 ghost use Rattle.pim_capture.specs.declared.fault.CaptureFault.TheVariants.{Read, Memory};
 
+use crate::vlan::Vlan;
 use pim_addr::Failed;
 use std::alloc::AllocError;
 use thiserror::Error;
 
-/// Why a capture can't be read any further. Every later call returns `Failed`.
+/// Why a capture can't be read any further. Every later call returns `Failed`. Readers of other
+/// files than classic ones return the last four too; `Capture` never does.
 #[derive(Clone, Copy, Debug, PartialEq, Eq, Error)]
 pub enum CaptureFault {
     /// It doesn't begin with the magic of a classic pcap file.
@@ -31,6 +33,28 @@ pub enum CaptureFault {
     /// An earlier call returned a fault.
     #[error("failed")]
     Failed,
+    /// A block of a pcapng file contradicts itself.
+    #[error("block")]
+    Block,
+    /// The time of a packet is before 1970 or after 4,294,971,589,967 ms.
+    #[error("time")]
+    Time,
+    /// The packets have more than one VLAN, and none is chosen.
+    #[error("vlans")]
+    Vlans {
+        /// The VLAN of the first packet.
+        first: Vlan,
+        /// That of the first packet of another VLAN.
+        other: Vlan,
+    },
+    /// The packets have more than one interface, and none is chosen.
+    #[error("interfaces")]
+    Interfaces {
+        /// The number of the interface of the first packet.
+        first: u32,
+        /// That of the first packet of another interface.
+        other: u32,
+    },
 }
 
 impl From<Failed> for CaptureFault {

@@ -25,8 +25,10 @@ mod fault;
 mod frame;
 mod header;
 mod record;
+mod vlan;
 
 pub use capture::Capture;
 pub use event::{Event, Ip, Why};
 pub use fault::CaptureFault;
 pub use frame::judge_packet;
+pub use vlan::Vlan;

@@ -2,7 +2,7 @@
 use Rattle.std.specs.Prelude.{◌≡◌, ℕ, Bool, true, false, ◌&&◌, ◌||◌, ◌==◌, not, List, ◌++◌, Option, None, Some, Result, Ok, is_none}
 use Rattle.std.specs.Prelude.{if◌then◌else◌}
 use Rattle.pim_addr.specs.Faults.{fault_if, judged}
-use Rattle.pim_container.specs.declared.tags.Vlan.{Vlan}
+use Rattle.pim_capture.specs.declared.vlan.Vlan.{Vlan}
 use Rattle.pim_container.specs.declared.event.Origin.{Origin}
 use Rattle.pim_container.specs.declared.choice.Choice.{Choice}
 use Rattle.pim_container.specs.declared.choice.Chooser.{Chooser}
@@ -38,9 +38,9 @@ is_chosen choice origin =
 -- What is mixed in two packets of these origins, where none is chosen.
 abbrev pub mixed : Choice → Origin → Origin → List Mixed
 mixed choice first origin =
-    fault_if (is_none choice.interface && not (first.interface == origin.interface)) Interfaces
-    ++ fault_if (is_none choice.index && not (first.index == origin.index)) Interfaces
-    ++ fault_if (is_none choice.vlan && not (is_same_vlan first.vlan origin.vlan)) Vlans
+    fault_if (is_none choice.interface && not (first.interface == origin.interface)) (Interfaces first.interface origin.interface)
+    ++ fault_if (is_none choice.index && not (first.index == origin.index)) (Interfaces first.index origin.index)
+    ++ fault_if (is_none choice.vlan && not (is_same_vlan first.vlan origin.vlan)) (Vlans first.vlan origin.vlan)
 
 -- A chosen packet is taken if it is of one link with the first one.
 abbrev pub judge_second : Choice → Origin → Origin → Result Bool Mixed

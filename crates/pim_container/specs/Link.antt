@@ -13,7 +13,7 @@ use Rattle.pim_container.specs.declared.link.Endianness.{Endianness}
 use Rattle.pim_container.specs.declared.link.Endianness.TheVariants.{Big, Little}
 use Rattle.pim_container.specs.declared.link.Link.{Link}
 use Rattle.pim_container.specs.declared.link.Link.TheVariants as link
-use Rattle.pim_container.specs.declared.tags.Vlan.{Vlan}
+use Rattle.pim_capture.specs.declared.vlan.Vlan.{Vlan}
 use Rattle.pim_container.specs.declared.tags.Carried.{Carried}
 use Rattle.pim_container.specs.declared.place.Place.{Place}
 

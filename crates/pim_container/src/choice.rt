@@ -7,7 +7,7 @@ ghost use Rattle.pim_container.specs.Choice.{is_chosen};
 ghost use Rattle.pim_container.specs.Choice.{first_after, judge_origin, judge_second};
 
 use crate::event::Origin;
-use crate::tags::Vlan;
+use pim_capture::Vlan;
 
 /// Which packets are taken: those of one VLAN or interface, or of each.
 #[derive(Clone, Copy, Debug, PartialEq, Eq)]
@@ -28,9 +28,19 @@ pub struct Choice {
 #[derive(Clone, Copy, Debug, PartialEq, Eq)]
 pub enum Mixed {
     /// A packet is of another interface than the first one.
-    Interfaces,
+    Interfaces {
+        /// The number of the first one's interface, or its index in a cooked header.
+        first: u32,
+        /// That of the packet's.
+        other: u32,
+    },
     /// A packet is of another VLAN than the first one.
-    Vlans,
+    Vlans {
+        /// The first one's VLAN.
+        first: Vlan,
+        /// The packet's.
+        other: Vlan,
+    },
 }
 
 /// Takes packets by a choice.
@@ -82,13 +92,22 @@ fn judge_second(choice: Choice, first: Origin, origin: Origin) -> Result<bool, M
     ensures { Answers (λ it. it) result (judge_second choice first origin) }
 {
     if choice.interface.is_none() && first.interface != origin.interface {
-        return Err(Mixed::Interfaces);
+        return Err(Mixed::Interfaces {
+            first: first.interface,
+            other: origin.interface,
+        });
     }
     if choice.index.is_none() && first.index != origin.index {
-        return Err(Mixed::Interfaces);
+        return Err(Mixed::Interfaces {
+            first: first.index,
+            other: origin.index,
+        });
     }
     if choice.vlan.is_none() && !is_same_vlan(first.vlan, origin.vlan) {
-        return Err(Mixed::Vlans);
+        return Err(Mixed::Vlans {
+            first: first.vlan,
+            other: origin.vlan,
+        });
     }
     Ok(true)
 }

@@ -1,7 +1,6 @@
 //! The events of a capture.
 
-use crate::tags::Vlan;
-use pim_capture::{Ip, Why};
+use pim_capture::{Ip, Vlan, Why};
 use std::ops::Range;
 
 /// The link on which a packet was captured.

@@ -8,9 +8,9 @@ ghost use Rattle.pim_capture.specs.Frame.{ethernet_family, raw_family, version};
 ghost use Rattle.pim_container.specs.declared.link.Link.TheVariants as link;
 
 use crate::link::{Endianness, Link};
-use crate::tags::{Carried, Vlan, after_tags, stacked};
+use crate::tags::{Carried, after_tags, stacked};
 use pim_addr::AddressFamily;
-use pim_capture::Why;
+use pim_capture::{Vlan, Why};
 
 /// Where the IP packet of a frame begins, and on which link it was captured.
 #[derive(Clone, Copy, Debug, PartialEq, Eq)]

@@ -4,15 +4,7 @@ ghost use Rattle.std.specs.Prelude.{◌≡◌, ◌+◌, ◌≤◌, length, drop,
 ghost use Rattle.pim_container.specs.Link.{is_tag, tag_vlan, stacked, after_two, tagged, carried};
 
 use crate::link::Endianness;
-
-/// The VLAN of a frame, by its tags. The number 0 stands for no tag.
-#[derive(Clone, Copy, Debug, PartialEq, Eq)]
-pub struct Vlan {
-    /// The VLAN of the outer tag, or of the only one.
-    pub outer: u16,
-    /// The VLAN of the inner tag.
-    pub inner: u16,
-}
+use pim_capture::Vlan;
 
 /// What a frame carries after its tags.
 #[derive(Clone, Copy, Debug, PartialEq, Eq)]
