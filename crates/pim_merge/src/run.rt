@@ -1,10 +1,11 @@
 //! The turns of a run over a merge, up to its end.
 
-ghost use Rattle.std.specs.Prelude.{◌≡◌, ◌<◌, ◌≤◌, ◌^◌, List, length};
+ghost use Rattle.std.specs.Prelude.{◌≡◌, ◌<◌, ◌≤◌, ◌^◌, List, length, IfErr};
 ghost use Rattle.pim_capture.specs.Next.{latest_moment};
 ghost use Rattle.pim_merge.specs.Ends.{end_moment, IsBoundedEnd};
 ghost use Rattle.pim_merge.specs.Merge.{Taken};
 ghost use Rattle.pim_merge.specs.Next.{MergeState, IfTaken, HoldsRecord, turns_left};
+ghost use Rattle.pim_merge.specs.Next.{CountsFailures, LacksMemory};
 ghost use Rattle.pim_merge.specs.Run.{HasTaken, Advances};
 
 use crate::end::End;
@@ -21,6 +22,8 @@ impl<R: Feed + Drop> Merge<R> {
         ensures run { (start : MergeState) (taken : List Taken) → HasTaken end start taken self.old
             →
             Advances end start taken self.new result }
+        ensures reads { CountsFailures self.old.lanes result self.new.lanes }
+        ensures memory { IfErr result (LacksMemory self.old.lanes) }
         ensures moment { IfTaken result (λ next. next.moment ≤ latest_moment) }
         ensures bytes { IfTaken result (HoldsRecord self.new) }
         ensures capture { IfTaken result (λ next. next.capture < length self.new.lanes) }
