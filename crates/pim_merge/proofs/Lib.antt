@@ -8,3 +8,5 @@ pub mod Turning
 pub mod Until
 pub mod Contents
 pub mod Advancing
+pub mod Choosing
+pub mod Clocks

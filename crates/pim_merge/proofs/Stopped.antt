@@ -6,7 +6,7 @@ use Rattle.pim_capture.specs.declared.fault.CaptureFault.{CaptureFault}
 use Rattle.pim_capture.specs.Capture.{Answer}
 use Rattle.pim_capture.specs.Next.{IsRefusal, CountsReads, OnMemory}
 use Rattle.pim_merge.specs.Merge.{turn, fails}
-use Rattle.pim_merge.specs.Lane.{LaneState, IsComing, lane_left, records_to_come, lane_at, no_lane, failures_of, LacksHeadRoom, KeepsRoom, KeepRooms}
+use Rattle.pim_merge.specs.Lane.{LaneState, IsComing, lane_left, records_to_come, lane_at, no_lane, failures_of, LacksHeadRoom, HadAll, KeepsRoom, KeepRooms}
 use Rattle.pim_merge.specs.Looks.{IsToldOrRefused}
 use Rattle.pim_merge.specs.Next.{IsCause, CountsFailures, LacksMemory}
 use Rattle.pim_merge.proofs.Looking.{one_comes, total_with, as_before, set_keeps, IsLookedUpTo}
@@ -31,12 +31,12 @@ module _ (number : ℕ) (old now : List LaneState) (lane d : LaneState) (fault :
   stopped_cause (inr told) = inr (λ captures coming.
       ap (set captures number) (sym (told (get_or captures number []) (one_comes now captures number d [] below (w.coming captures coming)))) ∙ set-get_or captures number [])
 
-  pub stopped_reads : CountsReads {A = ⊤} ((get_or now number d).left ≡ 0) (get_or now number d).failures lane.failures (Err fault)
+  pub stopped_reads : CountsReads {A = ⊤} (HadAll (get_or now number d)) (get_or now number d).failures lane.failures (Err fault)
       → CountsFailures {A = ⊤} old (Err (record { capture = number; fault = fault })) (set now number lane)
   stopped_reads reads = (
     map-set (λ (l : LaneState). l.failures) now number lane ∙ (ap (λ l. set l number lane.failures) w.reads ∙ ap (λ (l : LaneState). set (failures_of old) number l.failures) is_new),
-    subst (λ (l : LaneState). CountsReads {A = ⊤} ((lane_at number old).left ≡ 0) (lane_at number old).failures l.failures (Err fault)) is_new
-        (subst (λ (l : LaneState). CountsReads {A = ⊤} (l.left ≡ 0) l.failures lane.failures (Err fault)) same_before reads),
+    subst (λ (l : LaneState). CountsReads {A = ⊤} (HadAll (lane_at number old)) (lane_at number old).failures l.failures (Err fault)) is_new
+        (subst (λ (l : LaneState). CountsReads {A = ⊤} (HadAll l) l.failures lane.failures (Err fault)) same_before reads),
   )
 
   pub stopped_memory : OnMemory {A = ⊤} (Err fault) (LacksHeadRoom (get_or now number d)) → LacksMemory old (record { capture = number; fault = fault })

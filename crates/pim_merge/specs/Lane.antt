@@ -1,12 +1,12 @@
 -- What contracts see of the captures of a merge.
-use Rattle.std.specs.Prelude.{◌≡◌, ◌⊎◌, ℕ, ◌+◌, max, List, [], ◌∷◌, length, map}
+use Rattle.std.specs.Prelude.{◌≡◌, ◌⊎◌, ℕ, ◌+◌, max, Bool, false, List, [], ◌∷◌, length, map}
 use Rattle.std.specs.Prelude.{Option, None, Some, Ok, IsSome, slice_index_or}
 use Rattle.std.specs.Option.{option_map}
 use Rattle.pim_capture.specs.declared.event.Event.{Event}
-use Rattle.pim_capture.specs.declared.capture.Capture.{Capture}
 use Rattle.pim_capture.specs.Capture.{Told, packet, skipped, ended, Answer}
-use Rattle.pim_capture.specs.Next.{event_seen, coming, reader_of, state_of, in_front, records_left}
-use Rattle.pim_capture.specs.Next.{named, LacksRoom}
+use Rattle.pim_capture.specs.Next.{event_seen, in_front, LacksRoom}
+use Rattle.pim_merge.specs.declared.source.Source.{Source}
+use Rattle.pim_merge.specs.Source.{coming, failures_in, left_in, passes_over, room_in, size_in, HadAllIf}
 use Rattle.pim_merge.specs.Merge.{time_told}
 
 -- A capture of a merge.
@@ -17,27 +17,31 @@ pub record LaneState : Type 0 where
   pub behind : Option (List Answer)
   -- the reader's count of failures
   pub failures : ℕ
-  -- the number of records that may still be read
+  -- the number of records that may still be read, or of pieces of any container
   pub left : ℕ
+  -- whether it passes over pieces that are no records, as any container
+  pub passes : Bool
   -- the bytes of the record that was read last
   pub bytes : List ℕ
-  -- the number of bytes that its buffer holds without new memory
+  -- the number of bytes that its buffer holds without new memory; of any container 0, since
+  -- nothing is said of its memory
   pub room : ℕ
   -- the captured length of the record that is read next, where the bytes of its reader are known;
-  -- `Some None` if none is read next
+  -- `Some None` if none is read next, and `None` for any container
   pub size : Option (Option ℕ)
 
--- What contracts see of a capture, its head, and the bytes and the capacity of its buffer.
-abbrev pub lane_seen : {R : Type 0} → (R → Option (List ℕ)) → (R → ℕ) → Capture R → Option Event
+-- What contracts see of a source, its head, and the bytes and the capacity of its buffer.
+abbrev pub lane_seen : {R : Type 0} → (R → Option (List ℕ)) → (R → ℕ) → Source R → Option Event
     → List ℕ → ℕ → LaneState
-lane_seen remaining failures capture head bytes capacity = record {
+lane_seen remaining failures source head bytes capacity = record {
   head = option_map (event_seen bytes) head;
-  behind = coming remaining capture;
-  failures = failures (reader_of capture);
-  left = records_left (state_of capture);
+  behind = coming remaining source;
+  failures = failures_in failures source;
+  left = left_in source;
+  passes = passes_over source;
   bytes = bytes;
-  room = capacity;
-  size = named remaining capture;
+  room = room_in source capacity;
+  size = size_in remaining source;
 }
 
 -- ---- the results to come, the head first
@@ -64,6 +68,7 @@ without_head lane = record {
   behind = lane.behind;
   failures = lane.failures;
   left = lane.left;
+  passes = lane.passes;
   bytes = lane.bytes;
   room = lane.room;
   size = lane.size;
@@ -73,7 +78,12 @@ without_head lane = record {
 abbrev pub IsLooked : LaneState → Type 0
 IsLooked lane = IsSome lane.head
 
--- The head of the capture wasn't read, and its buffer has less room than that record needs.
+-- All records that are read of a capture were read before. Of any container nothing is said.
+abbrev pub HadAll : LaneState → Type 0
+HadAll lane = HadAllIf lane.passes lane.left
+
+-- The head of the capture wasn't read, and its buffer has less room than that record needs. Of any
+-- container only the first is said.
 abbrev pub LacksHeadRoom : LaneState → Type 0
 LacksHeadRoom lane = (lane.head ≡ None) × LacksRoom lane.room lane.size
 
@@ -117,6 +127,7 @@ no_lane = record {
   behind = None;
   failures = 0;
   left = 0;
+  passes = false;
   bytes = [];
   room = 0;
   size = Some None;

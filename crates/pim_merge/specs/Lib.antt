@@ -1,4 +1,6 @@
 pub mod Merge
+pub mod Chosen
+pub mod Source
 pub mod Lane
 pub mod Looks
 pub mod Next

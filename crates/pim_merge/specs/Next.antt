@@ -9,7 +9,7 @@ use Rattle.pim_merge.specs.declared.merge.Turn.{Turn}
 use Rattle.pim_merge.specs.declared.merge.MergeFault.{MergeFault}
 use Rattle.pim_merge.specs.Merge.{turn, turn_by, fails, takes, ends, after_turn, clock_after, moment_of, time_told}
 use Rattle.pim_merge.specs.Lane.{LaneState, IsComing, lane_at, failures_of, records_to_come}
-use Rattle.pim_merge.specs.Lane.{LacksHeadRoom}
+use Rattle.pim_merge.specs.Lane.{LacksHeadRoom, HadAll}
 
 -- A merge: its captures, and the clock of the records that were taken.
 pub record MergeState : Type 0 where
@@ -60,12 +60,13 @@ abbrev pub LacksMemory : List LaneState → MergeFault → Type 0
 LacksMemory old told = OnMemory {A = ⊤} (Err told.fault) (LacksHeadRoom (lane_at told.capture old))
 
 -- Only the failures of the fault's capture rise, and only for a failed read. `Read` without a
--- failed read means that its capture had all the records that are read of a capture.
+-- failed read means that its capture had all the records that are read of a capture; of any
+-- container nothing is said.
 abbrev pub CountsFailures : {A : Type 0} → List LaneState → Result A MergeFault → List LaneState → Type 0
 CountsFailures old (Ok x) new = failures_of new ≡ failures_of old
 CountsFailures old (Err told) new =
     (failures_of new ≡ slice_set (failures_of old) told.capture (lane_at told.capture new).failures)
-    × CountsReads {A = ⊤} ((lane_at told.capture old).left ≡ 0)
+    × CountsReads {A = ⊤} (HadAll (lane_at told.capture old))
     (lane_at told.capture old).failures (lane_at told.capture new).failures (Err told.fault)
 
 -- A turn moves the clock on by its record and has the clock's moment. Other results leave the

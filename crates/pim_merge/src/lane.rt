@@ -1,6 +1,7 @@
 //! A capture of a merge, with its head.
 
 ghost use Rattle.std.specs.Prelude.{◌≡◌, ◌≤◌, ◌⊎◌, ℕ, List, length, None, Some, Err, IfOk, IfErr};
+ghost use Rattle.std.specs.Prelude.{true, false};
 ghost use Rattle.std.specs.Prelude.{IsSome};
 ghost use Rattle.std.specs.Option.{option_map, IfSome};
 ghost use Rattle.pim_capture.specs.Capture.{answers, most_captured, most_records, Answer};
@@ -9,11 +10,15 @@ ghost use Rattle.pim_capture.specs.Next.{CountsReads};
 ghost use Rattle.pim_capture.specs.Next.{OnMemory, named_in};
 ghost use Rattle.pim_capture.specs.declared.capture.State.TheVariants.{Unbegun};
 ghost use Rattle.pim_merge.specs.Lane.{coming_on, without_head, IsLooked, head_time, lane_left};
-ghost use Rattle.pim_merge.specs.Lane.{LacksHeadRoom, KeepsRoom};
+ghost use Rattle.pim_merge.specs.Lane.{LacksHeadRoom, KeepsRoom, HadAll};
+ghost use Rattle.pim_merge.specs.Chosen.{answers_by};
 ghost use Rattle.pim_merge.specs.Looks.{StillComes, IsToldOrRefused};
 
+use crate::chosen::Chosen;
+use crate::source::Source;
 use pim_addr::Feed;
 use pim_capture::{Capture, CaptureFault, Event};
+use pim_container::Choice;
 use std::alloc::Global;
 use std::marker::Model;
 
@@ -21,7 +26,7 @@ use std::marker::Model;
 /// return.
 #[derive(Drop)]
 pub(crate) struct Lane<R: Feed + Drop> {
-    capture: Capture<R>,
+    source: Source<R>,
     /// The head, if it was read.
     head: Option<Event>,
     /// The bytes of the record that was read last.
@@ -35,7 +40,7 @@ impl<R: Feed + Drop> Model for Lane<R> {
 
     ghost use Rattle.std.specs.Prelude.{vec_capacity};
 
-    ghost view = { λ lane. lane_seen R.remaining R.failures lane.capture lane.head lane.buffer.items
+    ghost view = { λ lane. lane_seen R.remaining R.failures lane.source lane.head lane.buffer.items
         (vec_capacity lane.buffer) };
 
     ghost use Rattle.std.specs.Prelude.{◌≤◌, vec_len};
@@ -55,11 +60,28 @@ impl<R: Feed + Drop> Lane<R> {
         ensures coming { result.behind ≡ option_map answers (R.remaining reader) }
         ensures failures { result.failures ≡ R.failures reader }
         ensures left { result.left ≡ most_records }
+        ensures passes { result.passes ≡ false }
         ensures room { result.room ≡ 0 }
         ensures size { result.size ≡ option_map (named_in Unbegun) (R.remaining reader) }
     {
         Lane {
-            capture: Capture::new(reader),
+            source: Source::Classic(Capture::new(reader)),
+            head: None,
+            buffer: Vec::new(alloc),
+        }
+    }
+
+    /// Any container of a reader, of which nothing was read, with a choice of its packets.
+    pub(crate) fn of_any(alloc: Global, reader: R, choice: Choice) -> Self
+        ensures head { result.head ≡ None }
+        ensures coming { result.behind ≡ option_map (answers_by choice) (R.remaining reader) }
+        ensures failures { result.failures ≡ R.failures reader }
+        ensures passes { result.passes ≡ true }
+        ensures room { result.room ≡ 0 }
+        ensures size { result.size ≡ None }
+    {
+        Lane {
+            source: Source::Any(Chosen::new(alloc, reader, choice)),
             head: None,
             buffer: Vec::new(alloc),
         }
@@ -74,14 +96,14 @@ impl<R: Feed + Drop> Lane<R> {
         ensures looked { IfOk result (λ _. IsLooked self.new) }
         ensures fault { IfErr result (IsToldOrRefused self.old self.new) }
         ensures left { lane_left self.new ≤ lane_left self.old }
-        ensures reads { CountsReads (self.old.left ≡ 0) self.old.failures self.new.failures result }
+        ensures reads { CountsReads (HadAll self.old) self.old.failures self.new.failures result }
         ensures memory { OnMemory result (LacksHeadRoom self.old) }
         ensures room { KeepsRoom self.old self.new }
     {
         if self.head.is_some() {
             return Ok(());
         }
-        let event = self.capture.next(&mut self.buffer)?;
+        let event = self.source.next(&mut self.buffer)?;
         self.head = Some(event);
         Ok(())
     }

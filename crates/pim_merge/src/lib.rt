@@ -12,6 +12,8 @@
 //! `specs/Ends.antt` which turns such a run takes. `Merge::advance` takes the next one, and
 //! `Turn::content` says what its record holds for a router of one address family.
 //! `Merge::add` appends a capture, or leaves the merge unchanged where memory is refused.
+//! `Merge::add_any` appends one of any container, with a choice of its packets. What the container
+//! gives is then cut down to the records of a capture (`specs/Chosen.antt`).
 //!
 //! A head is read when the next turn is asked for, not when the one before is taken. So the bytes
 //! of a turn stay until the next call, and a fault comes after all turns before it. A time that
@@ -22,6 +24,7 @@
 //! limits its ports itself.
 #![tactic(auto)]
 
+mod chosen;
 mod clock;
 mod content;
 mod end;
@@ -30,6 +33,7 @@ mod laws;
 mod merge;
 mod run;
 mod search;
+mod source;
 
 pub use clock::Clock;
 pub use content::{Content, Datagram};

@@ -18,12 +18,14 @@ ghost use Rattle.pim_merge.specs.Next.{TellsTurn, IsCause, CountsFailures, Keeps
 ghost use Rattle.pim_merge.specs.Next.{HoldsRecord, turns_left};
 ghost use Rattle.pim_merge.specs.Next.{TellsTurnBy};
 ghost use Rattle.pim_merge.specs.Next.{bytes_at, with_fault, LacksMemory};
+ghost use Rattle.pim_merge.specs.Chosen.{answers_by};
 
 use crate::clock::{Clock, moment_at};
 use crate::lane::Lane;
 use crate::search::{earliest, look_at_all};
 use pim_addr::Feed;
 use pim_capture::{CaptureFault, Event};
+use pim_container::Choice;
 use pim_time::Time;
 use std::alloc::{AllocError, Global};
 use std::marker::Model;
@@ -102,6 +104,27 @@ impl<R: Feed + Drop> Merge<R> {
         ensures unchanged { OnErr result (self.new ≡ self.old) }
     {
         self.lanes.push(Lane::new(alloc, reader))?;
+        Ok(())
+    }
+
+    /// Appends any container of a reader, with a choice of its packets. Nothing of it is read.
+    ///
+    /// # Errors
+    /// If memory is refused. Then nothing changes.
+    pub fn add_any(&mut self, alloc: Global, reader: R, choice: Choice) -> Result<(), AllocError>
+        ensures coming { IfOk result (λ _. map coming_on self.new.lanes ≡
+            map coming_on self.old.lanes
+            ++ option_map (answers_by choice) (R.remaining reader) ∷ []) }
+        ensures failures { IfOk result (λ _. failures_of self.new.lanes ≡
+            failures_of self.old.lanes ++ R.failures reader ∷ []) }
+        ensures rooms { IfOk result (λ _. rooms_of self.new.lanes ≡
+            rooms_of self.old.lanes ++ 0 ∷ []) }
+        ensures sizes { IfOk result (λ _. sizes_of self.new.lanes ≡
+            sizes_of self.old.lanes ++ None ∷ []) }
+        ensures clock { self.new.clock ≡ self.old.clock }
+        ensures unchanged { OnErr result (self.new ≡ self.old) }
+    {
+        self.lanes.push(Lane::of_any(alloc, reader, choice))?;
         Ok(())
     }
 

@@ -1,0 +1,12 @@
+-- The moment of a clock.
+use Rattle.std.proofs.Common.{◌≡◌, ◌≤◌, ◌-◌, max, ℕ, Option, None, Some, sym, subst, arith}
+use Rattle.std.proofs.lemmas.Grind.{common_steps}
+use Rattle.pim_merge.specs.declared.clock.Clock.{Clock}
+use Rattle.pim_merge.specs.Merge.{clock_by, moment_of}
+
+pub by_bound : (clock : Option Clock) (time latest : ℕ) (result : Clock) → result ≡ clock_by clock time → moment_of clock ≤ latest →
+    time ≤ latest → result.moment ≤ latest
+by_bound None time latest result is before now = let none : 0 ≤ latest = omega arith in subst (λ (c : Clock). c.moment ≤ latest) (sym is) none
+by_bound (Some clock) time latest result is before now =
+    let most : max clock.moment (time - clock.begin) ≤ latest = grind (arith, common_steps) in
+    subst (λ (c : Clock). c.moment ≤ latest) (sym is) most

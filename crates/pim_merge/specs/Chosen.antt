@@ -1,0 +1,72 @@
+-- The results of a lane that reads any container, as a function of the results of the container
+-- (`pim_container`) and of a choice of packets. They are those of a classic capture in kind.
+use Rattle.std.specs.Prelude.{ℕ, Bool, true, false, List, [], ◌∷◌, Option, None, Some, Result, Ok, Err}
+use Rattle.pim_capture.specs.declared.fault.CaptureFault.{CaptureFault}
+use Rattle.pim_capture.specs.declared.fault.CaptureFault.TheVariants as fault
+use Rattle.pim_capture.specs.Frame.{Datagram}
+use Rattle.pim_capture.specs.Capture.{packet, skipped, ended, Answer}
+use Rattle.pim_capture.specs.Next.{in_front}
+use Rattle.pim_container.specs.declared.fault.Fault.{Fault}
+use Rattle.pim_container.specs.declared.fault.Fault.TheVariants as of_any
+use Rattle.pim_container.specs.declared.event.Origin.{Origin}
+use Rattle.pim_container.specs.declared.choice.Choice.{Choice}
+use Rattle.pim_container.specs.declared.choice.Mixed.{Mixed}
+use Rattle.pim_container.specs.declared.choice.Mixed.TheVariants.{Interfaces, Vlans}
+use Rattle.pim_container.specs.Choice.{judge_origin, first_after}
+use Rattle.pim_container.specs.Told as any
+use Rattle.pim_container.specs.Pieces as pieces
+
+-- A fault of a container, as one of a capture.
+abbrev pub fault_of : Fault → CaptureFault
+fault_of of_any.Magic = fault.Magic
+fault_of (of_any.LinkType number) = fault.LinkType
+fault_of of_any.Truncated = fault.Truncated
+fault_of of_any.TooLong = fault.TooLong
+fault_of of_any.Block = fault.Block
+fault_of of_any.Time = fault.Time
+fault_of of_any.Read = fault.Read
+fault_of of_any.Memory = fault.Memory
+fault_of of_any.Failed = fault.Failed
+
+-- The fault of packets of more than one link, where none is chosen.
+abbrev pub mixed_fault : Mixed → CaptureFault
+mixed_fault (Interfaces first other) = fault.Interfaces first other
+mixed_fault (Vlans first other) = fault.Vlans first other
+
+-- What a packet gives, by the judgment of its origin. Of its bytes only the message is kept. A
+-- packet that isn't taken gives nothing.
+abbrev pub packet_given : ℕ → Datagram → Result Bool Mixed → Option Answer
+packet_given millis datagram (Ok true) = Some (Ok (packet millis datagram.payload datagram))
+packet_given millis datagram (Ok false) = None
+packet_given millis datagram (Err mixed) = Some (Err (mixed_fault mixed))
+
+-- What a result of the container gives, after a first packet of that origin. What is no record
+-- gives nothing, as a section, an interface, a block of another type, or a packet that has no time
+-- or a link that isn't read.
+abbrev pub given : Choice → Option Origin → pieces.Answer → Option Answer
+given choice first (Err fault) = Some (Err (fault_of fault))
+given choice first (Ok (any.packet millis origin datagram)) =
+    packet_given millis datagram (judge_origin choice first origin)
+given choice first (Ok (any.skipped millis why)) = Some (Ok (skipped millis why))
+given choice first (Ok any.ended) = Some (Ok ended)
+given choice first (Ok _) = None
+
+-- The origin of the first packet that was taken, after this result.
+abbrev pub first_then : Choice → Option Origin → pieces.Answer → Option Origin
+first_then choice first (Ok (any.packet millis origin datagram)) = first_after choice first origin
+first_then choice first _ = first
+
+-- What is given comes first. Nothing follows the end or a fault.
+abbrev pub put : Option Answer → List Answer → List Answer
+put None later = later
+put (Some answer) later = in_front answer later
+
+-- The results of the lane for these results of the container.
+unfoldable pub chosen : Choice → Option Origin → List pieces.Answer → List Answer
+chosen choice first [] = []
+chosen choice first (answer ∷ later) =
+    put (given choice first answer) (chosen choice (first_then choice first answer) later)
+
+-- The results of the lane for the bytes of a file.
+abbrev pub answers_by : Choice → List ℕ → List Answer
+answers_by choice bytes = chosen choice None (pieces.answers bytes)

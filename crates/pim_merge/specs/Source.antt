@@ -1,0 +1,104 @@
+-- What contracts see of the source of a lane: a classic capture, or any container with a choice.
+use Rattle.std.specs.Prelude.{◌≡◌, ◌⊎◌, ⊤, ℕ, Bool, true, false, List, Option, None, Some, Result, Ok, Err}
+use Rattle.std.specs.Option.{option_map, IfSome}
+use Rattle.pim_capture.specs.declared.fault.CaptureFault.{CaptureFault}
+use Rattle.pim_capture.specs.declared.fault.CaptureFault.TheVariants as fault
+use Rattle.pim_capture.specs.declared.event.Event.{Event}
+use Rattle.pim_capture.specs.declared.event.Event.TheVariants.{Packet, Skipped, End}
+use Rattle.pim_capture.specs.Capture.{Answer}
+use Rattle.pim_capture.specs.Next as classic
+use Rattle.pim_container.specs.Choice.{choice_of, first_of}
+use Rattle.pim_container.specs.Next as any
+use Rattle.pim_merge.specs.declared.chosen.Chosen.{Chosen}
+use Rattle.pim_merge.specs.declared.source.Source.{Source}
+use Rattle.pim_merge.specs.declared.source.Source.TheVariants.{Classic, Any}
+use Rattle.pim_merge.specs.Chosen.{chosen}
+
+-- The results that a container has still to return for its choice, if the bytes of its device are
+-- known.
+abbrev pub chosen_coming : {R : Type 0} → (R → Option (List ℕ)) → Chosen R → Option (List Answer)
+chosen_coming remaining it =
+    option_map (chosen (choice_of it.chooser) (first_of it.chooser)) (any.coming remaining it.reader)
+
+-- The device's count of failures.
+abbrev pub chosen_failures : {R : Type 0} → (R → ℕ) → Chosen R → ℕ
+chosen_failures failures it = failures (any.device_of it.reader)
+
+-- The number of pieces that may still be read.
+abbrev pub chosen_left : {R : Type 0} → Chosen R → ℕ
+chosen_left it = any.pieces_left (any.state_of it.reader)
+
+-- ---- either
+
+-- The results that a source has still to return, if they are known.
+abbrev pub coming : {R : Type 0} → (R → Option (List ℕ)) → Source R → Option (List Answer)
+coming remaining (Classic capture) = classic.coming remaining capture
+coming remaining (Any it) = chosen_coming remaining it
+
+-- The reader's count of failures.
+abbrev pub failures_in : {R : Type 0} → (R → ℕ) → Source R → ℕ
+failures_in failures (Classic capture) = failures (classic.reader_of capture)
+failures_in failures (Any it) = chosen_failures failures it
+
+-- The number of records or pieces that may still be read.
+abbrev pub left_in : {R : Type 0} → Source R → ℕ
+left_in (Classic capture) = classic.records_left (classic.state_of capture)
+left_in (Any it) = chosen_left it
+
+-- Whether pieces are passed over.
+abbrev pub passes_over : {R : Type 0} → Source R → Bool
+passes_over (Classic capture) = false
+passes_over (Any it) = true
+
+-- The capacity of the buffer of a classic capture.
+abbrev pub room_in : {R : Type 0} → Source R → ℕ → ℕ
+room_in (Classic capture) capacity = capacity
+room_in (Any it) capacity = 0
+
+-- The captured length of the next record of a classic capture, if it is known.
+abbrev pub size_in : {R : Type 0} → (R → Option (List ℕ)) → Source R → Option (Option ℕ)
+size_in remaining (Classic capture) = classic.named remaining capture
+size_in remaining (Any it) = None
+
+-- All records that are read of a capture were read before. Of one that passes over pieces nothing
+-- is said.
+abbrev pub HadAllIf : Bool → ℕ → Type 0
+HadAllIf false left = left ≡ 0
+HadAllIf true left = ⊤
+
+-- 1 for a record, else 0.
+abbrev pub count_of : Result Event CaptureFault → ℕ
+count_of (Ok (Packet millis ip)) = 1
+count_of (Ok (Skipped millis why)) = 1
+count_of (Ok End) = 0
+count_of (Err fault) = 0
+
+-- ---- one piece of a container
+
+-- The result is what a result of the container gives, or memory was refused.
+abbrev pub IsGiven : Option Answer → List ℕ → Result (Option Event) CaptureFault → Type 0
+IsGiven given bytes (Ok None) = given ≡ None
+IsGiven given bytes (Ok (Some event)) = given ≡ Some (Ok (classic.event_seen bytes event))
+IsGiven given bytes (Err fault.Memory) = ⊤
+IsGiven given bytes (Err fault) = given ≡ Some (Err fault)
+
+-- The same results are still to come, if they were known.
+abbrev pub StaysComing : Option (List Answer) → Option (List Answer) → Type 0
+StaysComing all later = IfSome all (λ it. later ≡ Some it)
+
+-- A step gave the first of the results to come, or none of them, and leaves the others. Or a read
+-- failed, or memory was refused.
+abbrev pub Steps : ℕ → ℕ → Option (List Answer) → Option (List Answer) → List ℕ →
+    Result (Option Event) CaptureFault → Type 0
+Steps failures failures' all later bytes (Ok None) = StaysComing all later
+Steps failures failures' all later bytes (Ok (Some event)) =
+    classic.IsNext all (Ok (classic.event_seen bytes event)) later
+Steps failures failures' all later bytes (Err fault) =
+    classic.IsRefusal {A = ⊤} failures failures' (Err fault) ⊎ classic.IsNext all (Err fault) later
+
+-- 1 for a piece, 0 for the end and for a fault.
+abbrev pub step_count : Result (Option Event) CaptureFault → ℕ
+step_count (Ok None) = 1
+step_count (Ok (Some End)) = 0
+step_count (Ok (Some event)) = 1
+step_count (Err fault) = 0

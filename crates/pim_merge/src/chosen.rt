@@ -1,0 +1,237 @@
+//! Reads the records of any container, by a choice of packets.
+//!
+//! What is no record is passed over: sections, interfaces, blocks of other types, and packets that
+//! aren't taken. Of a packet the message alone is kept, so that the bytes of a record are no more
+//! than those of a classic one.
+
+ghost use Rattle.std.specs.Prelude.{◌≡◌, ◌+◌, ◌≤◌, ◌⊎◌, ⊤, Some, Ok, Err, IfOk, option_map};
+ghost use Rattle.std.specs.Prelude.{vec_len};
+ghost use Rattle.std.specs.Option.{IfSome};
+ghost use Rattle.pim_addr.specs.Faults.{Answers};
+ghost use Rattle.pim_capture.specs.declared.event.Event.TheVariants.{End};
+ghost use Rattle.pim_capture.specs.declared.fault.CaptureFault.TheVariants.{Memory};
+ghost use Rattle.pim_capture.specs.Capture.{packet, most_captured};
+ghost use Rattle.pim_capture.specs.Next.{event_seen, seen, PayloadLiesIn, IsBy, latest_moment};
+ghost use Rattle.pim_capture.specs.Next.{IsNext, IsRefusal, CountsReads};
+ghost use Rattle.pim_capture.specs.Seen.{ip_seen, LiesIn, IsShort};
+ghost use Rattle.pim_container.specs.declared.event.Event.TheVariants as any_event;
+ghost use Rattle.pim_container.specs.Choice.{choice_of, first_of, judge_origin, first_after};
+ghost use Rattle.pim_container.specs.Told as any;
+ghost use Rattle.pim_merge.specs.Chosen.{fault_of, mixed_fault, given, first_then, answers_by};
+ghost use Rattle.pim_merge.specs.Chosen.{packet_given};
+ghost use Rattle.pim_merge.specs.Source.{chosen_coming, chosen_failures, chosen_left, IsGiven};
+ghost use Rattle.pim_merge.specs.Source.{Steps, step_count, count_of};
+
+use pim_addr::Feed;
+use pim_capture::{CaptureFault, Event, Ip};
+use pim_container::{Choice, Chooser, Event as Piece, Fault, Mixed, Origin, Reader};
+use std::alloc::Global;
+
+/// Any container, of which packets are taken by a choice.
+#[derive(Drop)]
+pub(crate) struct Chosen<R> {
+    reader: Reader<R>,
+    chooser: Chooser,
+    /// The piece that was read last.
+    piece: Vec<u8>,
+}
+
+/// A fault of a container, as one of a capture.
+fn fault_of(fault: Fault) -> CaptureFault
+    ensures { result ≡ fault_of fault }
+{
+    match fault {
+        Fault::Magic => CaptureFault::Magic,
+        Fault::LinkType(_) => CaptureFault::LinkType,
+        Fault::Truncated => CaptureFault::Truncated,
+        Fault::TooLong => CaptureFault::TooLong,
+        Fault::Block => CaptureFault::Block,
+        Fault::Time => CaptureFault::Time,
+        Fault::Read => CaptureFault::Read,
+        Fault::Memory => CaptureFault::Memory,
+        Fault::Failed => CaptureFault::Failed,
+    }
+}
+
+/// The fault of packets of more than one link.
+fn mixed_fault(mixed: Mixed) -> CaptureFault
+    ensures { result ≡ mixed_fault mixed }
+{
+    match mixed {
+        Mixed::Interfaces { first, other } => CaptureFault::Interfaces { first, other },
+        Mixed::Vlans { first, other } => CaptureFault::Vlans { first, other },
+    }
+}
+
+/// Keeps the message of a packet in the buffer.
+fn keep_message(
+    millis: u64,
+    ip: &Ip,
+    piece: &[u8],
+    buffer: &mut Vec<u8>,
+) -> Result<Event, CaptureFault>
+    requires lies { LiesIn piece.now ip.now }
+    requires short { IsShort ip.now }
+    requires moment { millis ≤ latest_moment }
+    requires length { vec_len buffer.old ≤ most_captured }
+    ensures answer { (result ≡ Err Memory) ⊎ Answers (event_seen buffer.new.items) result
+        (Ok (packet millis (ip_seen piece.now ip.now).payload (ip_seen piece.now ip.now))) }
+    ensures payload { IfOk result (PayloadLiesIn buffer.new.items) }
+    ensures moment { IfOk result (IsBy latest_moment) }
+    ensures length { vec_len buffer.new ≤ most_captured }
+{
+    let message = ip.payload(piece);
+    buffer.clear();
+    buffer.extend_from_slice(message)?;
+    let payload = 0..message.len();
+    match ip {
+        Ip::V4 {
+            source,
+            destination,
+            ..
+        } => Ok(Event::Packet {
+            millis,
+            ip: Ip::V4 {
+                source: *source,
+                destination: *destination,
+                payload,
+            },
+        }),
+        Ip::V6 {
+            source,
+            destination,
+            ..
+        } => Ok(Event::Packet {
+            millis,
+            ip: Ip::V6 {
+                source: *source,
+                destination: *destination,
+                payload,
+            },
+        }),
+    }
+}
+
+/// The event of a packet of this origin, if it is taken.
+fn packet_of(
+    millis: u64,
+    origin: Origin,
+    ip: &Ip,
+    chooser: &mut Chooser,
+    piece: &[u8],
+    buffer: &mut Vec<u8>,
+) -> Result<Option<Event>, CaptureFault>
+    requires lies { LiesIn piece.now ip.now }
+    requires short { IsShort ip.now }
+    requires moment { millis ≤ latest_moment }
+    requires length { vec_len buffer.old ≤ most_captured }
+    ensures answer { IsGiven (packet_given millis (ip_seen piece.now ip.now)
+        (judge_origin (choice_of chooser.old) (first_of chooser.old) origin))
+        buffer.new.items result }
+    ensures choice { choice_of chooser.new ≡ choice_of chooser.old }
+    ensures first { first_of chooser.new
+        ≡ first_after (choice_of chooser.old) (first_of chooser.old) origin }
+    ensures payload { IfOk result (λ it. IfSome it (PayloadLiesIn buffer.new.items)) }
+    ensures moment { IfOk result (λ it. IfSome it (IsBy latest_moment)) }
+    ensures length { vec_len buffer.new ≤ most_captured }
+{
+    let is_taken = match chooser.take(origin) {
+        Ok(is_taken) => is_taken,
+        Err(mixed) => return Err(mixed_fault(mixed)),
+    };
+    if !is_taken {
+        return Ok(None);
+    }
+    let event = keep_message(millis, ip, piece, buffer)?;
+    Ok(Some(event))
+}
+
+/// The event of a piece, if it is a record that is taken, or the end.
+fn event_of(
+    piece_event: Piece,
+    chooser: &mut Chooser,
+    piece: &[u8],
+    buffer: &mut Vec<u8>,
+) -> Result<Option<Event>, CaptureFault>
+    requires ranges { any.EventLiesIn piece.now piece_event }
+    requires moment { any.IsBy latest_moment piece_event }
+    requires length { vec_len buffer.old ≤ most_captured }
+    ensures answer { IsGiven (given (choice_of chooser.old) (first_of chooser.old)
+        (Ok (any.event_seen piece.now piece_event))) buffer.new.items result }
+    ensures choice { choice_of chooser.new ≡ choice_of chooser.old }
+    ensures first { first_of chooser.new ≡ first_then (choice_of chooser.old)
+        (first_of chooser.old) (Ok (any.event_seen piece.now piece_event)) }
+    ensures payload { IfOk result (λ it. IfSome it (PayloadLiesIn buffer.new.items)) }
+    ensures moment { IfOk result (λ it. IfSome it (IsBy latest_moment)) }
+    ensures length { vec_len buffer.new ≤ most_captured }
+    ensures end { piece_event ≡ any_event.End → result ≡ Ok (Some End) }
+{
+    match piece_event {
+        Piece::Packet { millis, origin, ip } => {
+            packet_of(millis, origin, &ip, chooser, piece, buffer)
+        }
+        Piece::Skipped { millis, why } => Ok(Some(Event::Skipped { millis, why })),
+        Piece::End => Ok(Some(Event::End)),
+        _ => Ok(None),
+    }
+}
+
+impl<R: Feed> Chosen<R> {
+    /// The container of a device, of which nothing was read.
+    pub(crate) fn new(alloc: Global, device: R, choice: Choice) -> Self
+        ensures coming { chosen_coming R.remaining result
+            ≡ option_map (answers_by choice) (R.remaining device) }
+        ensures failures { chosen_failures R.failures result ≡ R.failures device }
+        ensures left { chosen_left result ≡ 4294967296 }
+    {
+        Chosen {
+            reader: Reader::new(alloc, device),
+            chooser: Chooser::new(choice),
+            piece: Vec::new(alloc),
+        }
+    }
+
+    /// Reads one piece. Returns its event, if it is a record that is taken, or the end.
+    fn step(&mut self, buffer: &mut Vec<u8>) -> Result<Option<Event>, CaptureFault>
+        requires length { vec_len buffer.old ≤ most_captured }
+        ensures answer { Steps (chosen_failures R.failures self.old)
+            (chosen_failures R.failures self.new) (chosen_coming R.remaining self.old)
+            (chosen_coming R.remaining self.new) buffer.new.items result }
+        ensures reads { CountsReads ⊤ (chosen_failures R.failures self.old)
+            (chosen_failures R.failures self.new) result }
+        ensures left { chosen_left self.new + step_count result ≤ chosen_left self.old }
+        ensures payload { IfOk result (λ it. IfSome it (PayloadLiesIn buffer.new.items)) }
+        ensures moment { IfOk result (λ it. IfSome it (IsBy latest_moment)) }
+        ensures length { vec_len buffer.new ≤ most_captured }
+    {
+        let event = match self.reader.next(&mut self.piece) {
+            Ok(event) => event,
+            Err(fault) => return Err(fault_of(fault)),
+        };
+        event_of(event, &mut self.chooser, self.piece.as_slice(), buffer)
+    }
+
+    /// Reads up to the next record that is taken, or the end.
+    ///
+    /// # Errors
+    /// The first fault of the container, or packets of more than one link where none is chosen.
+    pub(crate) fn next(&mut self, buffer: &mut Vec<u8>) -> Result<Event, CaptureFault>
+        requires length { vec_len buffer.old ≤ most_captured }
+        ensures answer { IsRefusal (chosen_failures R.failures self.old)
+            (chosen_failures R.failures self.new) result
+            ⊎ IsNext (chosen_coming R.remaining self.old) (seen buffer.new.items result)
+            (chosen_coming R.remaining self.new) }
+        ensures reads { CountsReads ⊤ (chosen_failures R.failures self.old)
+            (chosen_failures R.failures self.new) result }
+        ensures left { chosen_left self.new + count_of result ≤ chosen_left self.old }
+        ensures payload { IfOk result (PayloadLiesIn buffer.new.items) }
+        ensures moment { IfOk result (IsBy latest_moment) }
+        ensures length { vec_len buffer.new ≤ most_captured }
+    {
+        loop {
+            if let Some(event) = self.step(buffer)? {
+                return Ok(event);
+            }
+        }
+    }
+}

@@ -1,0 +1,53 @@
+//! What the records of a lane are read from.
+
+ghost use Rattle.std.specs.Prelude.{◌≡◌, ◌+◌, ◌≤◌, ◌⊎◌, IfOk, max, vec_len, vec_capacity};
+ghost use Rattle.pim_capture.specs.Capture.{most_captured};
+ghost use Rattle.pim_capture.specs.Next.{seen, PayloadLiesIn, IsBy, latest_moment, LacksRoom};
+ghost use Rattle.pim_capture.specs.Next.{IsNext, IsRefusal, CountsReads, OnMemory};
+ghost use Rattle.pim_merge.specs.Source.{coming, failures_in, left_in, passes_over, HadAllIf};
+ghost use Rattle.pim_merge.specs.Source.{room_in, size_in, count_of};
+
+use crate::chosen::Chosen;
+use pim_addr::Feed;
+use pim_capture::{Capture, CaptureFault, Event};
+
+/// A classic capture, or any container of which packets are taken by a choice.
+#[derive(Drop)]
+pub(crate) enum Source<R> {
+    /// A classic capture.
+    Classic(Capture<R>),
+    /// Any container.
+    Any(Chosen<R>),
+}
+
+impl<R: Feed> Source<R> {
+    /// Reads the next record. The buffer then has its bytes.
+    ///
+    /// # Errors
+    /// The first fault, a failed read, or refused memory.
+    pub(crate) fn next(&mut self, buffer: &mut Vec<u8>) -> Result<Event, CaptureFault>
+        requires length { vec_len buffer.old ≤ most_captured }
+        ensures answer { IsRefusal (failures_in R.failures self.old)
+            (failures_in R.failures self.new) result
+            ⊎ IsNext (coming R.remaining self.old) (seen buffer.new.items result)
+            (coming R.remaining self.new) }
+        ensures reads { CountsReads (HadAllIf (passes_over self.old) (left_in self.old))
+            (failures_in R.failures self.old) (failures_in R.failures self.new) result }
+        ensures left { left_in self.new + count_of result ≤ left_in self.old }
+        ensures memory { OnMemory result (LacksRoom (room_in self.old (vec_capacity buffer.old))
+            (size_in R.remaining self.old)) }
+        ensures room { (room_in self.new (vec_capacity buffer.new)
+            ≡ room_in self.old (vec_capacity buffer.old))
+            ⊎ (room_in self.new (vec_capacity buffer.new)
+            ≡ max (room_in self.old (vec_capacity buffer.old)) (vec_len buffer.new)) }
+        ensures length { vec_len buffer.new ≤ most_captured }
+        ensures payload { IfOk result (PayloadLiesIn buffer.new.items) }
+        ensures moment { IfOk result (IsBy latest_moment) }
+        ensures passes { passes_over self.new ≡ passes_over self.old }
+    {
+        match self {
+            Source::Classic(capture) => capture.next(buffer),
+            Source::Any(chosen) => chosen.next(buffer),
+        }
+    }
+}
