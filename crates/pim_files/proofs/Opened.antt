@@ -1,24 +1,29 @@
 -- Captures that are opened one by one.
-use Rattle.std.proofs.Common.{◌≡◌, ◌∙◌, sym, ap, subst, refl, ℕ, suc, ◌<◌, Bool, cond, true, false, List, [], ◌∷◌, ◌++◌, length, take, drop, get_or, map, option_map, Option, None, Some, append-nil, take-suc, drop-cons}
+use Rattle.std.proofs.Common.{◌≡◌, ◌∙◌, ◌+◌, sym, ap, subst, refl, arith, ℕ, suc, ◌<◌, Bool, cond, true, false, List, [], ◌∷◌, ◌++◌, length, take, drop, get_or, map, option_map, Option, None, Some, append-nil, take-suc, drop-cons}
 use Rattle.std.specs.Prelude.{IsSome, IfSome}
 use Rattle.std.specs.List.{filter}
-use Rattle.std.proofs.lemmas.List.{take-append-drop, map-append}
+use Rattle.std.proofs.lemmas.List.{take-append-drop, map-append, length-map, length-append}
 use Rattle.std.proofs.lemmas.List.Elements.{filter-append}
 use Rattle.std.proofs.lemmas.Bool.{false≢true}
-use Rattle.pim_capture.specs.Capture.{answers}
+use Rattle.pim_capture.specs.Capture.{Answer, answers}
 use Rattle.pim_merge.specs.Lane.{LaneState, coming_on}
 use Rattle.pim_words.specs.declared.fault.Side.{Side}
 use Rattle.pim_words.specs.declared.task.Port.{Port}
 use Rattle.pim_words.specs.Faults.{is_side}
 use Rattle.pim_files.specs.declared.fault.OpenFault.{OpenFault}
 use Rattle.pim_files.specs.Files.{Files, Known, AsksFor}
-use Rattle.pim_files.specs.Captures.{file_name, IsPortFault, AreContents, CanOpen, AreFiles, HoldFiles, StopsAtPort, is_of, AddsLane}
+use Rattle.pim_files.specs.Captures.{file_name, IsPortFault, AreContents, CanOpen, AreFiles, HoldFilesBy, HoldFiles, StopsAtPort, is_of, one_of, AddsLane}
 use Rattle.pim_files.proofs.Asked.{asks_more}
 
 -- no captures of no ports
-pub none_held : (A : Type 0) (known : Option Files) (lanes : List LaneState) → lanes ≡ [] → HoldFiles {A = A} known [] lanes
-none_held A None lanes none = tt
-none_held A (Some files) lanes none = record { contents = []; are = refl; coming = ap (map coming_on) none }
+pub none_held : (A : Type 0) (results : List ℕ → List Answer) (known : Option Files) (lanes : List LaneState) → lanes ≡ [] → HoldFilesBy {A = A} results known [] lanes
+none_held A results None lanes none = tt
+none_held A results (Some files) lanes none = record { contents = []; are = refl; coming = ap (map coming_on) none }
+
+-- one capture more
+pub lanes_more : (lanes lanes' : List LaneState) (one : Option (List Answer)) → map coming_on lanes' ≡ map coming_on lanes ++ one ∷ [] → length lanes' ≡ length lanes + 1
+lanes_more lanes lanes' one more =
+    sym (length-map lanes' coming_on) ∙ ap length more ∙ length-append (map coming_on lanes) (one ∷ []) ∙ ap (λ n. n + 1) (length-map lanes coming_on)
 
 -- no ports can be opened
 pub none_present : (A : Type 0) (known : Option Files) → CanOpen {A = A} known []
@@ -40,48 +45,60 @@ module _ {A : Type 0} where
       subst (AsksFor a c) (sym (ap (map file_name) (one_more_port ports place next port is below here) ∙ map-append file_name (take place ports) (port ∷ [])))
       (asks_more a b c (map file_name (take place ports)) (file_name port ∷ []) p q)
 
+  counted : (b : Bool) (port : Port A) (ports : List (Port A)) → length (cond b (port ∷ ports) ports) ≡ cond b 1 0 + length ports
+  counted true port ports = omega arith
+  counted false port ports = omega arith
+
+  -- the ports of a router from a place on
+  pub one_less_of : (side : Side) (ports : List (Port A)) (place next : ℕ) (port : Port A) → next ≡ suc place → place < length ports → port ≡ get_or ports place port
+      → length (filter (is_of side) (drop place ports)) ≡ one_of side port.side + length (filter (is_of side) (drop next ports))
+  one_less_of side ports place next port is below here =
+      ap (λ l. length (filter (is_of side) l)) (drop-cons ports place port below ∙ ap (λ p. p ∷ drop (suc place) ports) (sym here))
+      ∙ counted (is_side side port.side) port (filter (is_of side) (drop (suc place) ports))
+      ∙ ap (λ n. one_of side port.side + length (filter (is_of side) (drop n ports))) (sym is)
+
   -- ---- captures
 
-  one_more_content : (files : Files) (ports : List (Port A)) (port : Port A) (held remaining : Option (List ℕ)) (lanes lanes' : List LaneState)
-      → files (file_name port) ≡ held → AreFiles files ports lanes → IsSome held × (remaining ≡ held)
-      → map coming_on lanes' ≡ map coming_on lanes ++ option_map answers remaining ∷ [] → AreFiles files (ports ++ port ∷ []) lanes'
-  one_more_content files ports port None remaining lanes lanes' is are opened more = absurd (false≢true opened.0)
-  one_more_content files ports port (Some content) remaining lanes lanes' is are opened more = record {
+  one_more_content : (results : List ℕ → List Answer) (files : Files) (ports : List (Port A)) (port : Port A) (held remaining : Option (List ℕ)) (lanes lanes' : List LaneState)
+      → files (file_name port) ≡ held → AreFiles results files ports lanes → IsSome held × (remaining ≡ held)
+      → map coming_on lanes' ≡ map coming_on lanes ++ option_map results remaining ∷ [] → AreFiles results files (ports ++ port ∷ []) lanes'
+  one_more_content results files ports port None remaining lanes lanes' is are opened more = absurd (false≢true opened.0)
+  one_more_content results files ports port (Some content) remaining lanes lanes' is are opened more = record {
     contents = are.contents ++ content ∷ [];
     are = map-append (λ p. files (file_name p)) ports (port ∷ [])
         ∙ ap (λ l. l ++ files (file_name port) ∷ []) are.are
         ∙ ap (λ o. map Some are.contents ++ o ∷ []) is
         ∙ sym (map-append Some are.contents (content ∷ []));
     coming = more
-        ∙ ap (λ l. l ++ option_map answers remaining ∷ []) are.coming
-        ∙ ap (λ o. map Some (map answers are.contents) ++ option_map answers o ∷ []) opened.1
-        ∙ sym (map-append Some (map answers are.contents) (answers content ∷ []))
-        ∙ sym (ap (map Some) (map-append answers are.contents (content ∷ [])));
+        ∙ ap (λ l. l ++ option_map results remaining ∷ []) are.coming
+        ∙ ap (λ o. map Some (map results are.contents) ++ option_map results o ∷ []) opened.1
+        ∙ sym (map-append Some (map results are.contents) (results content ∷ []))
+        ∙ sym (ap (map Some) (map-append results are.contents (content ∷ [])));
   }
 
   -- one more capture
-  one_more_held : (known : Option Files) (ports : List (Port A)) (port : Port A) (remaining : Option (List ℕ)) (lanes lanes' : List LaneState)
-      → HoldFiles known ports lanes → IfSome known (λ files. IsSome (files (file_name port)) × (remaining ≡ files (file_name port)))
-      → map coming_on lanes' ≡ map coming_on lanes ++ option_map answers remaining ∷ [] → HoldFiles known (ports ++ port ∷ []) lanes'
-  one_more_held None ports port remaining lanes lanes' are opened more = tt
-  one_more_held (Some files) ports port remaining lanes lanes' are opened more =
-      one_more_content files ports port (files (file_name port)) remaining lanes lanes' refl are opened more
+  one_more_held : (results : List ℕ → List Answer) (known : Option Files) (ports : List (Port A)) (port : Port A) (remaining : Option (List ℕ)) (lanes lanes' : List LaneState)
+      → HoldFilesBy results known ports lanes → IfSome known (λ files. IsSome (files (file_name port)) × (remaining ≡ files (file_name port)))
+      → map coming_on lanes' ≡ map coming_on lanes ++ option_map results remaining ∷ [] → HoldFilesBy results known (ports ++ port ∷ []) lanes'
+  one_more_held results None ports port remaining lanes lanes' are opened more = tt
+  one_more_held results (Some files) ports port remaining lanes lanes' are opened more =
+      one_more_content results files ports port (files (file_name port)) remaining lanes lanes' refl are opened more
 
   -- the capture of the port at this place
-  pub one_more_lane : (known known' : Option Files) (ports : List (Port A)) (place next : ℕ) (port : Port A) (remaining : Option (List ℕ)) (lanes lanes' : List LaneState)
+  pub one_more_lane : (results : List ℕ → List Answer) (known known' : Option Files) (ports : List (Port A)) (place next : ℕ) (port : Port A) (remaining : Option (List ℕ)) (lanes lanes' : List LaneState)
       → known' ≡ known → next ≡ suc place → place < length ports → port ≡ get_or ports place port
-      → HoldFiles known (take place ports) lanes → IfSome known' (λ files. IsSome (files (file_name port)) × (remaining ≡ files (file_name port)))
-      → map coming_on lanes' ≡ map coming_on lanes ++ option_map answers remaining ∷ [] → HoldFiles known (take next ports) lanes'
-  one_more_lane known known' ports place next port remaining lanes lanes' same is below here are opened more =
-      subst (λ l. HoldFiles known l lanes') (sym (one_more_port ports place next port is below here))
-      (one_more_held known (take place ports) port remaining lanes lanes' are
+      → HoldFilesBy results known (take place ports) lanes → IfSome known' (λ files. IsSome (files (file_name port)) × (remaining ≡ files (file_name port)))
+      → map coming_on lanes' ≡ map coming_on lanes ++ option_map results remaining ∷ [] → HoldFilesBy results known (take next ports) lanes'
+  one_more_lane results known known' ports place next port remaining lanes lanes' same is below here are opened more =
+      subst (λ l. HoldFilesBy results known l lanes') (sym (one_more_port ports place next port is below here))
+      (one_more_held results known (take place ports) port remaining lanes lanes' are
       (subst (λ (k : Option Files). IfSome k (λ files. IsSome (files (file_name port)) × (remaining ≡ files (file_name port)))) same opened) more)
 
   -- ---- a port whose file isn't open
 
-  present : (known : Option Files) (ports : List (Port A)) (lanes : List LaneState) → HoldFiles known ports lanes → CanOpen known ports
-  present None ports lanes are = tt
-  present (Some files) ports lanes are = (are.contents, are.are)
+  present : (results : List ℕ → List Answer) (known : Option Files) (ports : List (Port A)) (lanes : List LaneState) → HoldFilesBy results known ports lanes → CanOpen known ports
+  present results None ports lanes are = tt
+  present results (Some files) ports lanes are = (are.contents, are.are)
 
   pub stops_after : (known known' : Option Files) (ports : List (Port A)) (place : ℕ) (port : Port A) (fault : OpenFault)
       → known' ≡ known → place < length ports → port ≡ get_or ports place port → CanOpen known (take place ports) → IsPortFault known' port fault → StopsAtPort known ports fault
@@ -94,10 +111,10 @@ module _ {A : Type 0} where
     opened = are;
   }
 
-  pub stops : (known known' : Option Files) (ports : List (Port A)) (place : ℕ) (port : Port A) (lanes : List LaneState) (fault : OpenFault)
-      → known' ≡ known → place < length ports → port ≡ get_or ports place port → HoldFiles known (take place ports) lanes → IsPortFault known' port fault → StopsAtPort known ports fault
-  stops known known' ports place port lanes fault same below here are wrong =
-      stops_after known known' ports place port fault same below here (present known (take place ports) lanes are) wrong
+  pub stops : (results : List ℕ → List Answer) (known known' : Option Files) (ports : List (Port A)) (place : ℕ) (port : Port A) (lanes : List LaneState) (fault : OpenFault)
+      → known' ≡ known → place < length ports → port ≡ get_or ports place port → HoldFilesBy results known (take place ports) lanes → IsPortFault known' port fault → StopsAtPort known ports fault
+  stops results known known' ports place port lanes fault same below here are wrong =
+      stops_after known known' ports place port fault same below here (present results known (take place ports) lanes are) wrong
 
   -- ---- two routers
 
@@ -108,7 +125,7 @@ module _ {A : Type 0} where
   one_more_if : (known : Option Files) (ports : List (Port A)) (port : Port A) (remaining : Option (List ℕ)) (lanes lanes' : List LaneState) (b : Bool)
       → HoldFiles known ports lanes → IfSome known (λ files. IsSome (files (file_name port)) × (remaining ≡ files (file_name port)))
       → map coming_on lanes' ≡ map coming_on lanes ++ cond b (option_map answers remaining ∷ []) [] → HoldFiles known (ports ++ cond b (port ∷ []) []) lanes'
-  one_more_if known ports port remaining lanes lanes' true are opened more = one_more_held known ports port remaining lanes lanes' are opened more
+  one_more_if known ports port remaining lanes lanes' true are opened more = one_more_held answers known ports port remaining lanes lanes' are opened more
   one_more_if known ports port remaining lanes lanes' false are opened more =
       subst (λ l. HoldFiles known l lanes') (sym (append-nil ports)) (coming_same known ports lanes lanes' (more ∙ append-nil (map coming_on lanes)) are)
 

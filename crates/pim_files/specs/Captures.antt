@@ -1,8 +1,10 @@
 -- The captures of ports that are opened one by one. `known` is what files hold, where it is known.
 use Rattle.std.specs.Prelude.{◌≡◌, ⊤, ℕ, Bool, cond, List, [], ◌∷◌, ◌++◌, map}
 use Rattle.std.specs.Prelude.{Option, None, Some, IsSome, IfSome, option_map}
-use Rattle.pim_capture.specs.Capture.{answers}
+use Rattle.pim_capture.specs.Capture.{Answer, answers}
+use Rattle.pim_container.specs.declared.choice.Choice.{Choice}
 use Rattle.pim_merge.specs.Lane.{LaneState, IsComing, coming_on}
+use Rattle.pim_merge.specs.Chosen.{answers_by}
 use Rattle.pim_words.specs.declared.fault.Side.{Side}
 use Rattle.pim_words.specs.declared.task.Port.{Port}
 use Rattle.pim_words.specs.Faults.{is_side}
@@ -39,16 +41,26 @@ AreContents files ports contents = map (λ port. files (file_name port)) ports �
 abbrev pub CanOpen : {A : Type 0} → Option Files → List (Port A) → Type 0
 CanOpen known ports = IfSome known (λ files. (contents : List (List ℕ)) × AreContents files ports contents)
 
+-- The results for the bytes of a file: of any container by this choice, or of a classic capture.
+abbrev pub results_by : Option Choice → List ℕ → List Answer
+results_by None = answers
+results_by (Some choice) = answers_by choice
+
 -- These captures are those of the ports' files, in their order. Nothing of them is read: each has
--- all results of its file to return.
-pub record AreFiles {A : Type 0} (files : Files) (ports : List (Port A)) (lanes : List LaneState) : Type 0 where
+-- all results of its file to return. `results` gives those for the bytes of a file.
+pub record AreFiles {A : Type 0} (results : List ℕ → List Answer) (files : Files) (ports : List (Port A))
+    (lanes : List LaneState) : Type 0 where
   pub contents : List (List ℕ)
   pub are : AreContents files ports contents
-  pub coming : IsComing lanes (map answers contents)
+  pub coming : IsComing lanes (map results contents)
 
 -- The same, where it is known what files hold.
+abbrev pub HoldFilesBy : {A : Type 0} → (List ℕ → List Answer) → Option Files → List (Port A) → List LaneState → Type 0
+HoldFilesBy results known ports lanes = IfSome known (λ files. AreFiles results files ports lanes)
+
+-- The same for classic captures.
 abbrev pub HoldFiles : {A : Type 0} → Option Files → List (Port A) → List LaneState → Type 0
-HoldFiles known ports lanes = IfSome known (λ files. AreFiles files ports lanes)
+HoldFiles known ports lanes = HoldFilesBy answers known ports lanes
 
 -- This port's file isn't open. It is the first such one: the files of the ports before it can be
 -- opened.

@@ -1,15 +1,20 @@
 //! The captures of a router.
 
-ghost use Rattle.std.specs.Prelude.{◌≡◌, [], ◌∷◌, length, map, None, IfOk, IfErr, MatchResult};
+ghost use Rattle.std.specs.Prelude.{◌≡◌, [], ◌∷◌, ◌++◌, length, map, None, IfOk, IfErr, MatchResult};
+ghost use Rattle.std.specs.Prelude.{option_map};
+ghost use Rattle.pim_merge.specs.Lane.{coming_on};
+ghost use Rattle.pim_merge.specs.Chosen.{answers_by};
 ghost use Rattle.pim_files.specs.Files.{AsksFor, AsksAll};
 ghost use Rattle.pim_files.specs.Captures.{file_name, IsReaderOf, IsPortFault};
-ghost use Rattle.pim_files.specs.Captures.{HoldFiles, StopsAtPort};
+ghost use Rattle.pim_files.specs.Captures.{HoldFiles, HoldFilesBy, StopsAtPort, results_by};
 
 use crate::fault::OpenFault;
 use crate::opener::{Opener, Unopened};
+use pim_addr::Feed;
+use pim_container::Choice;
 use pim_merge::Merge;
 use pim_words::Port;
-use std::alloc::Global;
+use std::alloc::{AllocError, Global};
 
 /// Opens the capture of a port.
 ///
@@ -32,7 +37,50 @@ pub fn open_port<'a, A, O: Opener>(
     }
 }
 
+/// Appends the capture of a reader: any container with this choice, or without one a classic
+/// capture.
+fn add_by<R: Feed + Drop>(
+    merge: &mut Merge<R>,
+    alloc: Global,
+    reader: R,
+    choice: Option<Choice>,
+) -> Result<(), AllocError>
+    ensures coming { IfOk result (λ _. map coming_on merge.new.lanes ≡
+        map coming_on merge.old.lanes ++ option_map (results_by choice) (R.remaining reader) ∷ []) }
+    ensures clock { merge.new.clock ≡ merge.old.clock }
+{
+    match choice {
+        Some(choice) => merge.add_any(alloc, reader, choice),
+        None => merge.add(alloc, reader),
+    }
+}
+
 /// Opens the capture of each port, in the order of the words. Nothing is read.
+fn open_by<'a, A, O: Opener>(
+    alloc: Global,
+    opener: &mut O,
+    ports: &[Port<'a, A>],
+    choice: Option<Choice>,
+) -> Result<Merge<O::Reader>, OpenFault<'a>>
+    ensures each { IfOk result (λ merge. length merge.lanes ≡ length ports.now) }
+    ensures untaken { IfOk result (λ merge. merge.clock ≡ None) }
+    ensures opened { IfOk result (λ merge.
+        HoldFilesBy (results_by choice) (O.known opener.old).files ports.now merge.lanes) }
+    ensures fault { IfErr result (StopsAtPort (O.known opener.old).files ports.now) }
+    ensures asked { AsksAll (O.known opener.old) (O.known opener.new) (map file_name ports.now)
+        result }
+{
+    let mut merge = Merge::new(alloc);
+    for port in ports {
+        let reader = open_port(alloc, opener, port)?;
+        let Ok(()) = add_by(&mut merge, alloc, reader, choice) else {
+            return Err(OpenFault::Memory);
+        };
+    }
+    Ok(merge)
+}
+
+/// Opens the classic capture of each port, in the order of the words. Nothing is read.
 ///
 /// # Errors
 /// That of the first port whose capture isn't open.
@@ -49,12 +97,26 @@ pub fn open_all<'a, A, O: Opener>(
     ensures asked { AsksAll (O.known opener.old) (O.known opener.new) (map file_name ports.now)
         result }
 {
-    let mut merge = Merge::new(alloc);
-    for port in ports {
-        let reader = open_port(alloc, opener, port)?;
-        let Ok(()) = merge.add(alloc, reader) else {
-            return Err(OpenFault::Memory);
-        };
-    }
-    Ok(merge)
+    open_by(alloc, opener, ports, None)
+}
+
+/// Opens the capture of each port, in any container, with a choice of its packets. Nothing is read.
+///
+/// # Errors
+/// That of the first port whose capture isn't open.
+pub fn open_any<'a, A, O: Opener>(
+    alloc: Global,
+    opener: &mut O,
+    ports: &[Port<'a, A>],
+    choice: Choice,
+) -> Result<Merge<O::Reader>, OpenFault<'a>>
+    ensures each { IfOk result (λ merge. length merge.lanes ≡ length ports.now) }
+    ensures untaken { IfOk result (λ merge. merge.clock ≡ None) }
+    ensures opened { IfOk result (λ merge.
+        HoldFilesBy (answers_by choice) (O.known opener.old).files ports.now merge.lanes) }
+    ensures fault { IfErr result (StopsAtPort (O.known opener.old).files ports.now) }
+    ensures asked { AsksAll (O.known opener.old) (O.known opener.new) (map file_name ports.now)
+        result }
+{
+    open_by(alloc, opener, ports, Some(choice))
 }

@@ -1,14 +1,14 @@
 use Rattle.std.proofs.Common.{subst, ap, ◌∙◌, arith, ◌+◌, List, length, map}
 use Rattle.std.specs.List.{filter}
-use Rattle.std.proofs.lemmas.Grind.{common_steps}
 use Rattle.std.proofs.lemmas.List.{take_all}
 use Rattle.std.proofs.lemmas.Result.{err_from_is_err_and}
+use Rattle.pim_capture.specs.Capture.{answers}
 use Rattle.pim_words.specs.declared.task.Port.{Port}
 use Rattle.pim_words.specs.declared.fault.Side.TheVariants.{A, B}
 use Rattle.pim_files.specs.Files.{AsksFor}
 use Rattle.pim_files.specs.Captures.{file_name, is_of, HoldFiles}
 use Rattle.pim_files.proofs.Asked.{asks_none, some_in_front}
-use Rattle.pim_files.proofs.Opened.{one_more_name, none_held, one_more_of, none_present, one_more_present, stops_after}
+use Rattle.pim_files.proofs.Opened.{one_less_of, one_more_name, none_held, one_more_of, none_present, one_more_present, stops_after}
 use Rattle.pim_files.proofs.pair.open_both.Goals as goal
 
 pub loop-port-init : goal.loop-port-init
@@ -19,14 +19,24 @@ loop-port-init g c = record {
   untaken_of_b = c.new-2.ensures.clock;
   asked = asks_none (g.O.Opener.known c.args.opener.now);
   present = none_present g.row.A.Denot (g.O.Opener.known c.args.opener.now).files;
-  held_of_a = none_held g.row.A.Denot (g.O.Opener.known c.args.opener.now).files c.new.result.lanes c.new.ensures.lanes;
-  held_of_b = none_held g.row.A.Denot (g.O.Opener.known c.args.opener.now).files c.new-2.result.lanes c.new-2.ensures.lanes;
+  held_of_a = none_held g.row.A.Denot answers (g.O.Opener.known c.args.opener.now).files c.new.result.lanes c.new.ensures.lanes;
+  held_of_b = none_held g.row.A.Denot answers (g.O.Opener.known c.args.opener.now).files c.new-2.result.lanes c.new-2.ensures.lanes;
 }
 
 pub loop-port-preserved : goal.loop-port-preserved
 loop-port-preserved g c = record {
-  each_of_a = grind (arith, common_steps);
-  each_of_b = grind (arith, common_steps);
+  each_of_a = omega (
+    arith,
+    one_less_of A c.args.ports.now c.loop-port.port-index (c.loop-port.port-index + 1) c.port-item.result (omega arith) c.loop-port-test.true c.port-item.is,
+    c.in-Ok.ensures.a,
+    c.loop-port.invariant.each_of_a,
+  );
+  each_of_b = omega (
+    arith,
+    one_less_of B c.args.ports.now c.loop-port.port-index (c.loop-port.port-index + 1) c.port-item.result (omega arith) c.loop-port-test.true c.port-item.is,
+    c.in-Ok.ensures.b,
+    c.loop-port.invariant.each_of_b,
+  );
   untaken_of_a = c.add_to.ensures.clock_of_a ∙ c.loop-port.invariant.untaken_of_a;
   untaken_of_b = c.add_to.ensures.clock_of_b ∙ c.loop-port.invariant.untaken_of_b;
   asked = one_more_name (g.O.Opener.known c.args.opener.now) (g.O.Opener.known c.loop-port.opener) (g.O.Opener.known c.open_port.new.opener) c.args.ports.now
