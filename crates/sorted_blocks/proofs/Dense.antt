@@ -5,10 +5,9 @@ use Rattle.std.proofs.Math.Nat.{suc-mul, zero-mul}
 use Rattle.std.proofs.lemmas.Bool.{cases_lt, false≢true}
 use Rattle.std.proofs.lemmas.List.{length-set, length-take-le, get_or-set_other, get_or-set_same}
 use Rattle.std.proofs.lemmas.List.Edits.{length-insert, length-remove, get_or-remove_below, get_or-remove_above, get_or-insert_below, get_or-insert_at, get_or-insert_above}
-use Rattle.sorted_blocks.specs.Shape.{Shape, joined, cut}
+use Rattle.sorted_blocks.specs.Shape.{Shape, joined}
 use Rattle.sorted_blocks.specs.Sound.{AllFilled, IsDense, IsDenseIn}
 use Rattle.sorted_blocks.proofs.Counted.{filled-get}
-use Rattle.sorted_blocks.proofs.Cuts.{cut-below, cut-above, length-cut}
 
 pub not_short : (n half : ℕ) → (n ≤ half → IsTrue false) → half < n
 not_short n half f = elim (cases_lt half n) [
@@ -98,23 +97,6 @@ module _ {A : Type 0} where
       ]
 
   -- a block of one item that goes: its neighbours are long enough
-  -- blocks that go spoil the pair at which they stood alone
-  pub front-cut : (half : ℕ) (bs : List (List A)) (i n : ℕ) → i + n ≤ length bs → IsDense half bs → IsDenseIn half (cut bs i n) 0 i
-  unfolding IsDenseIn
-  front-cut half bs i n w d j l k =
-      let a = ap length (cut-below bs i n j [] (omega (arith, w)) (omega (arith, k))) in
-      let b = ap length (cut-below bs i n (j + 1) [] (omega (arith, w)) k) in
-      omega (arith, a, b, d j l (omega (arith, k, w)))
-
-  pub back-cut : (half : ℕ) (bs : List (List A)) (i n : ℕ) → i + n ≤ length bs → IsDense half bs → IsDenseIn half (cut bs i n) i (length (cut bs i n))
-  unfolding IsDenseIn
-  back-cut half bs i n w d j l k =
-      let a = ap length (cut-above bs i n j [] (omega (arith, w)) l) in
-      let b = ap length (cut-above bs i n (j + 1) [] (omega (arith, w)) (omega (arith, l))) in
-      let next : j + 1 + n ≡ j + n + 1 = omega arith in
-      let e = ap (λ m. long bs m) next in
-      omega (arith, a, b, e, d (j + n) (omega arith) (omega (arith, k, length-cut bs i n w)))
-
   pub dense-remove : (half : ℕ) (bs : List (List A)) (i : ℕ) → AllFilled half bs → i < length bs → long bs i ≡ 1 → IsDense half bs → IsDense half (remove bs i)
   unfolding IsDenseIn
   dense-remove half bs i filled h one d j l n =

@@ -1,10 +1,9 @@
 -- What an edit of a block is to the list of all items.
-use Rattle.std.proofs.Common.{◌≡◌, ℕ, zero, suc, ◌+◌, ◌-◌, ◌<◌, ◌≤◌, List, [], ◌∷◌, ◌++◌, length, get_or, set, take, drop, refl, sym, ap, ap₂, ◌∙◌, arith, length-append, append_assoc, zero-add}
+use Rattle.std.proofs.Common.{◌≡◌, ℕ, zero, suc, ◌+◌, ◌-◌, ◌<◌, ◌≤◌, List, [], ◌∷◌, ◌++◌, length, get_or, set, take, drop, refl, sym, ap, ◌∙◌, arith, length-append, append_assoc, zero-add}
 use Rattle.std.specs.List.{insert, remove}
-use Rattle.std.proofs.lemmas.List.{take-append-drop, take_at, drop_at, get_or_append_left, get_or-append-add}
+use Rattle.std.proofs.lemmas.List.{take-append-drop, get_or_append_left, get_or-append-add}
 use Rattle.std.proofs.lemmas.List.Edits.{insert-append_left, insert-append_right, remove-append_left, remove-append_right}
-use Rattle.sorted_blocks.specs.Shape.{joined, cut}
-use Rattle.sorted_blocks.proofs.Cuts.{cut-append_left, cut-append_right}
+use Rattle.sorted_blocks.specs.Shape.{joined}
 
 module _ {A : Type 0} where
   -- how many items stand before the block of this number
@@ -43,30 +42,6 @@ module _ {A : Type 0} where
       let n = length-append b (joined (take i bs)) in
       let m : start (b ∷ bs) (suc i) - length b ≡ start bs i = omega (arith, n) in
       ap (λ xs. b ++ xs) r ∙ ap (λ k. b ++ remove (joined bs) k) (sym m) ∙ sym (remove-append_right b (joined bs) (length b) (start (b ∷ bs) (suc i)) refl (omega (arith, n)))
-
-  -- so many items of a block go
-  pub joined-cut : (bs : List (List A)) (i at count : ℕ) → i < length bs → at + count ≤ length (get_or bs i []) → joined (set bs i (cut (get_or bs i []) at count)) ≡ cut (joined bs) (start bs i + at) count
-  joined-cut [] i at count h l = absurd (omega arith)
-  joined-cut (b ∷ bs) zero at count h l = rw zero-add (sym (cut-append_left b (joined bs) at count l))
-  joined-cut (b ∷ bs) (suc i) at count h l =
-      let r = joined-cut bs i at count (omega arith) l in
-      let n = length-append b (joined (take i bs)) in
-      let m : start (b ∷ bs) (suc i) + at - length b ≡ start bs i + at = omega (arith, n) in
-      ap (λ xs. b ++ xs) r ∙ ap (λ k. b ++ cut (joined bs) k count) (sym m) ∙ sym (cut-append_right b (joined bs) (length b) (start (b ∷ bs) (suc i) + at) count refl (omega (arith, n)))
-
-  joined-append : (bs cs : List (List A)) → joined (bs ++ cs) ≡ joined bs ++ joined cs
-  joined-append [] cs = refl
-  joined-append (b ∷ bs) cs = ap (λ xs. b ++ xs) (joined-append bs cs) ∙ sym (append_assoc b (joined bs) (joined cs))
-
-  -- so many blocks go
-  pub joined-blocks : (bs : List (List A)) (i n gone : ℕ) → start bs (i + n) ≡ start bs i + gone → joined (cut bs i n) ≡ cut (joined bs) (start bs i) gone
-  unfolding cut
-  joined-blocks bs i n gone e =
-      let a = start bs i in
-      let parts : (k : ℕ) → joined bs ≡ joined (take k bs) ++ joined (drop k bs) = λ k. ap joined (sym (take-append-drop k bs)) ∙ joined-append (take k bs) (drop k bs) in
-      let front : take a (joined bs) ≡ joined (take i bs) = ap (take a) (parts i) ∙ take_at (joined (take i bs)) (joined (drop i bs)) a refl in
-      let back : drop (a + gone) (joined bs) ≡ joined (drop (i + n) bs) = ap (drop (a + gone)) (parts (i + n)) ∙ drop_at (joined (take (i + n) bs)) (joined (drop (i + n) bs)) (a + gone) e in
-      joined-append (take i bs) (drop (i + n) bs) ∙ sym (ap₂ (λ p q. p ++ q) front back)
 
   pub joined-split : (half : ℕ) (bs : List (List A)) (i : ℕ) → i < length bs → joined (insert (set bs i (take half (get_or bs i []))) (suc i) (drop half (get_or bs i []))) ≡ joined bs
   joined-split half [] i h = absurd (omega arith)

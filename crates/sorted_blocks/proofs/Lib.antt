@@ -1,10 +1,8 @@
 pub mod Capacity
 pub mod Counted
-pub mod Cuts
 pub mod Dense
 pub mod Finding
 pub mod Firsts
-pub mod Gone
 pub mod Joined
 pub mod Kept
 pub mod LeftOver

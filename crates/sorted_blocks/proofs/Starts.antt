@@ -1,9 +1,8 @@
 -- Where blocks start after an edit.
-use Rattle.std.proofs.Common.{◌≡◌, ℕ, zero, suc, ◌+◌, ◌<◌, ◌≤◌, List, [], ◌∷◌, length, get_or, set, take, refl, ap, arith, length-append}
+use Rattle.std.proofs.Common.{◌≡◌, ℕ, zero, suc, ◌+◌, ◌<◌, List, [], ◌∷◌, length, get_or, set, take, refl, ap, arith, length-append}
 use Rattle.std.specs.List.{insert, remove}
 use Rattle.std.proofs.lemmas.List.{take-set}
-use Rattle.sorted_blocks.specs.Shape.{joined, cut}
-use Rattle.sorted_blocks.proofs.Cuts.{take-cut}
+use Rattle.sorted_blocks.specs.Shape.{joined}
 use Rattle.sorted_blocks.proofs.Joined.{start}
 
 module _ {A : Type 0} where
@@ -45,6 +44,3 @@ module _ {A : Type 0} where
   start-remove [] i h = absurd (omega arith)
   start-remove (b ∷ bs) zero h = refl
   start-remove (b ∷ bs) (suc i) h = omega (arith, start-remove bs i (omega arith), length-append b (joined (take i bs)), length-append b (joined (take i (remove bs i))))
-
-  pub start-cut : (bs : List (List A)) (i n : ℕ) → i ≤ length bs → start (cut bs i n) i ≡ start bs i
-  start-cut bs i n h = ap (λ xs. length (joined xs)) (take-cut bs i n h)

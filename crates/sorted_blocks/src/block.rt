@@ -7,7 +7,6 @@
 ghost use Rattle.std.specs.Prelude.{◌≡◌, ℕ, ◌+◌, ◌<◌, ◌≤◌, [], ◌++◌, length, take, drop};
 ghost use Rattle.std.specs.Prelude.{slice_index_or, vec_len, vec_capacity, IfOk};
 ghost use Rattle.std.specs.List.{insert, remove};
-ghost use Rattle.sorted_blocks.specs.Shape.{cut};
 
 use std::alloc::{AllocError, Global};
 use std::marker::Model;
@@ -93,32 +92,21 @@ impl<T: Copy, const HALF: usize> Block<T, HALF> {
         }
     }
 
-    /// Takes out the item at this place.
+    /// Takes out the item at this place. It moves the items before it where these are few, else the
+    /// items after it.
     pub(crate) fn take_out(&mut self, at: usize) -> T
         requires { at < length self.old }
         ensures value { result ≡ slice_index_or self.old at result }
         ensures left { self.new ≡ remove self.old at }
     {
-        let item = *self.get(at);
-        self.cut_out(at, 1);
-        item
-    }
-
-    /// Takes out `count` items from this place on. It moves the items before them where these are
-    /// few, else the items after them.
-    // It is inlined, so that taking out one item costs no more than necessary.
-    #[inline(always)]
-    pub(crate) fn cut_out(&mut self, at: usize, count: usize)
-        requires { at + count ≤ length self.old }
-        ensures { self.new ≡ cut self.old at count }
-    {
         let start = self.start;
-        if at <= self.len() / FRONT {
-            self.items.copy_within(start..start + at, start + count);
-            self.start += count;
-            return;
+        if at > self.len() / FRONT {
+            return self.items.remove(start + at);
         }
-        cut_out(&mut self.items, start + at, count);
+        let item = *self.get(at);
+        self.items.copy_within(start..start + at, start + 1);
+        self.start += 1;
+        item
     }
 
     /// Removes all items.
@@ -178,26 +166,13 @@ fn make_room<T: Copy>(items: &mut Vec<T>, start: usize, most: usize) -> usize
 }
 
 /// Removes the first `count` items, and moves the others to the beginning.
-#[tactic(auto, using(crate::proofs::Cuts::cut_first))]
 fn move_down<T: Copy>(items: &mut Vec<T>, count: usize)
     requires { count ≤ vec_len items.old }
     ensures items { items.new.items ≡ drop count items.old.items }
     ensures len { vec_len items.new + count ≡ vec_len items.old }
     ensures capacity { vec_capacity items.new ≡ vec_capacity items.old }
 {
-    cut_out(items, 0, count);
-}
-
-/// Removes `count` items from `at` on, and moves those after them down.
-// It is inlined for the same reason as `Block::cut_out`.
-#[inline(always)]
-pub(crate) fn cut_out<T: Copy>(items: &mut Vec<T>, at: usize, count: usize)
-    requires { at + count ≤ vec_len items.old }
-    ensures items { items.new.items ≡ cut items.old.items at count }
-    ensures len { vec_len items.new + count ≡ vec_len items.old }
-    ensures capacity { vec_capacity items.new ≡ vec_capacity items.old }
-{
     let len = items.len();
-    items.copy_within(at + count..len, at);
+    items.copy_within(count..len, 0);
     items.truncate(len - count);
 }

@@ -1,9 +1,9 @@
 //! The list with its public calls.
 
 ghost use Rattle.std.specs.Prelude.{◌≡◌, ◌+◌, ◌-◌, ◌*◌, ◌<◌, ◌≤◌, [], length, drop, slice_index_or};
-ghost use Rattle.std.specs.Prelude.{OnOk, IsOk, IsTrue, IfSome, IfNone, ◌↔◌};
+ghost use Rattle.std.specs.Prelude.{OnOk, IsOk, IsTrue, ◌↔◌};
 ghost use Rattle.std.specs.List.{All, insert, remove};
-ghost use Rattle.sorted_blocks.specs.Shape.{items, capacity, cut, Shape};
+ghost use Rattle.sorted_blocks.specs.Shape.{items, capacity, Shape};
 ghost use Rattle.sorted_blocks.specs.Places.{before, IsPlace, IsItem};
 ghost use Rattle.sorted_blocks.specs.Found.{IsFound};
 ghost use Rattle.sorted_blocks.specs.declared.place.Place.{Place};
@@ -54,7 +54,7 @@ impl<T: Copy, const HALF: usize> Blocks<T, HALF> {
     }
 
     /// Returns the number of items that fit without memory, for any inserts and removals in
-    /// between. `insert_within`, `remove` and `remove_run` keep it.
+    /// between. `insert_within` and `remove` keep it.
     pub fn capacity(&self) -> usize
         ensures { result ≡ capacity HALF self.now }
     {
@@ -106,28 +106,6 @@ impl<T: Copy, const HALF: usize> Blocks<T, HALF> {
         self.store.remove(place)
     }
 
-    /// Takes out `count` items from this place on, and returns the place of the item that followed
-    /// them. It takes a step for each of their blocks and moves the items of a few blocks. For each
-    /// block that goes as a whole, it moves a record and an item of each later block.
-    pub fn remove_run(&mut self, place: Place, count: usize) -> Place
-        requires place { IsPlace self.old place }
-        requires within { before self.old place + count ≤ length (items self.old) }
-        ensures items { items self.new ≡ cut (items self.old) (before self.old place) count }
-        ensures capacity { capacity HALF self.new ≡ capacity HALF self.old }
-        ensures place { IsPlace self.new result }
-        ensures before { before self.new result ≡ before self.old place }
-    {
-        self.store.remove_run(place, count)
-    }
-
-    /// Returns whether no item is before this place.
-    pub fn is_first(&self, place: Place) -> bool
-        requires { IsPlace self.now place }
-        ensures { IsTrue result ↔ before self.now place ≡ 0 }
-    {
-        self.store.is_first(place)
-    }
-
     /// Returns whether the place is that of an item.
     pub fn is_item(&self, place: Place) -> bool
         ensures { IsTrue result ↔ IsItem self.now place }
@@ -174,26 +152,8 @@ impl<T: Copy, const HALF: usize> Blocks<T, HALF> {
         self.store.settled(place)
     }
 
-    /// Returns the place of the item with `count` more items before it than this place, or `None`
-    /// where the list has no item there. It takes a step for each block in between.
-    pub fn onward(&self, place: Place, count: usize) -> Option<Place>
-        requires { IsPlace self.now place }
-        ensures item { IfSome result (λ there. IsItem self.now there × before self.now there
-            ≡ before self.now place + count) }
-        ensures none { IfNone result (length (items self.now) ≤ before self.now place + count) }
-    {
-        self.store.onward(place, count)
-    }
-
-    /// Returns a walk over all items, in order. It takes no memory. A step reads within a block,
-    /// and looks at the next block only at the end of one.
-    pub fn iter(&self) -> Items<'_, T, HALF>
-        ensures { result ≡ items self.now }
-    {
-        self.store.iter_from(Place::START)
-    }
-
-    /// Returns a walk over the items from this place on. It starts without a search.
+    /// Returns a walk over the items from this place on. It starts without a search, and takes no
+    /// memory. A step reads within a block, and looks at the next block only at the end of one.
     pub fn iter_from(&self, place: Place) -> Items<'_, T, HALF>
         requires { IsPlace self.now place }
         ensures { result ≡ drop (before self.now place) (items self.now) }

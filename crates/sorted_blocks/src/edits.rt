@@ -81,7 +81,7 @@ impl<T: Copy, const HALF: usize> Store<T, HALF> {
 
     /// Returns the place before the items of this block, or after all items where the list has no
     /// block with this number.
-    pub(crate) fn start_of(&self, block: usize) -> Place
+    fn start_of(&self, block: usize) -> Place
         requires { block ≤ length self.now.blocks }
         ensures place { IsPlace self.now result }
         ensures before { before self.now result
@@ -106,7 +106,7 @@ impl<T: Copy, const HALF: usize> Store<T, HALF> {
 
     /// Merges the block of the place with the next one, where both have at most `HALF` items
     /// together. Returns the same place.
-    pub(crate) fn join_behind(&mut self, place: Place) -> Place
+    fn join_behind(&mut self, place: Place) -> Place
         requires block { place.block < length self.old.blocks }
         requires at { place.at ≤ length (block_at self.old.blocks place.block) }
         ensures items { items self.new ≡ items self.old }
@@ -128,7 +128,7 @@ impl<T: Copy, const HALF: usize> Store<T, HALF> {
 
     /// Merges the block of the place with the one before it, where both have at most `HALF` items
     /// together. Returns the same place.
-    pub(crate) fn join_before(&mut self, place: Place) -> Place
+    fn join_before(&mut self, place: Place) -> Place
         requires block { place.block < length self.old.blocks }
         requires at { place.at ≤ length (block_at self.old.blocks place.block) }
         ensures items { items self.new ≡ items self.old }

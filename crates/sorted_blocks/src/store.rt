@@ -3,16 +3,15 @@
 //! The first items of the blocks are in one row beside the blocks, so that a search over the blocks
 //! opens none of them. Spare blocks are freed only with the list.
 
-ghost use Rattle.std.specs.Prelude.{◌≡◌, ◌+◌, ◌-◌, ◌<◌, ◌≤◌, [], ◌∷◌, ◌++◌, length, take, drop};
-ghost use Rattle.std.specs.Prelude.{slice_index_or, vec_len, vec_capacity, OnOk, OnErr};
+ghost use Rattle.std.specs.Prelude.{◌≡◌, ◌+◌, ◌<◌, ◌≤◌, [], ◌∷◌, length, slice_index_or};
+ghost use Rattle.std.specs.Prelude.{OnOk, OnErr};
 ghost use Rattle.std.specs.List.{remove};
 ghost use Rattle.sorted_blocks.specs.Shape.{Shape, joined, block_at, together, put_into, taken_out};
-ghost use Rattle.sorted_blocks.specs.Shape.{split};
-ghost use Rattle.sorted_blocks.specs.Shape.{merged, block_total, cut, cut_from};
+ghost use Rattle.sorted_blocks.specs.Shape.{split, merged, block_total};
 ghost use Rattle.sorted_blocks.specs.Sound.{AllFilled};
 ghost use Rattle.sorted_blocks.specs.Sought.{IsLead};
 
-use crate::block::{Block, cut_out};
+use crate::block::Block;
 use std::alloc::{AllocError, Global};
 use std::marker::Model;
 
@@ -47,33 +46,6 @@ impl<T: Copy, const HALF: usize> Model for Store<T, HALF> {
 
     ghost invariant = { λ b. IsSound HALF b.used.items b.spare.len b.used.cap b.spare.cap b.count
         × IsLed b.used.items b.spare.len b.firsts.items b.firsts.cap };
-}
-
-/// Moves `count` items from `at` on to the end, in order.
-fn turn_to_end<X>(items: &mut [X], at: usize, count: usize)
-    requires { at + count ≤ length items.old }
-    ensures { items.new ≡ take at items.old
-        ++ (drop count (drop at items.old) ++ take count (drop at items.old)) }
-{
-    let (_before, behind) = items.split_at_mut(at);
-    behind.rotate_left(count);
-}
-
-/// Moves `count` items from the end of a vector to the end of another one, which has memory for
-/// them. Their order is reversed.
-fn move_last<X>(from: &mut Vec<X>, to: &mut Vec<X>, count: usize)
-    requires within { count ≤ length from.old.items }
-    requires memory { vec_len to.old + count ≤ vec_capacity to.old }
-    ensures left { from.new.items ≡ take (length from.old.items - count) from.old.items }
-    ensures moved { vec_len to.new ≡ vec_len to.old + count }
-    ensures capacity { vec_capacity from.new ≡ vec_capacity from.old }
-    ensures memory { vec_capacity to.new ≡ vec_capacity to.old }
-{
-    let mut left = count;
-    while left > 0 {
-        left -= 1;
-        to.push_reserved(from.take_last());
-    }
 }
 
 impl<T: Copy, const HALF: usize> Store<T, HALF> {
@@ -255,46 +227,6 @@ impl<T: Copy, const HALF: usize> Store<T, HALF> {
         self.spare.push_reserved(row);
         self.count -= 1;
         item
-    }
-
-    /// Takes `count` items out of a block that keeps others.
-    pub(crate) fn cut_out(&mut self, block: usize, at: usize, count: usize)
-        requires block { block < length self.old.blocks }
-        requires within { at + count ≤ length (block_at self.old.blocks block) }
-        requires others { count < length (block_at self.old.blocks block) }
-        ensures blocks { self.new.blocks ≡ cut_from self.old.blocks block at count }
-        ensures spare { self.new.spare ≡ self.old.spare }
-    {
-        let row = &mut self.used[block];
-        row.cut_out(at, count);
-        self.firsts[block] = *row.get(0);
-        self.count -= count;
-    }
-
-    /// Returns the number of items of `count` blocks from this one on.
-    fn weight(&self, block: usize, count: usize) -> usize
-        requires { block + count ≤ length self.now.blocks }
-        ensures { result ≡ length (joined (take count (drop block self.now.blocks))) }
-    {
-        let mut items = 0;
-        for row in &self.used[block..block + count] {
-            items += row.len();
-        }
-        items
-    }
-
-    /// Removes `count` blocks from this one on with all their items; the blocks become spare. They
-    /// are moved to the end of the row and taken from there, so that the later blocks move once.
-    pub(crate) fn let_go_all(&mut self, block: usize, count: usize)
-        requires { block + count ≤ length self.old.blocks }
-        ensures blocks { self.new.blocks ≡ cut self.old.blocks block count }
-        ensures spare { self.new.spare ≡ self.old.spare + count }
-    {
-        let items = self.weight(block, count);
-        turn_to_end(&mut self.used, block, count);
-        move_last(&mut self.used, &mut self.spare, count);
-        cut_out(&mut self.firsts, block, count);
-        self.count -= items;
     }
 
     /// Merges this block and the next one, which have at most `HALF` items together.

@@ -1,7 +1,6 @@
 //! Reading of items: at a place, and from one place to the next.
 
-ghost use Rattle.std.specs.Prelude.{◌≡◌, ◌+◌, ◌<◌, ◌≤◌, [], length, slice_index_or, IsTrue, IfSome};
-ghost use Rattle.std.specs.Prelude.{IfNone, ◌↔◌};
+ghost use Rattle.std.specs.Prelude.{◌≡◌, ◌+◌, ◌<◌, length, slice_index_or, IsTrue, ◌↔◌};
 ghost use Rattle.sorted_blocks.specs.Shape.{items};
 ghost use Rattle.sorted_blocks.specs.Places.{before, IsPlace, IsItem};
 
@@ -27,18 +26,6 @@ impl<T: Copy, const HALF: usize> Store<T, HALF> {
         ensures { result.now ≡ slice_index_or (items self.now) (before self.now place) result.now }
     {
         self.item_of(place.block, place.at)
-    }
-
-    /// Returns whether no item is before this place.
-    pub(crate) fn is_first(&self, place: Place) -> bool
-        requires { IsPlace self.now place }
-        ensures { IsTrue result ↔ before self.now place ≡ 0 }
-    {
-        if place.block == 0 {
-            return place.at == 0;
-        }
-        let _some = self.block_len(place.block - 1);
-        false
     }
 
     /// Returns the place before all items: that of the first item, if there is one.
@@ -86,32 +73,5 @@ impl<T: Copy, const HALF: usize> Store<T, HALF> {
             block: place.block + 1,
             at: 0,
         }
-    }
-
-    /// Returns the place of the item with `count` more items before it than this place, or `None`
-    /// where the list has no item there. It takes a step for each block in between.
-    pub(crate) fn onward(&self, place: Place, count: usize) -> Option<Place>
-        requires { IsPlace self.now place }
-        ensures item { IfSome result (λ there. IsItem self.now there × before self.now there
-            ≡ before self.now place + count) }
-        ensures none { IfNone result (length (items self.now) ≤ before self.now place + count) }
-    {
-        let mut here = self.settled(place);
-        let mut left = count;
-        while self.is_item(here) {
-            let rest = self.block_len(here.block) - here.at;
-            if left < rest {
-                return Some(Place {
-                    block: here.block,
-                    at: here.at + left,
-                });
-            }
-            left -= rest;
-            here = self.settled(Place {
-                block: here.block,
-                at: here.at + rest,
-            });
-        }
-        None
     }
 }

@@ -3,9 +3,9 @@
 //! PIM, and of its items only that they are `Copy`.
 //!
 //! Contracts see the list of the items, and a place as the number of items before it.
-//! - `insert_within` is `insert` of std on the list, `remove` its `remove`, `set` replaces an item,
-//!   and `remove_run` takes out `count` items. The edits keep the capacity, and return a place with
-//!   as many items before it, except `set`, which keeps all places.
+//! - `insert_within` is `insert` of std on the list, `remove` its `remove`, and `set` replaces an
+//!   item. The edits keep the capacity, and return a place with as many items before it, except
+//!   `set`, which keeps all places.
 //! - `reserve(n)` at Ok leaves a capacity for n more items. Below the capacity `insert_within`
 //!   takes no memory. Only `reserve` can run out of memory; the items and all places then stay.
 //! - `find` and `find_near` return an item that compares equal, or a gap between a lesser and a

@@ -3,12 +3,8 @@
 ghost use Rattle.std.specs.Prelude.{◌≡◌, ℕ, ◌+◌, ◌<◌, ◌≤◌, [], length, take, drop};
 ghost use Rattle.std.specs.Prelude.{slice_index_or, slice_set, OnOk, IsOk, IsTrue, ◌↔◌};
 ghost use Rattle.std.specs.List.{All, insert, remove};
-ghost use Rattle.slab.specs.Slab.{get};
 ghost use Rattle.sorted_blocks.specs.declared.place.Place.{Place};
-ghost use Rattle.sorted_blocks.specs.Places.{before, IsPlace as IsIndexPlace};
-ghost use Rattle.sorted_blocks.specs.Shape.{items as numbers_of, cut};
-ghost use Rattle.sorted_slab.specs.Listed.{at, found, numbers, IsPlace, IsItem, IsFound};
-ghost use Rattle.sorted_slab.specs.Sound.{IsSound};
+ghost use Rattle.sorted_slab.specs.Listed.{at, numbers, IsPlace, IsItem, IsFound};
 
 use crate::probe::ByNumber;
 use crate::walk::Walk;
@@ -116,20 +112,6 @@ impl<T: Copy, const HALF: usize> SortedSlab<T, HALF> {
         (item, behind)
     }
 
-    /// Takes out `count` items from this place on, and returns the place of the item that followed
-    /// them. It takes a step for each item; their numbers leave the index at once.
-    pub fn remove_run(&mut self, place: Place, count: usize) -> Place
-        requires place { IsPlace self.old place }
-        requires within { at self.old place + count ≤ length self.old.items }
-        ensures items { self.new.items ≡ cut self.old.items (at self.old place) count }
-        ensures capacity { self.new.capacity ≡ self.old.capacity }
-        ensures place { IsPlace self.new result }
-        ensures at { at self.new result ≡ at self.old place }
-    {
-        free_run(&self.index, &mut self.slab, place, count);
-        self.index.remove_run(place, count)
-    }
-
     /// Replaces the item at this place.
     pub fn set(&mut self, place: Place, item: T)
         requires { IsItem self.old place }
@@ -227,29 +209,5 @@ impl<T: Copy, const HALF: usize> SortedSlab<T, HALF> {
                 probe,
             },
         )
-    }
-}
-
-/// Removes from the slab the items of `count` numbers from this place on.
-fn free_run<T: Copy, const HALF: usize>(
-    index: &Blocks<usize, HALF>,
-    slab: &mut Slab<T>,
-    place: Place,
-    count: usize,
-)
-    requires sound { IsSound slab.old (numbers_of index.now) }
-    requires place { IsIndexPlace index.now place }
-    requires within { before index.now place + count ≤ length (numbers_of index.now) }
-    ensures sound { IsSound slab.new (cut (numbers_of index.now) (before index.now place) count) }
-    ensures found { found (get slab.new) (cut (numbers_of index.now) (before index.now place) count)
-        ≡ cut (found (get slab.old) (numbers_of index.now)) (before index.now place) count }
-    ensures capacity { slab.new.capacity ≡ slab.old.capacity }
-{
-    let mut numbers = index.iter_from(place);
-    for _item in 0..count {
-        let Some(number) = numbers.next() else {
-            unreachable!()
-        };
-        let _gone = slab.remove(number);
     }
 }

@@ -45,7 +45,7 @@ fn holds<const HALF: usize>(list: &Blocks<u32, HALF>, plain: &[u32]) -> bool {
         }
         place = list.next(place);
     }
-    !list.is_item(place) && are_left(list.iter(), plain)
+    !list.is_item(place) && are_left(list.iter_from(list.first()), plain)
 }
 
 /// Puts the number in, or takes it out where it is there; answers the place where it stood or
@@ -266,47 +266,4 @@ fn is_emptied_and_filled_at_both_ends_of_longer_blocks(rt: HostRuntime) {
     let mut more: Blocks<u32, 4> = Blocks::new(rt.alloc());
     let mut plain: Vec<u32> = Vec::new(rt.alloc());
     assert!(rt; uses_ends(&mut more, &mut plain, 2));
-}
-
-/// Takes so many of the first numbers out at once, or those that there are.
-fn take_firsts<const HALF: usize>(
-    list: &mut Blocks<u32, HALF>,
-    plain: &mut Vec<u32>,
-    most: usize,
-) -> bool {
-    let count = most.min(list.len());
-    let first = list.first();
-    let was_first = list.is_first(first);
-    let behind = list.remove_run(first, count);
-    for _gone in 0..count {
-        if !plain.is_empty() {
-            let _number = plain.remove(0);
-        }
-    }
-    was_first && list.is_first(behind)
-}
-
-/// Puts 40 numbers in, and takes more of them out from time to time: whether the others stay.
-fn runs_go(list: &mut Blocks<u32, 2>, plain: &mut Vec<u32>) -> bool {
-    if list.reserve_capacity(40).is_err() {
-        return false;
-    }
-    for number in 0..40u32 {
-        if !put(list, plain, number) {
-            return false;
-        }
-    }
-    for count in 0..10usize {
-        if !take_firsts(list, plain, count) || !holds(list, plain) {
-            return false;
-        }
-    }
-    list.len() == 0
-}
-
-#[test]
-fn runs_go_at_once(rt: HostRuntime) {
-    let mut list: Blocks<u32, 2> = Blocks::new(rt.alloc());
-    let mut plain: Vec<u32> = Vec::new(rt.alloc());
-    assert!(rt; runs_go(&mut list, &mut plain));
 }
