@@ -10,7 +10,8 @@ use Rattle.pim_merge.specs.declared.end.End.{End}
 use Rattle.pim_merge.specs.Next.{MergeState}
 use Rattle.pim_replay.specs.declared.replay.ReplayFault.{ReplayFault}
 use Rattle.pim_replay.specs.declared.replay.ReplayFault.TheVariants as of_replay
-use Rattle.pim_replay.specs.Report.{Replays, failures_of_device}
+use Rattle.pim_replay.specs.Replay.{failures_of_device}
+use Rattle.pim_replay.specs.Report.{Replays}
 use Rattle.pim_router.specs.declared.config.ConfigFault.{ConfigFault}
 use Rattle.pim_router.specs.declared.config.ConfigFault.TheVariants as of_config
 use Rattle.pim_router.specs.declared.config.PortConfig.{PortConfig}

@@ -20,7 +20,9 @@ use Rattle.pim_trace.specs.Ledger.{Ledger, frame_of}
 use Rattle.pim_trace.specs.Passing as trace
 use Rattle.pim_trace.specs.Trace as traces
 use Rattle.pim_trace.specs.Turn as turns
+use Rattle.pim_replay.specs.Events.{Account, Follows}
 use Rattle.pim_replay.specs.Passing as replay
+use Rattle.pim_replay.specs.Replay as replays
 use Rattle.pim_replay.specs.Report as report
 use Rattle.pim_replay.specs.Turn as replayed
 
@@ -28,28 +30,27 @@ module _ (merges : MergeByHasOneEnd) (are_turns : RunsPastAreTurns) (goes_on : H
   -- ---- time
 
   -- the runs of a replay up to a moment are all turns up to it
-  has_happened : (moment : ℕ) (told : List Telling) (lines : List ℕ) (refreshes : ℕ) (state after : RouterState)
-      → replay.Passes family moment told lines refreshes state after
+  has_happened : (moment : ℕ) (told : List Telling) (state : RouterState) (account : Account) (after : RouterState) → replay.Passes moment told state account after
       → (happened : List (ℕ × Happening)) × Happens moment state happened after
   unfolding replay.Passes RunsPast
-  has_happened moment [] lines refreshes state after (run, none, zero_told) =
+  has_happened moment [] state account after (run, none) =
       let past = are_turns 0 moment state after Reached run in
       (past.told, record { passes = past.passes; ends = past.ends refl })
-  has_happened moment (echo p g w ∷ told) lines refreshes state after (between, others, run, is, passes) =
+  has_happened moment (echo p g w ∷ told) state account after (between, others, run, is, passes) =
       let past = are_turns 0 moment state between (Echo p g w) run in
-      let rest = has_happened moment told others refreshes between after passes in
+      let rest = has_happened moment told between others after passes in
       (past.told ++ rest.0, goes_on moment moment state between after past.told rest.0 (omega arith) past.passes rest.1)
-  has_happened moment (refresh ∷ told) lines refreshes state after (between, others, run, is, passes) =
+  has_happened moment (refresh ∷ told) state account after (between, others, run, is, passes) =
       let past = are_turns 0 moment state between Refresh run in
-      let rest = has_happened moment told lines others between after passes in
+      let rest = has_happened moment told between others after passes in
       (past.told ++ rest.0, goes_on moment moment state between after past.told rest.0 (omega arith) past.passes rest.1)
-  has_happened moment (verdict v ∷ told) lines refreshes state after passes = absurd passes
+  has_happened moment (verdict v ∷ told) state account after passes = absurd passes
 
-  time_same : (moment : ℕ) (ledger ledger' : Ledger) (events : List Occurrence) (lines : List ℕ) (refreshes : ℕ) (state start after other : RouterState)
+  time_same : (moment : ℕ) (ledger ledger' : Ledger) (events : List Occurrence) (account : Account) (state start after other : RouterState)
       → state ≡ start → trace.PassesTime moment ledger state events ledger' after
-      → replay.PassesTime family moment lines refreshes start other → after ≡ other
-  time_same moment ledger ledger' events lines refreshes state start after other same one two =
-      let happened = has_happened moment two.told lines refreshes start other two.passes in
+      → replay.PassesTime moment start account other → after ≡ other
+  time_same moment ledger ledger' events account state start after other same one two =
+      let happened = has_happened moment two.told start account other two.passes in
       (one_end moment state after other one.happened happened.0 one.happens (subst (λ s. Happens moment s happened.0 other) (sym same) happened.1)).1
 
   -- ---- a record
@@ -68,22 +69,22 @@ module _ (merges : MergeByHasOneEnd) (are_turns : RunsPastAreTurns) (goes_on : H
 
   -- ---- turns
 
-  turn_same : (this : Taken) (ledger ledger' : Ledger) (events : List Occurrence) (account : replayed.Account) (state start after other : RouterState)
+  turn_same : (this : Taken) (ledger ledger' : Ledger) (events : List Occurrence) (account : Account) (state start after other : RouterState)
       → state ≡ start → turns.TellsTurn family this ledger state events ledger' after
-      → replayed.TellsTurn family this account start other → after ≡ other
+      → replayed.TellsTurn family this start account other → after ≡ other
   turn_same this ledger ledger' events account state start after other same one two =
-      let between = time_same this.moment (turns.counting this ledger) one.ledger_then one.way two.way two.refreshes state start one.between two.between same one.passes two.passes in
+      let between = time_same this.moment (turns.counting this ledger) one.ledger_then one.way two.first state start one.between two.between same one.passes two.begins in
       record_same this.capture this.told one.ledger_then ledger' one.between after one.of_record one.takes
-      ∙ (ap (λ s. (replayed.taking family this.capture this.told s).1) between ∙ sym two.after_is)
+      ∙ (ap (λ s. (replayed.taking family this.capture this.told s).1) between ∙ sym (ap (λ (end : Account × RouterState). end.1) two.goes_on))
 
-  turns_same : (taken : List Taken) (ledger ledger' : Ledger) (events : List Occurrence) (account : replayed.Account) (state start after other : RouterState)
+  turns_same : (taken : List Taken) (ledger ledger' : Ledger) (events : List Occurrence) (account : Account) (state start after other : RouterState)
       → state ≡ start → traces.TellsTurns family taken ledger state events ledger' after
-      → report.TellsTurns family taken account start other → after ≡ other
-  unfolding traces.TellsTurns report.TellsTurns
+      → replays.TellsTurns family taken start account other → after ≡ other
+  unfolding traces.TellsTurns replays.TellsTurns
   turns_same [] ledger ledger' events account state start after other same (none, kept, is) (none', is') = is ∙ (same ∙ sym is')
-  turns_same (first ∷ others) ledger ledger' events account state start after other same (a, b, l, s, begins, more, is) (a', b', s', begins', more', is') =
-      let between = turn_same first ledger l a a' state start s s' same begins begins' in
-      turns_same others l ledger' b b' s s' after other between more more'
+  turns_same (first ∷ others) ledger ledger' events account state start after other same (a, b, l, s, begins, more, is) two =
+      let between = turn_same first ledger l a two.first state start s two.between same begins two.begins in
+      turns_same others l ledger' b two.second s two.between after other between more two.goes_on
 
   -- ---- the whole
 
@@ -91,10 +92,9 @@ module _ (merges : MergeByHasOneEnd) (are_turns : RunsPastAreTurns) (goes_on : H
       → IsComing merge.lanes captures → traces.IsTrace family end merge state events after → report.IsReport family tells_via end merge state other text → after ≡ other
   trace_and_report tells_via end merge captures state after other events text coming this that =
       let one = this.tells in
-      let two = that.tells in
-      let same = (merges (last_of end) merge.clock captures one.taken two.taken None None (one.are captures coming) (two.are captures coming)).0 in
-      let between = turns_same one.taken (traces.ledger_for state) one.ledger_then one.turns two.turns state state one.between two.between refl one.tells
-      (subst (λ t. report.TellsTurns family t two.turns state two.between) (sym same) two.tells) in
-      time_same (end_moment end (clock_of merge.clock one.taken) one.between.machines.moment) one.ledger_then this.ledger one.way two.way two.refreshes one.between two.between after other between one.passes
-      (subst (λ t. replay.PassesTime family (end_moment end (clock_of merge.clock t) one.between.machines.moment) two.way two.refreshes two.between other) (sym same)
-      (subst (λ s. replay.PassesTime family (end_moment end (clock_of merge.clock two.taken) s.machines.moment) two.way two.refreshes two.between other) (sym between) two.passes))
+      let same = (merges (last_of end) merge.clock captures one.taken that.tells.taken None None (one.are captures coming) (that.tells.are captures coming)).0 in
+      let two =
+      subst (λ t. Follows (replays.TellsTurns family t state) (replays.PassesToEnd end (clock_of merge.clock t)) that.account other) (sym same) that.tells.tells in
+      let between = turns_same one.taken (traces.ledger_for state) one.ledger_then one.turns two.first state state one.between two.between refl one.tells two.begins in
+      time_same (end_moment end (clock_of merge.clock one.taken) one.between.machines.moment) one.ledger_then this.ledger one.way two.second one.between two.between after other between one.passes
+      (subst (λ s. replay.PassesTime (end_moment end (clock_of merge.clock one.taken) s.machines.moment) two.between two.second other) (sym between) two.goes_on)

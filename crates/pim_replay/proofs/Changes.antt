@@ -12,23 +12,19 @@ use Rattle.pim_form.specs.Laws.{OneNormalForm}
 use Rattle.pim_form.specs.Messages.{Writing}
 use Rattle.pim_form.specs.NormalForm.{GroupForm}
 use Rattle.pim_form.specs.TooBig.{too_big}
-use Rattle.pim_merge.specs.declared.end.End.{End}
-use Rattle.pim_merge.specs.Next.{MergeState}
 use Rattle.pim_device.specs.Device.{AppendsFront}
 use Rattle.pim_mirror.specs.declared.mirroring.MirrorFault.{MirrorFault}
 use Rattle.pim_mirror.specs.declared.mirroring.MirrorFault.TheVariants as mirror
 use Rattle.pim_moving.specs.Laws.{ChangeFits}
 use Rattle.pim_router.specs.Canonical.{asked, IsAskedBy, IsTooBig}
 use Rattle.pim_router.specs.Change.{IsTooBigToTell}
-use Rattle.pim_router.specs.State.{RouterState}
+use Rattle.pim_router.specs.State.{Setup, RouterState, setup_of}
 use Rattle.pim_replay.specs.declared.mirror_text.MirrorTextFault.{MirrorTextFault}
 use Rattle.pim_replay.specs.ChangeHearing.{AreTold, MovedAgain}
 use Rattle.pim_replay.specs.ChangeText.{IsChangeBetween, TellsMove}
 use Rattle.pim_report.specs.MessageText.{messages_text}
 use Rattle.pim_replay.specs.MirrorText.{Judges, agrees_line, agreed_text, of_mirror}
-use Rattle.pim_replay.specs.Quiet.{RunsAll}
 use Rattle.pim_replay.proofs.FreshHearings.{one_of, sent_by}
-use Rattle.pim_replay.proofs.Taken.{all_keep_table}
 use Rattle.pim_replay.proofs.Written.{front-more}
 
 -- where each star of the second fits, so does the change
@@ -46,10 +42,8 @@ never_too_big one fitting family writing last other group fits big = none (sym a
     none e = cc
 
 -- replays leave both routers' table
-pub same_tables : (family : AddressFamily) (end : End) (merge other : MergeState) (state after state_of after_of : RouterState) → RunsAll family end merge state after → RunsAll family end other state_of after_of
-    → state.routes ≡ state_of.routes → after.routes ≡ after_of.routes
-same_tables family end merge other state after state_of after_of one two same =
-    all_keep_table family end merge one.account state after one.tells ∙ (same ∙ sym (all_keep_table family end other two.account state_of after_of two.tells))
+pub same_tables : (state after state_of after_of : RouterState) → setup_of after ≡ setup_of state → setup_of after_of ≡ setup_of state_of → state.routes ≡ state_of.routes → after.routes ≡ after_of.routes
+same_tables state after state_of after_of one two same = ap (λ (s : Setup). s.routes) one ∙ (same ∙ sym (ap (λ (s : Setup). s.routes) two))
 
 -- what is told of two routers that have one table
 pub told_between : OneNormalForm → (family : AddressFamily) (table : RouteTable) (writing : Writing) (one other : RouterState) (before changes wanted : List (List ℕ)) → table ≡ one.routes → table ≡ other.routes

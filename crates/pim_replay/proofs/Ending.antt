@@ -1,5 +1,5 @@
--- The end of a replay: the time behind the last turn, and the state's text.
-use Rattle.std.proofs.Common.{◌≡◌, ◌∙◌, ℕ, Bool, List, ◌++◌, [], Option, None, Ok, Err, refl, sym, ap, subst, arith, append-nil, inl, inr}
+-- The end of a replay: the time after the last turn, and the state's text.
+use Rattle.std.proofs.Common.{◌≡◌, ◌∙◌, ℕ, Bool, List, [], ◌++◌, Option, None, Some, Ok, Err, refl, sym, ap, subst, arith, inl, inr}
 use Rattle.std.specs.Io.KnownBytes.{Appends}
 use Rattle.std.proofs.KnownBytes.{Appends-trans}
 use Rattle.pim_addr.specs.declared.family.AddressFamily.{AddressFamily}
@@ -13,98 +13,82 @@ use Rattle.pim_replay.specs.declared.replay.ReplayFault.TheVariants.{Capture, Ou
 use Rattle.pim_report.specs.declared.state_text.Counts.{Counts}
 use Rattle.pim_report.specs.declared.state_text.TextFault.{TextFault}
 use Rattle.pim_report.specs.declared.state_text.TextFault.TheVariants as text
-use Rattle.pim_replay.specs.Passing.{PassesTime, HasPassed, HasStopped}
 use Rattle.pim_report.specs.StateText.{IsTold, WritesState, text_with}
-use Rattle.pim_replay.specs.Turn.{joined, on_the_way, counted, HasTold, HasBegun}
-use Rattle.pim_replay.specs.Report.{TellsAll, Reports, Replays, none_yet}
-use Rattle.pim_replay.specs.Underway.{of_text, HasAll, Steps, RunsTurns}
-use Rattle.pim_replay.proofs.Taken.{made_counts, same_counts, none_is_front}
+use Rattle.pim_replay.specs.Events.{Event, Account, nothing, joined, counted, HasTold, HasBegun}
+use Rattle.pim_replay.specs.Passing.{PassesTime}
+use Rattle.pim_replay.specs.Replay.{TellsTurns, PassesToEnd, TellsAll, Stops, none_yet, failures_of_device}
+use Rattle.pim_replay.specs.Report.{event_line, lines_of, Reports, Replays}
+use Rattle.pim_replay.specs.Quiet.{RunsQuietly}
+use Rattle.pim_replay.specs.Underway.{of_text, HasEnded, HasAll, Steps}
+use Rattle.pim_replay.proofs.Told.{nothing_last, both, none_is_front, told_more, begun_more}
 use Rattle.pim_replay.proofs.Written.{front-more}
 
-module _ (family : AddressFamily) (end : End) (start : MergeState) (state : RouterState) (old : Option (List ℕ)) where
-  pub no_more : (counts : Counts) (merge : MergeState) (now : RouterState) (new : Option (List ℕ)) (next : Option Counts) → next ≡ None → Steps family end start state old counts merge now new (Ok next)
-      → HasAll family end start state old merge now new counts
-  no_more counts merge now new next none steps = subst (λ (n : Option Counts). Steps family end start state old counts merge now new (Ok n)) none steps
+-- ---- the time after the last turn
 
-  pub ends_so : (counts : Counts) (merge : MergeState) (now : RouterState) (new : Option (List ℕ)) (fault : ReplayFault) → Steps family end start state old counts merge now new (Err fault)
-      → RunsTurns family end start state old merge now new (Err fault)
-  ends_so counts merge now new (Capture told) p = p
-  ends_so counts merge now new Output p = p
-  ends_so counts merge now new Memory p = p
+module _ (line : Event → List ℕ) (family : AddressFamily) (end : End) (start : MergeState) (state : RouterState) (old : Option (List ℕ)) where
+  pub no_more : (counts : Counts) (merge : MergeState) (now : RouterState) (new : Option (List ℕ)) (next : Option Counts) → next ≡ None → Steps line family end start state old counts merge now new (Ok next)
+      → HasAll line family end start state old merge now new counts
+  no_more counts merge now new next none steps = subst (λ (n : Option Counts). Steps line family end start state old counts merge now new (Ok n)) none steps
 
-  -- ---- the time behind the last turn
-
-  module _ (merge : MergeState) (now : RouterState) (new newer : Option (List ℕ)) (counts : Counts) (h : HasAll family end start state old merge now new counts) (moment : ℕ)
+  module _ (merge : MergeState) (now : RouterState) (new newer : Option (List ℕ)) (counts : Counts) (h : HasAll line family end start state old merge now new counts) (moment : ℕ)
       (is_end : moment ≡ end_moment end merge.clock now.machines.moment) where
-    at_end : moment ≡ end_moment end (clock_of start.clock h.taken) now.machines.moment
-    at_end = is_end ∙ ap (λ c. end_moment end c now.machines.moment) h.clock
+    abbrev Ended : Account → RouterState → Type 0
+    Ended = HasEnded family end start state merge
 
-    pub all_stopped : HasStopped family moment now new newer → HasBegun (λ account after. TellsAll family end start account state after) old newer
-    all_stopped way = record {
-      account = joined h.account (on_the_way way.lines way.refreshes);
-      after = way.after;
-      tells = record {
-        taken = h.taken;
-        are = h.are;
-        turns = h.account;
-        between = now;
-        tells = h.tells;
-        way = way.lines;
-        refreshes = way.refreshes;
-        passes = subst (λ (m : ℕ). PassesTime family m way.lines way.refreshes now way.after) at_end way.passes;
-        account_is = refl;
-      };
-      written = front-more old new newer h.account.lines way.lines h.written way.written;
+    ends : (way : Account) (after : RouterState) → PassesTime moment now way after → TellsAll family end start state (joined h.account way) after
+    ends way after passes = record {
+      taken = h.tells.taken;
+      are = h.tells.are;
+      tells = both (TellsTurns family h.tells.taken state) (PassesToEnd end (clock_of start.clock h.tells.taken)) h.account way now after h.tells.tells
+          (subst (λ (m : ℕ). PassesTime m now way after) (is_end ∙ ap (λ c. end_moment end c now.machines.moment) h.tells.clock) passes);
     }
 
-    pub all_passed : (after : RouterState) (refreshes : ℕ) → HasPassed family moment now after new newer counts.refreshes refreshes
-        → HasTold (λ account. TellsAll family end start account state after) old newer none_yet (made_counts counts.skipped refreshes)
-    all_passed after refreshes way =
-        let skipped = ap (λ (c : Counts). c.skipped) h.is_counted in
-        let before = ap (λ (c : Counts). c.refreshes) h.is_counted in
-        record {
-          account = joined h.account (on_the_way way.lines way.refreshes);
-          tells = record {
-            taken = h.taken;
-            are = h.are;
-            turns = h.account;
-            between = now;
-            tells = h.tells;
-            way = way.lines;
-            refreshes = way.refreshes;
-            passes = subst (λ (m : ℕ). PassesTime family m way.lines way.refreshes now after) at_end way.passes;
-            account_is = refl;
-          };
-          written = Appends-trans old new newer h.account.lines way.lines h.written way.written;
-          is_counted = same_counts counts.skipped _ refreshes _ (omega (arith, skipped)) (omega (arith, before, way.counted));
-        }
+    pub all_stopped : HasBegun line (PassesTime moment now) new newer → HasBegun line (TellsAll family end start state) old newer
+    all_stopped way = begun_more line Ended (TellsAll family end start state) now old new newer none_yet counts h way.account way.after (ends way.account way.after way.tells) way.written
 
-  -- ---- the state
+    pub all_passed : (after : RouterState) (more : Counts) → HasTold line (PassesTime moment now) after new newer counts more → HasTold line (TellsAll family end start state) after old newer none_yet more
+    all_passed after more way =
+        told_more line Ended (TellsAll family end start state) now old new newer none_yet counts h way.account after more (ends way.account after way.tells) way.written way.is_counted
 
-  module _ (tells_via : Bool) (after : RouterState) (new newer : Option (List ℕ)) (counts : Counts)
-      (h : HasTold (λ account. TellsAll family end start account state after) old new none_yet counts) where
-    ends_with : (IsSo : List ℕ → Type 0) (IsAll : List ℕ → Type 0) → ((text : List ℕ) → IsSo text → IsAll (h.account.lines ++ text)) → IsTold family tells_via after counts IsSo
+-- ---- the run of a replay that writes nothing
+
+pub quiet : (family : AddressFamily) (end : End) (start merge : MergeState) (state after : RouterState) (fault : ReplayFault) → Stops (λ event. []) family end start state (Some []) (Some []) merge fault
+    → 0 ≡ failures_of_device {A = ℕ} 0 (Err fault) → RunsQuietly family end start merge state after {A = Unit {0}} (Err fault)
+quiet family end start merge state after (Capture told) stops none = stops.0
+quiet family end start merge state after Output stops none = absurd (omega (arith, none))
+quiet family end start merge state after Memory stops none = tt
+
+-- ---- the state
+
+module _ (family : AddressFamily) (end : End) (start : MergeState) (state : RouterState) (old : Option (List ℕ)) (tells_via : Bool) where
+  pub cut_short : (merge : MergeState) (after : RouterState) (new : Option (List ℕ)) (fault : ReplayFault) → Stops (event_line family) family end start state old new merge fault
+      → Replays family tells_via end start merge state after old new (Err fault)
+  cut_short merge after new (Capture told) stops = stops
+  cut_short merge after new Output stops = inl stops
+  cut_short merge after new Memory stops = inl stops
+
+  module _ (after : RouterState) (new newer : Option (List ℕ)) (counts : Counts) (h : HasTold (event_line family) (TellsAll family end start state) after old new none_yet counts) where
+    abbrev lines : List ℕ
+    lines = lines_of family h.account.events
+
+    ends_with : (IsSo : List ℕ → Type 0) (IsAll : List ℕ → Type 0) → ((text : List ℕ) → IsSo text → IsAll (lines ++ text)) → IsTold family tells_via after counts IsSo
         → Reports family tells_via end start state after IsAll
-    ends_with IsSo IsAll both told = record {
-      text = h.account.lines ++ text_with family tells_via after told.form (counted none_yet h.account);
+    ends_with IsSo IsAll all told = record {
+      text = lines ++ text_with family tells_via after told.form (counted none_yet h.account);
       is_report = record { account = h.account; tells = h.tells; form = told.form; demand = told.demand; text_is = refl };
-      written = subst (λ (c : Counts). IsAll (h.account.lines ++ text_with family tells_via after told.form c)) h.is_counted (both (text_with family tells_via after told.form counts) told.written);
+      written = subst (λ (c : Counts). IsAll (lines ++ text_with family tells_via after told.form c)) h.is_counted (all (text_with family tells_via after told.form counts) told.written);
     }
 
     pub reported : WritesState family tells_via after counts new newer (Ok tt) → Reports family tells_via end start state after (Appends old newer)
-    reported told = ends_with (Appends new newer) (Appends old newer) (λ text p. Appends-trans old new newer h.account.lines text h.written p) told
+    reported told = ends_with (Appends new newer) (Appends old newer) (λ text p. Appends-trans old new newer lines text h.written p) told
 
     by_text : (merge : MergeState) (fault : TextFault) → WritesState family tells_via after counts new newer (Err fault)
         → Replays family tells_via end start merge state after old newer (Err (of_text fault))
     by_text merge text.Output told =
-        inr (inr (after, ends_with (AppendsFront new newer) (AppendsFront old newer) (λ text p. front-more old new newer h.account.lines text h.written p) told))
+        inr (after, ends_with (AppendsFront new newer) (AppendsFront old newer) (λ text p. front-more old new newer lines text h.written p) told)
     by_text merge text.Memory keeps =
-        inr (inl (record {
-          account = h.account;
-          after = after;
-          tells = h.tells;
-          written = subst (λ (l : List ℕ). AppendsFront old newer l) (append-nil h.account.lines) (front-more old new newer h.account.lines [] h.written (none_is_front new newer [] keeps));
-        }))
+        inl (inr (begun_more (event_line family) (TellsAll family end start state) (TellsAll family end start state) after old new newer none_yet counts h nothing after
+        (subst (λ (a : Account). TellsAll family end start state a after) (sym (nothing_last h.account)) h.tells) (none_is_front new newer [] keeps)))
 
     pub not_told : (merge : MergeState) (fault : TextFault) (answer : ReplayFault) → answer ≡ of_text fault → WritesState family tells_via after counts new newer (Err fault)
         → Replays family tells_via end start merge state after old newer (Err answer)

@@ -5,6 +5,7 @@ pub mod OnTheWay
 pub mod Taken
 pub mod Underway
 pub mod Written
+pub mod Told
 pub mod FreshHearings
 pub mod Moves
 pub mod Changes

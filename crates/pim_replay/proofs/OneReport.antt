@@ -1,5 +1,6 @@
--- A report has one text.
-use Rattle.std.proofs.Common.{◌≡◌, ◌∙◌, ℕ, suc, Bool, List, [], ◌∷◌, ◌++◌, Option, None, Some, refl, sym, ap, subst, append_assoc}
+-- A replay has one account, and a report has one text.
+use Rattle.std.proofs.Common.{◌≡◌, ◌∙◌, ℕ, Bool, List, [], ◌∷◌, ◌++◌, Option, None, Some, refl, sym, ap, subst, append_assoc}
+use Rattle.std.proofs.lemmas.List.Concat.{flat_map-append}
 use Rattle.pim_addr.specs.declared.family.AddressFamily.{AddressFamily}
 use Rattle.pim_capture.specs.Capture.{Answer}
 use Rattle.pim_down.specs.declared.key.What.{What}
@@ -20,12 +21,15 @@ use Rattle.pim_router.specs.declared.step.Step.TheVariants.{Echo, Refresh, Reach
 use Rattle.pim_router.specs.Course.{Telling, echo, refresh, verdict}
 use Rattle.pim_router.specs.Laws.{RunHasOneEnd}
 use Rattle.pim_router.specs.State.{RouterState}
-use Rattle.pim_report.specs.EchoLine.{echo_line}
+use Rattle.pim_report.specs.StateText.{text_with}
+use Rattle.pim_replay.specs.declared.event.ReplayEvent.TheVariants as event
+use Rattle.pim_replay.specs.Events.{Account, nothing, of_event, of_refreshes, joined, counted, Follows}
 use Rattle.pim_replay.specs.Laws.{BeginsWith, BeginsWithItsLines}
 use Rattle.pim_replay.specs.Passing.{Passes, PassesTime}
-use Rattle.pim_report.specs.StateText.{text_with}
-use Rattle.pim_replay.specs.Turn.{Account, nothing, joined, on_the_way, counted, taking, TellsTurn}
-use Rattle.pim_replay.specs.Report.{TellsTurns, TellsFirst, TellsAll, IsReport, none_yet}
+use Rattle.pim_replay.specs.Turn.{TakesRecord, TellsTurn}
+use Rattle.pim_replay.specs.Replay.{TellsTurns, PassesToEnd, TellsFirst, TellsAll, none_yet}
+use Rattle.pim_replay.specs.Report.{event_line, lines_of, IsReport}
+use Rattle.pim_replay.proofs.Told.{nothing_first, nothing_last, regroup, both}
 
 echo_port : (p q : ℕ) (g h : List ℕ) (w v : What (List ℕ)) → Echo p g w ≡ Echo q h v → p ≡ q
 echo_port p q g h w v same = cc
@@ -73,99 +77,84 @@ front_of_all last clock captures (first ∷ others) clock' rest (second ∷ seco
     (subst (λ c. IsMergeBy last (clock_after clock (time_told second.told)) (after_turn c captures) seconds fault) capture merge)) in
     record { more = rest_of.more; is = ap (λ t. t ∷ seconds) (same_taken second first capture moment same) ∙ ap (λ l. first ∷ l) rest_of.is }
 
-record Alike (lines more : List ℕ) (refreshes again : ℕ) (after other : RouterState) : Type 0 where
-  lines_are : lines ≡ more
-  refreshes_are : refreshes ≡ again
-  after_is : after ≡ other
+-- a part with one account, which leads to one router
+abbrev IsOne : (Account → RouterState → Type 0) → Type 0
+IsOne Part = (a b : Account) (s t : RouterState) → Part a s → Part b t → (a ≡ b) × (s ≡ t)
+
+follows_one : (One : Account → RouterState → Type 0) (Next : RouterState → Account → RouterState → Type 0) → IsOne One → ((s : RouterState) → IsOne (Next s)) → IsOne (Follows One Next)
+follows_one One Next first next a b s t p q =
+    let begin = first p.first q.first p.between q.between p.begins q.begins in
+    let rest = next q.between p.second q.second s t (subst (λ m. Next m p.second s) begin.1 p.goes_on) q.goes_on in
+    (p.account_is ∙ (ap (λ x. joined x p.second) begin.0 ∙ (ap (joined q.first) rest.0 ∙ sym q.account_is)), rest.1)
+
+-- ---- first turns and further ones
+
+pub split : (family : AddressFamily) (taken more : List Taken) (state : RouterState) (account : Account) (after : RouterState) → TellsTurns family (taken ++ more) state account after
+    → Follows (TellsTurns family taken state) (TellsTurns family more) account after
+unfolding TellsTurns
+split family [] more state account after told =
+    record { first = nothing; between = state; begins = (refl, refl); second = account; goes_on = told; account_is = sym (nothing_first account) }
+split family (first ∷ others) more state account after told =
+    let r = split family others more told.between told.second after told.goes_on in
+    record {
+      first = joined told.first r.first;
+      between = r.between;
+      begins = both (TellsTurn family first state) (TellsTurns family others) told.first r.first told.between r.between told.begins r.begins;
+      second = r.second;
+      goes_on = r.goes_on;
+      account_is = told.account_is ∙ (ap (joined told.first) r.account_is ∙ sym (regroup told.first r.first r.second));
+    }
 
 module _ (merges : MergeByHasOneEnd) (runs : RunHasOneEnd) (forms : OneNormalForm) (family : AddressFamily) where
-  passes_alike : (moment : ℕ) (told said : List Telling) (lines more : List ℕ) (refreshes again : ℕ) (state after other : RouterState) → Passes family moment told lines refreshes state after
-      → Passes family moment said more again state other → Alike lines more refreshes again after other
+  passes_one : (moment : ℕ) (told said : List Telling) (state : RouterState) (a b : Account) (after other : RouterState) → Passes moment told state a after → Passes moment said state b other
+      → (a ≡ b) × (after ≡ other)
   unfolding Passes
-  passes_alike moment [] [] lines more refreshes again state after other (run, none, zero_told) (run', none', zero_told') =
-      record { lines_are = none ∙ sym none'; refreshes_are = zero_told ∙ sym zero_told'; after_is = (runs moment state after other Reached Reached run run').1 }
-  passes_alike moment [] (echo p g w ∷ said) lines more refreshes again state after other (run, none, zero_told) (between, others, run', is, passes) =
+  passes_one moment [] [] state a b after other (run, none) (run', none') = (none ∙ sym none', (runs moment state after other Reached Reached run run').1)
+  passes_one moment [] (echo p g w ∷ said) state a b after other (run, none) (between, others, run', is, passes) =
       absurd (let same = (runs moment state after between Reached (Echo p g w) run run').0 in cc)
-  passes_alike moment [] (refresh ∷ said) lines more refreshes again state after other (run, none, zero_told) (between, others, run', is, passes) =
+  passes_one moment [] (refresh ∷ said) state a b after other (run, none) (between, others, run', is, passes) =
       absurd (let same = (runs moment state after between Reached Refresh run run').0 in cc)
-  passes_alike moment [] (verdict v ∷ said) lines more refreshes again state after other told passes = absurd passes
-  passes_alike moment (verdict v ∷ told) said lines more refreshes again state after other passes other_passes = absurd passes
-  passes_alike moment (echo p g w ∷ told) [] lines more refreshes again state after other (between, others, run, is, passes) (run', none, zero_told) =
+  passes_one moment [] (verdict v ∷ said) state a b after other told passes = absurd passes
+  passes_one moment (verdict v ∷ told) said state a b after other passes other_passes = absurd passes
+  passes_one moment (echo p g w ∷ told) [] state a b after other (between, others, run, is, passes) (run', none) =
       absurd (let same = (runs moment state between other (Echo p g w) Reached run run').0 in cc)
-  passes_alike moment (echo p g w ∷ told) (refresh ∷ said) lines more refreshes again state after other (between, others, run, is, passes) (between', others', run', is', passes') =
+  passes_one moment (echo p g w ∷ told) (refresh ∷ said) state a b after other (between, others, run, is, passes) (between', others', run', is', passes') =
       absurd (let same = (runs moment state between between' (Echo p g w) Refresh run run').0 in cc)
-  passes_alike moment (echo p g w ∷ told) (verdict v ∷ said) lines more refreshes again state after other one passes = absurd passes
-  passes_alike moment (echo p g w ∷ told) (echo q h v ∷ said) lines more refreshes again state after other (between, others, run, is, passes) (between', others', run', is', passes') =
+  passes_one moment (echo p g w ∷ told) (verdict v ∷ said) state a b after other one passes = absurd passes
+  passes_one moment (echo p g w ∷ told) (echo q h v ∷ said) state a b after other (between, others, run, is, passes) (between', others', run', is', passes') =
       let same = runs moment state between between' (Echo p g w) (Echo q h v) run run' in
-      let rest = passes_alike moment told said others others' refreshes again between after other passes
-      (subst (λ s. Passes family moment said others' again s other) (sym same.1) passes') in
-      record {
-        lines_are = is
-            ∙ (ap (λ s. echo_line family s.machines.moment p g w ++ others) same.1
-            ∙ (ap (λ n. echo_line family between'.machines.moment n g w ++ others) (echo_port p q g h w v same.0)
-            ∙ (ap (λ l. echo_line family between'.machines.moment q l w ++ others) (echo_group p q g h w v same.0)
-            ∙ (ap (λ l. echo_line family between'.machines.moment q h l ++ others) (echo_what p q g h w v same.0)
-            ∙ (ap (λ l. echo_line family between'.machines.moment q h v ++ l) rest.lines_are ∙ sym is')))));
-        refreshes_are = rest.refreshes_are;
-        after_is = rest.after_is;
-      }
-  passes_alike moment (refresh ∷ told) [] lines more refreshes again state after other (between, others, run, is, passes) (run', none, zero_told) =
-      absurd (let same = (runs moment state between other Refresh Reached run run').0 in cc)
-  passes_alike moment (refresh ∷ told) (echo p g w ∷ said) lines more refreshes again state after other (between, others, run, is, passes) (between', others', run', is', passes') =
-      absurd (let same = (runs moment state between between' Refresh (Echo p g w) run run').0 in cc)
-  passes_alike moment (refresh ∷ told) (verdict v ∷ said) lines more refreshes again state after other one passes = absurd passes
-  passes_alike moment (refresh ∷ told) (refresh ∷ said) lines more refreshes again state after other (between, others, run, is, passes) (between', others', run', is', passes') =
-      let same = runs moment state between between' Refresh Refresh run run' in
-      let rest = passes_alike moment told said lines more others others' between after other passes
-      (subst (λ s. Passes family moment said more others' s other) (sym same.1) passes') in
-      record { lines_are = rest.lines_are; refreshes_are = is ∙ (ap (λ n. suc n) rest.refreshes_are ∙ sym is'); after_is = rest.after_is }
-
-  time_alike : (moment : ℕ) (lines more : List ℕ) (refreshes again : ℕ) (state start after other : RouterState) → state ≡ start → PassesTime family moment lines refreshes state after
-      → PassesTime family moment more again start other → Alike lines more refreshes again after other
-  time_alike moment lines more refreshes again state start after other same one two =
-      passes_alike moment one.told two.told lines more refreshes again state after other one.passes (subst (λ s. Passes family moment two.told more again s other) (sym same) two.passes)
-
-  way_is : (lines more : List ℕ) (refreshes again : ℕ) → lines ≡ more → refreshes ≡ again → on_the_way lines refreshes ≡ on_the_way more again
-  way_is lines more refreshes again p q = ap (λ l. on_the_way l refreshes) p ∙ ap (on_the_way more) q
-
-  turn_alike : (this : Taken) (account again : Account) (state start after other : RouterState) → state ≡ start → TellsTurn family this account state after → TellsTurn family this again start other
-      → (account ≡ again) × (after ≡ other)
-  turn_alike this account again state start after other same one two =
-      let way = time_alike this.moment one.way two.way one.refreshes two.refreshes state start one.between two.between same one.passes two.passes in (
-        one.account_is
-            ∙ (ap (λ w. joined w (taking family this.capture this.told one.between).0) (way_is one.way two.way one.refreshes two.refreshes way.lines_are way.refreshes_are)
-            ∙ (ap (λ s. joined (on_the_way two.way two.refreshes) (taking family this.capture this.told s).0) way.after_is ∙ sym two.account_is)),
-        one.after_is ∙ (ap (λ s. (taking family this.capture this.told s).1) way.after_is ∙ sym two.after_is),
+      let rest = passes_one moment told said between others others' after other passes (subst (λ s. Passes moment said s others' other) (sym same.1) passes') in (
+        is
+            ∙ (ap (λ (s : RouterState). joined (of_event (event.Echo s.machines.moment p g w)) others) same.1
+            ∙ (ap (λ n. joined (of_event (event.Echo between'.machines.moment n g w)) others) (echo_port p q g h w v same.0)
+            ∙ (ap (λ l. joined (of_event (event.Echo between'.machines.moment q l w)) others) (echo_group p q g h w v same.0)
+            ∙ (ap (λ l. joined (of_event (event.Echo between'.machines.moment q h l)) others) (echo_what p q g h w v same.0)
+            ∙ (ap (joined (of_event (event.Echo between'.machines.moment q h v))) rest.0 ∙ sym is'))))),
+        rest.1,
       )
+  passes_one moment (refresh ∷ told) [] state a b after other (between, others, run, is, passes) (run', none) =
+      absurd (let same = (runs moment state between other Refresh Reached run run').0 in cc)
+  passes_one moment (refresh ∷ told) (echo p g w ∷ said) state a b after other (between, others, run, is, passes) (between', others', run', is', passes') =
+      absurd (let same = (runs moment state between between' Refresh (Echo p g w) run run').0 in cc)
+  passes_one moment (refresh ∷ told) (verdict v ∷ said) state a b after other one passes = absurd passes
+  passes_one moment (refresh ∷ told) (refresh ∷ said) state a b after other (between, others, run, is, passes) (between', others', run', is', passes') =
+      let same = runs moment state between between' Refresh Refresh run run' in
+      let rest = passes_one moment told said between others others' after other passes (subst (λ s. Passes moment said s others' other) (sym same.1) passes') in
+      (is ∙ (ap (joined (of_refreshes 1)) rest.0 ∙ sym is'), rest.1)
 
-  turns_alike : (taken : List Taken) (account again : Account) (state start after other : RouterState) → state ≡ start → TellsTurns family taken account state after
-      → TellsTurns family taken again start other → (account ≡ again) × (after ≡ other)
+  time_one : (moment : ℕ) (state : RouterState) → IsOne (PassesTime moment state)
+  time_one moment state a b s t p q = passes_one moment p.told q.told state a b s t p.passes q.passes
+
+  turn_one : (this : Taken) (state : RouterState) → IsOne (TellsTurn family this state)
+  turn_one this state =
+      follows_one (PassesTime this.moment state) (TakesRecord family this) (time_one this.moment state)
+      (λ between a b s t p q. let same = p ∙ sym q in (ap (λ (x : Account × RouterState). x.0) same, ap (λ (x : Account × RouterState). x.1) same))
+
+  turns_one : (taken : List Taken) (state : RouterState) → IsOne (TellsTurns family taken state)
   unfolding TellsTurns
-  turns_alike [] account again state start after other same (none, is) (none', is') = (none ∙ sym none', is ∙ (same ∙ sym is'))
-  turns_alike (first ∷ others) account again state start after other same (a, b, s, begins, goes_on, is) (a', b', s', begins', goes_on', is') =
-      let one = turn_alike first a a' state start s s' same begins begins' in
-      let rest = turns_alike others b b' s s' after other one.1 goes_on goes_on' in
-      (is ∙ (ap (λ x. joined x b) one.0 ∙ (ap (joined a') rest.0 ∙ sym is')), rest.1)
-
-  record Split (taken : List Taken) (account : Account) (state : RouterState) : Type 0 where
-    one : Account
-    mid : RouterState
-    rest : List ℕ
-    tells_one : TellsTurns family taken one state mid
-    is : account.lines ≡ one.lines ++ rest
-
-  split : (taken more : List Taken) (account : Account) (state after : RouterState) → TellsTurns family (taken ++ more) account state after → Split taken account state
-  unfolding TellsTurns
-  split [] more account state after told = record { one = nothing; mid = state; rest = account.lines; tells_one = (refl, refl); is = refl }
-  split (first ∷ others) more account state after (a, b, s, begins, goes_on, is) =
-      let r = split others more b s after goes_on in
-      record {
-        one = joined a r.one;
-        mid = r.mid;
-        rest = r.rest;
-        tells_one = (a, r.one, s, begins, r.tells_one, refl);
-        is = ap (λ (x : Account). x.lines) is ∙ (ap (λ l. a.lines ++ l) r.is ∙ sym (append_assoc a.lines r.one.lines r.rest));
-      }
+  turns_one [] state a b s t p q = (p.0 ∙ sym q.0, p.1 ∙ sym q.1)
+  turns_one (first ∷ others) state a b s t p q =
+      follows_one (TellsTurn family first state) (TellsTurns family others) (turn_one first state) (turns_one others) a b s t p q
 
   form_is : (state other : RouterState) (one two : List GroupForm) → state ≡ other → IsFormOf family (wants state.machines) one → IsFormOf family (wants other.machines) two → one ≡ two
   form_is state other one two same p q =
@@ -173,56 +162,54 @@ module _ (merges : MergeByHasOneEnd) (runs : RunHasOneEnd) (forms : OneNormalFor
       forms family one two p.normal q'.normal (λ source group tree s g. sym (p.wants source group tree s g) ∙ q'.wants source group tree s g)
 
   module _ (tells_via : Bool) (end : End) (merge : MergeState) (captures : List (List Answer)) (state : RouterState) (coming : IsComing merge.lanes captures) where
-    all_alike : (account again : Account) (after other : RouterState) → TellsAll family end merge account state after → TellsAll family end merge again state other
-        → (account ≡ again) × (after ≡ other)
-    all_alike account again after other one two =
+    all_one : IsOne (TellsAll family end merge state)
+    all_one a b s t one two =
         let same = (merges (last_of end) merge.clock captures one.taken two.taken None None (one.are captures coming) (two.are captures coming)).0 in
-        let turns = turns_alike one.taken one.turns two.turns state state one.between two.between refl one.tells
-        (subst (λ t. TellsTurns family t two.turns state two.between) (sym same) two.tells) in
-        let way = time_alike (end_moment end (clock_of merge.clock one.taken) one.between.machines.moment) one.way two.way one.refreshes two.refreshes one.between two.between after other turns.1 one.passes
-        (subst (λ t. PassesTime family (end_moment end (clock_of merge.clock t) one.between.machines.moment) two.way two.refreshes two.between other) (sym same)
-        (subst (λ s. PassesTime family (end_moment end (clock_of merge.clock two.taken) s.machines.moment) two.way two.refreshes two.between other) (sym turns.1) two.passes)) in (
-          one.account_is
-              ∙ (ap (λ x. joined x (on_the_way one.way one.refreshes)) turns.0
-              ∙ (ap (joined two.turns) (way_is one.way two.way one.refreshes two.refreshes way.lines_are way.refreshes_are) ∙ sym two.account_is)),
-          way.after_is,
-        )
+        follows_one (TellsTurns family two.taken state) (PassesToEnd end (clock_of merge.clock two.taken)) (turns_one two.taken state)
+        (λ between. time_one (end_moment end (clock_of merge.clock two.taken) between.machines.moment) between) a b s t
+        (subst (λ taken. Follows (TellsTurns family taken state) (PassesToEnd end (clock_of merge.clock taken)) a s) same one.tells) two.tells
 
     pub one_report : (one other : RouterState) (text more : List ℕ) → IsReport family tells_via end merge state one text → IsReport family tells_via end merge state other more
         → (text ≡ more) × (one ≡ other)
     one_report one other text more this that =
-        let all = all_alike this.account that.account one other this.tells that.tells in
+        let all = all_one this.account that.account one other this.tells that.tells in
         let form = form_is one other this.form that.form all.1 this.demand that.demand in (
           this.text_is
-              ∙ (ap (λ a. a.lines ++ text_with family tells_via one this.form (counted none_yet a)) all.0
-              ∙ (ap (λ s. that.account.lines ++ text_with family tells_via s this.form (counted none_yet that.account)) all.1
-              ∙ (ap (λ f. that.account.lines ++ text_with family tells_via other f (counted none_yet that.account)) form ∙ sym that.text_is))),
+              ∙ (ap (λ (a : Account). lines_of family a.events ++ text_with family tells_via one this.form (counted none_yet a)) all.0
+              ∙ (ap (λ s. lines_of family that.account.events ++ text_with family tells_via s this.form (counted none_yet that.account)) all.1
+              ∙ (ap (λ f. lines_of family that.account.events ++ text_with family tells_via other f (counted none_yet that.account)) form ∙ sym that.text_is))),
           all.1,
         )
 
-    first_begin : (after : RouterState) (text : List ℕ) → IsReport family tells_via end merge state after text → (account : Account) (between : RouterState)
-        → TellsFirst family end merge account state between → BeginsWith text account.lines
-    first_begin after text this account between first =
-        let all = this.tells in
-        let g = first.are captures coming in
-        let front = front_of_all (last_of end) merge.clock captures first.taken g.clock_then g.rest all.taken None g.takes_them (all.are captures coming) in
-        let s = split first.taken front.more all.turns state all.between (subst (λ t. TellsTurns family t all.turns state all.between) front.is all.tells) in
-        let same = (turns_alike first.taken s.one account state state s.mid between refl s.tells_one first.tells).0 in
+    -- a report begins with the lines of the first of its parts
+    begins : (after : RouterState) (text : List ℕ) (this : IsReport family tells_via end merge state after text) (account rest : Account) → this.account ≡ joined account rest
+        → BeginsWith text (lines_of family account.events)
+    begins after text this account rest is =
         let state_text = text_with family tells_via after this.form (counted none_yet this.account) in
         record {
-          rest = (s.rest ++ all.way) ++ state_text;
+          rest = lines_of family rest.events ++ state_text;
           is = this.text_is
-              ∙ (ap (λ (a : Account). a.lines ++ state_text) all.account_is
-              ∙ (ap (λ l. (l ++ all.way) ++ state_text) (s.is ∙ ap (λ (a : Account). a.lines ++ s.rest) same)
-              ∙ (ap (λ l. l ++ state_text) (append_assoc account.lines s.rest all.way) ∙ append_assoc account.lines (s.rest ++ all.way) state_text)));
+              ∙ (ap (λ (a : Account). lines_of family a.events ++ state_text) is
+              ∙ (ap (λ l. l ++ state_text) (flat_map-append (event_line family) account.events rest.events)
+              ∙ append_assoc (lines_of family account.events) (lines_of family rest.events) state_text));
         }
 
+    first_begin : (after : RouterState) (text : List ℕ) → IsReport family tells_via end merge state after text → (account : Account) (between : RouterState)
+        → TellsFirst family end merge state account between → BeginsWith text (lines_of family account.events)
+    first_begin after text this account between first =
+        let all = this.tells in
+        let turns = all.tells in
+        let g = first.are captures coming in
+        let front = front_of_all (last_of end) merge.clock captures first.taken g.clock_then g.rest all.taken None g.takes_them (all.are captures coming) in
+        let s = split family first.taken front.more state turns.first turns.between (subst (λ t. TellsTurns family t state turns.first turns.between) front.is turns.begins) in
+        let same = (turns_one first.taken state s.first account s.between between s.begins first.tells).0 in
+        begins after text this account (joined s.second turns.second)
+        (turns.account_is ∙ (ap (λ x. joined x turns.second) (s.account_is ∙ ap (λ x. joined x s.second) same) ∙ regroup account s.second turns.second))
+
     all_begin : (after : RouterState) (text : List ℕ) → IsReport family tells_via end merge state after text → (account : Account) (between : RouterState)
-        → TellsAll family end merge account state between → BeginsWith text account.lines
-    all_begin after text this account between told = record {
-      rest = text_with family tells_via after this.form (counted none_yet this.account);
-      is = this.text_is ∙ ap (λ (a : Account). a.lines ++ text_with family tells_via after this.form (counted none_yet this.account)) (all_alike this.account account after between this.tells told).0;
-    }
+        → TellsAll family end merge state account between → BeginsWith text (lines_of family account.events)
+    all_begin after text this account between told =
+        begins after text this account nothing ((all_one this.account account after between this.tells told).0 ∙ sym (nothing_last account))
 
     pub begins_so : (after : RouterState) (text : List ℕ) → IsReport family tells_via end merge state after text → BeginsWithItsLines family end merge state text
     begins_so after text this = record { first = first_begin after text this; all = all_begin after text this }

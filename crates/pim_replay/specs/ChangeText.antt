@@ -1,7 +1,7 @@
 -- The messages of the change from one router's demand to that of another (RFC 7761, 4.5). A fresh
 -- router that mirrors the first one hears them, and its messages must then be those of the second
 -- one.
-use Rattle.std.specs.Prelude.{◌≡◌, ◌⊎◌, ℕ, List, Option, None, Some, Result, Ok, Err}
+use Rattle.std.specs.Prelude.{◌≡◌, ◌⊎◌, ℕ, List, Option, Some, Result, Ok, Err}
 use Rattle.std.specs.Io.KnownBytes.{Appends, Keeps}
 use Rattle.pim_addr.specs.declared.family.AddressFamily.{AddressFamily}
 use Rattle.pim_addr.specs.Routes.{RouteTable}
@@ -20,7 +20,7 @@ use Rattle.pim_replay.specs.ChangeHearing.{HasRoom, HasNoRoom}
 use Rattle.pim_report.specs.MessageText.{messages_text}
 use Rattle.pim_replay.specs.MirrorText.{agreed_text}
 use Rattle.pim_replay.specs.Quiet.{RunsAll}
-use Rattle.pim_replay.specs.Report.{StopsAt}
+use Rattle.pim_replay.specs.Replay.{StopsAt}
 
 -- These messages report to the writer's upstream neighbour how the demand toward it changes from
 -- router `one` to router `other`.
@@ -61,8 +61,8 @@ module _ (family : AddressFamily) (end : End) (writing : Writing) (limit : ℕ) 
       Both (Changes (λ before change. HasNoRoom family after.routes writing limit before change needed
       × Appends old new (messages_text change)))
   TellsChange bytes_of old new (Err (Replay (Capture told))) =
-      (StopsAt family end merge merge' told state None None
-      ⊎ RunsAll family end merge state after × StopsAt family end other other' told state_of None None)
+      (StopsAt family end merge state merge' told
+      ⊎ RunsAll family end merge state after × StopsAt family end other state_of other' told)
       × Keeps old new
   TellsChange bytes_of old new (Err (Replay Output)) =
       Both (Changes (λ before change. AppendsFront old new (agreed_text change)))

@@ -13,7 +13,7 @@ use Rattle.pim_replay.specs.declared.emit.EmitFault.{EmitFault}
 use Rattle.pim_replay.specs.declared.emit.EmitFault.TheVariants.{Replay, TooBig}
 use Rattle.pim_replay.specs.declared.replay.ReplayFault.TheVariants.{Capture, Output, Memory}
 use Rattle.pim_replay.specs.Quiet.{RunsAll}
-use Rattle.pim_replay.specs.Report.{StopsAt}
+use Rattle.pim_replay.specs.Replay.{StopsAt}
 
 -- ---- the messages of a router
 
@@ -47,7 +47,7 @@ module _ (family : AddressFamily) (end : End) (writing : Writing) (merge merge' 
   Emits bytes_of old new (Err (TooBig group)) = RunsAll family end merge state after
       × IsTooBigThen family writing after (Some (bytes_of group)) × Keeps old new
   Emits bytes_of old new (Err (Replay (Capture told))) =
-      StopsAt family end merge merge' told state None None × Keeps old new
+      StopsAt family end merge state merge' told × Keeps old new
   Emits bytes_of old new (Err (Replay Output)) =
       RunsAll family end merge state after × FrontWentOut family writing after old new
   Emits bytes_of old new (Err (Replay Memory)) = Keeps old new

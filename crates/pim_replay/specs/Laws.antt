@@ -6,8 +6,9 @@ use Rattle.pim_merge.specs.declared.end.End.{End}
 use Rattle.pim_merge.specs.Lane.{IsComing}
 use Rattle.pim_merge.specs.Next.{MergeState}
 use Rattle.pim_router.specs.State.{RouterState}
-use Rattle.pim_replay.specs.Turn.{Account}
-use Rattle.pim_replay.specs.Report.{TellsFirst, TellsAll, IsReport}
+use Rattle.pim_replay.specs.Events.{Account}
+use Rattle.pim_replay.specs.Replay.{TellsFirst, TellsAll}
+use Rattle.pim_replay.specs.Report.{lines_of, IsReport}
 
 -- The report, and the router after the replay, are a function of the answers of the captures.
 abbrev pub ReportHasOneText : Type 0
@@ -25,10 +26,10 @@ pub record BeginsWith (text lines : List ℕ) : Type 0 where
 -- all turns and the time after them.
 pub record BeginsWithItsLines (family : AddressFamily) (end : End) (merge : MergeState) (state : RouterState)
     (text : List ℕ) : Type 0 where
-  pub first : (account : Account) (after : RouterState) → TellsFirst family end merge account state after →
-      BeginsWith text account.lines
-  pub all : (account : Account) (after : RouterState) → TellsAll family end merge account state after →
-      BeginsWith text account.lines
+  pub first : (account : Account) (after : RouterState) → TellsFirst family end merge state account after →
+      BeginsWith text (lines_of family account.events)
+  pub all : (account : Account) (after : RouterState) → TellsAll family end merge state account after →
+      BeginsWith text (lines_of family account.events)
 
 -- Each report begins with the lines of its replay in this sense.
 abbrev pub ReportBeginsWithItsLines : Type 0

@@ -19,7 +19,7 @@ use Rattle.pim_replay.specs.FreshHearing.{HaveRoom, IsFull}
 use Rattle.pim_report.specs.MessageText.{messages_text}
 use Rattle.pim_report.specs.Pieces.{line}
 use Rattle.pim_replay.specs.Quiet.{RunsAll}
-use Rattle.pim_replay.specs.Report.{StopsAt}
+use Rattle.pim_replay.specs.Replay.{StopsAt}
 
 -- ---- the text
 
@@ -61,7 +61,7 @@ module _ (family : AddressFamily) (end : End) (writing : Writing) (limit : ℕ) 
       Asks (λ messages. IsFull family after.routes writing limit messages needed
       × Appends old new (messages_text messages))
   TellsMirror bytes_of old new (Err (Replay (Capture told))) =
-      StopsAt family end merge merge' told state None None × Keeps old new
+      StopsAt family end merge state merge' told × Keeps old new
   TellsMirror bytes_of old new (Err (Replay Output)) = Asks (λ messages. AppendsFront old new (agreed_text messages))
   TellsMirror bytes_of old new (Err (Replay Memory)) =
       Keeps old new ⊎ Asks (λ messages. Appends old new (messages_text messages))

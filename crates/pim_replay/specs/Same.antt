@@ -1,6 +1,6 @@
 -- The comparison of two routers after their replays: whether they want the same of an upstream
 -- neighbour.
-use Rattle.std.specs.Prelude.{◌≡◌, ◌↔◌, ◌⊎◌, ℕ, Bool, true, false, IsTrue, List, Option, None, Some, Result, Ok, Err, codes, min, ◌+◌}
+use Rattle.std.specs.Prelude.{◌≡◌, ◌↔◌, ◌⊎◌, ℕ, Bool, true, false, IsTrue, List, Option, Some, Result, Ok, Err, codes, min, ◌+◌}
 use Rattle.std.specs.Io.KnownBytes.{Appends, Keeps}
 use Rattle.pim_addr.specs.declared.family.AddressFamily.{AddressFamily}
 use Rattle.pim_device.specs.Device.{AppendsFront, top_count}
@@ -17,7 +17,7 @@ use Rattle.pim_replay.specs.declared.same.SameFault.{SameFault}
 use Rattle.pim_replay.specs.declared.same.SameFault.TheVariants.{Replay, TooBig}
 use Rattle.pim_report.specs.Pieces.{line}
 use Rattle.pim_replay.specs.Quiet.{RunsAll}
-use Rattle.pim_replay.specs.Report.{StopsAt}
+use Rattle.pim_replay.specs.Replay.{StopsAt}
 
 -- The line of the result: `same` or `different`.
 abbrev pub answer_line : Bool → List ℕ
@@ -59,8 +59,8 @@ module _ (family : AddressFamily) (end : End) (writing : Writing) (merge merge' 
   Compares bytes_of old new (Err (TooBig group)) =
       Both (IsFirstTooBig family writing after after_of (Some (bytes_of group))) × Keeps old new
   Compares bytes_of old new (Err (Replay (Capture told))) =
-      (StopsAt family end merge merge' told state None None
-      ⊎ RunsAll family end merge state after × StopsAt family end other other' told state_of None None)
+      (StopsAt family end merge state merge' told
+      ⊎ RunsAll family end merge state after × StopsAt family end other state_of other' told)
       × Keeps old new
   Compares bytes_of old new (Err (Replay Output)) =
       Both (Answers family writing after after_of (λ same. AppendsFront old new (answer_line same)))

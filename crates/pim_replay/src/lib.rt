@@ -1,16 +1,19 @@
 //! The replay of a router's captures, and what is written of it: a report, a comparison, or
 //! messages.
 //!
+//! `replay_for` turns the captures' merge into events: packets that ports took, and echoes. A
+//! `Listener` hears each event and writes to a device what its output has of it. So a new output of
+//! a replay is one module with a listener, as `report` is.
+//!
 //! `specs/` defines each text byte by byte. At Ok the whole text was written. If the device fails,
 //! a prefix of it was, and only then does the device's count of failures rise.
-//! - `replay_into` writes the report of the captures' merge: the lines of its turns, then the final
-//!   state.
+//! - `replay_into` writes the report: the lines of the events, then the final state.
 //! - `same_into` says whether two routers want the same of the writer's upstream neighbour.
 //! - `mirror_into` writes the canonical messages of the final state, then `agrees`.
 //! - `emit_into` writes the bytes of these messages alone, each after two bytes with its length.
 //! - `change_into` writes the messages of the change between two routers' final states, then
 //!   `agrees`.
-//! - `replay_quietly` writes nothing and only moves the router on.
+//! - `replay_quietly` writes nothing, needs no device and only moves the router on.
 //!
 //! The lines of these texts are those of `pim_report`.
 //!
@@ -29,21 +32,25 @@
 mod change_hearing;
 mod change_text;
 mod emit;
+mod event;
 mod fresh_hearing;
 mod laws;
+mod listener;
 mod mirror_text;
 mod passing;
 mod quiet;
 mod replay;
+mod report;
 mod same;
 mod turns;
 
 pub use change_text::change_into;
 pub use emit::{EmitFault, emit_into};
+pub use event::ReplayEvent;
 pub use laws::{report_begins_with_its_lines, report_has_one_text};
+pub use listener::Listener;
 pub use mirror_text::{MirrorTextFault, mirror_into};
-pub use passing::pass_time;
-pub use quiet::replay_quietly;
-pub use replay::{ReplayFault, replay_into};
+pub use quiet::{Quiet, replay_quietly};
+pub use replay::{ReplayFault, replay_for};
+pub use report::{ReportPrinter, replay_into};
 pub use same::{SameFault, same_into};
-pub use turns::take_turn;

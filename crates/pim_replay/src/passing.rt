@@ -1,49 +1,62 @@
-//! Time that passes between the records of captures: the lines of echoes, and the count of
-//! Refreshes.
+//! Time that passes between the records of captures: its echoes, and the count of Refreshes.
 //!
 //! The router counts the Refreshes up to the next echo by a division, since a long pause has very
 //! many.
 
-ghost use Rattle.std.specs.Prelude.{◌≡◌, ◌≤◌, ◌^◌, max, IfOk, OnOk, OnErr};
+ghost use Rattle.std.specs.Prelude.{◌≡◌, ◌≤◌, ◌^◌, max, OnOk};
 ghost use Rattle.pim_device.specs.Device.{failures_after};
-ghost use Rattle.pim_replay.specs.Passing.{HasPassed, HasStopped};
+ghost use Rattle.pim_router.specs.State.{setup_of};
+ghost use Rattle.pim_replay.specs.Events.{Tells};
+ghost use Rattle.pim_replay.specs.Passing.{PassesTime};
 
-use pim_addr::{Drain, Failed, Family};
+use crate::event::ReplayEvent;
+use crate::listener::Listener;
+use pim_addr::{Failed, Family};
 use pim_down::Step;
-use pim_report::write_echo_line;
+use pim_report::Counts;
 use pim_router::{Router, every_list_has_a_course};
 
-/// Lets a router run to this moment, in milliseconds, and writes each echo as a line with the
-/// moment at which it falls. Returns the count of Refreshes: `refreshes` and those on the way. It
-/// stops at 2^64 - 1.
+/// Lets a router run to this moment, in milliseconds. The listener hears each echo, with the moment
+/// at which it falls. Returns the counts with the Refreshes on the way, up to 2^64 - 1.
 ///
 /// # Errors
-/// The device failed: a prefix of the lines was written.
-pub fn pass_time<F: Family, W: Drain>(
-    writer: &mut W,
+/// The device failed: a prefix of what is written of the echoes was written.
+pub(crate) fn pass_time<F: Family, W, L: Listener<F, W>>(
+    listener: &L,
+    device: &mut W,
     router: &mut Router<'_, F>,
     moment: u64,
-    refreshes: u64,
-) -> Result<u64, Failed>
+    counts: Counts,
+) -> Result<Counts, Failed>
     requires { moment ≤ 10 ^ 15 }
-    ensures passed { IfOk result (λ count. HasPassed F.family moment router.old router.new
-        (W.contents writer.old) (W.contents writer.new) refreshes count) }
-    ensures stopped { OnErr result (HasStopped F.family moment router.old
-        (W.contents writer.old) (W.contents writer.new)) }
-    ensures count { W.failures writer.new ≡ failures_after (W.failures writer.old) result }
-    ensures reached { OnOk result (router.new.machines.moment
-        ≡ max router.old.machines.moment moment) }
+    ensures told { Tells (L.line listener.now) (PassesTime moment router.old) router.new
+        (L.contents device.old) (L.contents device.new) counts result }
+    ensures count { L.failures device.new ≡ failures_after (L.failures device.old) result }
+    ensures reached { OnOk result
+        (router.new.machines.moment ≡ max router.old.machines.moment moment) }
+    ensures setup { setup_of router.new ≡ setup_of router.old }
 {
     every_list_has_a_course();
-    let mut count = refreshes;
+    let mut refreshes = counts.refreshes;
     loop {
         let (step, passed) = router.run_past_refreshes(moment);
-        count = count.saturating_add(passed);
+        refreshes = refreshes.saturating_add(passed);
         match step {
             Step::Echo { port, group, what } => {
-                write_echo_line::<F, W>(writer, router.now(), port, group, what)?;
+                let event = ReplayEvent::Echo {
+                    moment: router.now(),
+                    port,
+                    group,
+                    what,
+                };
+                listener.hear(device, event)?;
             }
-            Step::Reached => return Ok(count),
+            Step::Reached => {
+                return Ok(Counts {
+                    skipped: counts.skipped,
+                    refreshes,
+                });
+            }
         }
     }
 }

@@ -3,26 +3,35 @@
 ghost use Rattle.std.specs.Prelude.{◌≡◌, ◌≤◌, length};
 ghost use Rattle.pim_capture.specs.Next.{latest_moment};
 ghost use Rattle.pim_merge.specs.Ends.{IsBoundedEnd};
+ghost use Rattle.pim_router.specs.State.{setup_of};
 ghost use Rattle.pim_replay.specs.Quiet.{RunsQuietly};
 
-use crate::replay::{ReplayFault, run_on};
-use pim_addr::{Drain, Failed, Family, Feed};
+use crate::event::ReplayEvent;
+use crate::listener::Listener;
+use crate::replay::{ReplayFault, replay_for};
+use pim_addr::{Failed, Family, Feed};
 use pim_merge::{End, Merge};
 use pim_router::Router;
 
-/// A device that takes everything and keeps nothing.
-#[derive(Drop)]
-struct Nowhere;
+/// Hears events and writes nothing. It needs no device.
+#[derive(Clone, Copy, Debug, PartialEq, Eq)]
+pub struct Quiet;
 
-impl Drain for Nowhere {
-    ghost use Rattle.std.specs.Prelude.{None};
+impl<F: Family> Listener<F, ()> for Quiet {
+    ghost use Rattle.std.specs.Prelude.{[], Some};
+    ghost use Rattle.pim_device.specs.Device.{AppendsAll, failures_after};
 
-    ghost contents = { λ _. None };
+    ghost line = { λ quiet event. [] };
 
-    ghost failures = { λ _. 0 };
+    ghost contents = { λ device. Some [] };
 
-    fn write(&mut self, bytes: &[u8]) -> Result<usize, Failed> {
-        Ok(bytes.len())
+    ghost failures = { λ device. 0 };
+
+    fn hear(&self, _device: &mut (), _event: ReplayEvent<F::Addr>) -> Result<(), Failed>
+        ensures bytes { AppendsAll (Some []) (Some []) result [] }
+        ensures count { 0 ≡ failures_after 0 result }
+    {
+        Ok(())
     }
 }
 
@@ -41,9 +50,11 @@ pub fn replay_quietly<F: Family, R: Feed + Drop>(
     requires ports { length merge.old.lanes ≡ length router.old.ports }
     requires moment { router.old.machines.moment ≤ latest_moment }
     requires end { IsBoundedEnd end }
-    ensures { RunsQuietly F.family end merge.old merge.new router.old router.new result }
+    ensures runs { RunsQuietly F.family end merge.old merge.new router.old router.new result }
+    ensures setup { setup_of router.new ≡ setup_of router.old }
 {
-    let mut nowhere = Nowhere;
-    run_on::<F, R, Nowhere>(merge, router, end, &mut nowhere)?;
-    Ok(())
+    match replay_for(&Quiet, &mut (), merge, router, end) {
+        Ok(_) => Ok(()),
+        Err(fault) => Err(fault),
+    }
 }

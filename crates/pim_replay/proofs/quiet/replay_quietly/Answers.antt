@@ -1,4 +1,9 @@
+use Rattle.pim_replay.proofs.Ending.{quiet}
 use Rattle.pim_replay.proofs.quiet.replay_quietly.Goals as goal
 
-pub returns : goal.returns
-returns g c = record { account = c.in_ok-run_on.ensures.told.account; tells = c.in_ok-run_on.ensures.told.tells }
+pub returns-in-Ok-clause-runs : goal.returns-in-Ok-clause-runs
+returns-in-Ok-clause-runs g c = record { account = c.in-Ok.ensures.heard.account; tells = c.in-Ok.ensures.heard.tells }
+
+pub returns-in-Err-clause-runs : goal.returns-in-Err-clause-runs
+returns-in-Err-clause-runs g c =
+    quiet g.F.Family.family c.args.end c.args.merge.now c.replay_for.new.merge c.args.router.now c.replay_for.new.router c.in-Err.fault c.in-Err.ensures.heard c.in-Err.ensures.count

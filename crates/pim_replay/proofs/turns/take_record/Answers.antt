@@ -1,21 +1,39 @@
-use Rattle.std.proofs.Common.{ap, rules}
-use Rattle.pim_capture.specs.Next.{event_seen}
+use Rattle.std.proofs.Common.{rules, refl, ap}
 use Rattle.pim_merge.specs.Content.{content_seen}
+use Rattle.pim_merge.specs.Run.{turn_seen}
 use Rattle.pim_router.specs.Seen.{packet_seen}
-use Rattle.pim_replay.specs.Turn.{taken_as}
-use Rattle.pim_replay.proofs.Taken.{packet_heard, packet_stopped}
+use Rattle.pim_replay.proofs.Taken.{packet_stays, not_held, none_told, skipped, packet_begun, packet_told}
 use Rattle.pim_replay.proofs.turns.take_record.Goals as goal
 
-pub returns-in-Ok-clause-taken : goal.returns-in-Ok-clause-taken
-returns-in-Ok-clause-taken g c =
-    packet_heard g.F.Family.family c.args.turn.now.capture c.args.router.now c.args.skipped (content_seen g.F.Family.bytes_of c.content.result) (event_seen c.args.bytes.now c.args.turn.now.event)
-    c.content.ensures.content (packet_seen g.F.Family.bytes_of c.args.turn.now.capture c.in-Datagram.sent.source c.in-Datagram.sent.destination c.in-Datagram.sent.payload.now)
-    (ap (λ held. taken_as g.F.Family.family c.args.turn.now.capture (content_seen g.F.Family.bytes_of held) c.args.router.now) c.in-Datagram.is)
-    c.hear_packet.new.router (g.W.Drain.contents c.args.writer.now) (g.W.Drain.contents c.hear_packet.new.writer) (search rules) c.in-Ok.ensures.heard
+pub returns-in_default : goal.returns-in_default
+returns-in_default g c = record {
+  told = skipped (g.L.Listener.line c.args.listener.now) g.F.Family.family (turn_seen c.args.bytes.now c.args.turn.now) c.args.router.now (content_seen g.F.Family.bytes_of c.content.result) c.content.ensures.content
+      (not_held g.F.Family.bytes_of c.content.result c.in_default.not-Datagram g.F.Family.family c.args.turn.now.capture c.args.router.now) (g.L.Listener.contents c.args.device.now) c.args.counts
+      c.saturating_add.result (search rules) c.saturating_add.ensures;
+  count = refl;
+  moment = refl;
+  setup = refl;
+}
 
-pub returns-in-Err-clause-taken : goal.returns-in-Err-clause-taken
-returns-in-Err-clause-taken g c =
-    packet_stopped g.F.Family.family c.args.turn.now.capture c.args.router.now c.args.skipped (content_seen g.F.Family.bytes_of c.content.result) (event_seen c.args.bytes.now c.args.turn.now.event)
-    c.content.ensures.content (packet_seen g.F.Family.bytes_of c.args.turn.now.capture c.in-Datagram.sent.source c.in-Datagram.sent.destination c.in-Datagram.sent.payload.now)
-    (ap (λ held. taken_as g.F.Family.family c.args.turn.now.capture (content_seen g.F.Family.bytes_of held) c.args.router.now) c.in-Datagram.is)
-    c.hear_packet.new.router (g.W.Drain.contents c.args.writer.now) (g.W.Drain.contents c.hear_packet.new.writer) c.in-Err.fault c.in-Err.ensures.heard
+pub returns-in_default-take_packet-clause-told : goal.returns-in_default-take_packet-clause-told
+returns-in_default-take_packet-clause-told g c =
+    none_told (g.L.Listener.line c.args.listener.now) g.F.Family.family (turn_seen c.args.bytes.now c.args.turn.now) c.args.router.now (g.L.Listener.contents c.args.device.now)
+
+pub returns-in_default-hear-clause-told : goal.returns-in_default-hear-clause-told
+returns-in_default-hear-clause-told g c =
+    packet_begun (g.L.Listener.line c.args.listener.now) g.F.Family.family (turn_seen c.args.bytes.now c.args.turn.now) c.args.router.now (content_seen g.F.Family.bytes_of c.content.result) c.content.ensures.content
+    (g.F.Family.bytes_of c.in-Datagram.sent.source) (g.F.Family.bytes_of c.in-Datagram.sent.destination) c.in-Datagram.sent.payload.now (ap (content_seen g.F.Family.bytes_of) c.in-Datagram.is)
+    c.now-moment.result c.now-moment.ensures c.in-Ok.verdict c.take_packet.new.self c.in-Ok.ensures.told (g.L.Listener.contents c.args.device.now) (g.L.Listener.contents c.hear.new.device) c.in_default-hear.ensures.bytes
+
+pub returns-clause-told : goal.returns-clause-told
+returns-clause-told g c =
+    packet_told (g.L.Listener.line c.args.listener.now) g.F.Family.family (turn_seen c.args.bytes.now c.args.turn.now) c.args.router.now (content_seen g.F.Family.bytes_of c.content.result) c.content.ensures.content
+    (g.F.Family.bytes_of c.in-Datagram.sent.source) (g.F.Family.bytes_of c.in-Datagram.sent.destination) c.in-Datagram.sent.payload.now (ap (content_seen g.F.Family.bytes_of) c.in-Datagram.is)
+    c.now-moment.result c.now-moment.ensures c.in-Ok.verdict c.take_packet.new.self c.in-Ok.ensures.told (g.L.Listener.contents c.args.device.now) (g.L.Listener.contents c.hear.new.device)
+    c.args.counts (search rules) (search rules) c.in-Ok-hear.ensures.bytes
+
+pub returns-clause-moment : goal.returns-clause-moment
+returns-clause-moment g c =
+    packet_stays g.F.Family.family
+    (packet_seen g.F.Family.bytes_of c.args.turn.now.capture c.in-Datagram.sent.source c.in-Datagram.sent.destination c.in-Datagram.sent.payload.now)
+    c.args.router.now c.take_packet.new.self c.in-Ok.verdict c.in-Ok.ensures.told

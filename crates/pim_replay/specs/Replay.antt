@@ -1,0 +1,100 @@
+-- A replay: the turns of a merge, then the time up to the end of the run.
+use Rattle.std.specs.Prelude.{◌≡◌, ◌≢◌, ◌⊎◌, ⊤, ℕ, ◌+◌, min, List, [], ◌∷◌, Option, None, Some, Result, Ok, Err}
+use Rattle.std.specs.Io.KnownBytes.{Appends}
+use Rattle.std.specs.List.{flat_map}
+use Rattle.pim_addr.specs.declared.family.AddressFamily.{AddressFamily}
+use Rattle.pim_device.specs.Device.{top_count}
+use Rattle.pim_capture.specs.declared.fault.CaptureFault.TheVariants as fault
+use Rattle.pim_capture.specs.Next.{IsRefusal}
+use Rattle.pim_merge.specs.declared.clock.Clock.{Clock}
+use Rattle.pim_merge.specs.declared.end.End.{End}
+use Rattle.pim_merge.specs.declared.merge.MergeFault.{MergeFault}
+use Rattle.pim_merge.specs.Merge.{Taken}
+use Rattle.pim_merge.specs.Lane.{lane_at}
+use Rattle.pim_merge.specs.Next.{MergeState}
+use Rattle.pim_merge.specs.Ends.{AreAll, AreFirst, AreBefore, end_moment, clock_of}
+use Rattle.pim_report.specs.declared.state_text.Counts.{Counts}
+use Rattle.pim_router.specs.State.{RouterState}
+use Rattle.pim_replay.specs.declared.replay.ReplayFault.{ReplayFault}
+use Rattle.pim_replay.specs.declared.replay.ReplayFault.TheVariants.{Capture, Output, Memory}
+use Rattle.pim_replay.specs.Events.{Event, Account, nothing, Follows, HasTold, HasBegun}
+use Rattle.pim_replay.specs.Passing.{PassesTime}
+use Rattle.pim_replay.specs.Turn.{TellsTurn}
+
+-- ---- what a replay reports
+
+-- The turns follow one another and lead the router from `state` to `after`. `account` is what they
+-- report together.
+unfoldable pub TellsTurns : AddressFamily → List Taken → RouterState → Account → RouterState → Type 0
+TellsTurns family [] state account after = (account ≡ nothing) × (after ≡ state)
+TellsTurns family (first ∷ others) state account after =
+    Follows (TellsTurn family first state) (TellsTurns family others) account after
+
+-- The time after the last turn, up to the end of the run. The clock is that of the records taken.
+abbrev pub PassesToEnd : End → Option Clock → RouterState → Account → RouterState → Type 0
+PassesToEnd end clock state = PassesTime (end_moment end clock state.machines.moment) state
+
+module _ (family : AddressFamily) (end : End) (merge : MergeState) (state : RouterState) where
+  -- Some first turns of the merge report this account and lead the router from `state` to `after`.
+  pub record TellsFirst (account : Account) (after : RouterState) : Type 0 where
+    pub taken : List Taken
+    pub are : AreFirst end merge taken
+    pub tells : TellsTurns family taken state account after
+
+  -- All turns of the merge up to the end of the run, and the time from the last one to that end,
+  -- report this account. The merge ends without a fault, and `after` is the router at the end.
+  pub record TellsAll (account : Account) (after : RouterState) : Type 0 where
+    pub taken : List Taken
+    pub are : AreAll end merge None taken
+    pub tells : Follows (TellsTurns family taken state) (PassesToEnd end (clock_of merge.clock taken)) account after
+
+  -- A fault of a capture ends the replay after these turns. The fault is the next answer of its
+  -- capture, or a read of that capture failed in the call, which leaves `merge'`. It is never a lack
+  -- of memory.
+  pub record StopsAt (merge' : MergeState) (told : MergeFault) : Type 0 where
+    pub taken : List Taken
+    pub account : Account
+    pub after : RouterState
+    pub are : AreBefore end merge told taken
+    pub tells : TellsTurns family taken state account after
+    pub no_memory : told.fault ≢ fault.Memory
+    pub cause : IsRefusal {A = ⊤} (lane_at told.capture merge.lanes).failures
+        (lane_at told.capture merge'.lanes).failures (Err told.fault)
+        ⊎ AreAll end merge (Some (told.capture, told.fault)) taken
+
+-- ---- what a replay returns and what its listener writes, where `line` is what is written of an event
+
+-- The counts at the start of a replay.
+abbrev pub none_yet : Counts
+none_yet = record { skipped = 0; refreshes = 0 }
+
+module _ (line : Event → List ℕ) (family : AddressFamily) (end : End) (merge : MergeState) (state : RouterState)
+    (old new : Option (List ℕ)) where
+  -- A prefix of what is written of the events was written. That is, of those of some first turns, or
+  -- of all turns and the time after them.
+  abbrev pub Begins : Type 0
+  Begins = HasBegun line (TellsFirst family end merge state) old new ⊎ HasBegun line (TellsAll family end merge state) old new
+
+  -- What a replay with this fault has written. After a fault of a capture, it is exactly what is
+  -- written of the events of the turns before it. After any other fault, it is a prefix.
+  abbrev pub Stops : MergeState → ReplayFault → Type 0
+  Stops merge' (Capture told) =
+      (stop : StopsAt family end merge state merge' told) × Appends old new (flat_map line stop.account.events)
+  Stops merge' Output = Begins
+  Stops merge' Memory = Begins
+
+-- What `replay_for` returns and writes. At Ok it has written all events and returns the counts.
+abbrev pub Hears : (Event → List ℕ) → AddressFamily → End → MergeState → MergeState → RouterState → RouterState →
+    Option (List ℕ) → Option (List ℕ) → Result Counts ReplayFault → Type 0
+Hears line family end merge merge' state after old new (Ok counts) =
+    HasTold line (TellsAll family end merge state) after old new none_yet counts
+Hears line family end merge merge' state after old new (Err fault) =
+    Stops line family end merge state old new merge' fault
+
+-- How often the device has failed after the call: once more if the result is `Output`, otherwise as
+-- often as before it. The count stops at 2^64 - 1.
+abbrev pub failures_of_device : {A : Type 0} → ℕ → Result A ReplayFault → ℕ
+failures_of_device before (Ok done) = before
+failures_of_device before (Err (Capture told)) = before
+failures_of_device before (Err Output) = min (before + 1) top_count
+failures_of_device before (Err Memory) = before
