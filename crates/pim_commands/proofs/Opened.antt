@@ -14,6 +14,7 @@ use Rattle.pim_words.specs.declared.fault.Side.TheVariants.{A as of_a, B as of_b
 use Rattle.pim_words.specs.declared.task.Captures.{Captures}
 use Rattle.pim_words.specs.declared.task.Port.{Port}
 use Rattle.pim_check.specs.declared.fault.Fault.{Fault}
+use Rattle.pim_commands.specs.Opened.{IsOpen, AreOpen}
 use Rattle.pim_commands.specs.Opening.{OpensNot, Opens, OverOne, OverBoth}
 use Rattle.pim_check.specs.Unopened.{open_fault}
 use Rattle.pim_check.specs.Report.{write_failures_after}
@@ -59,6 +60,52 @@ front_after a b c xs ys p q = record {
   asks = asks_more a b c xs q.front p q.asks;
 }
 
+-- ---- the result over what is open
+
+module _ {A R : Type 0} (family : AddressFamily) (bytes_of : A → List ℕ) (remaining : R → Option (List ℕ)) (failures : R → ℕ) (known last : Known) (captures : Captures A)
+    (upstream : Option A) where
+  -- of one router
+  pub over_open : (Answers : RouteTable → MergeState → MergeState → Type 0) (table : RouteTable) (merge merge' : MergeState)
+      → IsOpen family bytes_of remaining failures known last captures upstream table merge → Answers table merge merge'
+      → OverOne family bytes_of remaining failures known last captures upstream Answers
+  over_open Answers table merge merge' o is = record {
+    table = table;
+    is_table = o.is_table;
+    merge = merge;
+    merge' = merge';
+    each = o.each;
+    untaken = o.untaken;
+    held = o.held;
+    asked = o.asked;
+    answers = is;
+  }
+
+  -- of two routers
+  pub over_both : (Answers : RouteTable → MergeState → MergeState → MergeState → MergeState → Type 0) (table : RouteTable) (merge merge' other other' : MergeState)
+      → AreOpen family bytes_of remaining failures known last captures upstream table merge other → Answers table merge merge' other other'
+      → OverBoth family bytes_of remaining failures known last captures upstream Answers
+  over_both Answers table merge merge' other other' o is = record {
+    table = table;
+    is_table = o.is_table;
+    merge = merge;
+    merge' = merge';
+    other = other;
+    other' = other';
+    each_of_a = o.each_of_a;
+    each_of_b = o.each_of_b;
+    untaken_of_a = o.untaken_of_a;
+    untaken_of_b = o.untaken_of_b;
+    held_of_a = o.held_of_a;
+    held_of_b = o.held_of_b;
+    asked = o.asked;
+    answers = is;
+  }
+
+  -- a file isn't open, and the device has not failed
+  pub not_failed : (before : ℕ) (fault : Fault) → OpensNot family bytes_of remaining failures known last captures upstream fault
+      → before ≡ write_failures_after {A = ℕ} before (Err fault)
+  not_failed before fault u = sym (ap (λ (f : Fault). write_failures_after {A = ℕ} before (Err f)) u.is ∙ not_written before u.told)
+
 -- ---- what was opened; `known` was known before, `middle` after the table was made, `last` after all
 
 module _ {A R : Type 0} (family : AddressFamily) (bytes_of : A → List ℕ) (remaining : R → Option (List ℕ)) (failures : R → ℕ) (known middle last : Known) (captures : Captures A)
@@ -96,35 +143,26 @@ module _ {A R : Type 0} (family : AddressFamily) (bytes_of : A → List ℕ) (re
       (subst (λ (l : List (Port A)). AsksFor middle last (map file_name l)) same asked)
 
   -- the captures of one router are open
-  pub over_one : (Answers : RouteTable → MergeState → MergeState → Type 0) (table : RouteTable) (merge merge' : MergeState) (ports : List (Port A)) → ports ≡ captures.ports.items
+  pub is_open : (table : RouteTable) (merge : MergeState) (ports : List (Port A)) → ports ≡ captures.ports.items
       → IsTable family bytes_of remaining failures known.files captures upstream table → AsksFor known middle (table_names captures)
       → length merge.lanes ≡ length ports → merge.clock ≡ None → HoldFiles middle.files ports merge.lanes → AsksFor middle last (map file_name ports)
-      → Answers table merge merge' → OverOne family bytes_of remaining failures known last captures upstream Answers
-  over_one Answers table merge merge' ports same is_table named each untaken held asked is = record {
-    table = table;
+      → IsOpen family bytes_of remaining failures known last captures upstream table merge
+  is_open table merge ports same is_table named each untaken held asked = record {
     is_table = is_table;
-    merge = merge;
-    merge' = merge';
     each = each ∙ ap length same;
     untaken = untaken;
     held = subst (λ (l : List (Port A)). HoldFiles known.files l merge.lanes) same (subst (λ (f : Option Files). HoldFiles f ports merge.lanes) named.files held);
     asked = names_asked ports same named asked;
-    answers = is;
   }
 
   -- the captures of two routers are open
-  pub over_both : (Answers : RouteTable → MergeState → MergeState → MergeState → MergeState → Type 0) (table : RouteTable) (merge merge' other other' : MergeState) (ports : List (Port A))
+  pub are_open : (table : RouteTable) (merge other : MergeState) (ports : List (Port A))
       → ports ≡ captures.ports.items → IsTable family bytes_of remaining failures known.files captures upstream table → AsksFor known middle (table_names captures)
       → length merge.lanes ≡ length (filter (is_of of_a) ports) → length other.lanes ≡ length (filter (is_of of_b) ports) → merge.clock ≡ None → other.clock ≡ None
       → HoldFiles middle.files (filter (is_of of_a) ports) merge.lanes → HoldFiles middle.files (filter (is_of of_b) ports) other.lanes → AsksFor middle last (map file_name ports)
-      → Answers table merge merge' other other' → OverBoth family bytes_of remaining failures known last captures upstream Answers
-  over_both Answers table merge merge' other other' ports same is_table named each_of_a each_of_b untaken_of_a untaken_of_b held_of_a held_of_b asked is = record {
-    table = table;
+      → AreOpen family bytes_of remaining failures known last captures upstream table merge other
+  are_open table merge other ports same is_table named each_of_a each_of_b untaken_of_a untaken_of_b held_of_a held_of_b asked = record {
     is_table = is_table;
-    merge = merge;
-    merge' = merge';
-    other = other;
-    other' = other';
     each_of_a = each_of_a ∙ ap (λ (l : List (Port A)). length (filter (is_of of_a) l)) same;
     each_of_b = each_of_b ∙ ap (λ (l : List (Port A)). length (filter (is_of of_b) l)) same;
     untaken_of_a = untaken_of_a;
@@ -134,8 +172,16 @@ module _ {A R : Type 0} (family : AddressFamily) (bytes_of : A → List ℕ) (re
     held_of_b = subst (λ (l : List (Port A)). HoldFiles known.files (filter (is_of of_b) l) other.lanes) same
         (subst (λ (f : Option Files). HoldFiles f (filter (is_of of_b) ports) other.lanes) named.files held_of_b);
     asked = names_asked ports same named asked;
-    answers = is;
   }
+
+  -- the captures of one router were opened, and this is the result over them
+  pub over_one : (Answers : RouteTable → MergeState → MergeState → Type 0) (table : RouteTable) (merge merge' : MergeState) (ports : List (Port A)) → ports ≡ captures.ports.items
+      → IsTable family bytes_of remaining failures known.files captures upstream table → AsksFor known middle (table_names captures)
+      → length merge.lanes ≡ length ports → merge.clock ≡ None → HoldFiles middle.files ports merge.lanes → AsksFor middle last (map file_name ports)
+      → Answers table merge merge' → OverOne family bytes_of remaining failures known last captures upstream Answers
+  over_one Answers table merge merge' ports same is_table named each untaken held asked is =
+      over_open family bytes_of remaining failures known last captures upstream Answers table merge merge'
+      (is_open table merge ports same is_table named each untaken held asked) is
 
   -- what is returned and written over it
   pub answered : (old new : Option (List ℕ)) (result : Result ℕ Fault) (Answered : Type 0) → Answered → Opens family bytes_of remaining failures known last captures upstream old new result Answered

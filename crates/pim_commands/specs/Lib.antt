@@ -8,4 +8,5 @@ pub mod Emitting
 pub mod Changing
 pub mod Writing
 pub mod Opening
+pub mod Opened
 pub mod Running

@@ -10,13 +10,13 @@ ghost use Rattle.pim_commands.specs.Changing.{ChangesNew};
 ghost use Rattle.pim_commands.specs.Opening.{ChangesFiles};
 ghost use Rattle.pim_check.specs.Report.{write_failures_after};
 
-use crate::comparing::side_configs;
+use crate::comparing::prepare_both;
 use crate::mirroring::mirrored;
+use crate::opening::open_two;
 use crate::replaying::{end_of, router_of};
-use crate::writing::writer_of;
 use pim_addr::{Drain, Family, Feed, Routes};
 use pim_check::Fault;
-use pim_files::{Opener, Pair, open_both, table};
+use pim_files::{Opener, Pair};
 use pim_replay::change_into;
 use pim_words::{Captures, Side, Writing};
 use std::alloc::Global;
@@ -53,21 +53,15 @@ pub fn change_opened<F: Family, R: Feed + Drop, W: Drain>(
     ensures count { W.failures writer.new ≡ write_failures_after (W.failures writer.old) result }
 {
     let end = end_of(captures);
-    let by = match writer_of::<F>(writing) {
-        Ok(by) => by,
+    let made = match prepare_both::<F>(alloc, writing, &captures.ports) {
+        Ok(made) => made,
         Err(fault) => return Err(fault),
     };
-    let Ok(ports_a) = side_configs(alloc, &captures.ports, Side::A) else {
-        return Err(Fault::Memory);
-    };
-    let Ok(ports_b) = side_configs(alloc, &captures.ports, Side::B) else {
-        return Err(Fault::Memory);
-    };
-    let mut a = match router_of::<F>(alloc, &ports_a, routes, captures.limit) {
+    let mut a = match router_of::<F>(alloc, &made.a, routes, captures.limit) {
         Ok(router) => router,
         Err(fault) => return Err(fault),
     };
-    let mut b = match router_of::<F>(alloc, &ports_b, routes, captures.limit) {
+    let mut b = match router_of::<F>(alloc, &made.b, routes, captures.limit) {
         Ok(router) => router,
         Err(fault) => return Err(fault),
     };
@@ -78,7 +72,7 @@ pub fn change_opened<F: Family, R: Feed + Drop, W: Drain>(
         &mut pair.b,
         &mut b,
         end,
-        &by,
+        &made.by,
         captures.limit,
         writer,
     ))
@@ -107,7 +101,16 @@ pub fn change<'a, F: Family, O: Opener, W: Drain>(
         (W.contents writer.old) (W.contents writer.new) result }
     ensures count { W.failures writer.new ≡ write_failures_after (W.failures writer.old) result }
 {
-    let routes = table::<F, O>(alloc, opener, captures, Some(writing.upstream))?;
-    let mut pair = open_both(alloc, opener, &captures.ports)?;
-    change_opened::<F, _, W>(alloc, captures, writing, &routes, &mut pair, writer)
+    let mut files = match open_two::<F, O>(alloc, opener, captures, Some(writing.upstream)) {
+        Ok(files) => files,
+        Err(fault) => return Err(fault),
+    };
+    change_opened::<F, _, W>(
+        alloc,
+        captures,
+        writing,
+        &files.routes,
+        &mut files.pair,
+        writer,
+    )
 }

@@ -1,19 +1,24 @@
 //! The command `same`: it opens the captures of two routers and calls the engine.
 
-ghost use Rattle.std.specs.Prelude.{◌≡◌, length, map, filter, IfOk};
+ghost use Rattle.std.specs.Prelude.{◌≡◌, length, map, filter, false, IfOk, IfErr};
 ghost use Rattle.pim_form.specs.Seen.{writing_seen};
+ghost use Rattle.pim_form.specs.Writer.{has_bad_address};
+ghost use Rattle.pim_router.specs.State.{Setup};
 ghost use Rattle.pim_words.specs.Plan.{IsBounded, IsLimited, IsWritable};
-ghost use Rattle.pim_commands.specs.Replaying.{end_of, config_of};
+ghost use Rattle.pim_commands.specs.Replaying.{end_of, config_of, IsFirstCause};
 ghost use Rattle.pim_files.specs.Captures.{is_of};
-ghost use Rattle.pim_commands.specs.Comparing.{same_fault, compared, side_setup, ComparesNew};
+ghost use Rattle.pim_commands.specs.Comparing.{same_fault, compared, causes, side_setup, ComparesNew};
+ghost use Rattle.pim_commands.specs.Opened.{IsUnwritten};
 ghost use Rattle.pim_commands.specs.Opening.{ComparesFiles};
 ghost use Rattle.pim_check.specs.Report.{write_failures_after};
 
+use crate::opening::open_two;
 use crate::replaying::{config, end_of, replay_fault, router_of};
 use crate::writing::{address_of, writer_of};
 use pim_addr::{Drain, Family, Feed, Routes};
 use pim_check::Fault;
-use pim_files::{Opener, Pair, open_both, table};
+use pim_files::{Opener, Pair};
+use pim_form::Writer;
 use pim_replay::{SameFault, same_into};
 use pim_router::PortConfig;
 use pim_words::{Captures, Port, Side, Writing};
@@ -50,7 +55,7 @@ fn is_of<A: Copy>(side: Side, port: &Port<'_, A>) -> bool
 }
 
 /// The configurations of the ports of one of the two routers.
-pub fn side_configs<A: Copy>(
+fn side_configs<A: Copy>(
     alloc: Global,
     ports: &[Port<'_, A>],
     side: Side,
@@ -65,6 +70,48 @@ pub fn side_configs<A: Copy>(
         }
     }
     Ok(configs)
+}
+
+/// A writer, and the configurations of two routers' ports.
+#[derive(Drop)]
+pub(crate) struct BothPrepared<F: Family> {
+    pub(crate) by: Writer<F>,
+    pub(crate) a: Vec<PortConfig<F::Addr>>,
+    pub(crate) b: Vec<PortConfig<F::Addr>>,
+}
+
+/// The writer, and the configurations of both routers' ports. Or the fault of the writer, or
+/// `Memory`.
+pub(crate) fn prepare_both<F: Family>(
+    alloc: Global,
+    writing: &Writing<F::Addr>,
+    ports: &[Port<'_, F::Addr>],
+) -> Result<BothPrepared<F>, Fault<'static>>
+    requires { IsWritable writing.now }
+    ensures by { IfOk result (λ made. made.by ≡ writing_seen F.bytes_of writing.now.upstream
+        writing.now.own writing.now.holdtime writing.now.budget) }
+    ensures fine { IfOk result (λ made. has_bad_address F.family (writing_seen F.bytes_of writing.now.upstream
+        writing.now.own writing.now.holdtime writing.now.budget) ≡ false) }
+    ensures a { IfOk result (λ made. made.a.items
+        ≡ map config_of (filter (is_of Side.A) ports.now)) }
+    ensures b { IfOk result (λ made. made.b.items
+        ≡ map config_of (filter (is_of Side.B) ports.now)) }
+    ensures unwritten { IfErr result IsUnwritten }
+    ensures fault { (a b : Setup) → IfErr result
+        (IsFirstCause (causes F.family (writing_seen F.bytes_of writing.now.upstream
+        writing.now.own writing.now.holdtime writing.now.budget) a b)) }
+{
+    let by = match writer_of::<F>(writing) {
+        Ok(by) => by,
+        Err(fault) => return Err(fault),
+    };
+    let Ok(a) = side_configs(alloc, ports, Side::A) else {
+        return Err(Fault::Memory);
+    };
+    let Ok(b) = side_configs(alloc, ports, Side::B) else {
+        return Err(Fault::Memory);
+    };
+    Ok(BothPrepared { by, a, b })
 }
 
 /// Replays the captures of two new routers, one for each port in the order of the ports. Then it
@@ -98,21 +145,15 @@ pub fn same_opened<F: Family, R: Feed + Drop, W: Drain>(
     ensures count { W.failures writer.new ≡ write_failures_after (W.failures writer.old) result }
 {
     let end = end_of(captures);
-    let by = match writer_of::<F>(writing) {
-        Ok(by) => by,
+    let made = match prepare_both::<F>(alloc, writing, &captures.ports) {
+        Ok(made) => made,
         Err(fault) => return Err(fault),
     };
-    let Ok(ports_a) = side_configs(alloc, &captures.ports, Side::A) else {
-        return Err(Fault::Memory);
-    };
-    let Ok(ports_b) = side_configs(alloc, &captures.ports, Side::B) else {
-        return Err(Fault::Memory);
-    };
-    let mut a = match router_of::<F>(alloc, &ports_a, routes, captures.limit) {
+    let mut a = match router_of::<F>(alloc, &made.a, routes, captures.limit) {
         Ok(router) => router,
         Err(fault) => return Err(fault),
     };
-    let mut b = match router_of::<F>(alloc, &ports_b, routes, captures.limit) {
+    let mut b = match router_of::<F>(alloc, &made.b, routes, captures.limit) {
         Ok(router) => router,
         Err(fault) => return Err(fault),
     };
@@ -123,7 +164,7 @@ pub fn same_opened<F: Family, R: Feed + Drop, W: Drain>(
         &mut pair.b,
         &mut b,
         end,
-        &by,
+        &made.by,
         writer,
     ))
 }
@@ -150,7 +191,16 @@ pub fn same<'a, F: Family, O: Opener, W: Drain>(
         (W.contents writer.old) (W.contents writer.new) result }
     ensures count { W.failures writer.new ≡ write_failures_after (W.failures writer.old) result }
 {
-    let routes = table::<F, O>(alloc, opener, captures, Some(writing.upstream))?;
-    let mut pair = open_both(alloc, opener, &captures.ports)?;
-    same_opened::<F, _, W>(alloc, captures, writing, &routes, &mut pair, writer)
+    let mut files = match open_two::<F, O>(alloc, opener, captures, Some(writing.upstream)) {
+        Ok(files) => files,
+        Err(fault) => return Err(fault),
+    };
+    same_opened::<F, _, W>(
+        alloc,
+        captures,
+        writing,
+        &files.routes,
+        &mut files.pair,
+        writer,
+    )
 }

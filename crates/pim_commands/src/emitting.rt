@@ -9,11 +9,13 @@ ghost use Rattle.pim_commands.specs.Emitting.{emit_fault, emitted, EmitsNew};
 ghost use Rattle.pim_commands.specs.Opening.{EmitsFiles};
 ghost use Rattle.pim_check.specs.Report.{write_failures_after};
 
-use crate::replaying::{configs, end_of, replay_fault, router_of};
-use crate::writing::{address_of, writer_of};
+use crate::mirroring::prepare_one;
+use crate::opening::open_one;
+use crate::replaying::{end_of, replay_fault, router_of};
+use crate::writing::address_of;
 use pim_addr::{Drain, Family, Feed, Routes};
 use pim_check::Fault;
-use pim_files::{Opener, open_all, table};
+use pim_files::Opener;
 use pim_merge::Merge;
 use pim_replay::{EmitFault, emit_into};
 use pim_words::{Captures, Writing};
@@ -69,18 +71,15 @@ pub fn emit_opened<F: Family, R: Feed + Drop, W: Drain>(
     ensures count { W.failures writer.new ≡ write_failures_after (W.failures writer.old) result }
 {
     let end = end_of(captures);
-    let by = match writer_of::<F>(writing) {
-        Ok(by) => by,
+    let made = match prepare_one::<F>(alloc, writing, &captures.ports) {
+        Ok(made) => made,
         Err(fault) => return Err(fault),
     };
-    let Ok(ports) = configs(alloc, &captures.ports) else {
-        return Err(Fault::Memory);
-    };
-    let mut router = match router_of::<F>(alloc, &ports, routes, captures.limit) {
+    let mut router = match router_of::<F>(alloc, &made.ports, routes, captures.limit) {
         Ok(router) => router,
         Err(fault) => return Err(fault),
     };
-    emitted::<F>(emit_into::<F, R, W>(alloc, merge, &mut router, end, &by, writer))
+    emitted::<F>(emit_into::<F, R, W>(alloc, merge, &mut router, end, &made.by, writer))
 }
 
 /// `emit_opened` of the captures that the words name. It reads the file of routes first, then opens
@@ -105,7 +104,16 @@ pub fn emit<'a, F: Family, O: Opener, W: Drain>(
         (W.contents writer.old) (W.contents writer.new) result }
     ensures count { W.failures writer.new ≡ write_failures_after (W.failures writer.old) result }
 {
-    let routes = table::<F, O>(alloc, opener, captures, Some(writing.upstream))?;
-    let mut merge = open_all(alloc, opener, &captures.ports)?;
-    emit_opened::<F, _, W>(alloc, captures, writing, &routes, &mut merge, writer)
+    let mut files = match open_one::<F, O>(alloc, opener, captures, Some(writing.upstream)) {
+        Ok(files) => files,
+        Err(fault) => return Err(fault),
+    };
+    emit_opened::<F, _, W>(
+        alloc,
+        captures,
+        writing,
+        &files.routes,
+        &mut files.merge,
+        writer,
+    )
 }

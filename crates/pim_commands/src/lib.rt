@@ -30,6 +30,7 @@ mod comparing;
 mod emitting;
 mod laws;
 mod mirroring;
+mod opening;
 mod replaying;
 mod running;
 mod tracing;

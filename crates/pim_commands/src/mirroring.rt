@@ -1,22 +1,28 @@
 //! The command `mirror`: it opens the captures of a router and calls the engine.
 
-ghost use Rattle.std.specs.Prelude.{◌≡◌, length, map};
+ghost use Rattle.std.specs.Prelude.{◌≡◌, false, length, map, IfOk, IfErr};
 ghost use Rattle.pim_form.specs.Seen.{writing_seen};
+ghost use Rattle.pim_form.specs.Writer.{has_bad_address};
 ghost use Rattle.pim_router.specs.Seen.{setup_seen};
+ghost use Rattle.pim_router.specs.State.{Setup};
 ghost use Rattle.pim_words.specs.Plan.{IsBounded, IsLimited, IsWritable};
-ghost use Rattle.pim_commands.specs.Replaying.{end_of, config_of};
-ghost use Rattle.pim_commands.specs.Mirroring.{mirror_fault, mirrored, MirrorsNew};
+ghost use Rattle.pim_commands.specs.Replaying.{end_of, config_of, IsFirstCause};
+ghost use Rattle.pim_commands.specs.Mirroring.{mirror_fault, mirrored, mirror_causes, MirrorsNew};
+ghost use Rattle.pim_commands.specs.Opened.{IsUnwritten};
 ghost use Rattle.pim_commands.specs.Opening.{MirrorsFiles};
 ghost use Rattle.pim_check.specs.Report.{write_failures_after};
 
+use crate::opening::open_one;
 use crate::replaying::{configs, end_of, replay_fault, router_of};
 use crate::writing::{address_of, writer_of};
 use pim_addr::{Drain, Family, Feed, Routes};
 use pim_check::Fault;
-use pim_files::{Opener, open_all, table};
+use pim_files::Opener;
+use pim_form::Writer;
 use pim_merge::Merge;
 use pim_replay::{MirrorTextFault, mirror_into};
-use pim_words::{Captures, Writing};
+use pim_router::PortConfig;
+use pim_words::{Captures, Port, Writing};
 use std::alloc::Global;
 
 /// The program's fault for a fault of the mirror.
@@ -37,6 +43,40 @@ pub fn mirrored<F: Family>(told: Result<u8, MirrorTextFault<F>>) -> Result<u8, F
     match told {
         Ok(status) => Ok(status),
         Err(fault) => Err(mirror_fault::<F>(fault)),
+    }
+}
+
+/// A writer, and the configurations of a router's ports.
+#[derive(Drop)]
+pub(crate) struct Prepared<F: Family> {
+    pub(crate) by: Writer<F>,
+    pub(crate) ports: Vec<PortConfig<F::Addr>>,
+}
+
+/// The writer, and the configurations of the ports. Or the fault of the writer, or `Memory`.
+pub(crate) fn prepare_one<F: Family>(
+    alloc: Global,
+    writing: &Writing<F::Addr>,
+    ports: &[Port<'_, F::Addr>],
+) -> Result<Prepared<F>, Fault<'static>>
+    requires { IsWritable writing.now }
+    ensures by { IfOk result (λ made. made.by ≡ writing_seen F.bytes_of writing.now.upstream
+        writing.now.own writing.now.holdtime writing.now.budget) }
+    ensures fine { IfOk result (λ made. has_bad_address F.family (writing_seen F.bytes_of writing.now.upstream
+        writing.now.own writing.now.holdtime writing.now.budget) ≡ false) }
+    ensures ports { IfOk result (λ made. made.ports.items ≡ map config_of ports.now) }
+    ensures unwritten { IfErr result IsUnwritten }
+    ensures fault { (setup : Setup) → IfErr result
+        (IsFirstCause (mirror_causes F.family (writing_seen F.bytes_of writing.now.upstream
+        writing.now.own writing.now.holdtime writing.now.budget) setup)) }
+{
+    let by = match writer_of::<F>(writing) {
+        Ok(by) => by,
+        Err(fault) => return Err(fault),
+    };
+    match configs(alloc, ports) {
+        Ok(ports) => Ok(Prepared { by, ports }),
+        Err(_) => Err(Fault::Memory),
     }
 }
 
@@ -70,14 +110,11 @@ pub fn mirror_opened<F: Family, R: Feed + Drop, W: Drain>(
     ensures count { W.failures writer.new ≡ write_failures_after (W.failures writer.old) result }
 {
     let end = end_of(captures);
-    let by = match writer_of::<F>(writing) {
-        Ok(by) => by,
+    let made = match prepare_one::<F>(alloc, writing, &captures.ports) {
+        Ok(made) => made,
         Err(fault) => return Err(fault),
     };
-    let Ok(ports) = configs(alloc, &captures.ports) else {
-        return Err(Fault::Memory);
-    };
-    let mut router = match router_of::<F>(alloc, &ports, routes, captures.limit) {
+    let mut router = match router_of::<F>(alloc, &made.ports, routes, captures.limit) {
         Ok(router) => router,
         Err(fault) => return Err(fault),
     };
@@ -86,7 +123,7 @@ pub fn mirror_opened<F: Family, R: Feed + Drop, W: Drain>(
         merge,
         &mut router,
         end,
-        &by,
+        &made.by,
         captures.limit,
         writer,
     ))
@@ -114,7 +151,16 @@ pub fn mirror<'a, F: Family, O: Opener, W: Drain>(
         (W.contents writer.old) (W.contents writer.new) result }
     ensures count { W.failures writer.new ≡ write_failures_after (W.failures writer.old) result }
 {
-    let routes = table::<F, O>(alloc, opener, captures, Some(writing.upstream))?;
-    let mut merge = open_all(alloc, opener, &captures.ports)?;
-    mirror_opened::<F, _, W>(alloc, captures, writing, &routes, &mut merge, writer)
+    let mut files = match open_one::<F, O>(alloc, opener, captures, Some(writing.upstream)) {
+        Ok(files) => files,
+        Err(fault) => return Err(fault),
+    };
+    mirror_opened::<F, _, W>(
+        alloc,
+        captures,
+        writing,
+        &files.routes,
+        &mut files.merge,
+        writer,
+    )
 }

@@ -15,12 +15,13 @@ ghost use Rattle.pim_commands.specs.Tracing.{trace_fault, tracing_answer, Traces
 ghost use Rattle.pim_commands.specs.Opening.{TracesFiles};
 ghost use Rattle.pim_check.specs.Report.{write_failures_after};
 
+use crate::opening::open_one;
 use crate::replaying::{capture_fault, configs, end_of, router_of};
 use pim_addr::{Drain, Family, Feed, Routes};
 use pim_check::Fault;
 use pim_event_lines::{JsonPrinter, TextPrinter};
 use pim_events::{Filter, Name};
-use pim_files::{Opener, open_all, table};
+use pim_files::Opener;
 use pim_merge::Merge;
 use pim_router::Router;
 use pim_trace::{TraceFault, trace_into};
@@ -194,7 +195,10 @@ pub fn trace<'a, F: Family, O: Opener, W: Drain>(
         (W.contents writer.old) (W.contents writer.new) result }
     ensures count { W.failures writer.new ≡ write_failures_after (W.failures writer.old) result }
 {
-    let routes = table::<F, O>(alloc, opener, captures, None)?;
-    let mut merge = open_all(alloc, opener, &captures.ports)?;
-    trace_opened::<F, _, W>(alloc, (captures, tracing), &routes, &mut merge, writer)
+    let mut files = match open_one::<F, O>(alloc, opener, captures, None) {
+        Ok(files) => files,
+        Err(fault) => return Err(fault),
+    };
+    let asked = (captures, tracing);
+    trace_opened::<F, _, W>(alloc, asked, &files.routes, &mut files.merge, writer)
 }

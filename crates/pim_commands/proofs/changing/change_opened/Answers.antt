@@ -16,20 +16,33 @@ use Rattle.pim_commands.proofs.Mirrored.{failures_mirrored}
 use Rattle.pim_commands.proofs.Changed.{changed_new}
 use Rattle.pim_commands.proofs.changing.change_opened.Goals as goal
 
+pub returns-in-Err-clause-text : goal.returns-in-Err-clause-text
+returns-in-Err-clause-text g c =
+    inl (
+      c.in-Err.ensures.fault (setup_seen g.F.Family.bytes_of (map config_of (filter (is_of A) c.args.captures.now.ports.items)) c.args.routes.now c.args.captures.now.limit)
+          (setup_seen g.F.Family.bytes_of (map config_of (filter (is_of B) c.args.captures.now.ports.items)) c.args.routes.now c.args.captures.now.limit),
+      refl {a = g.W.Drain.contents c.args.writer.now},
+      refl {a = c.args.pair.now.a},
+      refl {a = c.args.pair.now.b},
+    )
+
+pub returns-in-Err-clause-count : goal.returns-in-Err-clause-count
+returns-in-Err-clause-count g c = c.in-Err.ensures.unwritten (g.W.Drain.failures c.args.writer.now)
+
 pub returns-in-Err-router_of-clause-text : goal.returns-in-Err-router_of-clause-text
 returns-in-Err-router_of-clause-text g c =
     let bytes_of = g.F.Family.bytes_of in
     let ports : List (Port g.row.F-Addr.Denot) = c.args.captures.now.ports.items in
     let writing : Writing = writing_seen bytes_of c.args.writing.now.upstream c.args.writing.now.own c.args.writing.now.holdtime c.args.writing.now.budget in
     let setup : List (PortConfig g.row.F-Addr.Denot) → Setup = λ configs. setup_seen bytes_of configs c.args.routes.now c.args.captures.now.limit in
-    let same_a : c.deref-3.result.now ≡ map config_of (filter (is_of A) ports) =
-    c.deref-3.ensures.value ∙ c.in-Ok-side_configs.ensures ∙ ap (λ (l : List (Port g.row.F-Addr.Denot)). map config_of (filter (is_of A) l)) c.deref.ensures.value in
+    let same_a : c.deref-2.result.now ≡ map config_of (filter (is_of A) ports) =
+    c.deref-2.ensures.value ∙ c.in-Ok.ensures.a ∙ ap (λ (l : List (Port g.row.F-Addr.Denot)). map config_of (filter (is_of A) l)) c.deref.ensures.value in
     inl (
-      a_unmade g.F.Family.family writing (setup (map config_of (filter (is_of A) ports))) (setup (map config_of (filter (is_of B) ports))) c.in-Err-router_of.fault c.in-Ok.ensures.1
+      a_unmade g.F.Family.family writing (setup (map config_of (filter (is_of A) ports))) (setup (map config_of (filter (is_of B) ports))) c.in-Err-router_of.fault c.in-Ok.ensures.fine
           (subst (λ (s : Setup). IsUnmade (config_faults g.F.Family.family s) c.in-Err-router_of.fault) (ap setup same_a) c.in-Err-router_of.ensures),
-      refl,
-      refl,
-      refl,
+      refl {a = g.W.Drain.contents c.args.writer.now},
+      refl {a = c.args.pair.now.a},
+      refl {a = c.args.pair.now.b},
     )
 
 pub returns-in-Err-router_of-2-clause-text : goal.returns-in-Err-router_of-2-clause-text
@@ -38,34 +51,34 @@ returns-in-Err-router_of-2-clause-text g c =
     let ports : List (Port g.row.F-Addr.Denot) = c.args.captures.now.ports.items in
     let writing : Writing = writing_seen bytes_of c.args.writing.now.upstream c.args.writing.now.own c.args.writing.now.holdtime c.args.writing.now.budget in
     let setup : List (PortConfig g.row.F-Addr.Denot) → Setup = λ configs. setup_seen bytes_of configs c.args.routes.now c.args.captures.now.limit in
-    let same_a : c.deref-3.result.now ≡ map config_of (filter (is_of A) ports) =
-    c.deref-3.ensures.value ∙ c.in-Ok-side_configs.ensures ∙ ap (λ (l : List (Port g.row.F-Addr.Denot)). map config_of (filter (is_of A) l)) c.deref.ensures.value in
-    let same_b : c.deref-4.result.now ≡ map config_of (filter (is_of B) ports) =
-    c.deref-4.ensures.value ∙ c.in-Ok-side_configs-2.ensures ∙ ap (λ (l : List (Port g.row.F-Addr.Denot)). map config_of (filter (is_of B) l)) c.deref-2.ensures.value in
+    let same_a : c.deref-2.result.now ≡ map config_of (filter (is_of A) ports) =
+    c.deref-2.ensures.value ∙ c.in-Ok.ensures.a ∙ ap (λ (l : List (Port g.row.F-Addr.Denot)). map config_of (filter (is_of A) l)) c.deref.ensures.value in
+    let same_b : c.deref-3.result.now ≡ map config_of (filter (is_of B) ports) =
+    c.deref-3.ensures.value ∙ c.in-Ok.ensures.b ∙ ap (λ (l : List (Port g.row.F-Addr.Denot)). map config_of (filter (is_of B) l)) c.deref.ensures.value in
     inl (
-      b_unmade g.F.Family.family writing (setup (map config_of (filter (is_of A) ports))) (setup (map config_of (filter (is_of B) ports))) c.in-Err-router_of-2.fault c.in-Ok.ensures.1
+      b_unmade g.F.Family.family writing (setup (map config_of (filter (is_of A) ports))) (setup (map config_of (filter (is_of B) ports))) c.in-Err-router_of-2.fault c.in-Ok.ensures.fine
           (subst (λ (s : Setup). config_faults g.F.Family.family s ≡ []) (ap setup same_a) c.in-Ok-router_of.ensures.0)
           (subst (λ (s : Setup). IsUnmade (config_faults g.F.Family.family s) c.in-Err-router_of-2.fault) (ap setup same_b) c.in-Err-router_of-2.ensures),
-      refl,
-      refl,
-      refl,
+      refl {a = g.W.Drain.contents c.args.writer.now},
+      refl {a = c.args.pair.now.a},
+      refl {a = c.args.pair.now.b},
     )
 
 pub change_into-requires-clause-ports_a : goal.change_into-requires-clause-ports_a
 change_into-requires-clause-ports_a g c =
     let ports : List (Port g.row.F-Addr.Denot) = c.args.captures.now.ports.items in
-    let same_a : c.deref-3.result.now ≡ map config_of (filter (is_of A) ports) =
-    c.deref-3.ensures.value ∙ c.in-Ok-side_configs.ensures ∙ ap (λ (l : List (Port g.row.F-Addr.Denot)). map config_of (filter (is_of A) l)) c.deref.ensures.value in
+    let same_a : c.deref-2.result.now ≡ map config_of (filter (is_of A) ports) =
+    c.deref-2.ensures.value ∙ c.in-Ok.ensures.a ∙ ap (λ (l : List (Port g.row.F-Addr.Denot)). map config_of (filter (is_of A) l)) c.deref.ensures.value in
     c.requires.a ∙ sym
-    (as_many g.F.Family.bytes_of (filter (is_of A) ports) c.deref-3.result.now c.args.routes.now c.args.captures.now.limit c.in-Ok-router_of.router same_a c.in-Ok-router_of.ensures.1)
+    (as_many g.F.Family.bytes_of (filter (is_of A) ports) c.deref-2.result.now c.args.routes.now c.args.captures.now.limit c.in-Ok-router_of.router same_a c.in-Ok-router_of.ensures.1)
 
 pub change_into-requires-clause-ports_b : goal.change_into-requires-clause-ports_b
 change_into-requires-clause-ports_b g c =
     let ports : List (Port g.row.F-Addr.Denot) = c.args.captures.now.ports.items in
-    let same_b : c.deref-4.result.now ≡ map config_of (filter (is_of B) ports) =
-    c.deref-4.ensures.value ∙ c.in-Ok-side_configs-2.ensures ∙ ap (λ (l : List (Port g.row.F-Addr.Denot)). map config_of (filter (is_of B) l)) c.deref-2.ensures.value in
+    let same_b : c.deref-3.result.now ≡ map config_of (filter (is_of B) ports) =
+    c.deref-3.ensures.value ∙ c.in-Ok.ensures.b ∙ ap (λ (l : List (Port g.row.F-Addr.Denot)). map config_of (filter (is_of B) l)) c.deref.ensures.value in
     c.requires.b ∙ sym
-    (as_many g.F.Family.bytes_of (filter (is_of B) ports) c.deref-4.result.now c.args.routes.now c.args.captures.now.limit c.in-Ok-router_of-2.router same_b c.in-Ok-router_of-2.ensures.1)
+    (as_many g.F.Family.bytes_of (filter (is_of B) ports) c.deref-3.result.now c.args.routes.now c.args.captures.now.limit c.in-Ok-router_of-2.router same_b c.in-Ok-router_of-2.ensures.1)
 
 pub returns-clause-text : goal.returns-clause-text
 returns-clause-text g c =
@@ -73,15 +86,15 @@ returns-clause-text g c =
     let ports : List (Port g.row.F-Addr.Denot) = c.args.captures.now.ports.items in
     let writing : Writing = writing_seen bytes_of c.args.writing.now.upstream c.args.writing.now.own c.args.writing.now.holdtime c.args.writing.now.budget in
     let setup : List (PortConfig g.row.F-Addr.Denot) → Setup = λ configs. setup_seen bytes_of configs c.args.routes.now c.args.captures.now.limit in
-    let same_a : c.deref-3.result.now ≡ map config_of (filter (is_of A) ports) =
-    c.deref-3.ensures.value ∙ c.in-Ok-side_configs.ensures ∙ ap (λ (l : List (Port g.row.F-Addr.Denot)). map config_of (filter (is_of A) l)) c.deref.ensures.value in
-    let same_b : c.deref-4.result.now ≡ map config_of (filter (is_of B) ports) =
-    c.deref-4.ensures.value ∙ c.in-Ok-side_configs-2.ensures ∙ ap (λ (l : List (Port g.row.F-Addr.Denot)). map config_of (filter (is_of B) l)) c.deref-2.ensures.value in
+    let same_a : c.deref-2.result.now ≡ map config_of (filter (is_of A) ports) =
+    c.deref-2.ensures.value ∙ c.in-Ok.ensures.a ∙ ap (λ (l : List (Port g.row.F-Addr.Denot)). map config_of (filter (is_of A) l)) c.deref.ensures.value in
+    let same_b : c.deref-3.result.now ≡ map config_of (filter (is_of B) ports) =
+    c.deref-3.ensures.value ∙ c.in-Ok.ensures.b ∙ ap (λ (l : List (Port g.row.F-Addr.Denot)). map config_of (filter (is_of B) l)) c.deref.ensures.value in
     rw (← c.end_of-end.ensures.end)
     (changed_new g.F.Family.family bytes_of c.end_of-end.result c.args.captures.now.limit c.args.pair.now.a c.change_into.new.merge_a c.args.pair.now.b c.change_into.new.merge_b
-    (g.W.Drain.contents c.args.writer.now) (g.W.Drain.contents c.change_into.new.writer) c.in-Ok.by writing (setup c.deref-3.result.now) (setup (map config_of (filter (is_of A) ports)))
-    (setup c.deref-4.result.now) (setup (map config_of (filter (is_of B) ports))) c.in-Ok-router_of.router c.change_into.new.router_a c.in-Ok-router_of-2.router c.change_into.new.router_b
-    c.change_into.result c.mirrored.result c.in-Ok.ensures.0 (ap setup same_a) (ap setup same_b) c.in-Ok-router_of.ensures.1 c.in-Ok-router_of-2.ensures.1 c.change_into.ensures.text
+    (g.W.Drain.contents c.args.writer.now) (g.W.Drain.contents c.change_into.new.writer) c.in-Ok.made.by writing (setup c.deref-2.result.now) (setup (map config_of (filter (is_of A) ports)))
+    (setup c.deref-3.result.now) (setup (map config_of (filter (is_of B) ports))) c.in-Ok-router_of.router c.change_into.new.router_a c.in-Ok-router_of-2.router c.change_into.new.router_b
+    c.change_into.result c.mirrored.result c.in-Ok.ensures.by (ap setup same_a) (ap setup same_b) c.in-Ok-router_of.ensures.1 c.in-Ok-router_of-2.ensures.1 c.change_into.ensures.text
     c.mirrored.ensures)
 
 pub returns-clause-count : goal.returns-clause-count
