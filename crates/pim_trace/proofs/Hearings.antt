@@ -15,11 +15,11 @@ use Rattle.pim_router.specs.declared.verdict.Verdict.{Verdict}
 use Rattle.pim_router.specs.declared.verdict.Verdict.TheVariants as verdict
 use Rattle.pim_router.specs.Packets.{Packet, received, message_taken, neighbours_on, timing_on, own_address}
 use Rattle.pim_router.specs.State.{RouterState}
-use Rattle.pim_report.specs.declared.state_text.TextFault.{TextFault}
 use Rattle.pim_events.specs.Events.{Happened, Occurrence, hello_taken}
 use Rattle.pim_transitions.specs.declared.transition.Transition.{Transition}
 use Rattle.pim_down.specs.declared.machine.Record.{Record}
 use Rattle.pim_transitions.specs.Laws.{TransitionsAreThere}
+use Rattle.pim_trace.specs.declared.telling.TellFault.{TellFault}
 use Rattle.pim_trace.specs.Ledger.{Ledger, with_own, with_hello, with_changes}
 use Rattle.pim_trace.specs.Heard.{event_on, generation_of, generation_in, greeting, judgment, restart_of, restarts, after_own, as_cause, sent_by, message_says, applied_says, says, remembers, records_after, AreTransitionsOf, AreChangesOf, HearsPacket}
 use Rattle.pim_trace.specs.Read.{IsHello, IsForOther, as_read, is_applied}
@@ -135,7 +135,7 @@ module _ (family : AddressFamily) (frame : ℕ) (packet : Packet) (ledger : Ledg
     text told = text_on line ledger state.machines.moment packet.port told
 
     -- all of what the packet says was told, or a front of it
-    pub tells : (told : List Happened) (remembered : Ledger) → Says told remembered → (r : Result (Unit {0}) TextFault) (ledger' : Ledger) (after : RouterState) (old new : Option (List ℕ))
+    pub tells : (told : List Happened) (remembered : Ledger) → Says told remembered → (r : Result (Unit {0}) TellFault) (ledger' : Ledger) (after : RouterState) (old new : Option (List ℕ))
         → OnOk r (ledger' ≡ remembered) → OnOk r (after ≡ state_is) → AppendsAll old new r (text told) → Tells line Hears ledger' after old new r
     tells told remembered s (Ok done) ledger' after old new kept left written = record {
       events = map (event_on ledger state.machines.moment packet.port) told;
@@ -391,7 +391,7 @@ module _ (family : AddressFamily) (frame : ℕ) (packet : Packet) (ledger : Ledg
         → AreTransitionsOf family packet.port state m (found (records_after family packet.port state m))
         → (sets : List GroupSet) → sets ≡ m.sets
         → (line : Occurrence → List ℕ) (after : RouterState) → after ≡ state_is
-        → (r : Result (Unit {0}) TextFault) (ledger' : Ledger) (a b c : Option (List ℕ))
+        → (r : Result (Unit {0}) TellFault) (ledger' : Ledger) (a b c : Option (List ℕ))
         → Appends a b (text_on line ledger state.machines.moment packet.port (judgment family frame packet verdict_is ∷ []))
         → AppendsAll b c r (text_on line ledger after.machines.moment packet.port (message_says family frame packet after ledger sets (found after.machines.records)))
         → OnOk r (ledger' ≡ with_changes (as_cause frame packet after) (found after.machines.records) ledger)
@@ -433,7 +433,7 @@ module _ (family : AddressFamily) (frame : ℕ) (packet : Packet) (ledger : Ledg
         nothing_told family frame packet ledger state line _ _ s old
 
     module _ (v : Verdict) (after : RouterState) (pair : ◌≡◌ {A = Verdict × RouterState} (v, after) (received family packet state)) (ms : ℕ) (now : ms ≡ state.machines.moment)
-        (r : Result (Unit {0}) TextFault) (ledger' : Ledger) (old new : Option (List ℕ)) where
+        (r : Result (Unit {0}) TellFault) (ledger' : Ledger) (old new : Option (List ℕ)) where
       pub hello_told : (heard : Heard) (was : Option ℕ) → v ≡ verdict.HelloTaken heard → was ≡ generation_of (neighbour_at packet.source (neighbours_on packet.port state))
           → AppendsAll old new r (text_on line ledger ms packet.port (hello_taken (record { frame = frame; from = packet.source; verdict = heard; was = was; generation = generation }) ∷ []))
           → OnOk r (ledger' ≡ with_hello packet.port packet.source (sent_by frame ms heard) ledger) → Tells line HearsIt ledger' after old new r
@@ -468,7 +468,7 @@ module _ (family : AddressFamily) (frame : ℕ) (packet : Packet) (ledger : Ledg
     told_first = text_on line ledger state.machines.moment packet.port (judgment family frame packet (received family packet state).0 ∷ [])
 
     -- a packet that isn't applied
-    pub other_told : ((received family packet state).0 ≡ verdict.Applied → message ≡ None) → (r : Result (Unit {0}) TextFault) (after : RouterState) (old new : Option (List ℕ))
+    pub other_told : ((received family packet state).0 ≡ verdict.Applied → message ≡ None) → (r : Result (Unit {0}) TellFault) (after : RouterState) (old new : Option (List ℕ))
         → OnOk r (after ≡ (received family packet state).1) → AppendsAll old new r told_first → Tells line HearsIt ledger after old new r
     other_told none r after old new left written =
         tells family frame packet ledger state line (judgment family frame packet (received family packet state).0 ∷ []) ledger (unapplied family frame packet ledger state message read none)

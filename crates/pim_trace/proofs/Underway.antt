@@ -12,16 +12,16 @@ use Rattle.pim_merge.specs.Ends.{clock_of, Takes}
 use Rattle.pim_merge.specs.Merge.{Taken}
 use Rattle.pim_merge.specs.Next.{MergeState, IfTaken, bytes_at}
 use Rattle.pim_merge.specs.Run.{turn_seen, taken_by, HasTaken, StopsAfter, Advances}
-use Rattle.pim_report.specs.declared.state_text.TextFault.{TextFault}
-use Rattle.pim_report.specs.declared.state_text.TextFault.TheVariants as text
 use Rattle.pim_router.specs.State.{RouterState, Setup, setup_of}
 use Rattle.pim_events.specs.Events.{Occurrence}
+use Rattle.pim_trace.specs.declared.telling.TellFault.{TellFault}
+use Rattle.pim_trace.specs.declared.telling.TellFault.TheVariants as telling
 use Rattle.pim_trace.specs.declared.trace.TraceFault.{TraceFault}
 use Rattle.pim_trace.specs.Ledger.{Ledger}
 use Rattle.pim_trace.specs.Telling.{HasTold, HasBegun}
 use Rattle.pim_trace.specs.Trace.{TellsTurns, ledger_for, HasSome, StopsAt}
 use Rattle.pim_trace.specs.Turn.{TellsTurn}
-use Rattle.pim_trace.specs.Underway.{stop_by, stopped_by, of_text, AreAlike, IsUnderway, HasAll, Steps}
+use Rattle.pim_trace.specs.Underway.{stop_by, stopped_by, of_telling, AreAlike, IsUnderway, HasAll, Steps}
 use Rattle.pim_trace.proofs.Pieces.{none_told, all_told, told_then, told_begun}
 
 -- the events of one turn more
@@ -170,11 +170,11 @@ module _ (line : Occurrence → List ℕ) (family : AddressFamily) (end : End) (
         written = told_begun line old new newer w.events one.events w.written one.written;
       }
 
-      by_text : (fault : TextFault) (ledger' : Ledger) (after : RouterState) (newer : Option (List ℕ)) → HasSome line family end start state old newer → Steps line family end start state old merge' ledger' after newer (Err (of_text fault))
-      by_text text.Output ledger' after newer p = p
-      by_text text.Memory ledger' after newer p = p
+      by_telling : (fault : TellFault) (ledger' : Ledger) (after : RouterState) (newer : Option (List ℕ)) → HasSome line family end start state old newer → Steps line family end start state old merge' ledger' after newer (Err (of_telling fault))
+      by_telling telling.Output ledger' after newer p = p
+      by_telling telling.Memory ledger' after newer p = p
 
-      pub turn_stopped : (fault : TextFault) (answer : TraceFault) (ledger' : Ledger) (after : RouterState) (newer : Option (List ℕ)) → answer ≡ of_text fault
+      pub turn_stopped : (fault : TellFault) (answer : TraceFault) (ledger' : Ledger) (after : RouterState) (newer : Option (List ℕ)) → answer ≡ of_telling fault
           → HasBegun line (TellsTurn family (turn_seen bytes given) ledger now) new newer → Steps line family end start state old merge' ledger' after newer (Err answer)
       turn_stopped fault answer ledger' after newer is one =
-          subst (λ a. Steps line family end start state old merge' ledger' after newer (Err a)) (sym is) (by_text fault ledger' after newer (begun_turn newer one))
+          subst (λ a. Steps line family end start state old merge' ledger' after newer (Err a)) (sym is) (by_telling fault ledger' after newer (begun_turn newer one))

@@ -3,10 +3,10 @@ use Rattle.std.specs.Prelude.{ℕ, ◌+◌, min, List, map, Option, Result, Ok, 
 use Rattle.std.specs.Io.KnownBytes.{Appends}
 use Rattle.std.specs.List.{flat_map}
 use Rattle.pim_device.specs.Device.{AppendsFront, top_count}
-use Rattle.pim_report.specs.declared.state_text.TextFault.{TextFault}
-use Rattle.pim_report.specs.declared.state_text.TextFault.TheVariants.{Output, Memory}
 use Rattle.pim_router.specs.State.{RouterState}
 use Rattle.pim_events.specs.Events.{Happened, Occurrence}
+use Rattle.pim_trace.specs.declared.telling.TellFault.{TellFault}
+use Rattle.pim_trace.specs.declared.telling.TellFault.TheVariants.{Output, Memory}
 use Rattle.pim_trace.specs.Ledger.{Ledger}
 use Rattle.pim_trace.specs.Heard.{event_on}
 
@@ -35,7 +35,7 @@ module _ (line : Occurrence → List ℕ) (Are : List Occurrence → Ledger → 
 
 -- How often the device has failed after a call with this result: once more if the result is
 -- `Output`, otherwise as often as before it.
-abbrev pub failures_by : {A : Type 0} → ℕ → Result A TextFault → ℕ
+abbrev pub failures_by : {A : Type 0} → ℕ → Result A TellFault → ℕ
 failures_by before (Ok done) = before
 failures_by before (Err Output) = min (before + 1) top_count
 failures_by before (Err Memory) = before

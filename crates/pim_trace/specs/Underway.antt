@@ -10,10 +10,10 @@ use Rattle.pim_merge.specs.Ends.{clock_of, AreAll}
 use Rattle.pim_merge.specs.Merge.{Taken}
 use Rattle.pim_merge.specs.Next.{MergeState}
 use Rattle.pim_merge.specs.Run.{HasTaken}
-use Rattle.pim_report.specs.declared.state_text.TextFault.{TextFault}
-use Rattle.pim_report.specs.declared.state_text.TextFault.TheVariants as text
 use Rattle.pim_router.specs.State.{RouterState}
 use Rattle.pim_events.specs.Events.{Occurrence}
+use Rattle.pim_trace.specs.declared.telling.TellFault.{TellFault}
+use Rattle.pim_trace.specs.declared.telling.TellFault.TheVariants as telling
 use Rattle.pim_trace.specs.declared.trace.TraceFault.{TraceFault}
 use Rattle.pim_trace.specs.declared.trace.TraceFault.TheVariants.{Capture, Output, Memory}
 use Rattle.pim_trace.specs.Ledger.{Ledger}
@@ -29,9 +29,9 @@ abbrev pub stopped_by : MergeFault → TraceFault
 stopped_by told = stop_by told told.fault
 
 -- Why a trace ends when a turn isn't told.
-abbrev pub of_text : TextFault → TraceFault
-of_text text.Output = Output
-of_text text.Memory = Memory
+abbrev pub of_telling : TellFault → TraceFault
+of_telling telling.Output = Output
+of_telling telling.Memory = Memory
 
 -- There are a capture, a count of its records, and a place for the Generation ID of each port. The
 -- router isn't past the latest record.

@@ -15,11 +15,10 @@ ghost use Rattle.pim_trace.specs.Telling.{text_on, failures_by};
 
 use crate::hearing::Packet;
 use crate::ledger::Ledger;
-use crate::telling::tell_on;
+use crate::telling::{TellFault, tell_on};
 use pim_addr::Family;
 use pim_down::{Machine, State};
 use pim_events::{Cause, Happening, Teller, Transition};
-use pim_report::TextFault;
 use pim_router::Router;
 use pim_transitions::{Named, Transition as Change};
 
@@ -72,7 +71,7 @@ fn tell_change<F: Family, W, T: Teller<F, W>>(
     ledger: &mut Ledger<F>,
     by: &Changer<F::Addr>,
     change: &Change<F::Addr>,
-) -> Result<(), TextFault>
+) -> Result<(), TellFault>
     ensures bytes { AppendsAll (T.contents device.old) (T.contents device.new) result
         (text_on (T.line teller.now) (ledger_seen F.bytes_of ledger.old) by.now.packet.ms
         by.now.port (change_of (ledger_seen F.bytes_of ledger.old)
@@ -87,10 +86,10 @@ fn tell_change<F: Family, W, T: Teller<F, W>>(
 {
     let event = Happening::Transition(change_of(ledger, by, change));
     let Ok(()) = tell_on(teller, device, ledger, by.packet.ms, by.port, event) else {
-        return Err(TextFault::Output);
+        return Err(TellFault::Output);
     };
     let Ok(()) = ledger.change(by.packet, change) else {
-        return Err(TextFault::Memory);
+        return Err(TellFault::Memory);
     };
     Ok(())
 }
@@ -136,7 +135,7 @@ pub(crate) fn tell_changes<F: Family, W, T: Teller<F, W>>(
     ledger: &mut Ledger<F>,
     packet: &Packet<'_, F::Addr>,
     named: &Named<F>,
-) -> Result<(), TextFault>
+) -> Result<(), TellFault>
     requires { packet.now.port < length router.now.ports }
     ensures bytes { AppendsAll (T.contents device.old) (T.contents device.new) result
         (text_on (T.line teller.now) (ledger_seen F.bytes_of ledger.old) router.now.machines.moment

@@ -25,12 +25,11 @@ use crate::changing::tell_changes;
 use crate::ignoring::tell_ignored;
 use crate::ledger::{Ledger, Sent};
 use crate::reading::{Reading, read};
-use crate::telling::tell_on;
+use crate::telling::{TellFault, tell_on};
 use pim_addr::Family;
 use pim_events::{Greeting, Happening, Judgment, OwnRestart, Teller};
 use pim_hello::Heard;
 use pim_jp::{JpView, Sets};
-use pim_report::TextFault;
 use pim_router::{Router, Verdict};
 use pim_transitions::{Named, candidates_tell_transitions, transitions_are_there};
 use std::alloc::{AllocError, Global};
@@ -127,7 +126,7 @@ fn greet<F: Family, W, T: Teller<F, W>>(
     ms: u64,
     port: usize,
     greeting: Greeting<F::Addr>,
-) -> Result<(), TextFault>
+) -> Result<(), TellFault>
     ensures bytes { AppendsAll (T.contents device.old) (T.contents device.new) result
         (text_on (T.line teller.now) (ledger_seen F.bytes_of ledger.old) ms port
         (hello_taken (greeting_seen F.bytes_of greeting) ∷ [])) }
@@ -140,10 +139,10 @@ fn greet<F: Family, W, T: Teller<F, W>>(
 {
     let event = Happening::Hello(greeting);
     let Ok(()) = tell_on(teller, device, ledger, ms, port, event) else {
-        return Err(TextFault::Output);
+        return Err(TellFault::Output);
     };
     let Ok(()) = remember_hello(ledger, ms, port, &greeting) else {
-        return Err(TextFault::Memory);
+        return Err(TellFault::Memory);
     };
     Ok(())
 }
@@ -156,7 +155,7 @@ fn tell_verdict<F: Family, W, T: Teller<F, W>>(
     ms: u64,
     packet: &Packet<'_, F::Addr>,
     verdict: Verdict,
-) -> Result<(), TextFault>
+) -> Result<(), TellFault>
     requires { message_read F.family (packet_in F.bytes_of packet.now) ≡ None }
     ensures bytes { AppendsAll (T.contents device.old) (T.contents device.new) result
         (text_on (T.line teller.now) (ledger_seen F.bytes_of ledger.now) ms packet.now.port
@@ -170,7 +169,7 @@ fn tell_verdict<F: Family, W, T: Teller<F, W>>(
         message: None,
     });
     let Ok(()) = tell_on(teller, device, ledger, ms, packet.port, event) else {
-        return Err(TextFault::Output);
+        return Err(TellFault::Output);
     };
     Ok(())
 }
@@ -184,7 +183,7 @@ fn tell_restart<F: Family, W, T: Teller<F, W>>(
     ms: u64,
     packet: &Packet<'_, F::Addr>,
     generation: Option<u32>,
-) -> Result<(), TextFault>
+) -> Result<(), TellFault>
     requires { packet.now.port < length ledger.old.own.items }
     ensures bytes { AppendsAll (T.contents device.old) (T.contents device.new) result
         (text_on (T.line teller.now) (ledger_seen F.bytes_of ledger.old) ms packet.now.port
@@ -206,7 +205,7 @@ fn tell_restart<F: Family, W, T: Teller<F, W>>(
         generation,
     });
     let Ok(()) = tell_on(teller, device, ledger, ms, packet.port, restart) else {
-        return Err(TextFault::Output);
+        return Err(TellFault::Output);
     };
     Ok(())
 }
@@ -219,7 +218,7 @@ fn hear_own<F: Family, W, T: Teller<F, W>>(
     ms: u64,
     packet: &Packet<'_, F::Addr>,
     generation: Option<u32>,
-) -> Result<(), TextFault>
+) -> Result<(), TellFault>
     requires own { packet.now.port < length ledger.old.own.items }
     requires message { message_read F.family (packet_in F.bytes_of packet.now) ≡ None }
     ensures bytes { AppendsAll (T.contents device.old) (T.contents device.new) result
@@ -245,7 +244,7 @@ fn hear_hello<F: Family, W, T: Teller<F, W>>(
     ledger: &mut Ledger<F>,
     packet: &Packet<'_, F::Addr>,
     generation: Option<u32>,
-) -> Result<(), TextFault>
+) -> Result<(), TellFault>
     requires port { packet.now.port < length router.old.ports }
     requires own { packet.now.port < length ledger.old.own.items }
     requires bytes { length packet.now.bytes.now < 2 ^ 32 }
@@ -264,7 +263,7 @@ fn hear_hello<F: Family, W, T: Teller<F, W>>(
     let ms = router.now();
     let was = generation_kept(router, packet);
     let Ok(verdict) = take(router, packet) else {
-        return Err(TextFault::Memory);
+        return Err(TellFault::Memory);
     };
     match verdict {
         Verdict::HelloTaken(heard) => {
@@ -300,7 +299,7 @@ fn judge<F: Family, W, T: Teller<F, W>>(
     ledger: &Ledger<F>,
     packet: &Packet<'_, F::Addr>,
     message: Option<JpView<'_, F>>,
-) -> Result<bool, TextFault>
+) -> Result<bool, TellFault>
     requires port { packet.now.port < length router.old.ports }
     requires bytes { length packet.now.bytes.now < 2 ^ 32 }
     requires message { message_read F.family (packet_in F.bytes_of packet.now) ≡ message }
@@ -318,7 +317,7 @@ fn judge<F: Family, W, T: Teller<F, W>>(
 {
     let ms = router.now();
     let Ok(verdict) = take(router, packet) else {
-        return Err(TextFault::Memory);
+        return Err(TellFault::Memory);
     };
     let event = Happening::Packet(Judgment {
         frame: packet.frame,
@@ -327,7 +326,7 @@ fn judge<F: Family, W, T: Teller<F, W>>(
         message,
     });
     let Ok(()) = tell_on(teller, device, ledger, ms, packet.port, event) else {
-        return Err(TextFault::Output);
+        return Err(TellFault::Output);
     };
     Ok(is_applied(verdict))
 }
@@ -357,7 +356,7 @@ fn tell_effects<F: Family, W, T: Teller<F, W>>(
     ledger: &mut Ledger<F>,
     packet: &Packet<'_, F::Addr>,
     effects: Effects<'_, F>,
-) -> Result<(), TextFault>
+) -> Result<(), TellFault>
     requires { packet.now.port < length router.now.ports }
     ensures bytes { AppendsAll (T.contents device.old) (T.contents device.new) result
         (text_on (T.line teller.now) (ledger_seen F.bytes_of ledger.old) router.now.machines.moment
@@ -374,7 +373,7 @@ fn tell_effects<F: Family, W, T: Teller<F, W>>(
 {
     let Effects { sets, named } = effects;
     let Ok(()) = tell_ignored(teller, device, router, ledger, packet, sets) else {
-        return Err(TextFault::Output);
+        return Err(TellFault::Output);
     };
     tell_changes(teller, device, router, ledger, packet, &named)
 }
@@ -387,7 +386,7 @@ fn hear_message<F: Family, W, T: Teller<F, W>>(
     ledger: &mut Ledger<F>,
     packet: &Packet<'_, F::Addr>,
     message: JpView<'_, F>,
-) -> Result<(), TextFault>
+) -> Result<(), TellFault>
     requires port { packet.now.port < length router.old.ports }
     requires bytes { length packet.now.bytes.now < 2 ^ 32 }
     requires message { packet_read F.family (packet_in F.bytes_of packet.now) ≡ as_message message }
@@ -405,7 +404,7 @@ fn hear_message<F: Family, W, T: Teller<F, W>>(
     transitions_are_there();
     let sets = message.sets();
     let Ok(named) = named_by(ledger.alloc(), router, packet.port, &message) else {
-        return Err(TextFault::Memory);
+        return Err(TellFault::Memory);
     };
     let effects = Effects { sets, named };
     let applied = judge(teller, device, router, ledger, packet, Some(message))?;
@@ -423,7 +422,7 @@ fn hear_other<F: Family, W, T: Teller<F, W>>(
     ledger: &Ledger<F>,
     packet: &Packet<'_, F::Addr>,
     message: Option<JpView<'_, F>>,
-) -> Result<(), TextFault>
+) -> Result<(), TellFault>
     requires port { packet.now.port < length router.old.ports }
     requires bytes { length packet.now.bytes.now < 2 ^ 32 }
     requires read { packet_read F.family (packet_in F.bytes_of packet.now) ≡ as_read message }
@@ -453,7 +452,7 @@ pub(crate) fn hear_packet<F: Family, W, T: Teller<F, W>>(
     router: &mut Router<'_, F>,
     ledger: &mut Ledger<F>,
     packet: &Packet<'_, F::Addr>,
-) -> Result<(), TextFault>
+) -> Result<(), TellFault>
     requires port { packet.now.port < length router.old.ports }
     requires own { packet.now.port < length ledger.old.own.items }
     requires bytes { length packet.now.bytes.now < 2 ^ 32 }

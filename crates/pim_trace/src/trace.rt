@@ -10,17 +10,17 @@ ghost use Rattle.pim_router.specs.State.{RouterState};
 ghost use Rattle.pim_trace.specs.Kept.{ledger_seen};
 ghost use Rattle.pim_trace.specs.Trace.{neighbours_in, ending, ledger_for, Traces};
 ghost use Rattle.pim_trace.specs.Trace.{failures_of_device};
-ghost use Rattle.pim_trace.specs.Underway.{stopped_by, of_text, AreAlike, IsUnderway, Steps};
+ghost use Rattle.pim_trace.specs.Underway.{stopped_by, of_telling, AreAlike, IsUnderway, Steps};
 ghost use Rattle.pim_trace.specs.Underway.{RunsTurns, IfMore};
 
 use crate::ledger::Ledger;
 use crate::passing::pass_time;
+use crate::telling::TellFault;
 use crate::turns::take_turn;
 use pim_addr::{Failed, Family, Feed};
 use pim_capture::CaptureFault;
 use pim_events::{Ending, Event, Happening, Teller};
 use pim_merge::{End, Merge, MergeFault};
-use pim_report::TextFault;
 use pim_router::Router;
 use std::alloc::Global;
 
@@ -47,12 +47,12 @@ fn stopped_by(told: MergeFault) -> TraceFault
 }
 
 /// Why a trace stops when a turn isn't told.
-fn of_text(fault: TextFault) -> TraceFault
-    ensures { result ≡ of_text fault }
+fn of_telling(fault: TellFault) -> TraceFault
+    ensures { result ≡ of_telling fault }
 {
     match fault {
-        TextFault::Output => TraceFault::Output,
-        TextFault::Memory => TraceFault::Memory,
+        TellFault::Output => TraceFault::Output,
+        TellFault::Memory => TraceFault::Memory,
     }
 }
 
@@ -86,7 +86,7 @@ fn step<F: Family, R: Feed + Drop, W, T: Teller<F, W>>(
     let bytes = merge.bytes(turn.capture);
     match take_turn(teller, device, router, ledger, &turn, bytes) {
         Ok(()) => Ok(true),
-        Err(fault) => Err(of_text(fault)),
+        Err(fault) => Err(of_telling(fault)),
     }
 }
 

@@ -13,12 +13,11 @@ ghost use Rattle.pim_trace.specs.Turn.{time_of, Skips, TakesRecord, TellsTurn};
 use crate::hearing::{Packet, hear_packet};
 use crate::ledger::Ledger;
 use crate::passing::pass_time;
-use crate::telling::tell_on;
+use crate::telling::{TellFault, tell_on};
 use pim_addr::Family;
 use pim_capture::Event as Record;
 use pim_events::{Happening, Skip, Skipping, Teller};
 use pim_merge::{Content, Turn};
-use pim_report::TextFault;
 use pim_router::Router;
 use pim_transitions::transitions_are_there;
 
@@ -30,7 +29,7 @@ fn skip<F: Family, W, T: Teller<F, W>>(
     ledger: &mut Ledger<F>,
     port: usize,
     skipped: Skipping,
-) -> Result<(), TextFault>
+) -> Result<(), TellFault>
     ensures told { Tells (T.line teller.now)
         (Skips port skipped (ledger_seen F.bytes_of ledger.old) router.now)
         (ledger_seen F.bytes_of ledger.new) router.now
@@ -41,7 +40,7 @@ fn skip<F: Family, W, T: Teller<F, W>>(
 {
     let what = Happening::Skipped(skipped);
     let Ok(()) = tell_on(teller, device, ledger, router.now(), port, what) else {
-        return Err(TextFault::Output);
+        return Err(TellFault::Output);
     };
     ledger.skip(skipped.why);
     Ok(())
@@ -55,7 +54,7 @@ fn take_record<F: Family, W, T: Teller<F, W>>(
     ledger: &mut Ledger<F>,
     turn: &Turn,
     bytes: &[u8],
-) -> Result<(), TextFault>
+) -> Result<(), TellFault>
     requires port { turn.now.capture < length router.old.ports }
     requires frames { turn.now.capture < length ledger.old.frames.items }
     requires own { turn.now.capture < length ledger.old.own.items }
@@ -121,7 +120,7 @@ pub(crate) fn take_turn<F: Family, W, T: Teller<F, W>>(
     ledger: &mut Ledger<F>,
     turn: &Turn,
     bytes: &[u8],
-) -> Result<(), TextFault>
+) -> Result<(), TellFault>
     requires port { turn.now.capture < length router.old.ports }
     requires frames { turn.now.capture < length ledger.old.frames.items }
     requires own { turn.now.capture < length ledger.old.own.items }
@@ -143,7 +142,7 @@ pub(crate) fn take_turn<F: Family, W, T: Teller<F, W>>(
     transitions_are_there();
     ledger.open(turn.capture, time_of(&turn.event));
     let Ok(()) = pass_time(teller, device, router, ledger, turn.moment) else {
-        return Err(TextFault::Output);
+        return Err(TellFault::Output);
     };
     take_record(teller, device, router, ledger, turn, bytes)
 }
