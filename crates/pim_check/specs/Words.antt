@@ -18,7 +18,7 @@ use Rattle.pim_words.specs.declared.fault.Fault.TheVariants as words
 use Rattle.pim_check.specs.declared.causes.CaptureCause.{CaptureCause}
 use Rattle.pim_check.specs.declared.causes.CaptureCause.TheVariants as capture
 use Rattle.pim_check.specs.declared.fault.Fault.{Fault}
-use Rattle.pim_check.specs.declared.fault.Fault.TheVariants.{Words, File, RoutesTooLong, RoutesRead, RoutesLine, Capture}
+use Rattle.pim_check.specs.declared.fault.Fault.TheVariants.{Words, File, RoutesTooLong, RoutesRead, RoutesLine, Capture, Vlans, Interfaces}
 use Rattle.pim_check.specs.declared.fault.Fault.TheVariants.{Frame, Hello, JoinPrune, TooBig, Full, InputTooLong}
 use Rattle.pim_check.specs.declared.fault.Fault.TheVariants.{TextTooLong, TextLine, TextFamily, InputRead, Output, Memory}
 use Rattle.pim_text.specs.Text.{line}
@@ -45,6 +45,8 @@ capture_words capture.LinkType = codes "capture link-type"
 capture_words capture.Truncated = codes "capture truncated"
 capture_words capture.TooLong = codes "capture too-long"
 capture_words capture.Read = codes "capture read"
+capture_words capture.Block = codes "capture block"
+capture_words capture.Time = codes "capture time"
 
 -- The text of an address of either family.
 abbrev pub address_words : Either → List ℕ
@@ -78,6 +80,8 @@ fault_words RoutesTooLong = codes "routes too-long"
 fault_words RoutesRead = codes "routes read"
 fault_words (RoutesLine number) = codes "routes line " ++ decimal number
 fault_words (Capture cause) = capture_words cause
+fault_words (Vlans first other) = codes "capture vlans " ++ (decimal first ++ (codes "," ++ decimal other))
+fault_words (Interfaces first other) = codes "capture interfaces " ++ (decimal first ++ (codes "," ++ decimal other))
 fault_words (Frame fault) = frame_words fault
 fault_words (Hello fault) = hello_words fault
 fault_words (JoinPrune fault) = join_prune_words fault

@@ -8,16 +8,20 @@ use pim_words::{ConfigCause, Side};
 /// Why a capture isn't read to its end.
 #[derive(Clone, Copy, Debug, PartialEq, Eq)]
 pub enum CaptureCause {
-    /// It doesn't begin as a classic pcap file.
+    /// It doesn't begin as a capture that is read.
     Magic,
     /// Its link type is neither Ethernet nor raw IP.
     LinkType,
     /// It ends inside its header or a record.
     Truncated,
-    /// A record's captured length is above 262,144 bytes.
+    /// A record's captured length is above 262,144 bytes, or a block has too many bytes.
     TooLong,
     /// It can't be read, or it has more than 4,294,967,295 records.
     Read,
+    /// A block of it contradicts itself.
+    Block,
+    /// A time of it is out of range.
+    Time,
 }
 
 /// The words of a router of two without a port.
@@ -40,6 +44,8 @@ pub fn capture_words(cause: CaptureCause) -> &'static [u8]
         CaptureCause::Truncated => b"capture truncated",
         CaptureCause::TooLong => b"capture too-long",
         CaptureCause::Read => b"capture read",
+        CaptureCause::Block => b"capture block",
+        CaptureCause::Time => b"capture time",
     }
 }
 

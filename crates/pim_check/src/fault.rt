@@ -36,6 +36,20 @@ pub enum Fault<'a> {
     RoutesLine(usize),
     /// A capture has a fault.
     Capture(CaptureCause),
+    /// The packets of a capture have these VLANs, by the tag in which they differ.
+    Vlans {
+        /// That of the first packet.
+        first: u16,
+        /// Another one.
+        other: u16,
+    },
+    /// The packets of a capture are of the interfaces with these numbers.
+    Interfaces {
+        /// That of the first packet.
+        first: u32,
+        /// Another one.
+        other: u32,
+    },
     /// The message has a fault in its header, its checksum or its destination.
     Frame(FrameFault),
     /// The body of a Hello has a fault.
@@ -103,6 +117,32 @@ fn write_numbered<W: Drain>(writer: &mut W, words: &[u8], number: usize) -> Resu
     write_all(writer, words)?;
     write_all(writer, Buffer::new().format(number).as_bytes())?;
     write_all(writer, b"\n")
+}
+
+/// Writes two numbers with words between them, and ends the line.
+fn write_two<W: Drain>(writer: &mut W, first: u32, between: &[u8], other: u32) -> Result<(), Failed>
+    ensures bytes { AppendsAll (W.contents writer.old) (W.contents writer.new) result
+        (line (decimal first ++ (between.now ++ decimal other))) }
+    ensures count { W.failures writer.new ≡ failures_after (W.failures writer.old) result }
+{
+    write_all(writer, Buffer::new().format(first).as_bytes())?;
+    write_numbered(writer, between, other as usize)
+}
+
+/// Writes the words and two numbers with other words between them, and ends the line.
+fn write_numbers<W: Drain>(
+    writer: &mut W,
+    words: &[u8],
+    first: u32,
+    between: &[u8],
+    other: u32,
+) -> Result<(), Failed>
+    ensures bytes { AppendsAll (W.contents writer.old) (W.contents writer.new) result
+        (line (words.now ++ (decimal first ++ (between.now ++ decimal other)))) }
+    ensures count { W.failures writer.new ≡ failures_after (W.failures writer.old) result }
+{
+    write_all(writer, words)?;
+    write_two(writer, first, between, other)
 }
 
 /// Writes the words of a message's fault and ends the line.
@@ -192,6 +232,16 @@ fn write_words<W: Drain>(fault: &Fault<'_>, writer: &mut W) -> Result<(), Failed
         Fault::RoutesRead => write_plain(writer, b"routes read"),
         Fault::RoutesLine(number) => write_numbered(writer, b"routes line ", *number),
         Fault::Capture(cause) => write_plain(writer, capture_words(*cause)),
+        Fault::Vlans { first, other } => write_numbers(
+            writer,
+            b"capture vlans ",
+            u32::from(*first),
+            b",",
+            u32::from(*other),
+        ),
+        Fault::Interfaces { first, other } => {
+            write_numbers(writer, b"capture interfaces ", *first, b",", *other)
+        }
         Fault::Frame(fault) => write_malformed(Malformed::Frame(*fault), writer),
         Fault::Hello(fault) => write_malformed(Malformed::Hello(*fault), writer),
         Fault::JoinPrune(fault) => write_malformed(Malformed::JoinPrune(*fault), writer),

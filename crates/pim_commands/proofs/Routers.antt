@@ -73,6 +73,10 @@ capture_is_read before of_capture.TooLong = refl
 capture_is_read before of_capture.Read = refl
 capture_is_read before of_capture.Failed = refl
 capture_is_read before of_capture.Memory = refl
+capture_is_read before of_capture.Block = refl
+capture_is_read before of_capture.Time = refl
+capture_is_read before (of_capture.Vlans first other) = refl
+capture_is_read before (of_capture.Interfaces first other) = refl
 
 -- the device's failures are those that are told
 pub failures_are_told : (before : ℕ) (told : Result ℕ ReplayFault) → failures_of_device before told ≡ write_failures_after before (answer_of told)

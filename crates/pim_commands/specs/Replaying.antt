@@ -1,7 +1,8 @@
 -- The replay that a task asks for: its router, and what is returned and written of its captures.
-use Rattle.std.specs.Prelude.{◌≡◌, ◌⊎◌, ⊤, ℕ, Bool, List, [], ◌∷◌}
+use Rattle.std.specs.Prelude.{◌≡◌, ◌⊎◌, ◌==◌, ⊤, ℕ, Bool, List, [], ◌∷◌, if◌then◌else◌}
 use Rattle.std.specs.Prelude.{Option, None, Some, Result, Ok, Err}
 use Rattle.pim_addr.specs.declared.family.AddressFamily.{AddressFamily}
+use Rattle.pim_capture.specs.declared.vlan.Vlan.{Vlan}
 use Rattle.pim_capture.specs.declared.fault.CaptureFault.{CaptureFault}
 use Rattle.pim_capture.specs.declared.fault.CaptureFault.TheVariants as of_capture
 use Rattle.pim_merge.specs.declared.end.End.{End}
@@ -21,7 +22,7 @@ use Rattle.pim_words.specs.declared.task.Captures.{Captures}
 use Rattle.pim_words.specs.declared.task.Port.{Port}
 use Rattle.pim_check.specs.declared.causes.CaptureCause.TheVariants as capture
 use Rattle.pim_check.specs.declared.fault.Fault.{Fault}
-use Rattle.pim_check.specs.declared.fault.Fault.TheVariants.{Capture, Output, Memory}
+use Rattle.pim_check.specs.declared.fault.Fault.TheVariants.{Capture, Vlans, Interfaces, Output, Memory}
 use Rattle.pim_check.specs.Unopened.{config_told}
 
 -- The configuration of a port that a word names. Its delays are the defaults of RFC 7761, 4.11, in
@@ -48,12 +49,20 @@ config_fault (of_config.Address port) = config_told cause.Address
 config_fault of_config.Memory = Memory
 config_fault other = config_told cause.Ports
 
+-- The number of the tag in which a VLAN differs from another one.
+abbrev pub tag_of : Vlan → Vlan → ℕ
+tag_of vlan other = if vlan.outer == other.outer then vlan.inner else vlan.outer
+
 -- The program's fault for a fault of a capture.
 abbrev pub capture_fault : CaptureFault → Fault
 capture_fault of_capture.Magic = Capture capture.Magic
 capture_fault of_capture.LinkType = Capture capture.LinkType
 capture_fault of_capture.Truncated = Capture capture.Truncated
 capture_fault of_capture.TooLong = Capture capture.TooLong
+capture_fault of_capture.Block = Capture capture.Block
+capture_fault of_capture.Time = Capture capture.Time
+capture_fault (of_capture.Vlans first other) = Vlans (tag_of first other) (tag_of other first)
+capture_fault (of_capture.Interfaces first other) = Interfaces first other
 capture_fault of_capture.Memory = Memory
 capture_fault other = Capture capture.Read
 

@@ -9,13 +9,13 @@ ghost use Rattle.pim_router.specs.Seen.{setup_seen};
 ghost use Rattle.pim_router.specs.State.{new_router};
 ghost use Rattle.pim_words.specs.Plan.{IsBounded, IsLimited};
 ghost use Rattle.pim_commands.specs.Replaying.{end_of, config_of, config_fault, capture_fault};
-ghost use Rattle.pim_commands.specs.Replaying.{replay_fault, answer_of};
+ghost use Rattle.pim_commands.specs.Replaying.{replay_fault, answer_of, tag_of};
 ghost use Rattle.pim_commands.specs.Replaying.{IsUnmade, ReplaysNew};
 ghost use Rattle.pim_commands.specs.Opening.{ReplaysFiles};
 ghost use Rattle.pim_check.specs.Report.{write_failures_after};
 
 use pim_addr::{Drain, Family, Feed, Routes};
-use pim_capture::CaptureFault;
+use pim_capture::{CaptureFault, Vlan};
 use pim_check::{CaptureCause, Fault};
 use pim_files::{Opener, open_all, table};
 use pim_merge::{End, Merge};
@@ -81,6 +81,17 @@ fn config_fault(fault: ConfigFault) -> Fault<'static>
     Fault::Words(pim_words::Fault::Config(cause))
 }
 
+/// The number of the tag in which a VLAN differs from another one.
+fn tag_of(vlan: Vlan, other: Vlan) -> u16
+    ensures { result ≡ tag_of vlan other }
+{
+    if vlan.outer == other.outer {
+        vlan.inner
+    } else {
+        vlan.outer
+    }
+}
+
 /// The program's fault for a fault of a capture.
 pub(crate) fn capture_fault(fault: CaptureFault) -> Fault<'static>
     ensures { result ≡ capture_fault fault }
@@ -92,6 +103,13 @@ pub(crate) fn capture_fault(fault: CaptureFault) -> Fault<'static>
         CaptureFault::TooLong => Fault::Capture(CaptureCause::TooLong),
         CaptureFault::Read | CaptureFault::Failed => Fault::Capture(CaptureCause::Read),
         CaptureFault::Memory => Fault::Memory,
+        CaptureFault::Block => Fault::Capture(CaptureCause::Block),
+        CaptureFault::Time => Fault::Capture(CaptureCause::Time),
+        CaptureFault::Vlans { first, other } => Fault::Vlans {
+            first: tag_of(first, other),
+            other: tag_of(other, first),
+        },
+        CaptureFault::Interfaces { first, other } => Fault::Interfaces { first, other },
     }
 }
 
