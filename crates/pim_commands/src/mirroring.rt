@@ -151,7 +151,8 @@ pub fn mirror<'a, F: Family, O: Opener, W: Drain>(
         (W.contents writer.old) (W.contents writer.new) result }
     ensures count { W.failures writer.new ≡ write_failures_after (W.failures writer.old) result }
 {
-    let mut files = match open_one::<F, O>(alloc, opener, captures, Some(writing.upstream)) {
+    let upstream = Some(writing.upstream);
+    let mut files = match open_one::<F, O>(alloc, opener, captures, upstream, None) {
         Ok(files) => files,
         Err(fault) => return Err(fault),
     };

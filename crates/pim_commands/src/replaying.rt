@@ -14,10 +14,11 @@ ghost use Rattle.pim_commands.specs.Replaying.{IsUnmade, ReplaysNew};
 ghost use Rattle.pim_commands.specs.Opening.{ReplaysFiles};
 ghost use Rattle.pim_check.specs.Report.{write_failures_after};
 
+use crate::opening::open_one;
 use pim_addr::{Drain, Family, Feed, Routes};
 use pim_capture::{CaptureFault, Vlan};
 use pim_check::{CaptureCause, Fault};
-use pim_files::{Opener, open_all, table};
+use pim_files::Opener;
 use pim_merge::{End, Merge};
 use pim_replay::{ReplayFault, replay_into};
 use pim_router::{Config, ConfigFault, PortConfig, Router};
@@ -218,7 +219,9 @@ pub fn replay<'a, F: Family, O: Opener, W: Drain>(
         (W.contents writer.old) (W.contents writer.new) result }
     ensures count { W.failures writer.new ≡ write_failures_after (W.failures writer.old) result }
 {
-    let routes = table::<F, O>(alloc, opener, captures, None)?;
-    let mut merge = open_all(alloc, opener, &captures.ports)?;
-    replay_opened::<F, _, W>(alloc, captures, &routes, &mut merge, writer)
+    let mut files = match open_one::<F, O>(alloc, opener, captures, None, None) {
+        Ok(files) => files,
+        Err(fault) => return Err(fault),
+    };
+    replay_opened::<F, _, W>(alloc, captures, &files.routes, &mut files.merge, writer)
 }

@@ -3,10 +3,9 @@
 ghost use Rattle.std.specs.Prelude.{◌≡◌, [], ◌∷◌, ◌++◌, length, map, None, IfOk, IfErr, MatchResult};
 ghost use Rattle.std.specs.Prelude.{option_map};
 ghost use Rattle.pim_merge.specs.Lane.{coming_on};
-ghost use Rattle.pim_merge.specs.Chosen.{answers_by};
 ghost use Rattle.pim_files.specs.Files.{AsksFor, AsksAll};
 ghost use Rattle.pim_files.specs.Captures.{file_name, IsReaderOf, IsPortFault};
-ghost use Rattle.pim_files.specs.Captures.{HoldFiles, HoldFilesBy, StopsAtPort, results_by};
+ghost use Rattle.pim_files.specs.Captures.{HoldFilesBy, StopsAtPort, results_by};
 
 use crate::fault::OpenFault;
 use crate::opener::{Opener, Unopened};
@@ -55,8 +54,12 @@ fn add_by<R: Feed + Drop>(
     }
 }
 
-/// Opens the capture of each port, in the order of the words. Nothing is read.
-fn open_by<'a, A, O: Opener>(
+/// Opens the capture of each port, in the order of the words: any container with this choice of
+/// packets, or without one classic captures. Nothing is read.
+///
+/// # Errors
+/// That of the first port whose capture isn't open.
+pub fn open_all<'a, A, O: Opener>(
     alloc: Global,
     opener: &mut O,
     ports: &[Port<'a, A>],
@@ -78,45 +81,4 @@ fn open_by<'a, A, O: Opener>(
         };
     }
     Ok(merge)
-}
-
-/// Opens the classic capture of each port, in the order of the words. Nothing is read.
-///
-/// # Errors
-/// That of the first port whose capture isn't open.
-pub fn open_all<'a, A, O: Opener>(
-    alloc: Global,
-    opener: &mut O,
-    ports: &[Port<'a, A>],
-) -> Result<Merge<O::Reader>, OpenFault<'a>>
-    ensures each { IfOk result (λ merge. length merge.lanes ≡ length ports.now) }
-    ensures untaken { IfOk result (λ merge. merge.clock ≡ None) }
-    ensures opened { IfOk result (λ merge.
-        HoldFiles (O.known opener.old).files ports.now merge.lanes) }
-    ensures fault { IfErr result (StopsAtPort (O.known opener.old).files ports.now) }
-    ensures asked { AsksAll (O.known opener.old) (O.known opener.new) (map file_name ports.now)
-        result }
-{
-    open_by(alloc, opener, ports, None)
-}
-
-/// Opens the capture of each port, in any container, with a choice of its packets. Nothing is read.
-///
-/// # Errors
-/// That of the first port whose capture isn't open.
-pub fn open_any<'a, A, O: Opener>(
-    alloc: Global,
-    opener: &mut O,
-    ports: &[Port<'a, A>],
-    choice: Choice,
-) -> Result<Merge<O::Reader>, OpenFault<'a>>
-    ensures each { IfOk result (λ merge. length merge.lanes ≡ length ports.now) }
-    ensures untaken { IfOk result (λ merge. merge.clock ≡ None) }
-    ensures opened { IfOk result (λ merge.
-        HoldFilesBy (answers_by choice) (O.known opener.old).files ports.now merge.lanes) }
-    ensures fault { IfErr result (StopsAtPort (O.known opener.old).files ports.now) }
-    ensures asked { AsksAll (O.known opener.old) (O.known opener.new) (map file_name ports.now)
-        result }
-{
-    open_by(alloc, opener, ports, Some(choice))
 }

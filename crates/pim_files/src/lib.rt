@@ -5,7 +5,7 @@
 //!   where it can: files in memory do, files of the system do not.
 //! - `table` makes the route table. It reads the file of routes, if one is named.
 //! - `open_all` opens the captures of one router, `open_both` those of two, in the order of the
-//!   words. `open_any` opens those of one router in any container.
+//!   words.
 //! - `HeldFiles` is an opener of files in memory, for tests.
 //!
 //! Where the opener tells what files hold, the contracts say that each port has the capture of its
@@ -23,7 +23,7 @@ mod opener;
 mod pair;
 mod route_table;
 
-pub use captures::{open_all, open_any, open_port};
+pub use captures::{open_all, open_port};
 pub use fault::OpenFault;
 pub use held::{HeldFile, HeldFiles};
 pub use opener::{Opener, Unopened};

@@ -1,44 +1,19 @@
-use Rattle.std.proofs.Common.{inl, sym, refl, None}
-use Rattle.std.proofs.lemmas.Result.{err_from_is_err_and}
-use Rattle.pim_commands.proofs.Opened.{not_written, no_table, no_port, over_one, answered}
+use Rattle.std.proofs.Common.{inl, refl, None}
+use Rattle.pim_capture.specs.Capture.{answers}
+use Rattle.pim_commands.proofs.Opened.{over_open, not_failed, answered}
 use Rattle.pim_commands.proofs.replaying.replay.Goals as goal
 
-pub returns-in_err-routes-clause-report : goal.returns-in_err-routes-clause-report
-returns-in_err-routes-clause-report g c =
-    let p = err_from_is_err_and c.from_residual.result c.from_residual.ensures.1 in
-    rw (p.1)
-    (inl (
-      no_table g.F.Family.family g.F.Family.bytes_of g.O.Reader.Feed.remaining g.O.Reader.Feed.failures (g.O.Opener.known c.args.opener.now) (g.O.Opener.known c.table.new.opener)
-          (g.O.Opener.known c.table.new.opener) c.args.captures.now None c.in_err-routes.field-0.0 p.0 p.2 c.in_err-routes.ensures.table c.in_err-routes.ensures.asked,
-      refl {a = g.W.Drain.contents c.args.writer.now},
-    ))
+pub returns-in-Err-clause-report : goal.returns-in-Err-clause-report
+returns-in-Err-clause-report g c = inl (c.in-Err.ensures.unopened, refl {a = g.W.Drain.contents c.args.writer.now})
 
-pub returns-in_err-routes-clause-count : goal.returns-in_err-routes-clause-count
-returns-in_err-routes-clause-count g c =
-    let p = err_from_is_err_and c.from_residual.result c.from_residual.ensures.1 in
-    rw (p.1, p.2) (sym (not_written (g.W.Drain.failures c.args.writer.now) c.in_err-routes.field-0.0))
-
-pub returns-in_err-merge-clause-report : goal.returns-in_err-merge-clause-report
-returns-in_err-merge-clause-report g c =
-    let p = err_from_is_err_and c.from_residual-in_err-merge.result c.from_residual-in_err-merge.ensures.1 in
-    rw (p.1)
-    (inl (
-      no_port g.F.Family.family g.F.Family.bytes_of g.O.Reader.Feed.remaining g.O.Reader.Feed.failures (g.O.Opener.known c.args.opener.now) (g.O.Opener.known c.table.new.opener)
-          (g.O.Opener.known c.open_all.new.opener) c.args.captures.now None c.in_ok-routes.routes c.deref.result.now c.in_err-merge.field-0.0 p.0 c.deref.ensures.value p.2
-          c.in_ok-routes.ensures.table c.in_ok-routes.ensures.asked c.in_err-merge.ensures.fault c.in_err-merge.ensures.asked,
-      refl {a = g.W.Drain.contents c.args.writer.now},
-    ))
-
-pub returns-in_err-merge-clause-count : goal.returns-in_err-merge-clause-count
-returns-in_err-merge-clause-count g c =
-    let p = err_from_is_err_and c.from_residual-in_err-merge.result c.from_residual-in_err-merge.ensures.1 in
-    rw (p.1, p.2) (sym (not_written (g.W.Drain.failures c.args.writer.now) c.in_err-merge.field-0.0))
+pub returns-in-Err-clause-count : goal.returns-in-Err-clause-count
+returns-in-Err-clause-count g c =
+    not_failed g.F.Family.family g.F.Family.bytes_of g.O.Reader.Feed.remaining g.O.Reader.Feed.failures (g.O.Opener.known c.args.opener.now) (g.O.Opener.known c.open_one.new.opener)
+    c.args.captures.now None (g.W.Drain.failures c.args.writer.now) c.in-Err.fault c.in-Err.ensures.unopened
 
 pub returns-clause-report : goal.returns-clause-report
 returns-clause-report g c =
-    answered g.F.Family.family g.F.Family.bytes_of g.O.Reader.Feed.remaining g.O.Reader.Feed.failures (g.O.Opener.known c.args.opener.now) (g.O.Opener.known c.table.new.opener)
-    (g.O.Opener.known c.open_all.new.opener) c.args.captures.now None (g.W.Drain.contents c.args.writer.now) (g.W.Drain.contents c.replay_opened.new.writer)
-    c.replay_opened.result _
-    (over_one g.F.Family.family g.F.Family.bytes_of g.O.Reader.Feed.remaining g.O.Reader.Feed.failures (g.O.Opener.known c.args.opener.now) (g.O.Opener.known c.table.new.opener)
-    (g.O.Opener.known c.open_all.new.opener) c.args.captures.now None _ c.in_ok-routes.routes c.in_ok-merge.merge c.replay_opened.new.merge c.deref.result.now c.deref.ensures.value
-    c.in_ok-routes.ensures.table c.in_ok-routes.ensures.asked c.in_ok-merge.ensures.each c.in_ok-merge.ensures.untaken c.in_ok-merge.ensures.opened c.in_ok-merge.ensures.asked c.replay_opened.ensures.report)
+    answered g.F.Family.family g.F.Family.bytes_of g.O.Reader.Feed.remaining g.O.Reader.Feed.failures (g.O.Opener.known c.args.opener.now) (g.O.Opener.known c.args.opener.now) (g.O.Opener.known c.open_one.new.opener)
+    c.args.captures.now None (g.W.Drain.contents c.args.writer.now) (g.W.Drain.contents c.replay_opened.new.writer) c.replay_opened.result _
+    (over_open g.F.Family.family g.F.Family.bytes_of g.O.Reader.Feed.remaining g.O.Reader.Feed.failures (g.O.Opener.known c.args.opener.now) (g.O.Opener.known c.open_one.new.opener)
+    c.args.captures.now None answers _ c.in-Ok.files.routes c.in-Ok.files.merge c.replay_opened.new.merge c.in-Ok.ensures.opened c.replay_opened.ensures.report)

@@ -1,7 +1,7 @@
 use Rattle.std.proofs.Common.{◌≡◌, ◌+◌, drop, take, map, length, None}
 use Rattle.pim_files.specs.Files.{AsksFor}
 use Rattle.pim_files.specs.Captures.{file_name, HoldFilesBy, results_by}
-use Rattle.pim_files.proofs.captures.open_by.Given as goal
+use Rattle.pim_files.proofs.captures.open_all.Given as goal
 
 -- the captures of the ports before this one, of which nothing was taken
 abbrev pub invariant-loop-port : goal.invariant-loop-port

@@ -6,7 +6,7 @@ use Rattle.pim_files.specs.Files.{AsksFor}
 use Rattle.pim_files.specs.Captures.{file_name, HoldFilesBy, results_by}
 use Rattle.pim_files.proofs.Asked.{asks_none, some_in_front}
 use Rattle.pim_files.proofs.Opened.{lanes_more, one_more_name, none_held, one_more_lane, stops}
-use Rattle.pim_files.proofs.captures.open_by.Goals as goal
+use Rattle.pim_files.proofs.captures.open_all.Goals as goal
 
 pub loop-port-init : goal.loop-port-init
 loop-port-init g c = record {
