@@ -71,8 +71,9 @@ on the link, and 10.9.9.9 the rendezvous point:
 
 Faults that are often met first, on standard error:
   capture magic      FILE isn't classic pcap: `editcap -F pcap IN OUT` makes one
+                     of pcapng, which only `trace` reads
   capture link-type  FILE is neither Ethernet nor raw IP: `tcpdump -i any` makes
-                     cooked captures, so name an interface
+                     cooked captures, which only `trace` reads
   config ports       no word ADDRESS@FILE was given, or more than 64 were
 
 Exit status: 0 for success, 1 where `same` prints `different`, 2 for a fault.";
@@ -399,7 +400,14 @@ const TRACE: Offer<'static> = Offer {
     after_help: "Each line begins with a time and the name of a port, which is its place, from 0,
 unless its word gives one: a letter, then up to 31 letters, digits, . _ or -.
 #N is the record N of the port's FILE, from 1, as other tools number it.
-`pimtree replay --help` explains what a FILE is, and each verdict.
+`pimtree replay --help` explains each verdict.
+
+FILE is pcapng or classic pcap: Ethernet, raw IP, Linux cooked as by
+`tcpdump -i any`, or BSD loopback, with up to two VLAN tags. A FIFO, /dev/stdin
+and <(zcat x.pcap.gz) work, too. A port is one link, so these are faults:
+  capture vlans 5,7.9     PIM packets of two VLANs, here 5, and 9 inside 7
+  capture interfaces 0,1  PIM packets of two interfaces
+`tshark -r IN -Y 'vlan.id == 5' -w OUT` takes one VLAN out of a file.
 
 A machine is `star G` for (*,G), `source S G` or `rpt S G`. Its states are
 no-info, join, prune-pending and prune. A packet that changes one has a line
