@@ -72,16 +72,14 @@ done << 'LIST'
 pim_codec_tests addr::routes::refusals_change_nothing Routes::add_via
 pim_codec_tests hello::neighbours::refusals_change_nothing Neighbours::hear
 pim_down_tests limits::refusals_change_nothing Ports::hear
-pim_form_tests form::forms::refusals_leave_the_ports NormalForm::of
-pim_form_tests form::toward::refusals_of_toward_change_nothing NormalForm::toward
-pim_form_tests form::kept::refusals_leave_the_form normal_again
-pim_form_tests form::packing::refusals_change_nothing pack
-pim_form_tests change::units::refusals_leave_the_forms changed
-pim_form_tests change::refused::refusals_leave_what_is_told triggered
+pim_router_tests form::forms::refusals_leave_the_ports NormalForm::of
+pim_router_tests form::toward::refusals_of_toward_change_nothing NormalForm::toward
+pim_router_tests form::kept::refusals_leave_the_form normal_again
+pim_router_tests form::packing::refusals_change_nothing pack
+pim_router_tests change::refusals_leave_the_change changed, triggered
 pim_router_tests router::memory::refusals_change_nothing Router::new, take_packet of Hellos and of Join/Prunes
-pim_router_tests router::refused::messages_are_made_again Router::canonical
-pim_router_tests router::refused::wants_are_compared_again same_wants
-pim_router_tests mirror::mirrored::exception_is_pruned_at_the_final_moment mirror
+pim_router_tests router::refused::calls_are_made_again Router::canonical, same_wants
+pim_router_tests mirror::mirrored::messages_make_mirrors mirror
 pim_codec_tests capture::refused_growth Capture::next
 pimtree_tests refused::replay_leaves_a_front replay
 pimtree_tests refused::trace_leaves_a_front trace

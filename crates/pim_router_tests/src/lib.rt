@@ -1,5 +1,6 @@
-//! The tests of `pim_router` and of `pim_mirror` that are no scenarios. They are a crate of their
-//! own, so that a check proves the libraries once and not a second time with their tests.
+//! The tests of `pim_form`, `pim_emit`, `pim_change`, `pim_router` and `pim_mirror` that are no
+//! scenarios. They are a crate of their own, so that a check proves the libraries once and not a
+//! second time with their tests, and one crate, since each one takes a minute for its libraries.
 #![tactic(auto)]
 
 #[cfg(test)]

@@ -1,7 +1,5 @@
-//! Fresh routers that hear canonical messages alone, each at moments that no command can choose.
-//! Other examples of a mirror are scenarios of `pimtree_cases`.
+//! Fresh routers that hear canonical messages alone: deliveries that no command makes.
 
 mod asked;
-mod fitting;
 mod hearing;
 mod mirrored;

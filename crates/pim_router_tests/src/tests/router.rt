@@ -22,6 +22,9 @@ const GROUP: [u8; 4] = [239, 1, 1, 1];
 /// A sender on the link of the first port.
 const ANNE: [u8; 4] = [10, 0, 0, 9];
 
+/// And one on that of the second port.
+pub(super) const BERT: [u8; 4] = [10, 0, 1, 9];
+
 const PORTS: [PortConfig<[u8; 4]>; 3] = [
     PortConfig {
         address: [10, 0, 0, 1],
@@ -41,10 +44,10 @@ const PORTS: [PortConfig<[u8; 4]>; 3] = [
 ];
 
 /// A Hello whose sender is kept for ever.
-const FOR_EVER: [u8; 10] = [0x20, 0, 0xdf, 0xfc, 0, 1, 0, 2, 255, 255];
+pub(super) const FOR_EVER: [u8; 10] = [0x20, 0, 0xdf, 0xfc, 0, 1, 0, 2, 255, 255];
 
 /// Lets a port receive some bytes; `None` where the port isn't there or there are too many bytes.
-fn receive(
+pub(super) fn receive(
     router: &mut Router<'_, V4>,
     port: usize,
     from: [u8; 4],
@@ -67,7 +70,7 @@ fn neighbour_count(router: &Router<'_, V4>, port: usize) -> usize {
 
 /// A table with one RP for all groups, and this neighbour for all addresses; `None` where a growth
 /// is refused.
-fn table(alloc: Global, upstream: [u8; 4]) -> Option<Routes<V4>> {
+pub(super) fn table(alloc: Global, upstream: [u8; 4]) -> Option<Routes<V4>> {
     let mut routes = Routes::new(alloc);
     routes.add_rp([224, 0, 0, 0], 4, RP).ok()?;
     routes.add_via([0, 0, 0, 0], 0, upstream).ok()?;
@@ -75,7 +78,7 @@ fn table(alloc: Global, upstream: [u8; 4]) -> Option<Routes<V4>> {
 }
 
 /// A new router of the ports under this table; `None` where a growth is refused.
-fn made<'a>(alloc: Global, routes: &'a Routes<V4>) -> Option<Router<'a, V4>> {
+pub(super) fn made<'a>(alloc: Global, routes: &'a Routes<V4>) -> Option<Router<'a, V4>> {
     let config = Config {
         ports: &PORTS,
         routes,

@@ -1,6 +1,7 @@
 //! A router that hears deliveries of messages, each at its moment.
 
-use super::asked::{Asker, OTHER, THREE_GROUPS, UP, WRITER, asked_for, asking, asks_by, greet};
+use super::super::router::{FOR_EVER, receive};
+use super::asked::{Asking, OTHER, UP, WRITER, asked, asks_by};
 use pim_addr::{Routes, V4};
 use pim_form::Messages;
 use pim_mirror::{Delivery, MirrorFault, are_short, hear_deliveries};
@@ -23,24 +24,18 @@ const DELIVERIES: [Delivery; 3] = [
     },
 ];
 
-/// What is answered to the deliveries, the moment then, how many records the router has, and
-/// whether it asks by the same messages.
-type Heard = (Result<(), MirrorFault>, u64, usize, bool);
-
 /// The upstream neighbour with room for so many records, which knows the writer and another
 /// neighbour for ever.
 fn upstream(alloc: Global, routes: &Routes<V4>, limit: usize) -> Option<Router<'_, V4>> {
     let config = Config {
-        ports: &UP,
+        ports: &[UP],
         routes,
         limit,
     };
     let mut router = Router::new(alloc, &config).ok()?;
-    if greet(&mut router, WRITER) && greet(&mut router, OTHER) {
-        Some(router)
-    } else {
-        None
-    }
+    let knows_both = receive(&mut router, 0, WRITER, &FOR_EVER).is_ok()
+        && receive(&mut router, 0, OTHER, &FOR_EVER).is_ok();
+    knows_both.then_some(router)
 }
 
 /// Lets the router hear the deliveries and run to this moment.
@@ -55,55 +50,54 @@ fn hear(
     Some(hear_deliveries(router, messages, WRITER, &DELIVERIES, moment))
 }
 
-/// The same, and how the router is then.
+/// What is answered to the deliveries, the moment then, how many records the router has, and
+/// whether it asks by the same messages.
+type Heard = (Result<(), MirrorFault>, u64, usize, bool);
+
+/// The same of this router at this moment.
 fn heard_at(
     alloc: Global,
     router: &mut Router<'_, V4>,
-    asking: &Asker,
-    messages: &Messages,
+    asking: &Asking,
     moment: u64,
 ) -> Option<Heard> {
-    let answer = hear(router, messages, moment)?;
-    let asks = asks_by(alloc, router, &asking.writer, messages)?;
+    let answer = hear(router, &asking.messages, moment)?;
+    let asks = asks_by(alloc, router, asking)?;
     let records = router.ports().records().count();
     Some((answer, router.now(), records, asks))
 }
 
-/// What the upstream neighbour with room for so many records heard of the two messages by this
-/// moment.
-fn hears_by(alloc: Global, limit: usize, moment: u64) -> Option<Heard> {
-    let asking = asking(alloc, 210, 70)?;
-    let mut message = THREE_GROUPS;
-    let messages = asked_for(alloc, &asking, &mut message)?;
-    let mut router = upstream(alloc, &asking.routes, limit)?;
-    heard_at(alloc, &mut router, &asking, &messages, moment)
+/// The room for records, the moment, and what is heard by then. Without room for the first message
+/// the router has heard what came before it.
+const ROWS: [(usize, u64, Heard); 5] = [
+    (5, 3_999, (Ok(()), 3_999, 5, false)),
+    (5, 4_000, (Ok(()), 4_000, 5, true)),
+    (5, 210_999, (Ok(()), 210_999, 5, true)),
+    (5, 211_000, (Ok(()), 211_000, 1, false)),
+    (
+        4,
+        4_000,
+        (Err(MirrorFault::Full { needed: 5 }), 1_000, 1, false),
+    ),
+];
+
+/// Whether a row goes so.
+fn goes(alloc: Global, asking: &Asking, &(limit, moment, heard): &(usize, u64, Heard)) -> bool {
+    match upstream(alloc, &asking.routes, limit) {
+        Some(mut router) => heard_at(alloc, &mut router, asking, moment) == Some(heard),
+        None => false,
+    }
+}
+
+/// The first row that doesn't go so.
+fn wrong(alloc: Global) -> Option<usize> {
+    match asked(alloc, 210) {
+        Some(asking) => ROWS.iter().position(|row| !goes(alloc, &asking, row)),
+        None => Some(0),
+    }
 }
 
 #[test]
 fn deliveries_in_another_order_are_heard(rt: HostRuntime) {
-    assert_eq!(rt;
-        hears_by(rt.alloc(), 5, 3_999),
-        Some((Ok(()), 3_999, 5, false))
-    );
-    assert_eq!(rt;
-        hears_by(rt.alloc(), 5, 4_000),
-        Some((Ok(()), 4_000, 5, true))
-    );
-    assert_eq!(rt;
-        hears_by(rt.alloc(), 5, 210_999),
-        Some((Ok(()), 210_999, 5, true))
-    );
-    assert_eq!(rt;
-        hears_by(rt.alloc(), 5, 211_000),
-        Some((Ok(()), 211_000, 1, false))
-    );
-}
-
-#[test]
-fn router_has_heard_what_came_before_the_message_without_room(rt: HostRuntime) {
-    let full = Err(MirrorFault::Full { needed: 5 });
-    assert_eq!(rt;
-        hears_by(rt.alloc(), 4, 4_000),
-        Some((full, 1_000, 1, false))
-    );
+    assert_eq!(rt; wrong(rt.alloc()), None);
 }

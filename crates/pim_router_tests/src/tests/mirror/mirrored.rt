@@ -1,271 +1,336 @@
-//! A fresh router that heard canonical messages alone, at its final moment: how long its records
-//! last, and when it writes the same messages.
+//! A fresh router that heard canonical messages alone: for which deliveries it is a mirror, how
+//! long its records last from its final moment on, and when it writes the same messages.
 
-use super::asked::{
-    Asker, OTHER, STAR, UP, UPSTREAM, WRITER, asked_for, asking, asks_by, deliveries, reach,
-    two_hundred,
-};
+use super::asked::{Asking, OTHER, UP, UPSTREAM, WRITER, asked, asks_by, deliveries};
 use pim_addr::V4;
-use pim_form::Messages;
+use pim_down::Step as Fires;
+use pim_form::{Messages, Writer};
 use pim_hello::Parameters;
 use pim_mirror::{FreshConfig, MirrorFault, OtherNeighbour, are_short, fits, mirror};
 use pim_router::{PortConfig, Router};
 use std::alloc::Global;
 
-/// Another neighbour, for ever, that doesn't send its delays: the override interval is 3,000 ms.
-const OTHERS: [OtherNeighbour<[u8; 4]>; 1] = [OtherNeighbour {
-    address: OTHER,
-    hello: Parameters {
-        holdtime: Some(0xffff),
-        lan: None,
-        priority: None,
-        generation: None,
-    },
-}];
+const THIRD: [u8; 4] = [10, 0, 0, 7];
 
-/// The upstream neighbour's port with the longest delays.
-const SLOW: [PortConfig<[u8; 4]>; 1] = [PortConfig {
-    address: UPSTREAM,
-    propagation: 32_767,
-    override_ms: 65_535,
-}];
+const FOURTH: [u8; 4] = [10, 0, 0, 8];
 
-/// To 10.1.0.1, with holdtime 210: the star of 239.1.1.1 except 192.0.2.1.
-const EXCEPT: [u8; 42] = [
-    0, 0, 0, 0, 1, 0, 10, 1, 0, 1, 0, 1, 0, 210, 1, 0, 0, 32, 239, 1, 1, 1, 0, 1, 0, 1, 1, 0, 7,
-    32, 10, 9, 9, 9, 1, 0, 5, 32, 192, 0, 2, 1,
+/// A fresh router and what comes to it.
+#[derive(Clone, Copy)]
+enum Given {
+    /// The room for records, the holdtime of another neighbour, and the deliveries: of a message and
+    /// a moment each.
+    Deliveries(usize, u16, &'static [(usize, u64)]),
+    /// Besides 10.0.0.7 this neighbour is there, too. Both messages come at 0.
+    Beside([u8; 4]),
+    /// The port's address and delays. No other neighbour is there. Both messages come at 0.
+    Port([u8; 4], u16, u16),
+}
+
+/// A final moment, how much time so many records have left then, and the moment until which the
+/// messages are written.
+type Seen = (u64, [(u64, usize); 2], u64);
+
+/// What becomes of the fresh router.
+#[derive(Clone, Copy, PartialEq, Eq)]
+enum Told {
+    /// It is no mirror.
+    Unfit,
+    /// A message has no room, and up to it so many records are needed.
+    Full(usize),
+    /// It is one, and is seen so.
+    Stands(Seen),
+}
+
+/// Rows for messages with the holdtime 210.
+const ROWS: [(Given, Told); 20] = [
+    // each message comes once; 3,000 ms after 207,000 the first one is over
+    (
+        Given::Deliveries(1000, 65_535, &[(0, 0), (1, 200_000)]),
+        Told::Stands((203_000, [(7_000, 4), (207_000, 1)], 210_000)),
+    ),
+    (
+        Given::Deliveries(1000, 65_535, &[(0, 0), (1, 207_000)]),
+        Told::Unfit,
+    ),
+    // in another order, and again
+    (
+        Given::Deliveries(
+            1000,
+            65_535,
+            &[(1, 0), (0, 100_000), (0, 150_000), (1, 200_000)],
+        ),
+        Told::Stands((200_000, [(160_000, 4), (210_000, 1)], 360_000)),
+    ),
+    // again before the prune takes effect, with room for just these records
+    (
+        Given::Deliveries(5, 65_535, &[(0, 0), (1, 0), (0, 2_000), (1, 2_000)]),
+        Told::Stands((3_000, [(209_000, 5), (0, 0)], 212_000)),
+    ),
+    // a whole holdtime without the first one is too long
+    (
+        Given::Deliveries(1000, 65_535, &[(0, 0), (1, 0), (0, 209_999), (1, 209_999)]),
+        Told::Stands((209_999, [(210_000, 5), (0, 0)], 419_999)),
+    ),
+    (
+        Given::Deliveries(1000, 65_535, &[(0, 0), (1, 0), (1, 209_999), (0, 210_000)]),
+        Told::Unfit,
+    ),
+    // the other neighbour stays to the end, or not, or never comes
+    (
+        Given::Deliveries(1000, 204, &[(0, 0), (1, 200_000)]),
+        Told::Stands((203_000, [(7_000, 4), (207_000, 1)], 210_000)),
+    ),
+    (
+        Given::Deliveries(1000, 203, &[(0, 0), (1, 200_000)]),
+        Told::Unfit,
+    ),
+    (
+        Given::Deliveries(1000, 0, &[(0, 0), (1, 200_000)]),
+        Told::Unfit,
+    ),
+    // falling moments
+    (
+        Given::Deliveries(1000, 65_535, &[(0, 0), (1, 5), (0, 4)]),
+        Told::Unfit,
+    ),
+    // a message that isn't there
+    (
+        Given::Deliveries(1000, 65_535, &[(0, 0), (1, 0), (2, 0)]),
+        Told::Unfit,
+    ),
+    // a message that doesn't come
+    (Given::Deliveries(1000, 65_535, &[(0, 0)]), Told::Unfit),
+    // a moment past 10^14
+    (
+        Given::Deliveries(1000, 65_535, &[(0, 0), (1, 100_000_000_000_001)]),
+        Told::Unfit,
+    ),
+    // no room for the second message, or for the first one
+    (
+        Given::Deliveries(4, 65_535, &[(0, 0), (1, 200_000)]),
+        Told::Full(5),
+    ),
+    (
+        Given::Deliveries(3, 65_535, &[(0, 0), (1, 200_000)]),
+        Told::Full(4),
+    ),
+    // the port has the address to which the writer writes, and all addresses are different
+    (
+        Given::Beside(FOURTH),
+        Told::Stands((3_000, [(207_000, 5), (0, 0)], 210_000)),
+    ),
+    (Given::Beside(THIRD), Told::Unfit),
+    (Given::Beside(UPSTREAM), Told::Unfit),
+    (Given::Beside(WRITER), Told::Unfit),
+    (Given::Port(FOURTH, 500, 2500), Told::Unfit),
 ];
 
-/// A fresh router and what comes to it, and when it is looked at.
+/// Rows for the least holdtime, 99 s, and the greatest override interval, 98,302 ms.
+const SHORT: [(Given, Told); 2] = [
+    (
+        Given::Port(UPSTREAM, 32_767, 65_535),
+        Told::Stands((98_302, [(698, 5), (0, 0)], 99_000)),
+    ),
+    (Given::Port(UPSTREAM, 32_768, 65_535), Told::Unfit),
+];
+
+/// The same, put together.
 #[derive(Clone, Copy)]
 struct Course<'a> {
-    port: &'a [PortConfig<[u8; 4]>],
-    /// Whether no other neighbour is on the link.
-    is_alone: bool,
+    port: PortConfig<[u8; 4]>,
+    others: &'a [OtherNeighbour<[u8; 4]>],
     limit: usize,
-    /// Of a message and a moment each.
     deliveries: &'a [(usize, u64)],
-    /// At the final moment it is counted how many records have so much left.
-    left: [u64; 2],
-    /// At the final moment and at these it is looked whether it writes the messages.
-    moments: [u64; 2],
 }
 
-/// A fresh router beside another neighbour.
-const BESIDE: Course<'static> = Course {
-    port: &UP,
-    is_alone: false,
-    limit: 1000,
-    deliveries: &[(0, 0), (1, 200_000)],
-    left: [7_000, 207_000],
-    moments: [209_999, 210_000],
-};
-
-/// A fresh router at the final moment: the moment, how many records there are, and how many of them
-/// have so much left. Last comes whether it writes the messages then and at two later moments.
-type Seen = (u64, usize, [usize; 2], [bool; 3]);
-
-/// How many records have so much left.
-fn count_left(router: &Router<'_, V4>, left: u64) -> usize {
-    router
-        .ports()
-        .records()
-        .filter(|held| held.machine.expires_in == Some(left))
-        .count()
-}
-
-/// Whether a router that runs to this moment writes these messages then.
-fn writes_at(
-    alloc: Global,
-    router: &mut Router<'_, V4>,
-    asking: &Asker,
-    messages: &Messages,
-    moment: u64,
-) -> Option<bool> {
-    if reach(router, moment) {
-        asks_by(alloc, router, &asking.writer, messages)
-    } else {
-        None
+/// Beside these neighbours, with ample room, where both messages come at 0.
+fn at_once<'a>(others: &'a [OtherNeighbour<[u8; 4]>]) -> Course<'a> {
+    Course {
+        port: UP,
+        others,
+        limit: 1000,
+        deliveries: &[(0, 0), (1, 0)],
     }
 }
 
-/// What is seen of a router that is at its final moment; `None` where memory is refused.
-fn seen(
-    alloc: Global,
-    router: &mut Router<'_, V4>,
-    asking: &Asker,
-    messages: &Messages,
-    course: Course<'_>,
-) -> Option<Seen> {
-    let [one, other] = course.left;
-    let (moment, records) = (router.now(), router.ports().records().count());
-    let left = [count_left(router, one), count_left(router, other)];
-    let now = asks_by(alloc, router, &asking.writer, messages)?;
-    let before = writes_at(alloc, router, asking, messages, course.moments[0])?;
-    let after = writes_at(alloc, router, asking, messages, course.moments[1])?;
-    Some((moment, records, left, [now, before, after]))
+/// Another neighbour whose Hello has this holdtime and nothing else.
+fn other(address: [u8; 4], holdtime: u16) -> OtherNeighbour<[u8; 4]> {
+    OtherNeighbour {
+        address,
+        hello: Parameters {
+            holdtime: Some(holdtime),
+            lan: None,
+            priority: None,
+            generation: None,
+        },
+    }
 }
 
 /// What the mirror answers; `None` where it doesn't fit.
 fn answered<'a>(
     alloc: Global,
-    asking: &Asker,
     messages: &Messages,
+    writer: &Writer<V4>,
     fresh: &FreshConfig<'a, V4>,
 ) -> Option<Result<Router<'a, V4>, MirrorFault>> {
-    if !fits(messages, &asking.writer, fresh.routes, fresh) || !are_short(messages) {
+    if !fits(messages, writer, fresh.routes, fresh) || !are_short(messages) {
         return None;
     }
-    Some(mirror(alloc, messages, &asking.writer, fresh))
+    Some(mirror(alloc, messages, writer, fresh))
 }
 
 /// The same. Where a growth is refused, it is what it answers when it is called again.
 fn mirrored<'a>(
     alloc: Global,
-    asking: &Asker,
     messages: &Messages,
+    writer: &Writer<V4>,
     fresh: &FreshConfig<'a, V4>,
 ) -> Option<Result<Router<'a, V4>, MirrorFault>> {
-    match answered(alloc, asking, messages, fresh) {
-        Some(Err(MirrorFault::Memory)) => answered(alloc, asking, messages, fresh),
+    match answered(alloc, messages, writer, fresh) {
+        Some(Err(MirrorFault::Memory)) => answered(alloc, messages, writer, fresh),
         answer => answer,
     }
 }
 
-/// What is seen of this fresh router that hears these messages, or its fault; `None` where it
-/// doesn't fit or memory is refused.
-fn heard_by(
+/// Whether so many records have so much left.
+fn are_left(router: &Router<'_, V4>, (left, count): (u64, usize)) -> bool {
+    let is_so = router
+        .ports()
+        .records()
+        .filter(|held| held.machine.expires_in == Some(left))
+        .count();
+    is_so == count
+}
+
+/// Whether a router that runs to this moment writes the messages then.
+fn writes_at(
     alloc: Global,
-    asking: &Asker,
-    messages: &Messages,
-    fresh: &FreshConfig<'_, V4>,
-    course: Course<'_>,
-) -> Option<Result<Seen, MirrorFault>> {
-    match mirrored(alloc, asking, messages, fresh)? {
-        Ok(mut router) => match seen(alloc, &mut router, asking, messages, course) {
-            Some(seen) => Some(Ok(seen)),
-            None => None,
-        },
-        Err(fault) => Some(Err(fault)),
+    router: &mut Router<'_, V4>,
+    asking: &Asking,
+    moment: u64,
+) -> Option<bool> {
+    if moment > 1_000_000 {
+        return None;
+    }
+    let (step, _refreshes) = router.run_past_refreshes(moment);
+    if step == Fires::Reached {
+        asks_by(alloc, router, asking)
+    } else {
+        Some(false)
     }
 }
 
-/// The same of the fresh router of a course, beside these neighbours.
-fn heard_beside(
+/// Whether a router at its final moment is seen so; `None` where memory is refused.
+fn is_seen(
     alloc: Global,
-    asking: &Asker,
-    messages: &Messages,
-    course: Course<'_>,
-    others: &[OtherNeighbour<[u8; 4]>],
-) -> Option<Result<Seen, MirrorFault>> {
-    let deliveries = deliveries(alloc, course.deliveries)?;
-    let fresh = FreshConfig {
-        ports: course.port,
-        routes: &asking.routes,
-        limit: course.limit,
-        sender: WRITER,
-        others,
-        deliveries: &deliveries,
-    };
-    heard_by(alloc, asking, messages, &fresh, course)
+    router: &mut Router<'_, V4>,
+    asking: &Asking,
+    (moment, left, until): Seen,
+) -> Option<bool> {
+    let [one, two] = left;
+    let is_so = router.now() == moment && are_left(router, one) && are_left(router, two);
+    let five = router.ports().records().count() == 5;
+    let now = asks_by(alloc, router, asking)?;
+    let before = writes_at(alloc, router, asking, until.saturating_sub(1))?;
+    let after = writes_at(alloc, router, asking, until)?;
+    Some(is_so && five && now && before && !after)
+}
+
+/// The same of a router that is a mirror.
+fn stands(alloc: Global, router: &mut Router<'_, V4>, asking: &Asking, told: Told) -> Option<bool> {
+    match told {
+        Told::Stands(seen) => is_seen(alloc, router, asking, seen),
+        _ => Some(false),
+    }
+}
+
+/// Whether the fresh router becomes that; `None` where memory is refused.
+fn becomes(
+    alloc: Global,
+    asking: &Asking,
+    fresh: &FreshConfig<'_, V4>,
+    told: Told,
+) -> Option<bool> {
+    match mirrored(alloc, &asking.messages, &asking.writer, fresh) {
+        None => Some(told == Told::Unfit),
+        Some(Err(MirrorFault::Full { needed })) => Some(told == Told::Full(needed)),
+        Some(Err(MirrorFault::Memory)) => Some(false),
+        Some(Ok(mut router)) => stands(alloc, &mut router, asking, told),
+    }
 }
 
 /// The same of the fresh router of a course.
-fn heard(
-    alloc: Global,
-    asking: &Asker,
-    messages: &Messages,
-    course: Course<'_>,
-) -> Option<Result<Seen, MirrorFault>> {
-    if course.is_alone {
-        return heard_beside(alloc, asking, messages, course, &[]);
-    }
-    heard_beside(alloc, asking, messages, course, &OTHERS)
-}
-
-/// The same of the two messages of 200 sources.
-fn two_are_heard(alloc: Global, course: Course<'_>) -> Option<Result<Seen, MirrorFault>> {
-    let asking = asking(alloc, 210, 1480)?;
-    let messages = two_hundred(alloc, &asking)?;
-    heard(alloc, &asking, &messages, course)
-}
-
-/// The same of the messages with this holdtime that ask for what this packet asks for.
-fn asked_is_heard(
-    alloc: Global,
-    message: &mut [u8],
-    holdtime: u16,
-    course: Course<'_>,
-) -> Option<Result<Seen, MirrorFault>> {
-    let asking = asking(alloc, holdtime, 1480)?;
-    let messages = asked_for(alloc, &asking, message)?;
-    heard(alloc, &asking, &messages, course)
-}
-
-#[test]
-fn time_left_counts_from_each_last_delivery(rt: HostRuntime) {
-    let seen = (203_000, 200, [181, 19], [true, true, false]);
-    assert_eq!(rt; two_are_heard(rt.alloc(), BESIDE), Some(Ok(seen)));
-    let again = Course {
-        deliveries: &[(1, 0), (0, 100_000), (0, 150_000), (1, 200_000)],
-        left: [160_000, 210_000],
-        moments: [359_999, 360_000],
-        ..BESIDE
+fn ends(alloc: Global, asking: &Asking, course: Course<'_>, told: Told) -> Option<bool> {
+    let deliveries = deliveries(alloc, course.deliveries)?;
+    let fresh = FreshConfig {
+        ports: &[course.port],
+        routes: &asking.routes,
+        limit: course.limit,
+        sender: WRITER,
+        others: course.others,
+        deliveries: &deliveries,
     };
-    let seen = (200_000, 200, [181, 19], [true, true, false]);
-    assert_eq!(rt; two_are_heard(rt.alloc(), again), Some(Ok(seen)));
+    becomes(alloc, asking, &fresh, told)
 }
 
-#[test]
-fn full_needs_the_messages_up_to_the_first_without_room(rt: HostRuntime) {
-    for (limit, needed) in [(190, 200), (180, 181)] {
-        let course = Course { limit, ..BESIDE };
-        let full = Some(Err(MirrorFault::Full { needed }));
-        assert_eq!(rt; two_are_heard(rt.alloc(), course), full);
+/// Whether a row goes so; `None` where memory is refused.
+fn row_goes(alloc: Global, asking: &Asking, &(given, told): &(Given, Told)) -> Option<bool> {
+    match given {
+        Given::Deliveries(limit, holdtime, deliveries) => {
+            let others = [other(OTHER, holdtime)];
+            let course = Course {
+                limit,
+                deliveries,
+                ..at_once(&others)
+            };
+            ends(alloc, asking, course, told)
+        }
+        Given::Beside(address) => {
+            let others = [other(THIRD, 210), other(address, 210)];
+            ends(alloc, asking, at_once(&others), told)
+        }
+        Given::Port(address, propagation, override_ms) => {
+            let port = PortConfig {
+                address,
+                propagation,
+                override_ms,
+            };
+            let course = Course {
+                port,
+                ..at_once(&[])
+            };
+            ends(alloc, asking, course, told)
+        }
     }
 }
 
-/// The star except a source, heard at 0 and at 2,000.
-fn exception_is_heard(alloc: Global) -> Option<Result<Seen, MirrorFault>> {
-    let course = Course {
-        limit: 2,
-        deliveries: &[(0, 0), (0, 2_000)],
-        left: [209_000, 0],
-        moments: [211_999, 212_000],
-        ..BESIDE
-    };
-    let mut message = EXCEPT;
-    asked_is_heard(alloc, &mut message, 210, course)
+/// Whether a row goes so: at once or, where memory is refused beside the mirror, then again.
+fn goes(alloc: Global, asking: &Asking, row: &(Given, Told)) -> bool {
+    match row_goes(alloc, asking, row) {
+        Some(is_so) => is_so,
+        None => row_goes(alloc, asking, row) == Some(true),
+    }
 }
 
-/// The same; where memory was refused before or after the mirror, once more.
-fn exception_is_heard_at_last(alloc: Global) -> Option<Result<Seen, MirrorFault>> {
-    match exception_is_heard(alloc) {
-        Some(answer) => Some(answer),
-        None => exception_is_heard(alloc),
+/// What the writer asks, at once or, where memory is refused, the second time.
+fn asked_at_last(alloc: Global, holdtime: u16) -> Option<Asking> {
+    match asked(alloc, holdtime) {
+        Some(asking) => Some(asking),
+        None => asked(alloc, holdtime),
+    }
+}
+
+/// The first row for messages with this holdtime that doesn't go so.
+fn wrong(alloc: Global, holdtime: u16, rows: &[(Given, Told)]) -> Option<usize> {
+    match asked_at_last(alloc, holdtime) {
+        Some(asking) => rows.iter().position(|row| !goes(alloc, &asking, row)),
+        None => Some(0),
     }
 }
 
 /// Run with each allocation refused in turn (`tools/each_growth_refused.sh`).
 #[test]
-fn exception_is_pruned_at_the_final_moment(rt: HostRuntime) {
-    let seen = (3_000, 2, [2, 0], [true, true, false]);
-    assert_eq!(rt; exception_is_heard_at_last(rt.alloc()), Some(Ok(seen)));
-}
-
-/// The star alone, with a holdtime of 99 s, where the prune-pending times are the longest.
-#[test]
-fn star_lasts_longer_than_the_longest_override_interval(rt: HostRuntime) {
-    let course = Course {
-        port: &SLOW,
-        is_alone: true,
-        limit: 1,
-        deliveries: &[(0, 0)],
-        left: [698, 0],
-        moments: [98_999, 99_000],
-    };
-    let mut message = STAR;
-    let seen = (98_302, 1, [1, 0], [true, true, false]);
-    let told = asked_is_heard(rt.alloc(), &mut message, 99, course);
-    assert_eq!(rt; told, Some(Ok(seen)));
+fn messages_make_mirrors(rt: HostRuntime) {
+    assert_eq!(rt; wrong(rt.alloc(), 210, &ROWS), None);
+    assert_eq!(rt; wrong(rt.alloc(), 99, &SHORT), None);
 }

@@ -1,4 +1,5 @@
-//! What a router may be made from.
+//! What a router may be made from. The numbers of ports, 64 and 65, are in `words.case` of
+//! `pimtree_cases`.
 
 use super::PORTS;
 use pim_addr::{Routes, V4};
@@ -30,18 +31,7 @@ fn wrong(alloc: Global, rows: &[Configuration<'_>]) -> Option<usize> {
 }
 
 #[test]
-fn numbers_of_ports(rt: HostRuntime) {
-    let (most, too_many) = ([PORTS[0]; 64], [PORTS[0]; 65]);
-    let rows: [Configuration<'_>; 3] = [
-        (&[], 0, Some(ConfigFault::Ports)),
-        (&too_many, 1, Some(ConfigFault::Ports)),
-        (&most, 1, None),
-    ];
-    assert_eq!(rt; wrong(rt.alloc(), &rows), None);
-}
-
-#[test]
-fn addresses_delays_and_limits(rt: HostRuntime) {
+fn ports_addresses_delays_and_limits(rt: HostRuntime) {
     let [first, second, _] = PORTS;
     let group = PortConfig {
         address: [224, 0, 0, 1],
@@ -53,7 +43,8 @@ fn addresses_delays_and_limits(rt: HostRuntime) {
     };
     let of_group = Some(ConfigFault::Address { port: 2 });
     let of_delay = Some(ConfigFault::Delay { port: 1 });
-    let rows: [Configuration<'_>; 5] = [
+    let rows: [Configuration<'_>; 6] = [
+        (&[], 0, Some(ConfigFault::Ports)),
         (&PORTS, 100_000, None),
         (&[slow, second, group, group], 0, of_group),
         (&[first, slow], 0, of_delay),

@@ -1,17 +1,14 @@
-//! Long times in which nothing comes. A star and a neighbour that are held for ever see each
-//! refresh.
+//! A long time in which nothing comes. A star and a neighbour that are held for ever see each
+//! refresh. A longer one is in `times.case` of `pimtree_cases`.
 
 use super::{ANNE, FOR_EVER, GROUP, made, neighbour_count, receive, table};
-use pim_addr::V4;
-use pim_down::{State, Step as Fires, What};
+use pim_addr::{Routes, V4};
+use pim_down::{State, What};
 use pim_router::{Router, Step, Verdict};
 use std::alloc::Global;
 
 /// 2^32 milliseconds, 49 days.
 const FAR: u64 = 4_294_967_296;
-
-/// 2^32 seconds later, the most by which a capture's time can jump.
-const FARTHER: u64 = FAR + 4_294_967_296_000;
 
 /// A Join(*,G) with holdtime 65,535.
 const STAR: [u8; 34] = [
@@ -33,12 +30,6 @@ fn refreshes(router: &mut Router<'_, V4>, moment: u64) -> Option<u64> {
     None
 }
 
-/// Whether a run to a moment goes on past so many refreshes, and nothing is echoed.
-fn passes(router: &mut Router<'_, V4>, moment: u64, refreshes: u64) -> bool {
-    moment <= 1_000_000_000_000_000
-        && router.run_past_refreshes(moment) == (Fires::Reached, refreshes)
-}
-
 /// Whether a router at this moment holds the star and the neighbour.
 fn holds_at(router: &Router<'_, V4>, moment: u64) -> bool {
     router.now() == moment
@@ -52,23 +43,27 @@ fn takes_both(router: &mut Router<'_, V4>) -> bool {
         && receive(router, 0, ANNE, &STAR) == Ok(Some(Verdict::Applied))
 }
 
-/// Whether a new router stops at each refresh of a jump, and counts those of a farther one.
-fn jumps(alloc: Global) -> Option<[bool; 4]> {
-    let routes = table(alloc, [10, 0, 0, 2])?;
-    let mut router = made(alloc, &routes)?;
-    let is_held = takes_both(&mut router);
-    let stops = refreshes(&mut router, FAR) == Some(71_582) && holds_at(&router, FAR);
-    let counts = passes(&mut router, FARTHER, 71_582_789) && holds_at(&router, FARTHER);
-    let goes_on = passes(&mut router, FARTHER + 56_703, 0);
-    Some([
-        is_held,
-        stops,
-        counts,
-        goes_on && passes(&mut router, FARTHER + 56_704, 1),
-    ])
+/// How many refreshes a router stops at on its way, if it holds both then.
+fn stops(router: &mut Router<'_, V4>) -> Option<u64> {
+    if !takes_both(router) {
+        return None;
+    }
+    let stops = refreshes(router, FAR);
+    if holds_at(router, FAR) { stops } else { None }
+}
+
+/// The same of a new router under this table.
+fn new_stops(alloc: Global, routes: &Routes<V4>) -> Option<u64> {
+    match made(alloc, routes) {
+        Some(mut router) => stops(&mut router),
+        None => None,
+    }
 }
 
 #[test]
-fn refreshes_of_136_years(rt: HostRuntime) {
-    assert_eq!(rt; jumps(rt.alloc()), Some([true; 4]));
+fn refreshes_of_49_days(rt: HostRuntime) {
+    match table(rt.alloc(), [10, 0, 0, 2]) {
+        Some(routes) => assert_eq!(rt; new_stops(rt.alloc(), &routes), Some(71_582)),
+        None => assert!(rt; false),
+    }
 }

@@ -1,14 +1,12 @@
 //! Growths that are refused. Run with each allocation refused in turn
 //! (`tools/each_growth_refused.sh`).
 
-use super::{PORTS, receive};
+use super::{GROUP, PORTS, neighbour_count, receive};
 use pim_addr::{Routes, V4};
-use pim_down::Record;
 use pim_frame::{MessageType, all_routers, seal};
-use pim_hello::{Heard, KnownNeighbour};
+use pim_hello::Heard;
 use pim_router::{Config, ConfigFault, Router, Step, Verdict};
-use std::alloc::{AllocError, Global};
-use std::test::Fail;
+use std::alloc::Global;
 
 /// A Hello with a holdtime of 60 s, without its header.
 const HELLO: [u8; 10] = [0, 0, 0, 0, 0, 1, 0, 2, 0, 60];
@@ -19,67 +17,49 @@ const SOURCE: [u8; 42] = [
     32, 192, 0, 2, 0, 1, 0, 5, 32, 192, 0, 2, 0,
 ];
 
-/// What a refused call has to leave: the moment, the records and the first port's neighbours.
-#[derive(Debug, PartialEq, Drop)]
-struct Left {
-    moment: u64,
-    records: Vec<Record<[u8; 4]>>,
-    neighbours: Vec<KnownNeighbour<[u8; 4]>>,
+/// How many records a router has: of the group, on the first port, and held for 210 s from now on.
+fn records(router: &Router<'_, V4>) -> usize {
+    router
+        .ports()
+        .records()
+        .filter(|held| held.key.port == 0
+            && held.key.group == GROUP
+            && held.machine.expires_in == Some(210_000))
+        .count()
 }
 
-/// Adds a router's records, and the neighbours of its first port: whether it has one.
-fn note(left: &mut Left, router: &Router<'_, V4>) -> Result<bool, AllocError> {
+/// How many neighbours the first port has for 60 s from now on.
+fn neighbours(router: &Router<'_, V4>) -> usize {
     if router.port_count() == 0 {
-        return Ok(false);
+        return 0;
     }
-    for held in router.ports().records() {
-        left.records.push(held)?;
-    }
-    for neighbour in router.neighbours(0) {
-        left.neighbours.push(neighbour)?;
-    }
-    Ok(true)
+    router
+        .neighbours(0)
+        .filter(|neighbour| neighbour.left == Some(60_000))
+        .count()
 }
 
-fn left_by(alloc: Global, router: &Router<'_, V4>) -> Result<Option<Left>, AllocError> {
-    let mut left = Left {
-        moment: router.now(),
-        records: Vec::new(alloc),
-        neighbours: Vec::new(alloc),
-    };
-    if note(&mut left, router)? {
-        Ok(Some(left))
-    } else {
-        Ok(None)
-    }
-}
-
-/// Whether a router is left as it was.
-fn is_unchanged(
-    alloc: Global,
-    router: &Router<'_, V4>,
-    before: &Option<Left>,
-) -> Result<bool, AllocError> {
-    let left = left_by(alloc, router)?;
-    Ok(&left == before)
+/// Whether a router has so many neighbours and records, and no others, and is at 7 ms.
+fn holds(router: &Router<'_, V4>, (known, held): (usize, usize)) -> bool {
+    router.now() == 7
+        && neighbours(router) == known
+        && neighbour_count(router, 0) == known
+        && records(router) == held
+        && router.ports().records().count() == held
 }
 
 /// Whether these bytes are answered as wanted: at once or, where a growth is refused, with nothing
-/// changed and then again.
+/// changed and then again. So many neighbours and records are there before.
 fn is_told(
-    alloc: Global,
     router: &mut Router<'_, V4>,
     from: [u8; 4],
     bytes: &[u8],
     wanted: Verdict,
-) -> Result<bool, AllocError> {
-    let before = left_by(alloc, router)?;
+    before: (usize, usize),
+) -> bool {
     match receive(router, 0, from, bytes) {
-        Ok(told) => Ok(told == Some(wanted)),
-        Err(_) => Ok(
-            is_unchanged(alloc, router, &before)?
-                && receive(router, 0, from, bytes) == Ok(Some(wanted)),
-        ),
+        Ok(told) => told == Some(wanted),
+        Err(_) => holds(router, before) && receive(router, 0, from, bytes) == Ok(Some(wanted)),
     }
 }
 
@@ -88,30 +68,29 @@ const NEW: Verdict = Verdict::HelloTaken(Heard::New);
 const SAME: Verdict = Verdict::HelloTaken(Heard::Same);
 
 /// Whether a neighbour's Hello and its Join/Prune are answered as they have to be, each at first
-/// and again.
+/// and again, behind so many others.
 fn four_are_told(
-    alloc: Global,
     router: &mut Router<'_, V4>,
     from: [u8; 4],
     hello: &[u8],
     message: &[u8],
-) -> Result<bool, AllocError> {
-    let rows = [
-        (hello, NEW),
-        (hello, SAME),
-        (message, Verdict::Applied),
-        (message, Verdict::Applied),
-    ];
-    for (bytes, wanted) in rows {
-        if !is_told(alloc, router, from, bytes, wanted)? {
-            return Ok(false);
-        }
-    }
-    Ok(true)
+    others: u8,
+) -> bool {
+    let (known, held) = (usize::from(others), 2 * usize::from(others));
+    is_told(router, from, hello, NEW, (known, held))
+        && is_told(router, from, hello, SAME, (known + 1, held))
+        && is_told(router, from, message, Verdict::Applied, (known + 1, held))
+        && is_told(
+            router,
+            from,
+            message,
+            Verdict::Applied,
+            (known + 1, held + 2),
+        )
 }
 
 /// Whether forty neighbours, and a Join/Prune of each, are answered as they have to be.
-fn forty_are_told(alloc: Global, router: &mut Router<'_, V4>) -> Result<bool, AllocError> {
+fn forty_are_told(router: &mut Router<'_, V4>) -> bool {
     let mut hello = HELLO;
     let mut message = SOURCE;
     for fourth in 0..40 {
@@ -125,11 +104,11 @@ fn forty_are_told(alloc: Global, router: &mut Router<'_, V4>) -> Result<bool, Al
             MessageType::JoinPrune,
             &mut message,
         );
-        if !four_are_told(alloc, router, from, &hello, &message)? {
-            return Ok(false);
+        if !four_are_told(router, from, &hello, &message, fourth) {
+            return false;
         }
     }
-    Ok(true)
+    true
 }
 
 /// A router, made at once or, where a growth is refused, at the second time; `None` where it isn't.
@@ -140,35 +119,29 @@ fn made<'a>(alloc: Global, config: &Config<'a, V4>) -> Option<Router<'a, V4>> {
     }
 }
 
-/// Whether the forty are answered as they have to be at 7 ms; `None` where what is left can't be
-/// noted down, so that nothing can be compared.
-fn are_told_at_7(alloc: Global, router: &mut Router<'_, V4>) -> Option<bool> {
-    if router.port_count() != 3 || router.ports().count_on(0) != 0 {
-        return Some(false);
-    }
-    if router.run_to(7) != Step::Reached {
-        return Some(false);
-    }
-    let told = forty_are_told(alloc, router).ok()?;
-    Some(told && router.now() == 7 && router.port_count() == 3 && router.ports().count_on(0) == 80)
+/// Whether the forty are answered as they have to be at 7 ms, by a new router.
+fn are_told_at_7(router: &mut Router<'_, V4>) -> bool {
+    router.run_to(7) == Step::Reached
+        && holds(router, (0, 0))
+        && forty_are_told(router)
+        && holds(router, (40, 80))
 }
 
-/// The same of a new router under this table; no router is wrong, too.
-fn are_told_under(alloc: Global, routes: &Routes<V4>) -> Option<bool> {
+/// The same of a new router under this table.
+fn are_told_under(alloc: Global, routes: &Routes<V4>) -> bool {
     let config = Config {
         ports: &PORTS,
         routes,
         limit: 100,
     };
     match made(alloc, &config) {
-        Some(mut router) => are_told_at_7(alloc, &mut router),
-        None => Some(false),
+        Some(mut router) => are_told_at_7(&mut router),
+        None => false,
     }
 }
 
 #[test]
-fn refusals_change_nothing(rt: HostRuntime) -> Result<(), Fail> {
+fn refusals_change_nothing(rt: HostRuntime) {
     let routes = Routes::new(rt.alloc());
-    assert!(rt; are_told_under(rt.alloc(), &routes).ok_or(AllocError)?);
-    Ok(())
+    assert!(rt; are_told_under(rt.alloc(), &routes));
 }

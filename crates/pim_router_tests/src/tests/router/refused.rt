@@ -1,7 +1,8 @@
-//! Growths that are refused while a router's messages are made, or its wants are compared. Each
-//! test is also run with each allocation refused in turn, by `tools/each_growth_refused.sh`.
+//! Growths that are refused while a router's messages are made, or its wants are compared. The test
+//! is also run with each allocation refused in turn, by `tools/each_growth_refused.sh`.
 
-use super::{ANNE, FOR_EVER, GROUP, made, receive, table};
+use super::{ANNE, BERT, FOR_EVER, GROUP, made, receive, table};
+use crate::tests::state::refused;
 use pim_addr::{Routes, V4};
 use pim_down::{State, What};
 use pim_form::{FormFault, Writer};
@@ -13,9 +14,7 @@ const FIRST: [u8; 4] = [192, 0, 2, 1];
 
 const SECOND: [u8; 4] = [192, 0, 2, 2];
 
-/// The neighbours on the second and the third port.
-const BERT: [u8; 4] = [10, 0, 1, 9];
-
+/// The neighbour on the third port.
 const CARL: [u8; 4] = [10, 0, 2, 9];
 
 /// A star without 192.0.2.1.
@@ -93,12 +92,6 @@ fn asks(
     Ok(messages.count() == 1 && messages.get(0) == Some(ASKED.as_slice()))
 }
 
-/// What a test tells of a call that was refused memory: that it is wrong, or that memory is
-/// wanting. So a test passes only if its call succeeds at once.
-fn refused(is_right: bool) -> Result<bool, AllocError> {
-    if is_right { Err(AllocError) } else { Ok(false) }
-}
-
 /// Whether a router asks by that message: at once or, where a growth is refused, with nothing
 /// changed and then again.
 fn asks_again(
@@ -118,48 +111,41 @@ fn writer() -> Option<Writer<V4>> {
     Writer::new([10, 0, 0, 2], [10, 0, 0, 1], 210, 1480).ok()
 }
 
-/// Whether a router under this table asks so.
-fn messages_are_made(alloc: Global, routes: &Routes<V4>) -> Result<bool, AllocError> {
-    match (after(alloc, routes), writer()) {
-        (Some(router), Some(writer)) => asks_again(alloc, &router, &writer),
-        _ => Err(AllocError),
-    }
-}
-
-#[test]
-fn messages_are_made_again(rt: HostRuntime) -> Result<(), Fail> {
-    let routes = table(rt.alloc(), [10, 0, 0, 2]).ok_or(AllocError)?;
-    assert!(rt; messages_are_made(rt.alloc(), &routes)?);
-    Ok(())
-}
-
-/// Whether two routers want the same: at once or, where a growth is refused, with nothing changed
-/// and then again.
+/// Whether a router wants the same as itself: at once or, where a growth is refused, with nothing
+/// changed and then again.
 fn same_again(
     alloc: Global,
-    a: &Router<'_, V4>,
-    b: &Router<'_, V4>,
+    router: &Router<'_, V4>,
     writer: &Writer<V4>,
 ) -> Result<bool, AllocError> {
-    let answer = same_wants(alloc, a, b, writer);
+    let answer = same_wants(alloc, router, router, writer);
     if answer == Err(FormFault::Memory) {
-        let heard = is_as_heard(a) && is_as_heard(b);
-        return refused(heard && same_wants(alloc, a, b, writer) == Ok(true));
+        let is_same = same_wants(alloc, router, router, writer) == Ok(true);
+        return refused(is_as_heard(router) && is_same);
     }
     Ok(answer == Ok(true))
 }
 
-/// Whether two routers under this table want the same.
-fn wants_are_compared(alloc: Global, routes: &Routes<V4>) -> Result<bool, AllocError> {
-    match (after(alloc, routes), after(alloc, routes), writer()) {
-        (Some(a), Some(b), Some(writer)) => same_again(alloc, &a, &b, &writer),
+/// Whether a router asks so, and wants the same as itself.
+fn both_again(
+    alloc: Global,
+    router: &Router<'_, V4>,
+    writer: &Writer<V4>,
+) -> Result<bool, AllocError> {
+    Ok(asks_again(alloc, router, writer)? && same_again(alloc, router, writer)?)
+}
+
+/// The same of a router under this table that took all packets.
+fn are_made_again(alloc: Global, routes: &Routes<V4>) -> Result<bool, AllocError> {
+    match (after(alloc, routes), writer()) {
+        (Some(router), Some(writer)) => both_again(alloc, &router, &writer),
         _ => Err(AllocError),
     }
 }
 
 #[test]
-fn wants_are_compared_again(rt: HostRuntime) -> Result<(), Fail> {
+fn calls_are_made_again(rt: HostRuntime) -> Result<(), Fail> {
     let routes = table(rt.alloc(), [10, 0, 0, 2]).ok_or(AllocError)?;
-    assert!(rt; wants_are_compared(rt.alloc(), &routes)?);
+    assert!(rt; are_made_again(rt.alloc(), &routes)?);
     Ok(())
 }

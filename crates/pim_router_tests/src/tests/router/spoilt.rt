@@ -224,30 +224,6 @@ fn spoilt<F: Family>(
     Ok([cut, changed_alone, mended])
 }
 
-/// The same, and how many records the first port keeps.
-fn spoilt_and_kept<F: Family>(
-    router: &mut Router<'_, F>,
-    from: F::Addr,
-    bytes: &mut [u8],
-) -> Option<([Told; 3], usize)> {
-    let told = spoilt(router, from, bytes).ok()?;
-    Some((told, router.ports().count_on(0)))
-}
-
-/// A new router of these ports under this table; `None` where there is none.
-fn made<'a, F: Family>(
-    alloc: Global,
-    ports: &'a [PortConfig<F::Addr>],
-    routes: &'a Routes<F>,
-) -> Option<Router<'a, F>> {
-    let config = Config {
-        ports,
-        routes,
-        limit: 100_000,
-    };
-    Router::new(alloc, &config).ok()
-}
-
 /// A Hello of the sender comes, with a holdtime for ever.
 fn greet<F: Family>(router: &mut Router<'_, F>, from: F::Addr) -> Result<(), AllocError> {
     let mut hello = GREETING;
@@ -256,23 +232,39 @@ fn greet<F: Family>(router: &mut Router<'_, F>, from: F::Addr) -> Result<(), All
     tell(router, from, &mut told, &hello)
 }
 
-/// What is answered on a new router under this table, and how many records it keeps.
+/// The same of a sender that greets before or not, and how many records the first port keeps.
+fn spoilt_after<F: Family>(
+    router: &mut Router<'_, F>,
+    (from, greets): (F::Addr, bool),
+    bytes: &mut [u8],
+) -> Option<([Told; 3], usize)> {
+    if greets {
+        greet(router, from).ok()?;
+    }
+    let told = spoilt(router, from, bytes).ok()?;
+    Some((told, router.ports().count_on(0)))
+}
+
+/// The same on a new router under this table.
 fn spoilt_under<F: Family>(
     alloc: Global,
     ports: &[PortConfig<F::Addr>],
     routes: &Routes<F>,
-    (from, greets): (F::Addr, bool),
+    sender: (F::Addr, bool),
     bytes: &mut [u8],
 ) -> Option<([Told; 3], usize)> {
-    let mut router = made(alloc, ports, routes)?;
-    if greets {
-        greet(&mut router, from).ok()?;
+    let config = Config {
+        ports,
+        routes,
+        limit: 100_000,
+    };
+    match Router::new(alloc, &config) {
+        Ok(mut router) => spoilt_after(&mut router, sender, bytes),
+        Err(_) => None,
     }
-    spoilt_and_kept(&mut router, from, bytes)
 }
 
-/// The same on a new router of one port, of which the sender is a neighbour if it greets; `None`
-/// where a growth is refused.
+/// The same on a new router of these ports without routes; `None` where a growth is refused.
 fn spoilt_on<F: Family>(
     alloc: Global,
     ports: &[PortConfig<F::Addr>],

@@ -1,6 +1,7 @@
 //! Some ports, and the table and the writer by which their wants are told: the group 239.1.1.1 with
 //! the RP 10.9.9.9, asked of 10.0.0.2.
 
+use super::router::table;
 use pim_addr::{Routes, V4};
 use pim_down::{Ports, Step, Timing};
 use pim_form::Writer;
@@ -45,21 +46,14 @@ pub(super) const SEVERAL: Timing = Timing {
     several: true,
 };
 
-/// All groups have one RP, and all addresses are reached by 10.0.0.2.
-fn routes4(alloc: Global) -> Option<Routes<V4>> {
-    let mut routes = Routes::new(alloc);
-    let added = routes.add_rp([224, 0, 0, 0], 4, RP).is_ok()
-        && routes.add_via([0; 4], 0, [10, 0, 0, 2]).is_ok();
-    added.then_some(routes)
-}
-
-/// This number of ports under that table.
+/// This number of ports under a table that leads all groups to the RP, and all addresses to
+/// 10.0.0.2.
 pub(super) fn state4(alloc: Global, count: usize, budget: usize) -> Option<State> {
     if count == 0 || count > 64 {
         return None;
     }
     let writer = Writer::new([10, 0, 0, 2], [10, 0, 0, 1], 210, budget).ok()?;
-    let routes = routes4(alloc)?;
+    let routes = table(alloc, [10, 0, 0, 2])?;
     Some(State {
         ports: Ports::new(alloc, count, 1000),
         routes,

@@ -1,12 +1,10 @@
 //! Growths that are refused while the messages of a change are made.
 
-use super::{new_form, old_form};
 use crate::tests::state::{refused, state4};
 use pim_addr::V4;
 use pim_change::triggered;
 use pim_form::{FormFault, Messages, NormalForm};
 use std::alloc::{AllocError, Global};
-use std::test::Fail;
 
 /// Of the exception that went, of the source that came and of the exception that came.
 const MESSAGE: [u8; 50] = [
@@ -36,7 +34,7 @@ fn is_told(alloc: Global, old: &NormalForm<V4>, new: &NormalForm<V4>) -> Option<
 }
 
 /// Whether the change is told, at once or with memory.
-fn is_told_at_last(
+pub(super) fn is_told_at_last(
     alloc: Global,
     old: &NormalForm<V4>,
     new: &NormalForm<V4>,
@@ -45,21 +43,4 @@ fn is_told_at_last(
         Some(answer) => Ok(answer),
         None => refused(is_told(alloc, old, new) == Some(true)),
     }
-}
-
-/// The same of a change to the new form.
-fn refusals_leave(alloc: Global, old: &NormalForm<V4>) -> Result<bool, AllocError> {
-    match new_form(alloc) {
-        Some(new) => is_told_at_last(alloc, old, &new),
-        None => Err(AllocError),
-    }
-}
-
-// With each allocation refused in turn (`tools/each_growth_refused.sh`): the same call, with
-// memory, tells the change.
-#[test]
-fn refusals_leave_what_is_told(rt: HostRuntime) -> Result<(), Fail> {
-    let old = old_form(rt.alloc()).ok_or(AllocError)?;
-    assert!(rt; refusals_leave(rt.alloc(), &old)?);
-    Ok(())
 }

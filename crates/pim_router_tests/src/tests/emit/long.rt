@@ -1,6 +1,6 @@
 //! Long messages, byte by byte, and a device that fails at each byte.
 
-use super::{State, hear_200, is_written, state4, write_to};
+use super::{State, hear_200, is_kept, is_written, state4, write_to};
 use pim_device::ScriptedDrain;
 use pim_emit::WriteFault;
 use std::alloc::{AllocError, Global};
@@ -42,11 +42,12 @@ fn is_cut(alloc: Global, state: &State, bytes: &[u8], fails_from: usize) -> bool
         && out.failures() == 1
 }
 
-/// Whether these are the bytes of two messages, and a device that fails at any of them was written
-/// the ones before.
+/// Whether these are the bytes of two messages, which the normal form has, too, and a device that
+/// fails at any of them was written the ones before.
 fn are_told(alloc: Global, state: &State, bytes: &[u8]) -> bool {
     bytes.len() == 1656
         && is_written(alloc, state, 2, bytes)
+        && is_kept(alloc, state) == Some(true)
         && (0..bytes.len()).all(|fails_from| is_cut(alloc, state, bytes, fails_from))
 }
 

@@ -53,23 +53,6 @@ fn wanted(ports: &Ports<V4>) -> [bool; 4] {
     ]
 }
 
-/// Whether three ports that heard the messages want this, by form and by machines.
-fn is_wanted(alloc: Global) -> bool {
-    match state4(alloc, 3, 1480) {
-        Some(mut state) => {
-            hear_held(alloc, &mut state)
-                && want(alloc, &state.ports) == Ok(true)
-                && wanted(&state.ports) == [true, false, true, true]
-        }
-        None => false,
-    }
-}
-
-#[test]
-fn forms_by_the_macros(rt: HostRuntime) {
-    assert!(rt; is_wanted(rt.alloc()));
-}
-
 /// Whether the ports want what they should: at once or, where memory is refused, when they hold
 /// what they held and are asked again.
 fn want_at_last(alloc: Global, ports: &Ports<V4>) -> Result<bool, AllocError> {
@@ -80,11 +63,16 @@ fn want_at_last(alloc: Global, ports: &Ports<V4>) -> Result<bool, AllocError> {
     refused(held && want(alloc, ports) == Ok(true))
 }
 
+/// The same of the ports and of their machines.
+fn both_want_at_last(alloc: Global, ports: &Ports<V4>) -> Result<bool, AllocError> {
+    Ok(want_at_last(alloc, ports)? && wanted(ports) == [true, false, true, true])
+}
+
 /// The same of three ports that heard the messages.
 fn heard_want_at_last(alloc: Global) -> Result<bool, AllocError> {
     let mut state = state4(alloc, 3, 1480).ok_or(AllocError)?;
     if hear_held(alloc, &mut state) && state.ports.port_count() == 3 {
-        want_at_last(alloc, &state.ports)
+        both_want_at_last(alloc, &state.ports)
     } else {
         Err(AllocError)
     }

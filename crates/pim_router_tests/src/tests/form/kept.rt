@@ -1,10 +1,8 @@
 //! A form that holds nothing, and a form of a form.
 
-use crate::tests::state::{
-    FIRST, GROUP, JOIN_FIRST, RPT_SECOND, SECOND, STAR, State, hear, refused, state4,
-};
+use crate::tests::change::new_form;
+use crate::tests::state::{FIRST, GROUP, SECOND, refused, state4};
 use pim_addr::V4;
-use pim_down::Ports;
 use pim_form::{Messages, NormalForm, Tree, normal_again};
 use std::alloc::{AllocError, Global};
 use std::test::Fail;
@@ -41,22 +39,19 @@ fn is_at(messages: &Messages, index: usize, bytes: &[u8]) -> bool {
     messages.get(index) == Some(bytes)
 }
 
-/// How many messages there are, whether the first three are those that were pushed, and whether no
-/// other is there.
-fn are_kept(messages: &Messages) -> (usize, [bool; 4]) {
-    let are = [
-        is_at(messages, 0, &[0x23, 0, 0xc4, 0xd4]),
-        is_at(messages, 1, &[]),
-        is_at(messages, 2, &[0x20]),
-        messages.get(3).is_none(),
-    ];
-    (messages.count(), are)
+/// Whether there are those messages, and no other.
+fn are_kept(messages: &Messages) -> bool {
+    messages.count() == 3
+        && is_at(messages, 0, &[0x23, 0, 0xc4, 0xd4])
+        && is_at(messages, 1, &[])
+        && is_at(messages, 2, &[0x20])
+        && messages.get(3).is_none()
 }
 
 #[test]
 fn keeps_what_is_pushed(rt: HostRuntime) -> Result<(), Fail> {
     let messages = pushed(rt.alloc())?;
-    assert_eq!(rt; are_kept(&messages), (3, [true; 4]));
+    assert!(rt; are_kept(&messages));
     Ok(())
 }
 
@@ -82,26 +77,11 @@ fn wants_at_last(alloc: Global, form: &NormalForm<V4>) -> Result<bool, AllocErro
     }
 }
 
-/// The same of the form of what these ports want.
-fn is_wanted_at_last(alloc: Global, ports: &Ports<V4>) -> Result<bool, AllocError> {
-    let form = NormalForm::of(alloc, ports)?;
-    wants_at_last(alloc, &form)
-}
-
-/// The same of a port that hears what is wanted.
-fn heard_is_wanted_at_last(alloc: Global, state: &mut State) -> Result<bool, AllocError> {
-    if hear(alloc, state, 0, GROUP, &[STAR, JOIN_FIRST], &[RPT_SECOND]) {
-        is_wanted_at_last(alloc, &state.ports)
-    } else {
-        Err(AllocError)
-    }
-}
-
 // With each allocation refused in turn (`tools/each_growth_refused.sh`): the form is as before, and
 // the same call, with memory, gives it again.
 #[test]
 fn refusals_leave_the_form(rt: HostRuntime) -> Result<(), Fail> {
-    let mut state = state4(rt.alloc(), 1, 1480).ok_or(AllocError)?;
-    assert!(rt; heard_is_wanted_at_last(rt.alloc(), &mut state)?);
+    let form = new_form(rt.alloc()).ok_or(AllocError)?;
+    assert!(rt; wants_at_last(rt.alloc(), &form)?);
     Ok(())
 }

@@ -1,12 +1,11 @@
 //! The units of changes.
 
-use super::{new_form, old_form};
+use super::old_form;
 use crate::tests::state::{FIRST, GROUP, SECOND, refused, state4};
 use pim_addr::V4;
 use pim_change::{Kind, Telling, Unit, changed, too_big};
 use pim_form::NormalForm;
 use std::alloc::{AllocError, Global};
-use std::test::Fail;
 
 /// Whether a unit tells this of a source of the group.
 fn is_of(unit: Unit<'_, [u8; 4]>, kind: Kind, source: [u8; 4]) -> bool {
@@ -32,7 +31,7 @@ fn are_units(
 }
 
 /// The same, at once or with memory.
-fn are_units_at_last(
+pub(super) fn are_units_at_last(
     alloc: Global,
     old: &NormalForm<V4>,
     new: &NormalForm<V4>,
@@ -41,23 +40,6 @@ fn are_units_at_last(
         Ok(answer) => Ok(answer),
         Err(_) => refused(are_units(alloc, old, new) == Ok(true)),
     }
-}
-
-/// The same of a change to the new form.
-fn refusals_leave(alloc: Global, old: &NormalForm<V4>) -> Result<bool, AllocError> {
-    match new_form(alloc) {
-        Some(new) => are_units_at_last(alloc, old, &new),
-        None => Err(AllocError),
-    }
-}
-
-// With each allocation refused in turn (`tools/each_growth_refused.sh`): the same call, with
-// memory, gives the change.
-#[test]
-fn refusals_leave_the_forms(rt: HostRuntime) -> Result<(), Fail> {
-    let old = old_form(rt.alloc()).ok_or(AllocError)?;
-    assert!(rt; refusals_leave(rt.alloc(), &old)?);
-    Ok(())
 }
 
 /// The group of a new star of this form that is too big for this budget.

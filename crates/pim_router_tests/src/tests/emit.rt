@@ -28,30 +28,6 @@ fn written(alloc: Global, state: &State, out: &mut ScriptedDrain) -> Option<u64>
     write_to(alloc, state, out)?.ok()
 }
 
-/// What stands after a message and two bytes of its length, where the bytes begin with these.
-fn behind<'b>(bytes: &'b [u8], message: &[u8]) -> Option<&'b [u8]> {
-    let length = message.len();
-    let (head, framed) = bytes.split_at(2.min(bytes.len()));
-    let (front, rest) = framed.split_at(length.min(framed.len()));
-    let is_head = head == [(length / 256 % 256) as u8, (length % 256) as u8].as_slice();
-    (is_head && front == message).then_some(rest)
-}
-
-/// Whether these are the messages, each after two bytes of its length.
-fn are_framed(messages: &Messages, bytes: &[u8]) -> bool {
-    let mut rest = bytes;
-    for index in 0..messages.count() {
-        match messages
-            .get(index)
-            .and_then(|message| behind(rest, message))
-        {
-            Some(others) => rest = others,
-            None => return false,
-        }
-    }
-    rest.is_empty()
-}
-
 /// The packed messages of the normal form of what is asked; `None` where something is refused.
 fn packed(alloc: Global, state: &State) -> Option<Messages> {
     let upstream = state.writer.upstream();
@@ -62,32 +38,18 @@ fn packed(alloc: Global, state: &State) -> Option<Messages> {
     pack(alloc, &form, &state.writer, &state.routes).ok()
 }
 
-/// The same messages, kept straight from the records.
-fn kept(alloc: Global, state: &State) -> Option<Messages> {
-    canonical_messages::<V4>(alloc, &state.ports, &state.writer, &state.routes).ok()
+/// Whether these are the messages that are kept straight from the records, too; `None` where
+/// something is refused.
+fn is_kept(alloc: Global, state: &State) -> Option<bool> {
+    let packed = packed(alloc, state)?;
+    let kept = canonical_messages::<V4>(alloc, &state.ports, &state.writer, &state.routes).ok()?;
+    Some(kept.same_bytes(&packed))
 }
 
-/// Whether there are messages, and these are they.
-fn are_bytes(found: Option<Messages>, bytes: &[u8]) -> bool {
-    match found {
-        Some(messages) => are_framed(&messages, bytes),
-        None => false,
-    }
-}
-
-/// Whether the packed messages of this state are these bytes, and those that are kept straight from
-/// the records too.
-fn is_packed(alloc: Global, state: &State, bytes: &[u8]) -> bool {
-    are_bytes(packed(alloc, state), bytes) && are_bytes(kept(alloc, state), bytes)
-}
-
-/// Whether so many messages of these bytes are written to a device that takes one byte a call, and
-/// kept, and packed.
+/// Whether so many messages of these bytes are written to a device that takes one byte a call.
 fn is_written(alloc: Global, state: &State, messages: u64, bytes: &[u8]) -> bool {
     let mut out = ScriptedDrain::new(alloc, 1, 10_000);
-    written(alloc, state, &mut out) == Some(messages)
-        && out.written() == bytes
-        && is_packed(alloc, state, bytes)
+    written(alloc, state, &mut out) == Some(messages) && out.written() == bytes
 }
 
 #[test]

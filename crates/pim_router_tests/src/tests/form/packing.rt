@@ -1,6 +1,7 @@
 //! Forms that are packed: the form of a form, a growth that is refused, and faults in words.
 
-use crate::tests::state::{GROUP, RPT_FIRST, STAR, State, hear, hear_200, refused, state4};
+use crate::tests::change::old_form;
+use crate::tests::state::{GROUP, State, hear_200, refused, state4};
 use pim_addr::{Family, V4, V6};
 use pim_form::{FormFault, Messages, NormalForm, is_toward, normal_again, pack};
 use std::alloc::{AllocError, Global};
@@ -50,34 +51,27 @@ fn is_told_so_again(
     is_told_so(alloc, state, &again, bytes)
 }
 
-/// The same of what the router wants, and of the normal form of its normal form.
-fn both_told_so(alloc: Global, state: &State, bytes: &[u8]) -> Option<[bool; 2]> {
-    let form = NormalForm::of(alloc, &state.ports).ok()?;
-    let second = is_told_so_again(alloc, state, &form, bytes)?;
-    let first = is_told_so(alloc, state, &form, bytes)?;
+/// The same of the star without 192.0.2.1, and of the normal form of its normal form.
+fn both_told_so(alloc: Global, state: &State, form: &NormalForm<V4>) -> Option<[bool; 2]> {
+    let second = is_told_so_again(alloc, state, form, &EXCEPT_MESSAGE)?;
+    let first = is_told_so(alloc, state, form, &EXCEPT_MESSAGE)?;
     Some([first, second])
 }
 
-/// The same of a router when it has heard the star without 192.0.2.1; `None` where that isn't
-/// taken.
-fn hears_and_tells_an_exception(alloc: Global, state: &mut State) -> Option<[bool; 2]> {
-    if hear(alloc, state, 0, GROUP, &[STAR], &[RPT_FIRST]) {
-        both_told_so(alloc, state, &EXCEPT_MESSAGE)
-    } else {
-        None
+/// The same by this table and this writer.
+fn tells_both(alloc: Global, state: &State) -> Option<[bool; 2]> {
+    match old_form(alloc) {
+        Some(form) => both_told_so(alloc, state, &form),
+        None => None,
     }
 }
 
-/// The same of a new state.
-fn new_tells_an_exception(alloc: Global) -> Option<[bool; 2]> {
-    let mut state = state4(alloc, 1, 1480)?;
-    hears_and_tells_an_exception(alloc, &mut state)
-}
-
 #[test]
-fn packs_a_form_and_its_form(rt: HostRuntime) -> Result<(), Fail> {
-    assert_eq!(rt; new_tells_an_exception(rt.alloc()), Some([true, true]));
-    Ok(())
+fn packs_a_form_and_its_form(rt: HostRuntime) {
+    match state4(rt.alloc(), 1, 1480) {
+        Some(state) => assert_eq!(rt; tells_both(rt.alloc(), &state), Some([true, true])),
+        None => assert!(rt; false),
+    }
 }
 
 /// Whether a fault is told in these words.
@@ -109,40 +103,27 @@ fn length_at(messages: &Messages, index: usize) -> usize {
     }
 }
 
-/// How many messages a form has, and how long the first two are; why there are none.
-fn packed(
-    alloc: Global,
-    state: &State,
-    form: &NormalForm<V4>,
-) -> Result<(usize, [usize; 2]), Refusal> {
+/// Whether the form of 200 sources has two messages of these lengths; why there are none.
+fn packs_two(alloc: Global, state: &State, form: &NormalForm<V4>) -> Result<bool, FormFault<V4>> {
     match form_told(alloc, state, form) {
-        Some(Ok(messages)) => Ok((
-            messages.count(),
-            [length_at(&messages, 0), length_at(&messages, 1)],
-        )),
-        Some(Err(FormFault::Memory)) => Err(Refusal::Memory),
-        _ => Err(Refusal::Elsewhere),
+        Some(Ok(messages)) => Ok(
+            messages.count() == 2
+                && length_at(&messages, 0) == 1474
+                && length_at(&messages, 1) == 178,
+        ),
+        Some(Err(fault)) => Err(fault),
+        None => Ok(false),
     }
 }
 
-/// Why a form has no messages.
-#[derive(Clone, Copy, Debug, PartialEq, Eq)]
-enum Refusal {
-    Memory,
-    /// It isn't asked of the router's neighbour, or a star is too big.
-    Elsewhere,
-}
-
-const OF_200: (usize, [usize; 2]) = (2, [1474, 178]);
-
-/// Whether the form of 200 sources is packed: at once or, where a growth is refused, with its group
-/// as it was and then again.
+/// The same: at once or, where a growth is refused, with its group as it was and then again.
 fn is_packed(alloc: Global, state: &State, form: &NormalForm<V4>) -> Result<bool, AllocError> {
-    let first = packed(alloc, state, form);
-    if first == Err(Refusal::Memory) {
-        return refused(form.groups().count_left() == 1 && packed(alloc, state, form) == Ok(OF_200));
+    let first = packs_two(alloc, state, form);
+    if first == Err(FormFault::Memory) {
+        let is_there = form.groups().count_left() == 1;
+        return refused(is_there && packs_two(alloc, state, form) == Ok(true));
     }
-    Ok(first == Ok(OF_200))
+    Ok(first == Ok(true))
 }
 
 /// The same of what the router wants.

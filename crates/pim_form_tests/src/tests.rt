@@ -1,6 +1,0 @@
-//! What is wanted, the messages that ask for it, and those that tell how it changes.
-
-mod change;
-mod emit;
-mod form;
-mod state;
