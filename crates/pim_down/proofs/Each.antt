@@ -1,8 +1,8 @@
 -- Changes of records one after another, as loops make them.
-use Rattle.std.proofs.Common.{◌≡◌, ℕ, ◌+◌, ◌<◌, ◌≤◌, Bool, true, false, cond, ◌&&◌, not, List, [], ◌∷◌, ◌++◌, Option, Some, None, length, take, drop, get_or, refl, sym, ap, subst, ◌∙◌, arith, length-append}
+use Rattle.std.proofs.Common.{◌≡◌, ℕ, ◌+◌, ◌<◌, Bool, true, false, cond, ◌&&◌, not, List, [], ◌∷◌, ◌++◌, Option, Some, None, length, take, drop, get_or, refl, sym, ap, subst, ◌∙◌, arith, length-append}
 use Rattle.std.specs.declared.cmp.Ordering.TheVariants.{Less, Equal, Greater}
 use Rattle.std.specs.List.{filter}
-use Rattle.std.proofs.lemmas.List.{drop_more, take_more, take_all, drop_all, take_at, drop_at, append_assoc, append-nil}
+use Rattle.std.proofs.lemmas.List.{drop_more, take_more, take_at, drop_at, append_assoc, append-nil}
 use Rattle.pim_down.specs.declared.held.Held.{Held}
 use Rattle.pim_down.specs.declared.key.Key.{Key}
 use Rattle.pim_down.specs.declared.machine.State.{State}
@@ -46,10 +46,6 @@ module _ (change : Key (List ℕ) → Option Machine → Option Machine) where
     pub count : length (each_changed change (take i old)) ≡ i
     pub seen : new ≡ each_changed change (take i old) ++ drop i old
 
-  pub changed_to_none : (old : List (Record (List ℕ))) → ChangedTo old old 0
-  unfolding each_changed
-  changed_to_none old = record { count = refl; seen = refl }
-
   pub changed_to_more : (old new next : List (Record (List ℕ))) (i : ℕ) (held now : Record (List ℕ)) → i < length old → i < length new → get_or new i held ≡ held → now ∷ [] ≡ recorded held.key (change held.key (Some held.machine)) → next ≡ take i new ++ now ∷ drop (i + 1) new → ChangedTo old new i → ChangedTo old next (i + 1)
   unfolding each_changed
   changed_to_more old new next i held now within within_new at made edited to =
@@ -68,10 +64,6 @@ module _ (change : Key (List ℕ) → Option Machine → Option Machine) where
         count = ap length more ∙ length-append front (now ∷ []) ∙ ap (λ n. n + 1) to.count;
         seen = edited ∙ (λ k. same_front k ++ now ∷ tails k) ∙ sym (append_assoc front (now ∷ []) (drop (i + 1) old)) ∙ ap (λ (rs : List (Record (List ℕ))). rs ++ drop (i + 1) old) (sym more);
       }
-
-  pub changed_to_all : (old new : List (Record (List ℕ))) (i : ℕ) → length old ≤ i → ChangedTo old new i → new ≡ each_changed change old
-  changed_to_all old new i past to =
-      to.seen ∙ ap (λ (rs : List (Record (List ℕ))). each_changed change (take i old) ++ rs) (drop_all i old past) ∙ append-nil (each_changed change (take i old)) ∙ ap (each_changed change) (take_all i old past)
 
 -- a Join(*,G) lets no record go
 rpts_kept : (state : State) (held : Record (List ℕ)) → length (recorded held.key (star_join_in state held.machine)) ≡ 1

@@ -80,9 +80,6 @@ pub fired_with : (records after : List (Record (List ℕ))) (told : Firing (List
 fired_with records after told e = fired_by_firing records ∙ ap (option_map said_of) e
 
 module _ {A : Type 0} (bytes_of : A → List ℕ) (now : ℕ) where
-  later : Held A → Record (List ℕ)
-  later held = record_after now (record_seen bytes_of held)
-
   shown_is : (records : List (Held A)) → shown bytes_of now records ≡ map (λ (held : Held A). record_after now (record_seen bytes_of held)) records
   shown_is records = map_map (record_seen bytes_of) (record_after now) records
 

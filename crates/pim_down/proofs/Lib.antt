@@ -14,7 +14,6 @@ pub mod Listing
 pub mod Reordered
 pub mod Lists
 pub mod Places
-pub mod Halves
 pub mod FirstDue
 pub mod FirstTimer
 pub mod Late

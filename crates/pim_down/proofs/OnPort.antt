@@ -139,11 +139,6 @@ on_later k port (held ∷ records) =
     ]
 
 module _ {A : Type 0} (bytes_of : A → List ℕ) (port : ℕ) (records : List (Record (List ℕ))) (here : List (Held A)) (is : records_seen bytes_of here ≡ filter (is_on port) records) where
-  pub counted : length here ≡ count_on port records
-  counted =
-      let long : length (records_seen bytes_of here) ≡ length here = simp length-map in
-      sym long ∙ ap length is ∙ sym (count_filter port records)
-
   pub shown_later : (k : ℕ) (later : List (Record (List ℕ))) → later ≡ map (record_after k) records → map (record_after k) (records_seen bytes_of here) ≡ filter (is_on port) later
   shown_later k later e = ap (map (record_after k)) is ∙ on_later k port records ∙ ap (filter (is_on port)) (sym e)
 

@@ -23,26 +23,26 @@ use Rattle.pim_down.specs.Tables.{on_star_join}
 use Rattle.pim_down.specs.After.{beside_rpts, is_before_rpts}
 use Rattle.pim_down.specs.Seen.{timed_seen, key_seen, record_seen, records_seen}
 use Rattle.pim_down.specs.declared.held.Timed.{Timed}
-use Rattle.pim_down.proofs.Order.{both_equal, same_address}
-use Rattle.pim_down.proofs.Halves.{falls}
-use Rattle.pim_down.proofs.Searched.{front_of, rise_at}
+use Rattle.pim_down.proofs.Order.{both_equal, same_address, key_total}
+use Rattle.pim_down.proofs.Searched.{first_part as first_of, second_part as second_of, front_of, rise_at}
 use Rattle.pim_down.proofs.Lists.{map_set, map_at}
 use Rattle.pim_down.proofs.Sought.{element}
 use Rattle.pim_down.proofs.Each.{ChangedTo, each_append, changed_to_more}
 
 -- ---- one key
 
-first_of : (a b : Bool) → (a && b) ≡ true → a ≡ true
-first_of true b e = refl
-first_of false b e = absurd (false≢true e)
-
-second_of : (a b : Bool) → (a && b) ≡ true → b ≡ true
-second_of true b e = e
-second_of false b e = absurd (false≢true e)
-
 pub itself : (xs : List ℕ) → pointwise eqb xs xs ≡ true
 itself [] = refl
 itself (x ∷ xs) = rw (eq-eqb x x refl) (itself xs)
+
+less_of : (r : Ordering) → is_lt r ≡ true → r ≡ Less
+less_of Less h = refl
+less_of Equal h = absurd (false≢true h)
+less_of Greater h = absurd (false≢true h)
+
+-- a key before one that is below
+falls : (key a b : Key (List ℕ)) → key_cmp a b ≡ Less → is_below key b ≡ true → is_below key a ≡ true
+falls key a b e h = ap is_lt (key_total.trans a b key e (less_of (key_cmp b key) h))
 
 module _ (port : ℕ) (group : List ℕ) where
   abbrev front : Key (List ℕ) → Ordering

@@ -229,9 +229,13 @@ less_not_equal a b e = grind (arith, nat_tests)
 equal_from : (a b c : ℕ) → a ≤ b → eqb b c ≡ true → ltb a c ≡ false → eqb a c ≡ true
 equal_from a b c le e f = grind (arith, nat_tests)
 
-first_part : (a b : Bool) → (a && b) ≡ true → a ≡ true
+pub first_part : (a b : Bool) → (a && b) ≡ true → a ≡ true
 first_part true b e = refl
 first_part false b e = absurd (false≢true e)
+
+pub second_part : (a b : Bool) → (a && b) ≡ true → b ≡ true
+second_part true b e = e
+second_part false b e = absurd (false≢true e)
 
 module _ (port : ℕ) where
   turned : (bound group : List ℕ) → address_cmp bound group ≡ ordering_reverse (address_cmp group bound)
@@ -307,10 +311,6 @@ both_tied true true r not_both h k = absurd (false≢true (sym (not_both refl)))
 both_tied false true Less not_both h k = absurd (false≢true k)
 both_tied false true Equal not_both h k = refl
 both_tied false true Greater not_both h k = absurd (false≢true k)
-
-second_part : (a b : Bool) → (a && b) ≡ true → b ≡ true
-second_part true b e = e
-second_part false b e = absurd (false≢true e)
 
 module _ (bound : Key (List ℕ)) where
   turned_what : (what : What (List ℕ)) → what_cmp bound.what what ≡ ordering_reverse (what_cmp what bound.what)
