@@ -1,11 +1,9 @@
 -- End of Message, group by group.
-use Rattle.std.proofs.Common.{◌≡◌, ℕ, zero, suc, ◌+◌, ◌<◌, ◌≤◌, Bool, true, false, cond, ◌&&◌, ◌||◌, not, List, [], ◌∷◌, ◌++◌, Option, Some, None, length, get_or, set, drop, eqb, ltb, refl, sym, ap, subst, ◌∙◌, arith}
+use Rattle.std.proofs.Common.{◌≡◌, ℕ, zero, suc, ◌+◌, ◌<◌, ◌≤◌, Bool, true, false, cond, ◌&&◌, ◌||◌, not, List, [], ◌∷◌, ◌++◌, Option, Some, None, length, get_or, eqb, ltb, refl, sym, ap, subst, ◌∙◌, arith}
 use Rattle.std.specs.declared.cmp.Ordering.TheVariants.{Less, Equal, Greater}
 use Rattle.std.specs.List.{filter, remove, flat_map, list_any, AllByRecursion}
 use Rattle.std.specs.Cmp.Lexicographic.{pointwise, same_text}
 use Rattle.std.proofs.lemmas.Bool.{false≢true, or_right, ltb-true, ltb-false}
-use Rattle.std.proofs.lemmas.List.{get_or-set_other}
-use Rattle.std.proofs.lemmas.Grind.{get_or-set_at}
 use Rattle.pim_jp.specs.declared.entry.Entry.{Entry}
 use Rattle.pim_jp.specs.declared.entry.Entry.TheVariants as entry
 use Rattle.pim_jp.specs.Message.{GroupSet}
@@ -20,17 +18,16 @@ use Rattle.pim_down.specs.declared.machine.Record.{Record}
 use Rattle.pim_down.specs.Key.{key_cmp}
 use Rattle.pim_down.specs.Tables.{Start, greater, on_join, on_prune, on_star_join, rpt_prune_in, on_rpt_prune}
 use Rattle.pim_down.specs.Records.{IsBelow, IsAscending, recorded, at_rank, changed, each_changed}
-use Rattle.pim_down.specs.Hearing.{Event, is_known, entry_events, list_events, set_events, key_of, on_own, is_star_join, is_rpt_on, is_rpt_of, on_rpts, act, act_all, at_end}
+use Rattle.pim_down.specs.Hearing.{Event, is_known, list_events, set_events, key_of, on_own, is_star_join, is_rpt_on, is_rpt_of, on_rpts, act, act_all, at_end}
 use Rattle.pim_down.specs.Sound.{is_temporary, IsSettled}
 use Rattle.pim_down.specs.After.{is_before_rpts}
-use Rattle.pim_down.specs.Running.{is_over, is_over_in, is_group_of, has_star_join, joined_sets, AreOverIn}
+use Rattle.pim_down.specs.Running.{is_over, is_over_in, is_joined_in, AreOverIn}
 use Rattle.pim_down.specs.Seen.{record_seen, records_seen}
 use Rattle.pim_down.proofs.Order.{equal_keys}
 use Rattle.pim_down.proofs.Each.{end_filter, seen_filter}
-use Rattle.pim_down.proofs.Real.{all_append, all_flat}
 use Rattle.pim_down.proofs.Rpts.{itself, AreBehind, AreOthers}
+use Rattle.pim_down.proofs.Searched.{second_part}
 use Rattle.pim_down.proofs.Looking.{NoneBefore, none_more}
-use Rattle.pim_down.proofs.Stays.{set_at, over_later}
 
 -- ---- lists
 
@@ -69,18 +66,6 @@ module _ {X : Type 0} where
   shorter [] i w = absurd (omega arith)
   shorter (x ∷ xs) zero w = refl
   shorter (x ∷ xs) (suc i) w = ap suc (shorter xs i (omega arith))
-
-any_behind : {X : Type 0} (p : X → Bool) (xs ys : List X) → list_any p ys ≡ true → list_any p (xs ++ ys) ≡ true
-any_behind p [] ys e = e
-any_behind p (x ∷ xs) ys e = or_right (p x) (list_any p (xs ++ ys)) (any_behind p xs ys e)
-
--- a list is gone through, and it was told before whether one passed
-pub any_more : {X : Type 0} (p : X → Bool) (was this : Bool) (x : X) (all others : List X) → all ≡ x ∷ others → this ≡ p x → ((was || this) || list_any p others) ≡ (was || list_any p all)
-any_more p was this x all others split is = by was ∙ sym (ap (λ xs. was || list_any p xs) split ∙ ap (λ b. was || (b || list_any p others)) (sym is))
-  where
-    by : (w : Bool) → ((w || this) || list_any p others) ≡ (w || (this || list_any p others))
-    by true = refl
-    by false = refl
 
 -- ---- order
 
@@ -172,56 +157,108 @@ module _ {A : Type 0} (bytes_of : A → List ℕ) (port : ℕ) (group : List ℕ
       by k d w true e = to.ended k d (ltb-true k i e) w
       by k d w false e = not_one (get_or now k d) (others k d (ltb-false k i e) w)
 
--- ---- all groups of a message
+-- ---- the groups of a message's Joins(*,G)
 
-pub none_joined : (joined : List Bool) → joined_sets [] joined ≡ []
-unfolding joined_sets
-none_joined joined = refl
-
--- the sets that are told of, from one on
-here_suc : (this : GroupSet) (rest : List GroupSet) (joined : List Bool) (k : ℕ) → get_or joined k false ≡ true → joined_sets (this ∷ rest) (drop k joined) ≡ this ∷ joined_sets rest (drop (suc k) joined)
-unfolding joined_sets
-here_suc this rest [] zero e = absurd (false≢true e)
-here_suc this rest [] (suc k) e = absurd (false≢true e)
-here_suc this rest (j ∷ joined) zero e = ap (λ t. cond t (this ∷ joined_sets rest joined) (joined_sets rest joined)) e
-here_suc this rest (j ∷ joined) (suc k) e = here_suc this rest joined k e
-
-pub joined_here : (this : GroupSet) (rest : List GroupSet) (joined : List Bool) (k : ℕ) → get_or joined k false ≡ true → joined_sets (this ∷ rest) (drop k joined) ≡ this ∷ joined_sets rest (drop (k + 1) joined)
-joined_here this rest joined k e = here_suc this rest joined k e ∙ ap (λ n. this ∷ joined_sets rest (drop n joined)) (let next : suc k ≡ k + 1 = omega arith in next)
-
-none_told : (sets : List GroupSet) → joined_sets sets [] ≡ []
-unfolding joined_sets
-none_told [] = refl
-none_told (set ∷ sets) = refl
-
-not_here_suc : (this : GroupSet) (rest : List GroupSet) (joined : List Bool) (k : ℕ) → get_or joined k false ≡ false → joined_sets (this ∷ rest) (drop k joined) ≡ joined_sets rest (drop (suc k) joined)
-unfolding joined_sets
-not_here_suc this rest [] zero e = sym (none_told rest)
-not_here_suc this rest [] (suc k) e = sym (none_told rest)
-not_here_suc this rest (j ∷ joined) zero e = ap (λ t. cond t (this ∷ joined_sets rest joined) (joined_sets rest joined)) e
-not_here_suc this rest (j ∷ joined) (suc k) e = not_here_suc this rest joined k e
-
-pub joined_not_here : (this : GroupSet) (rest : List GroupSet) (joined : List Bool) (k : ℕ) → get_or joined k false ≡ false → joined_sets (this ∷ rest) (drop k joined) ≡ joined_sets rest (drop (k + 1) joined)
-joined_not_here this rest joined k e = not_here_suc this rest joined k e ∙ ap (λ n. joined_sets rest (drop n joined)) (let next : suc k ≡ k + 1 = omega arith in next)
-
-pub later_joined : (group : List ℕ) (sets : List GroupSet) (joined : List Bool) (k n : ℕ) (this : GroupSet) (rest : List GroupSet) → drop k sets ≡ this ∷ rest → n ≤ k → get_or joined k false ≡ true → this.group ≡ group → is_group_of (joined_sets (drop n sets) (drop n joined)) group ≡ true
-unfolding joined_sets is_group_of
-later_joined group [] joined zero n this rest e le told same = absurd (let m = ap length e in omega (arith, m))
-later_joined group [] joined (suc k) n this rest e le told same = absurd (let m = ap length e in omega (arith, m))
-later_joined group (first ∷ sets) [] zero n this rest e le told same = absurd (false≢true told)
-later_joined group (first ∷ sets) [] (suc k) n this rest e le told same = absurd (false≢true told)
-later_joined group (first ∷ sets) (j ∷ joined) zero zero this rest e le told same =
-    let here : first ≡ this = cc in
-    let of_group : group ≡ first.group = sym (ap (λ (s : GroupSet). s.group) here ∙ same) in
-    ap (λ t. is_group_of (cond t (first ∷ joined_sets sets joined) (joined_sets sets joined)) group) told
-    ∙ ap (λ b. b || is_group_of (joined_sets sets joined) group) (subst (λ (g : List ℕ). pointwise eqb group g ≡ true) of_group (itself group))
-later_joined group (first ∷ sets) (j ∷ joined) zero (suc n) this rest e le told same = absurd (omega (arith, le))
-later_joined group (first ∷ sets) (j ∷ joined) (suc k) zero this rest e le told same = by j (later_joined group sets joined k zero this rest e (omega arith) told same)
+joined_append : (xs ys : List Event) (group : List ℕ) → is_joined_in (xs ++ ys) group ≡ (is_joined_in xs group || is_joined_in ys group)
+unfolding is_joined_in
+joined_append [] ys group = refl
+joined_append (x ∷ xs) ys group = ap (λ b. (is_star_join x && pointwise eqb group x.group) || b) (joined_append xs ys group) ∙ by (is_star_join x && pointwise eqb group x.group)
   where
-    by : (t : Bool) → is_group_of (joined_sets sets joined) group ≡ true → is_group_of (cond t (first ∷ joined_sets sets joined) (joined_sets sets joined)) group ≡ true
-    by true f = or_right (pointwise eqb group first.group) (is_group_of (joined_sets sets joined) group) f
-    by false f = f
-later_joined group (first ∷ sets) (j ∷ joined) (suc k) (suc n) this rest e le told same = later_joined group sets joined k n this rest e (omega (arith, le)) told same
+    by : (a : Bool) → (a || (is_joined_in xs group || is_joined_in ys group)) ≡ ((a || is_joined_in xs group) || is_joined_in ys group)
+    by true = refl
+    by false = refl
+
+-- all others are of other groups
+abbrev pub OthersIn : List Event → List Event → List ℕ → Type 0
+OthersIn all rest group = (other : List ℕ) → is_joined_in all other ≡ true → (pointwise eqb other group || is_joined_in rest other) ≡ true
+
+pub others_star : (event : Event) (all rest : List Event) → all ≡ event ∷ rest → is_star_join event ≡ true → OthersIn all rest event.group
+unfolding is_joined_in
+others_star event all rest split star other e = sym (ap (λ (es : List Event). is_joined_in es other) split ∙ ap (λ b. (b && pointwise eqb other event.group) || is_joined_in rest other) star) ∙ e
+
+-- what has no Join(*,G) is passed over
+abbrev pub StillIn : List Event → List Event → Type 0
+StillIn all rest = (other : List ℕ) → is_joined_in all other ≡ true → is_joined_in rest other ≡ true
+
+pub still_other : (event : Event) (all rest : List Event) → all ≡ event ∷ rest → is_star_join event ≡ false → StillIn all rest
+unfolding is_joined_in
+still_other event all rest split star other e = sym (ap (λ (es : List Event). is_joined_in es other) split ∙ ap (λ b. (b && pointwise eqb other event.group) || is_joined_in rest other) star) ∙ e
+
+-- the events of an entry are of its group
+module _ (known : List ℕ → Option (List ℕ)) (group : List ℕ) where
+  abbrev events : Bool → List (Entry (List ℕ)) → List Event
+  events joins entries = list_events known joins group entries
+
+  -- a Join(*,G) of a list is of the group of the list, and is among its events
+  list_joins : (joins : Bool) (other : List ℕ) (entries : List (Entry (List ℕ))) → is_joined_in (events joins entries) other ≡ true → (list_any is_star_join (events joins entries) && pointwise eqb other group) ≡ true
+  unfolding is_joined_in
+  list_joins joins other [] e = absurd (false≢true e)
+  list_joins joins other (entry.Star rp ∷ entries) e = by (joins && not (is_known (known group) rp)) joins (list_joins joins other entries) e
+    where
+      by : (b star : Bool) → (is_joined_in (events joins entries) other ≡ true → (list_any is_star_join (events joins entries) && pointwise eqb other group) ≡ true)
+          → is_joined_in (cond b [] (record { joins = star; group = group; what = Star } ∷ []) ++ events joins entries) other ≡ true
+          → (list_any is_star_join (cond b [] (record { joins = star; group = group; what = Star } ∷ []) ++ events joins entries) && pointwise eqb other group) ≡ true
+      by true star more e = more e
+      by false true more e = either (pointwise eqb other group) (is_joined_in (events joins entries) other) (list_any is_star_join (events joins entries)) more e
+        where
+          either : (same rest any : Bool) → (rest ≡ true → (any && same) ≡ true) → (same || rest) ≡ true → same ≡ true
+          either true rest any m f = refl
+          either false true true m f = m refl
+          either false true false m f = m refl
+          either false false any m f = f
+      by false false more e = more e
+  list_joins joins other (entry.Source source ∷ entries) e = by joins (list_joins joins other entries) e
+    where
+      by : (star : Bool) → (is_joined_in (events joins entries) other ≡ true → (list_any is_star_join (events joins entries) && pointwise eqb other group) ≡ true)
+          → (((star && false) && pointwise eqb other group) || is_joined_in (events joins entries) other) ≡ true
+          → (((star && false) || list_any is_star_join (events joins entries)) && pointwise eqb other group) ≡ true
+      by true more e = more e
+      by false more e = more e
+  list_joins joins other (entry.Rpt source ∷ entries) e = by joins (list_joins joins other entries) e
+    where
+      by : (star : Bool) → (is_joined_in (events joins entries) other ≡ true → (list_any is_star_join (events joins entries) && pointwise eqb other group) ≡ true)
+          → (((star && false) && pointwise eqb other group) || is_joined_in (events joins entries) other) ≡ true
+          → (((star && false) || list_any is_star_join (events joins entries)) && pointwise eqb other group) ≡ true
+      by true more e = more e
+      by false more e = more e
+
+  no_pruned_star : (entries : List (Entry (List ℕ))) → list_any is_star_join (events false entries) ≡ false
+  no_pruned_star [] = refl
+  no_pruned_star (entry.Star rp ∷ entries) = no_pruned_star entries
+  no_pruned_star (entry.Source source ∷ entries) = no_pruned_star entries
+  no_pruned_star (entry.Rpt source ∷ entries) = no_pruned_star entries
+
+module _ (known : List ℕ → Option (List ℕ)) (set : GroupSet) where
+  abbrev joined : List Event
+  joined = list_events known true set.group set.joined
+
+  abbrev pruned : List Event
+  pruned = list_events known false set.group set.pruned
+
+  set_joins : (other : List ℕ) → is_joined_in (set_events known set) other ≡ true → (list_any is_star_join joined && pointwise eqb other set.group) ≡ true
+  set_joins other e = by (is_joined_in joined other) refl (sym (joined_append joined pruned other) ∙ e)
+    where
+      none : is_joined_in pruned other ≡ true → ⊥
+      none f = false≢true (ap (λ b. b && pointwise eqb other set.group) (sym (no_pruned_star known set.group set.pruned)) ∙ list_joins known set.group false other set.pruned f)
+
+      by : (b : Bool) → is_joined_in joined other ≡ b → (b || is_joined_in pruned other) ≡ true → (list_any is_star_join joined && pointwise eqb other set.group) ≡ true
+      by true f g = list_joins known set.group true other set.joined f
+      by false f g = absurd (none g)
+
+  split_set : (left rest : List GroupSet) (other : List ℕ) → left ≡ set ∷ rest → is_joined_in (flat_map (set_events known) left) other ≡ true → ((list_any is_star_join joined && pointwise eqb other set.group) || is_joined_in (flat_map (set_events known) rest) other) ≡ true
+  split_set left rest other split e = by (is_joined_in (set_events known set) other) refl (sym (ap (λ (sets : List GroupSet). is_joined_in (flat_map (set_events known) sets) other) split ∙ joined_append (set_events known set) (flat_map (set_events known) rest) other) ∙ e)
+    where
+      by : (b : Bool) → is_joined_in (set_events known set) other ≡ b → (b || is_joined_in (flat_map (set_events known) rest) other) ≡ true → ((list_any is_star_join joined && pointwise eqb other set.group) || is_joined_in (flat_map (set_events known) rest) other) ≡ true
+      by true f g = ap (λ c. c || is_joined_in (flat_map (set_events known) rest) other) (set_joins other f)
+      by false f g = or_right (list_any is_star_join joined && pointwise eqb other set.group) (is_joined_in (flat_map (set_events known) rest) other) g
+
+  pub others_set : (left rest : List GroupSet) → left ≡ set ∷ rest → list_any is_star_join joined ≡ true → OthersIn (flat_map (set_events known) left) (flat_map (set_events known) rest) set.group
+  others_set left rest split star other e = ap (λ b. (b && pointwise eqb other set.group) || is_joined_in (flat_map (set_events known) rest) other) (sym star) ∙ split_set left rest other split e
+
+  pub still_set : (left rest : List GroupSet) → left ≡ set ∷ rest → list_any is_star_join joined ≡ false → StillIn (flat_map (set_events known) left) (flat_map (set_events known) rest)
+  still_set left rest split star other e = ap (λ b. (b && pointwise eqb other set.group) || is_joined_in (flat_map (set_events known) rest) other) (sym star) ∙ split_set left rest other split e
+
+-- ---- all groups of a message
 
 module _ (port : ℕ) where
   rest_of : (on same tmp others : Bool) → ((on && same) && tmp) ≡ false → ((on && tmp) ≡ true → (same || others) ≡ true) → (on && tmp) ≡ true → others ≡ true
@@ -237,14 +274,19 @@ module _ (port : ℕ) where
   within_all true false tmp e = absurd (false≢true (sym e))
   within_all false same tmp e = absurd (false≢true (sym e))
 
-  over_more : (set : GroupSet) (rest : List GroupSet) (records : List (Record (List ℕ))) → AreOverIn port (set ∷ rest) records → AreOverIn port rest (filter (λ held. not (is_over_in port set.group held)) records)
-  unfolding AreOverIn is_group_of
-  over_more set rest [] are = tt
-  over_more set rest (held ∷ records) are = by (over_more set rest records are.1) (is_over_in port set.group held) refl
+  over_more : (group : List ℕ) (all rest : List Event) → OthersIn all rest group → (records : List (Record (List ℕ))) → AreOverIn port all records → AreOverIn port rest (filter (λ held. not (is_over_in port group held)) records)
+  unfolding AreOverIn
+  over_more group all rest others [] are = tt
+  over_more group all rest others (held ∷ records) are = by (over_more group all rest others records are.1) (is_over_in port group held) refl
     where
-      by : AreOverIn port rest (filter (λ h. not (is_over_in port set.group h)) records) → (t : Bool) → is_over_in port set.group held ≡ t → AreOverIn port rest (cond (not t) (held ∷ filter (λ h. not (is_over_in port set.group h)) records) (filter (λ h. not (is_over_in port set.group h)) records))
+      by : AreOverIn port rest (filter (λ h. not (is_over_in port group h)) records) → (t : Bool) → is_over_in port group held ≡ t → AreOverIn port rest (cond (not t) (held ∷ filter (λ h. not (is_over_in port group h)) records) (filter (λ h. not (is_over_in port group h)) records))
       by more true e = more
-      by more false e = (rest_of (is_rpt_on port held.key) (pointwise eqb held.key.group set.group) (is_temporary held.machine.state) (is_group_of rest held.key.group) e are.0, more)
+      by more false e = (rest_of (is_rpt_on port held.key) (pointwise eqb held.key.group group) (is_temporary held.machine.state) (is_joined_in rest held.key.group) e (λ o. others held.key.group (are.0 o)), more)
+
+  over_rest : (all rest : List Event) → StillIn all rest → (records : List (Record (List ℕ))) → AreOverIn port all records → AreOverIn port rest records
+  unfolding AreOverIn
+  over_rest all rest still [] are = tt
+  over_rest all rest still (held ∷ records) are = (λ o. still held.key.group (are.0 o), over_rest all rest still records are.1)
 
   same_end : (group : List ℕ) (records : List (Record (List ℕ))) → each_changed (at_end port) (filter (λ held. not (is_over_in port group held)) records) ≡ each_changed (at_end port) records
   same_end group records =
@@ -253,7 +295,7 @@ module _ (port : ℕ) where
       ∙ sym (end_filter port records)
 
   none_over : (records : List (Record (List ℕ))) → AreOverIn port [] records → filter (λ held. not (is_over port held)) records ≡ records
-  unfolding AreOverIn is_group_of
+  unfolding AreOverIn is_joined_in
   none_over [] are = refl
   none_over (held ∷ records) are = by (none_over records are.1) (is_over port held) are.0
     where
@@ -261,91 +303,87 @@ module _ (port : ℕ) where
       by same true never = absurd (false≢true (never refl))
       by same false never = ap (λ (rest : List (Record (List ℕ))). held ∷ rest) same
 
-  -- the groups of these sets are left
-  pub record EndsBy (old now : List (Record (List ℕ))) (sets : List GroupSet) : Type 0 where
+  -- the groups of these events are left
+  pub record EndsBy (old now : List (Record (List ℕ))) (events : List Event) : Type 0 where
     pub ascending : IsAscending now
-    pub left : AreOverIn port sets now
+    pub left : AreOverIn port events now
     pub same : each_changed (at_end port) now ≡ each_changed (at_end port) old
 
-  pub ends_group : (old now new : List (Record (List ℕ))) (sets rest : List GroupSet) (set : GroupSet) → sets ≡ set ∷ rest → new ≡ filter (λ held. not (is_over_in port set.group held)) now → EndsBy old now sets → EndsBy old new rest
-  ends_group old now new sets rest set split is to =
+  pub ends_group : (old now new : List (Record (List ℕ))) (all rest : List Event) (group : List ℕ) → OthersIn all rest group → new ≡ filter (λ held. not (is_over_in port group held)) now → EndsBy old now all → EndsBy old new rest
+  ends_group old now new all rest group others is to =
       subst (λ (rs : List (Record (List ℕ))). EndsBy old rs rest) (sym is) (record {
-        ascending = ascending_filter (λ held. not (is_over_in port set.group held)) now to.ascending;
-        left = over_more set rest now (subst (λ (s : List GroupSet). AreOverIn port s now) split to.left);
-        same = same_end set.group now ∙ to.same;
+        ascending = ascending_filter (λ held. not (is_over_in port group held)) now to.ascending;
+        left = over_more group all rest others now to.left;
+        same = same_end group now ∙ to.same;
       })
 
-  -- a group that comes again is left for its last set
-  pub ends_later : (old now : List (Record (List ℕ))) (sets rest : List GroupSet) (set : GroupSet) → sets ≡ set ∷ rest → is_group_of rest set.group ≡ true → EndsBy old now sets → EndsBy old now rest
-  ends_later old now sets rest set split again to = record {
+  -- events without a Join(*,G) are passed over
+  pub ends_skip : (old now : List (Record (List ℕ))) (all rest : List Event) → StillIn all rest → EndsBy old now all → EndsBy old now rest
+  ends_skip old now all rest still to = record {
     ascending = to.ascending;
-    left = over_later port set rest now again (subst (λ (s : List GroupSet). AreOverIn port s now) split to.left);
+    left = over_rest all rest still now to.left;
     same = to.same;
   }
 
-  -- a set that had no Join(*,G) is passed over
-  pub ends_skip : (old now : List (Record (List ℕ))) (sets rest : List GroupSet) → sets ≡ rest → EndsBy old now sets → EndsBy old now rest
-  ends_skip old now sets rest same to = subst (λ (rs : List GroupSet). EndsBy old now rs) same to
+  pub ends_message : (old now : List (Record (List ℕ))) (events : List Event) → events ≡ [] → EndsBy old now events → now ≡ each_changed (at_end port) old
+  ends_message old now events none to =
+      sym (none_over now (subst (λ (s : List Event). AreOverIn port s now) none to.left)) ∙ sym (end_filter port now) ∙ to.same
 
-  pub ends_message : (old now : List (Record (List ℕ))) (sets : List GroupSet) → sets ≡ [] → EndsBy old now sets → now ≡ each_changed (at_end port) old
-  ends_message old now sets none to =
-      sym (none_over now (subst (λ (s : List GroupSet). AreOverIn port s now) none to.left)) ∙ sym (end_filter port now) ∙ to.same
+  -- a group that ended has none left
+  pub ended_group : (now new : List (Record (List ℕ))) (group : List ℕ) → new ≡ filter (λ held. not (is_over_in port group held)) now → new ≡ filter (λ held. not (is_over_in port group held)) new
+  ended_group now new group is = sym (ap (filter (λ held. not (is_over_in port group held))) is ∙ filter_twice (λ held. not (is_over_in port group held)) (λ held. not (is_over_in port group held)) (λ held e. e) now ∙ sym is)
 
   -- ---- what a message leaves before its end
 
-  module _ (sets : List GroupSet) where
-    -- a machine of this key that ends with the message is of a group of the sets
+  module _ (all : List Event) where
+    -- a machine of this key that ends with the message is of a group of the events
     OverIn : Key (List ℕ) → Option Machine → Type 0
     OverIn key None = Unit {0}
-    OverIn key (Some machine) = is_over port (record { key = key; machine = machine }) ≡ true → is_group_of sets key.group ≡ true
+    OverIn key (Some machine) = is_over port (record { key = key; machine = machine }) ≡ true → is_joined_in all key.group ≡ true
 
     never_over : (on tmp : Bool) → tmp ≡ false → (on && tmp) ≡ true → false ≡ true
     never_over true tmp e f = sym e ∙ f
     never_over false tmp e f = f
 
-    over_settled : (records : List (Record (List ℕ))) → IsSettled records → AreOverIn port sets records
+    over_settled : (records : List (Record (List ℕ))) → IsSettled records → AreOverIn port all records
     unfolding AreOverIn IsSettled
     over_settled [] s = tt
     over_settled (held ∷ records) s = (λ e. absurd (false≢true (never_over (is_rpt_on port held.key) (is_temporary held.machine.state) s.0 e)), over_settled records s.1)
 
-    over_recorded : (key : Key (List ℕ)) (machine : Option Machine) (records : List (Record (List ℕ))) → OverIn key machine → AreOverIn port sets records → AreOverIn port sets (recorded key machine ++ records)
+    over_recorded : (key : Key (List ℕ)) (machine : Option Machine) (records : List (Record (List ℕ))) → OverIn key machine → AreOverIn port all records → AreOverIn port all (recorded key machine ++ records)
     unfolding AreOverIn OverIn
     over_recorded key None records is are = are
     over_recorded key (Some machine) records is are = (is, are)
 
-    over_changed : (key : Key (List ℕ)) (change : Option Machine → Option Machine) → ((held : Option Machine) → OverIn key (change held)) → (records : List (Record (List ℕ))) → AreOverIn port sets records → AreOverIn port sets (changed key change records)
+    over_changed : (key : Key (List ℕ)) (change : Option Machine → Option Machine) → ((held : Option Machine) → OverIn key (change held)) → (records : List (Record (List ℕ))) → AreOverIn port all records → AreOverIn port all (changed key change records)
     unfolding AreOverIn changed OverIn
     over_changed key change is [] are = by (change None) (is None)
       where
-        by : (m : Option Machine) → OverIn key m → AreOverIn port sets (recorded key m)
+        by : (m : Option Machine) → OverIn key m → AreOverIn port all (recorded key m)
         by None i = tt
         by (Some machine) i = (i, tt)
     over_changed key change is (held ∷ records) are =
-        elim (key_cmp key held.key) as (λ r. key_cmp key held.key ≡ r → AreOverIn port sets (at_rank r (recorded key (change None) ++ held ∷ records) (recorded held.key (change (Some held.machine)) ++ records) (held ∷ changed key change records))) [
+        elim (key_cmp key held.key) as (λ r. key_cmp key held.key ≡ r → AreOverIn port all (at_rank r (recorded key (change None) ++ held ∷ records) (recorded held.key (change (Some held.machine)) ++ records) (held ∷ changed key change records))) [
           | Less ↦ λ e. over_recorded key (change None) (held ∷ records) (is None) are
           | Equal ↦ λ e. over_recorded held.key (change (Some held.machine)) records (subst (λ (k : Key (List ℕ)). OverIn k (change (Some held.machine))) (equal_keys key held.key e) (is (Some held.machine))) are.1
           | Greater ↦ λ e. (are.0, over_changed key change is records are.1)
         ] refl
 
     group_is : (group : List ℕ) (key : Key (List ℕ)) → is_rpt_of port group key ≡ true → key.group ≡ group
-    group_is group key e = same_text key.group group (sym (second (is_rpt_on port key) (pointwise eqb key.group group) e))
-      where
-        second : (a b : Bool) → (a && b) ≡ true → b ≡ true
-        second true b f = f
-        second false b f = absurd (false≢true f)
+    group_is group key e = same_text key.group group (sym (second_part (is_rpt_on port key) (pointwise eqb key.group group) e))
 
-    of_group : (key : Key (List ℕ)) (held : Option Machine) → is_group_of sets key.group ≡ true → OverIn key held
+    of_group : (key : Key (List ℕ)) (held : Option Machine) → is_joined_in all key.group ≡ true → OverIn key held
     unfolding OverIn
     of_group key None is = tt
     of_group key (Some machine) is = λ e. is
 
-    over_each : (group : List ℕ) → is_group_of sets group ≡ true → (records : List (Record (List ℕ))) → AreOverIn port sets records → AreOverIn port sets (each_changed (on_rpts port group) records)
+    over_each : (group : List ℕ) → is_joined_in all group ≡ true → (records : List (Record (List ℕ))) → AreOverIn port all records → AreOverIn port all (each_changed (on_rpts port group) records)
     unfolding AreOverIn each_changed
     over_each group is [] are = tt
     over_each group is (held ∷ records) are = by (over_each group is records are.1) (is_rpt_of port group held.key) refl
       where
-        by : AreOverIn port sets (each_changed (on_rpts port group) records) → (t : Bool) → is_rpt_of port group held.key ≡ t → AreOverIn port sets (recorded held.key (cond t (on_star_join (Some held.machine)) (Some held.machine)) ++ each_changed (on_rpts port group) records)
-        by rest true e = over_recorded held.key (on_star_join (Some held.machine)) (each_changed (on_rpts port group) records) (of_group held.key (on_star_join (Some held.machine)) (subst (λ (g : List ℕ). is_group_of sets g ≡ true) (sym (group_is group held.key e)) is)) rest
+        by : AreOverIn port all (each_changed (on_rpts port group) records) → (t : Bool) → is_rpt_of port group held.key ≡ t → AreOverIn port all (recorded held.key (cond t (on_star_join (Some held.machine)) (Some held.machine)) ++ each_changed (on_rpts port group) records)
+        by rest true e = over_recorded held.key (on_star_join (Some held.machine)) (each_changed (on_rpts port group) records) (of_group held.key (on_star_join (Some held.machine)) (subst (λ (g : List ℕ). is_joined_in all g ≡ true) (sym (group_is group held.key e)) is)) rest
         by rest false e = (are.0, rest)
 
     -- no event leaves its own machine in a state that ends with the message
@@ -383,97 +421,37 @@ module _ (port : ℕ) where
     own_in false group (Source source) start held = beside (record { port = port; group = group; what = Source source }) (on_prune start held) (none_on (eqb port port))
     own_in false group (Rpt source) start held = pruned_in (record { port = port; group = group; what = Rpt source }) start held
 
-    -- a Join(*,G) is of a group of the sets
+    -- a Join(*,G) is of a group of the events
     abbrev IsIn : Event → Type 0
-    IsIn event = is_star_join event ≡ true → is_group_of sets event.group ≡ true
+    IsIn event = is_star_join event ≡ true → is_joined_in all event.group ≡ true
 
-    over_act : (start : Start) (event : Event) → IsIn event → (records : List (Record (List ℕ))) → AreOverIn port sets records → AreOverIn port sets (act port start event records)
+    over_act : (start : Start) (event : Event) → IsIn event → (records : List (Record (List ℕ))) → AreOverIn port all records → AreOverIn port all (act port start event records)
     over_act start event is records are = by (is_star_join event) refl
       where
         own : List (Record (List ℕ))
         own = changed (key_of port event) (on_own event.joins event.what start) records
 
-        after : AreOverIn port sets own
+        after : AreOverIn port all own
         after = over_changed (key_of port event) (on_own event.joins event.what start) (own_in event.joins event.group event.what start) records are
 
-        by : (s : Bool) → is_star_join event ≡ s → AreOverIn port sets (cond s (each_changed (on_rpts port event.group) own) own)
+        by : (s : Bool) → is_star_join event ≡ s → AreOverIn port all (cond s (each_changed (on_rpts port event.group) own) own)
         by true e = over_each event.group (is e) own after
         by false e = after
 
-    over_act_all : (start : Start) (events : List Event) → AllByRecursion IsIn events → (records : List (Record (List ℕ))) → AreOverIn port sets records → AreOverIn port sets (act_all port start events records)
+    over_act_all : (start : Start) (events : List Event) → AllByRecursion IsIn events → (records : List (Record (List ℕ))) → AreOverIn port all records → AreOverIn port all (act_all port start events records)
     unfolding act_all
     over_act_all start [] are_in records are = are
     over_act_all start (event ∷ events) are_in records are = over_act_all start events are_in.1 (act port start event records) (over_act start event are_in.0 records are)
 
-    module _ (known : List ℕ → Option (List ℕ)) (group : List ℕ) where
-      joined_in : (entries : List (Entry (List ℕ))) → (list_any is_star_join (list_events known true group entries) ≡ true → is_group_of sets group ≡ true) → AllByRecursion IsIn (list_events known true group entries)
-      joined_in [] is = tt
-      joined_in (this ∷ entries) is =
-          all_append IsIn (entry_events known true group this) (list_events known true group entries) (first this is)
-          (joined_in entries (λ any. is (any_behind is_star_join (entry_events known true group this) (list_events known true group entries) any)))
-        where
-          first : (this : Entry (List ℕ)) → (list_any is_star_join (entry_events known true group this ++ list_events known true group entries) ≡ true → is_group_of sets group ≡ true) → AllByRecursion IsIn (entry_events known true group this)
-          first (entry.Star rp) is = by (not (is_known (known group) rp)) is
-            where
-              by : (b : Bool) → (list_any is_star_join (cond b [] (record { joins = true; group = group; what = Star } ∷ []) ++ list_events known true group entries) ≡ true → is_group_of sets group ≡ true) → AllByRecursion IsIn (cond b [] (record { joins = true; group = group; what = Star } ∷ []))
-              by true is = tt
-              by false is = (λ star. is refl, tt)
-          first (entry.Source source) is = (λ star. absurd (false≢true star), tt)
-          first (entry.Rpt source) is = (λ star. absurd (false≢true star), tt)
+  grown : (first : Event) (all part : List Event) → AllByRecursion (IsIn all) part → AllByRecursion (IsIn (first ∷ all)) part
+  unfolding is_joined_in
+  grown first all [] are = tt
+  grown first all (event ∷ part) are = (λ star. or_right (is_star_join first && pointwise eqb event.group first.group) (is_joined_in all event.group) (are.0 star), grown first all part are.1)
 
-      not_joined_in : (entries : List (Entry (List ℕ))) → AllByRecursion IsIn (list_events known false group entries)
-      not_joined_in [] = tt
-      not_joined_in (this ∷ entries) = all_append IsIn (entry_events known false group this) (list_events known false group entries) (first this) (not_joined_in entries)
-        where
-          first : (this : Entry (List ℕ)) → AllByRecursion IsIn (entry_events known false group this)
-          first (entry.Star rp) = (λ star. absurd (false≢true star), tt)
-          first (entry.Source source) = (λ star. absurd (false≢true star), tt)
-          first (entry.Rpt source) = (λ star. absurd (false≢true star), tt)
+  all_in : (events : List Event) → AllByRecursion (IsIn events) events
+  unfolding is_joined_in
+  all_in [] = tt
+  all_in (event ∷ events) = (λ star. ap (λ b. (b && pointwise eqb event.group event.group) || is_joined_in events event.group) star ∙ ap (λ b. b || is_joined_in events event.group) (itself event.group), grown event events events (all_in events))
 
-    in_set : (known : List ℕ → Option (List ℕ)) (set : GroupSet) → (has_star_join known set ≡ true → is_group_of sets set.group ≡ true) → AllByRecursion IsIn (set_events known set)
-    in_set known set is =
-        all_append IsIn (list_events known true set.group set.joined) (list_events known false set.group set.pruned)
-        (joined_in known set.group set.joined is) (not_joined_in known set.group set.pruned)
-
-  module _ (known : List ℕ → Option (List ℕ)) where
-    -- a set that has a Join(*,G) is of a group of these
-    abbrev HasGroupIn : List GroupSet → GroupSet → Type 0
-    HasGroupIn sets set = has_star_join known set ≡ true → is_group_of sets set.group ≡ true
-
-    grown : (set : GroupSet) (sets part : List GroupSet) → AllByRecursion (HasGroupIn sets) part → AllByRecursion (HasGroupIn (set ∷ sets)) part
-    unfolding is_group_of
-    grown set sets [] all = tt
-    grown set sets (s ∷ part) all = (λ star. or_right (pointwise eqb s.group set.group) (is_group_of sets s.group) (all.0 star), grown set sets part all.1)
-
-    -- what is told of each set
-    abbrev pub AreTold : List GroupSet → List Bool → Type 0
-    AreTold sets joined = (i : ℕ) (d : GroupSet) → i < length sets → get_or joined i false ≡ has_star_join known (get_or sets i d)
-
-    pub told_more : (sets rest : List GroupSet) (this : GroupSet) (joined new : List Bool) (k n : ℕ) (starred : Bool) → drop k sets ≡ this ∷ rest → n ≡ k + 1 → k < length joined → new ≡ set joined k starred → starred ≡ has_star_join known this → ((i : ℕ) (d : GroupSet) → i < k → get_or joined i false ≡ has_star_join known (get_or sets i d)) → (i : ℕ) (d : GroupSet) → i < n → get_or new i false ≡ has_star_join known (get_or sets i d)
-    told_more sets rest this joined new k n starred split next within is star told i d lt = ap (λ (js : List Bool). get_or js i false) is ∙ by (ltb i k) refl
-      where
-        by : (t : Bool) → ltb i k ≡ t → get_or (set joined k starred) i false ≡ has_star_join known (get_or sets i d)
-        by true e =
-            let less = ltb-true i k e in
-            get_or-set_other joined k i starred false (λ same. omega (arith, same, less)) ∙ told i d less
-        by false e =
-            let same : i ≡ k = omega (arith, ltb-false i k e, lt, next) in
-            let here : get_or sets i d ≡ this = ap (λ m. get_or sets m d) same ∙ (set_at sets k this rest split).here d in
-            get_or-set_at joined k i starred false same within ∙ star ∙ ap (has_star_join known) (sym here)
-
-    all_in : (sets : List GroupSet) (joined : List Bool) → AreTold sets joined → AllByRecursion (HasGroupIn (joined_sets sets joined)) sets
-    unfolding joined_sets is_group_of
-    all_in [] joined told = tt
-    all_in (set ∷ sets) [] told =
-        (λ star. absurd (false≢true (told 0 set (omega arith) ∙ star)), subst (λ (js : List GroupSet). AllByRecursion (HasGroupIn js) sets) (none_told sets) (all_in sets [] (λ i d w. told (suc i) d (omega arith))))
-    all_in (set ∷ sets) (this ∷ joined) told = by this (told 0 set (omega arith)) (all_in sets joined (λ i d w. told (suc i) d (omega arith)))
-      where
-        by : (t : Bool) → t ≡ has_star_join known set → AllByRecursion (HasGroupIn (joined_sets sets joined)) sets → AllByRecursion (HasGroupIn (cond t (set ∷ joined_sets sets joined) (joined_sets sets joined))) (set ∷ sets)
-        by true e all = (λ star. ap (λ b. b || is_group_of (joined_sets sets joined) set.group) (itself set.group), grown set (joined_sets sets joined) sets all)
-        by false e all = (λ star. absurd (false≢true (e ∙ star)), all)
-
-    pub over_heard : (start : Start) (sets : List GroupSet) (joined : List Bool) (records : List (Record (List ℕ))) → IsSettled records → AreTold sets joined → AreOverIn port (joined_sets sets joined) (act_all port start (flat_map (set_events known) sets) records)
-    over_heard start sets joined records settled told =
-        over_act_all (joined_sets sets joined) start (flat_map (set_events known) sets)
-        (all_flat (HasGroupIn (joined_sets sets joined)) (IsIn (joined_sets sets joined)) (set_events known) (λ set is. in_set (joined_sets sets joined) known set is) sets (all_in sets joined told))
-        records (over_settled (joined_sets sets joined) records settled)
+  pub over_heard : (start : Start) (events : List Event) (records : List (Record (List ℕ))) → IsSettled records → AreOverIn port events (act_all port start events records)
+  over_heard start events records settled = over_act_all events start events (all_in events) records (over_settled events records settled)

@@ -15,7 +15,7 @@ use Rattle.pim_jp.specs.Message.{GroupSet}
 use Rattle.pim_down.specs.declared.event.Event.{Event as EventOf}
 use Rattle.pim_down.specs.declared.machine.Record.{Record}
 use Rattle.pim_down.specs.Tables.{Start}
-use Rattle.pim_down.specs.Hearing.{Event, list_events, act_all, is_star_join, count_new}
+use Rattle.pim_down.specs.Hearing.{Event, list_events, act_all, is_star_join}
 use Rattle.pim_down.specs.declared.key.Key.{Key}
 use Rattle.pim_down.specs.Key.{key_cmp}
 use Rattle.pim_down.specs.Ordered.{is_of_rpts_of, ComeFirstBehind, StarsComeFirst}
@@ -49,10 +49,6 @@ module _ {A : Type 0} (bytes_of : A → List ℕ) (events : List (EventOf A)) (i
 
   pub none_seen : map (event_seen bytes_of) (drop i (take i events)) ≡ []
   none_seen = ap (map (event_seen bytes_of)) (drop_all i (take i events) (let long = length-take i events in omega (arith, long)))
-
-pub none_new : (port : ℕ) (held : List (Record (List ℕ))) (events : List Event) → events ≡ [] → count_new port held events ≡ 0
-unfolding count_new
-none_new port held events none = ap (count_new port held) none
 
 pub none_acts : (port : ℕ) (start : Start) (events : List Event) (records : List (Record (List ℕ))) → events ≡ [] → act_all port start events records ≡ records
 unfolding act_all
@@ -89,9 +85,6 @@ come_first_behind before (event ∷ events) each = (
 )
 
 module _ {A : Type 0} (bytes_of : A → List ℕ) (events : List (EventOf A)) where
-  pub first_none : AreFirstTo (map (event_seen bytes_of) events) 0
-  first_none i d lt star = absurd (omega (arith, lt))
-
   pub first_more : (k : ℕ) (event : EventOf A) → k < length events → event ≡ get_or events k event → AreFirstTo (map (event_seen bytes_of) events) k
       → (is_star_join (event_seen bytes_of event) ≡ true → list_any (is_of_rpts_of (bytes_of event.group)) (map (event_seen bytes_of) (take k events)) ≡ false)
       → AreFirstTo (map (event_seen bytes_of) events) (k + 1)

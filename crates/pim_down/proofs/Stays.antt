@@ -1,12 +1,11 @@
 -- A Join(*,G) that comes again within a message: which (S,G,rpt) machines it leaves as they are.
-use Rattle.std.proofs.Common.{◌≡◌, ℕ, zero, suc, ◌+◌, ◌<◌, Bool, true, false, cond, ◌&&◌, ◌||◌, ◌⊎◌, inl, inr, List, [], ◌∷◌, ◌++◌, Option, Some, None, length, map, drop, get_or, eqb, refl, sym, ap, subst, ◌∙◌, arith}
+use Rattle.std.proofs.Common.{◌≡◌, ℕ, Bool, true, false, cond, ◌&&◌, ◌||◌, ◌⊎◌, inl, inr, List, [], ◌∷◌, ◌++◌, Option, Some, None, map, eqb, refl, sym, ap, subst, ◌∙◌}
 use Rattle.std.specs.Cmp.Lexicographic.{pointwise, same_text}
 use Rattle.std.specs.List.{list_any}
 use Rattle.std.proofs.lemmas.Bool.{false≢true, eq-eqb}
 use Rattle.std.proofs.lemmas.List.{take-append-drop}
 use Rattle.pim_jp.specs.declared.entry.Entry.{Entry}
 use Rattle.pim_jp.specs.declared.entry.Entry.TheVariants as entry
-use Rattle.pim_jp.specs.Message.{GroupSet}
 use Rattle.pim_down.specs.declared.key.What.{What}
 use Rattle.pim_down.specs.declared.key.What.TheVariants.{Star, Source, Rpt}
 use Rattle.pim_down.specs.declared.key.Key.{Key}
@@ -20,7 +19,6 @@ use Rattle.pim_down.specs.Records.{IsAscending, machine_at, changed, each_change
 use Rattle.pim_down.specs.Hearing.{Event, is_rpt, is_star, is_star_join, is_rpt_on, is_rpt_of, on_own, on_rpts, key_of, effect, act}
 use Rattle.pim_down.specs.Ordered.{entry_of_what, entry_named, StayButNamed}
 use Rattle.pim_down.specs.Places.{WouldStandAt}
-use Rattle.pim_down.specs.Running.{is_group_of, AreOverIn}
 use Rattle.pim_down.specs.Seen.{what_seen}
 use Rattle.pim_down.specs.Stars.{Stays, StayBut, AllStay, rpt_key, is_prune_of, is_pruned_by}
 use Rattle.pim_down.proofs.Order.{same_keys, same_back}
@@ -28,16 +26,9 @@ use Rattle.pim_down.proofs.Map.{IsAscending-changed, IsAscending-each_changed, a
 use Rattle.pim_down.proofs.OneList.{one_list}
 use Rattle.pim_down.proofs.Act.{at_act}
 use Rattle.pim_down.proofs.Rpts.{itself}
+use Rattle.pim_down.proofs.Searched.{first_part as first_of, second_part as second_of}
 
 -- ---- truth
-
-first_of : (a b : Bool) → (a && b) ≡ true → a ≡ true
-first_of true b e = refl
-first_of false b e = absurd (false≢true e)
-
-second_of : (a b : Bool) → (a && b) ≡ true → b ≡ true
-second_of true b e = e
-second_of false b e = absurd (false≢true e)
 
 left_of : (a b : Bool) → (a || b) ≡ false → a ≡ false
 left_of true b e = absurd (false≢true (sym e))
@@ -183,26 +174,6 @@ stay_own port group but event change records new star is stay key in_group out =
     not_rpt (Source s) e = refl
     not_rpt (Rpt s) e = absurd (false≢true e)
 
--- the set at a place
-pub record IsSetAt (sets : List GroupSet) (k : ℕ) (this : GroupSet) (rest : List GroupSet) : Type 0 where
-  pub within : k < length sets
-  pub here : (d : GroupSet) → get_or sets k d ≡ this
-  pub behind : rest ≡ drop (suc k) sets
-
-pub set_at : (sets : List GroupSet) (k : ℕ) (this : GroupSet) (rest : List GroupSet) → drop k sets ≡ this ∷ rest → IsSetAt sets k this rest
-set_at [] zero this rest e = absurd (let n = ap length e in omega (arith, n))
-set_at [] (suc k) this rest e = absurd (let n = ap length e in omega (arith, n))
-set_at (first ∷ sets) zero this rest e =
-    let same : first ≡ this = cc in
-    let others : sets ≡ rest = cc in
-    record { within = omega arith; here = λ d. same; behind = sym others }
-set_at (first ∷ sets) (suc k) this rest e =
-    let more = set_at sets k this rest e in
-    record { within = omega (arith, more.within); here = more.here; behind = more.behind }
-
-pub rest_at : (sets : List GroupSet) (k n : ℕ) (this : GroupSet) (rest : List GroupSet) → n ≡ k + 1 → drop k sets ≡ this ∷ rest → rest ≡ drop n sets
-rest_at sets k n this rest next e = let m : suc k ≡ n = omega (arith, next) in (set_at sets k this rest e).behind ∙ ap (λ i. drop i sets) m
-
 -- ---- a Join(*,G) comes to some machines of its group
 
 module _ (port : ℕ) (group : List ℕ) where
@@ -309,15 +280,3 @@ module _ (port : ℕ) (group : List ℕ) where
 pub joined_none : (key : Key (List ℕ)) (records : List (Record (List ℕ))) (i : ℕ) → WouldStandAt key records i → changed key on_star_join records ≡ records
 unfolding on_star_join
 joined_none key records i would = would.after on_star_join ∙ take-append-drop i records
-
--- ---- a group that comes again
-
--- the machines that end are of the groups of the others, too
-pub over_later : (port : ℕ) (this : GroupSet) (rest : List GroupSet) (records : List (Record (List ℕ))) → is_group_of rest this.group ≡ true → AreOverIn port (this ∷ rest) records → AreOverIn port rest records
-unfolding AreOverIn is_group_of
-over_later port this rest [] again are = tt
-over_later port this rest (held ∷ records) again are = (λ over. by (pointwise eqb held.key.group this.group) refl (are.0 over), over_later port this rest records again are.1)
-  where
-    by : (b : Bool) → pointwise eqb held.key.group this.group ≡ b → (b || is_group_of rest held.key.group) ≡ true → is_group_of rest held.key.group ≡ true
-    by true e f = subst (λ (g : List ℕ). is_group_of rest g ≡ true) (sym (same_text held.key.group this.group (sym e))) again
-    by false e f = f

@@ -2,21 +2,22 @@
 //! within one only a Join(*,G) puts machines of its group into one. So End of Message visits only
 //! groups that had a Join(*,G) that counts: a message without one costs no walk.
 
-ghost use Rattle.std.specs.Prelude.{◌≡◌, not};
-ghost use Rattle.std.specs.List.{filter};
+ghost use Rattle.std.specs.Prelude.{◌≡◌, not, map, true, Some};
+ghost use Rattle.std.specs.List.{filter, list_any};
 ghost use Rattle.pim_down.specs.Records.{IsAscending, each_changed};
-ghost use Rattle.pim_down.specs.Hearing.{at_end};
-ghost use Rattle.pim_down.specs.Running.{is_over_in, joined_sets, AreOverIn};
-ghost use Rattle.pim_down.specs.Seen.{records_seen};
+ghost use Rattle.pim_down.specs.Hearing.{at_end, events_of, is_star_join, list_events};
+ghost use Rattle.pim_down.specs.Known.{known_in};
+ghost use Rattle.pim_down.specs.Running.{is_over_in, AreOverIn};
+ghost use Rattle.pim_down.specs.Seen.{records_seen, event_seen};
 ghost use Rattle.pim_down.specs.Sound.{is_temporary};
 
-use crate::again::is_joined_again;
-use crate::hear::{RptsOf, is_rpt_of};
+use crate::event::Event;
+use crate::hear::{RptsOf, event_of, is_rpt_of, is_star_join};
 use crate::key::OfFamily;
 use crate::machine::State;
 use crate::store::Store;
-use pim_addr::Family;
-use pim_jp::JpView;
+use pim_addr::{Family, Routes};
+use pim_jp::{Entries, JpView};
 
 /// Whether a machine has the state only while a message is heard.
 fn is_temporary(state: State) -> bool
@@ -26,11 +27,7 @@ fn is_temporary(state: State) -> bool
 }
 
 /// Applies End of Message to the (S,G,rpt) machines of a group. It visits only these.
-pub(crate) fn end_group<F: Family>(
-    records: &mut Store<F::Addr, OfFamily<F>>,
-    port: usize,
-    group: F::Addr,
-)
+fn end_group<F: Family>(records: &mut Store<F::Addr, OfFamily<F>>, port: usize, group: F::Addr)
     requires { IsAscending (records_seen F.bytes_of records.old.items) }
     ensures { records_seen F.bytes_of records.new.items
         ≡ filter (λ held. not (is_over_in port (F.bytes_of group) held))
@@ -50,33 +47,85 @@ pub(crate) fn end_group<F: Family>(
     }
 }
 
-/// Applies End of Message to the (S,G,rpt) machines of a port. Those in a Tmp state are of groups
-/// for which the message had a Join(*,G), and it visits only these groups. It visits each once, at
-/// the last set with such a Join. Where a group may come again, each such set takes a step for each
-/// set of the message: 65,025 steps at most.
-pub(crate) fn end_message<F: Family>(
+/// Whether a joined list of the group has a Join(*,G) whose RP is RP(G).
+fn has_star_join<F: Family>(routes: &Routes<F>, group: F::Addr, joined: Entries<'_, F>) -> bool
+    ensures { result ≡ list_any is_star_join
+        (list_events (known_in F.family routes.now) true (F.bytes_of group) joined.entry) }
+{
+    for entry in joined {
+        match event_of::<F>(routes, true, group, entry) {
+            Some(event) => {
+                if is_star_join(&event) {
+                    return true;
+                }
+            }
+            None => {}
+        }
+    }
+    false
+}
+
+/// Applies End of Message to the (S,G,rpt) machines of a port, after the sets of a message. Those
+/// in a Tmp state are of groups for which the message had a Join(*,G), and it visits only these.
+pub(crate) fn end_sets<F: Family>(
     records: &mut Store<F::Addr, OfFamily<F>>,
     port: usize,
+    routes: &Routes<F>,
     message: &JpView<'_, F>,
-    joined: &[bool; 256],
-    repeat: bool,
 )
     requires ascending { IsAscending (records_seen F.bytes_of records.old.items) }
-    requires groups { AreOverIn port (joined_sets message.now.sets joined.now)
+    requires groups { AreOverIn port (events_of (known_in F.family routes.now) message.now)
         (records_seen F.bytes_of records.old.items) }
     ensures { records_seen F.bytes_of records.new.items
         ≡ each_changed (at_end port) (records_seen F.bytes_of records.old.items) }
 {
-    let _most = message.set_count();
-    let mut number = 0;
     for set in message.sets() {
         let group = set.group();
-        let this = number;
-        number += 1;
-        if joined[usize::from(this)] {
-            if !is_joined_again::<F>(message, joined, this, group, repeat) {
-                end_group::<F>(records, port, group);
-            }
+        if has_star_join::<F>(routes, group, set.joined()) {
+            end_group::<F>(records, port, group);
+        }
+    }
+}
+
+/// Applies End of Message to the (S,G,rpt) machines of a group. The last group has none left.
+fn end_next<F: Family>(
+    records: &mut Store<F::Addr, OfFamily<F>>,
+    port: usize,
+    group: F::Addr,
+    last: Option<F::Addr>,
+)
+    requires ascending { IsAscending (records_seen F.bytes_of records.old.items) }
+    requires ended { (other : F.Addr) → last ≡ Some other → records_seen F.bytes_of records.old.items
+        ≡ filter (λ held. not (is_over_in port (F.bytes_of other) held))
+        (records_seen F.bytes_of records.old.items) }
+    ensures { records_seen F.bytes_of records.new.items
+        ≡ filter (λ held. not (is_over_in port (F.bytes_of group) held))
+        (records_seen F.bytes_of records.old.items) }
+{
+    match last {
+        Some(other) if other == group => {}
+        _ => end_group::<F>(records, port, group),
+    }
+}
+
+/// The same as `end_sets`, after the events of a list. If the events of each group are side by
+/// side, it visits each group once.
+pub(crate) fn end_events<F: Family>(
+    records: &mut Store<F::Addr, OfFamily<F>>,
+    port: usize,
+    events: &[Event<F::Addr>],
+)
+    requires ascending { IsAscending (records_seen F.bytes_of records.old.items) }
+    requires groups { AreOverIn port (map (event_seen F.bytes_of) events.now)
+        (records_seen F.bytes_of records.old.items) }
+    ensures { records_seen F.bytes_of records.new.items
+        ≡ each_changed (at_end port) (records_seen F.bytes_of records.old.items) }
+{
+    let mut last = None;
+    for event in events {
+        if is_star_join(event) {
+            end_next::<F>(records, port, event.group, last);
+            last = Some(event.group);
         }
     }
 }

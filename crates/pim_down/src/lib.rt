@@ -25,7 +25,6 @@
 #![tactic(auto)]
 
 mod after;
-mod again;
 mod blocks;
 mod deadline;
 mod edits;

@@ -1,14 +1,9 @@
-//! Counts and hears the events of a message from a list of their own.
+//! Hears the events of a message from a list of their own.
 
-ghost use Rattle.std.specs.Prelude.{◌≡◌, ◌≤◌, ◌<◌, ◌+◌, ℕ, true, false, map, length};
+ghost use Rattle.std.specs.Prelude.{◌≡◌, ◌≤◌, ◌<◌, ◌+◌, map, length};
 ghost use Rattle.std.specs.Prelude.{slice_index_or, Some};
-ghost use Rattle.std.specs.List.{list_any};
-ghost use Rattle.pim_jp.specs.Message.{GroupSet};
 ghost use Rattle.pim_down.specs.Records.{IsAscending, changed, each_changed};
-ghost use Rattle.pim_down.specs.Hearing.{list_events, act, act_all, is_star_join, on_rpts};
-ghost use Rattle.pim_down.specs.Hearing.{count_new};
-ghost use Rattle.pim_down.specs.Running.{has_star_join};
-ghost use Rattle.pim_down.specs.Known.{known_in};
+ghost use Rattle.pim_down.specs.Hearing.{act, act_all, on_rpts};
 ghost use Rattle.pim_down.specs.Ordered.{StayButNamed, IsLast};
 ghost use Rattle.pim_down.specs.Space.{HasRoom};
 ghost use Rattle.pim_down.specs.Stars.{rpt_key};
@@ -17,14 +12,12 @@ ghost use Rattle.pim_down.specs.Seen.{start_seen, records_seen, event_seen};
 
 use crate::edits::{find_place, place_of, replace_at};
 use crate::event::Event;
-use crate::hear::{act_on_own, event_of, is_star_join, join_rpts};
+use crate::hear::{act_on_own, is_star_join, join_rpts};
 use crate::held::Start;
 use crate::key::{Key, OfFamily, What};
 use crate::machine::on_star_join;
-use crate::message::is_new;
 use crate::store::Store;
-use pim_addr::{Family, Routes};
-use pim_jp::{Entries, JpView};
+use pim_addr::Family;
 use sorted_blocks::Place;
 
 /// The last Join(*,G) that was heard from the list: its group, and the index after it.
@@ -32,26 +25,6 @@ use sorted_blocks::Place;
 pub(crate) struct LastStar<A> {
     group: Option<A>,
     behind: usize,
-}
-
-/// How many of these events create a record that isn't held.
-pub(crate) fn count_events<F: Family>(
-    records: &Store<F::Addr, OfFamily<F>>,
-    port: usize,
-    events: &[Event<F::Addr>],
-) -> usize
-    requires { IsAscending (records_seen F.bytes_of records.now.items) }
-    ensures { result ≡ count_new port (records_seen F.bytes_of records.now.items)
-        (map (event_seen F.bytes_of) events.now) }
-{
-    let mut near = Place::START;
-    let mut count = 0;
-    for event in events {
-        if is_new::<F>(records, &mut near, port, event) {
-            count += 1;
-        }
-    }
-    count
 }
 
 /// Applies Join(*,G) to the (S,G,rpt) machine of this source. The search begins near a place, and
@@ -199,39 +172,4 @@ pub(crate) fn hear_events<F: Family>(
         let event = events[index];
         last = act_listed::<F>(records, &mut near, port, start, events, index, event, last);
     }
-}
-
-/// Whether a joined list of the group has a Join(*,G) whose RP is RP(G).
-fn has_star_join<F: Family>(routes: &Routes<F>, group: F::Addr, joined: Entries<'_, F>) -> bool
-    ensures { result ≡ list_any is_star_join
-        (list_events (known_in F.family routes.now) true (F.bytes_of group) joined.entry) }
-{
-    for entry in joined {
-        match event_of::<F>(routes, true, group, entry) {
-            Some(event) => {
-                if is_star_join(&event) {
-                    return true;
-                }
-            }
-            None => {}
-        }
-    }
-    false
-}
-
-/// For each set of a message, by its number, whether it has a Join(*,G) whose RP is RP(G).
-pub(crate) fn star_joins<F: Family>(routes: &Routes<F>, message: &JpView<'_, F>) -> [bool; 256]
-    ensures { (i : ℕ) (d : GroupSet) → i < length message.now.sets →
-        slice_index_or result i false
-        ≡ has_star_join (known_in F.family routes.now) (slice_index_or message.now.sets i d) }
-{
-    let _most = message.set_count();
-    let mut joined = [false; 256];
-    let mut number = 0u8;
-    for set in message.sets() {
-        let this = number;
-        number += 1;
-        joined[usize::from(this)] = has_star_join::<F>(routes, set.group(), set.joined());
-    }
-    joined
 }

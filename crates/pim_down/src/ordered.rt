@@ -20,11 +20,10 @@ ghost use Rattle.pim_down.specs.Ordered.{comes_before_by_source};
 ghost use Rattle.pim_down.specs.Ordered.{is_of_rpts_of, StarsComeFirst, AreAlike};
 ghost use Rattle.pim_down.specs.Seen.{what_seen, event_seen};
 
-use crate::again::may_repeat;
 use crate::event::Event;
 use crate::hear::{event_of, is_star_join};
 use crate::key::{What, compare_addresses, compare_whats};
-use crate::scattered::is_scattered;
+use crate::scattered::{is_scattered, may_repeat};
 use pim_addr::{Family, Routes};
 use pim_jp::{Entries, JpView};
 use std::alloc::{AllocError, Global};

@@ -316,19 +316,20 @@ impl<F: Family> Ports<F> {
     ///
     /// It asks the table only for each Join(*,G), at most three times.
     ///
-    /// It looks up each entry twice, and a Prune(S,G,rpt) at most once more. It walks through the
-    /// (S,G,rpt) machines of each group at most twice, however often the message names the group:
-    /// at its first Join(*,G), and at End of Message. If the groups don't ascend, it also takes
-    /// fewer than 100,000 steps from set to set.
+    /// It looks up each entry at most twice, and a Prune(S,G,rpt) at most once more. It walks
+    /// through the (S,G,rpt) machines of each group at most twice, however often the message names
+    /// the group: at its first Join(*,G), and at End of Message.
     ///
     /// Look-ups are short where each entry follows the one before it in key order. Where more than
     /// a few don't, the code first sorts the entries in that order, in n log n steps for n entries.
     /// Entries of one machine keep their order. If a Join(*,G) follows another one of its group, or
     /// an (S,G,rpt) entry of it, the code sorts only the (S,G) entries of each group. If memory for
-    /// the sorted list is refused, the code hears the entries in message order.
+    /// the sorted list is refused, the code hears the entries in message order, and walks through a
+    /// group twice for each of its Joins(*,G).
     ///
     /// It judges `Full` before it takes any memory. So it counts new records in message order where
-    /// the port's records and all entries of the message exceed the limit.
+    /// the port's records and all entries of the message exceed the limit. Otherwise it takes
+    /// memory for as many records as the message has entries.
     pub fn hear(
         &mut self,
         port: usize,

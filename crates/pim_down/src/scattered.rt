@@ -2,7 +2,7 @@
 //! a hint: a message does the same in either order.
 
 use pim_addr::Family;
-use pim_jp::{Entries, Entry, JpView};
+use pim_jp::{Entries, Entry, JpView, Sets};
 
 /// How many entries of joined lists, or of pruned ones, may follow one that they come before in key
 /// order.
@@ -88,6 +88,22 @@ pub(crate) fn is_scattered<F: Family>(message: &JpView<'_, F>) -> bool {
         if joined.are_many() || pruned.are_many() {
             return true;
         }
+    }
+    false
+}
+
+/// Whether a group may come again. It can't where the groups ascend, as they do in a message that
+/// was packed in order.
+pub(crate) fn may_repeat<F: Family>(sets: Sets<'_, F>) -> bool {
+    let mut last: Option<F::Addr> = None;
+    for set in sets {
+        let group = set.group();
+        if let Some(other) = last {
+            if other >= group {
+                return true;
+            }
+        }
+        last = Some(group);
     }
     false
 }

@@ -1,10 +1,9 @@
 use Rattle.std.proofs.Common.{◌∙◌, sym, ap, arith}
 use Rattle.pim_jp.specs.Seen.{entry_seen}
-use Rattle.pim_down.specs.Hearing.{list_events, act_all, act, is_star_join}
+use Rattle.pim_down.specs.Hearing.{list_events, act_all, act}
 use Rattle.pim_down.specs.Known.{known_in}
 use Rattle.pim_down.specs.Seen.{start_seen, records_seen, event_seen}
 use Rattle.pim_down.proofs.Act.{IsAscending-act}
-use Rattle.pim_down.proofs.Ending.{any_more}
 use Rattle.pim_down.proofs.Events.{events_one, room_at, left_at, nothing_left, room_grows}
 use Rattle.pim_down.proofs.message.hear_list.Goals as goal
 
@@ -36,7 +35,6 @@ loop-entry-preserved-in-Some-event_of g c =
       room = rw c.act.ensures.records (room_grows c.args.port (start_seen c.args.start) c.loop-entry.records.capacity c.act.new.records.capacity others (act c.args.port (start_seen c.args.start) event seen) c.act.ensures.capacity space.1);
       left = ap (act_all c.args.port (start_seen c.args.start) others) c.act.ensures.records ∙ sym (left_at c.args.port (start_seen c.args.start) event all others seen split) ∙ c.loop-entry.invariant.left;
       capacity = omega (arith, c.act.ensures.capacity, c.loop-entry.invariant.capacity);
-      joined = any_more is_star_join c.loop-entry.starred c.is_star_join-starred.result event all others split (c.is_star_join-starred.ensures bytes_of) ∙ c.loop-entry.invariant.joined;
     }
 
 pub returns-clause-records : goal.returns-clause-records

@@ -1,7 +1,6 @@
-use Rattle.std.proofs.Common.{◌≡◌, ◌≤◌, ◌||◌}
-use Rattle.std.specs.List.{list_any}
+use Rattle.std.proofs.Common.{◌≡◌, ◌≤◌}
 use Rattle.pim_down.specs.Records.{IsAscending}
-use Rattle.pim_down.specs.Hearing.{list_events, act_all, is_star_join}
+use Rattle.pim_down.specs.Hearing.{list_events, act_all}
 use Rattle.pim_down.specs.Space.{HasRoom}
 use Rattle.pim_down.specs.Known.{known_in}
 use Rattle.pim_down.specs.Seen.{start_seen, records_seen}
@@ -14,5 +13,4 @@ invariant-loop-entry g l = record {
   room : HasRoom l.port (start_seen l.start) l.records.capacity (list_events (known_in g.F.Family.family l.routes) l.joins (g.F.Family.bytes_of l.group) l.entry-iterator) (records_seen g.F.Family.bytes_of l.records.items);
   left : act_all l.port (start_seen l.start) (list_events (known_in g.F.Family.family l.routes) l.joins (g.F.Family.bytes_of l.group) l.entry-iterator) (records_seen g.F.Family.bytes_of l.records.items) ≡ act_all l.port (start_seen l.start) (list_events (known_in g.F.Family.family l.routes) l.joins (g.F.Family.bytes_of l.group) l.fn.entries) (records_seen g.F.Family.bytes_of l.fn.records.items);
   capacity : l.fn.records.capacity ≤ l.records.capacity;
-  joined : (l.starred || list_any is_star_join (list_events (known_in g.F.Family.family l.routes) l.joins (g.F.Family.bytes_of l.group) l.entry-iterator)) ≡ list_any is_star_join (list_events (known_in g.F.Family.family l.routes) l.joins (g.F.Family.bytes_of l.group) l.fn.entries);
 }

@@ -2,7 +2,7 @@ use Rattle.std.proofs.Common.{◌≡◌, true}
 use Rattle.std.specs.List.{list_any}
 use Rattle.pim_down.specs.Hearing.{list_events, is_star_join}
 use Rattle.pim_down.specs.Known.{known_in}
-use Rattle.pim_down.proofs.listed.has_star_join.Given as goal
+use Rattle.pim_down.proofs.end.has_star_join.Given as goal
 
 -- one of the entries that are left is one exactly where one of all is
 abbrev pub invariant-loop-entry : goal.invariant-loop-entry
