@@ -6,6 +6,7 @@ ghost use Rattle.pim_form.specs.NormalForm.{GroupForm, IsFormOf};
 ghost use Rattle.pim_form.specs.Rows.{exceptions_of, place_seen};
 ghost use Rattle.pim_form.specs.Drafts.{IsDraft, IsLast, Becomes};
 ghost use Rattle.pim_form.specs.Collect.{fresh, with_exception, added, Takes, closed, wants_at};
+ghost use Rattle.pim_form.specs.Collect.{collected, of_port};
 
 use crate::form::NormalForm;
 use crate::place::Place;
@@ -123,6 +124,36 @@ fn close<F: Family>(
     Ok(())
 }
 
+/// Appends the groups of one port to a form under construction, which has no group yet.
+fn push_port<F: Family>(
+    row: &mut Vec<F::Addr>,
+    places: &mut Vec<Place<F::Addr>>,
+    ports: &Ports<F>,
+    port: usize,
+) -> Result<(), AllocError>
+    requires { places.old.items ≡ [] }
+    ensures { OnOk result (IsDraft F.bytes_of row.new.items places.new.items
+        (collected (of_port port ports.now))) }
+{
+    ports.is_sound();
+    let mut records = ports.records_on(port);
+    let Some(first) = records.next() else {
+        return Ok(());
+    };
+    row.reserve(ports.count_on(port))?;
+    let mut group = begin::<F>(row, &first)?;
+    for record in records {
+        if record.key.group == group.group {
+            add::<F>(row, &mut group, &record)?;
+        } else {
+            close::<F>(places, &group)?;
+            group = begin::<F>(row, &record)?;
+        }
+    }
+    close::<F>(places, &group)?;
+    Ok(())
+}
+
 /// The form of what one port wants. The only refusal is for lack of memory.
 pub(crate) fn collect<F: Family>(
     alloc: Global,
@@ -135,20 +166,6 @@ pub(crate) fn collect<F: Family>(
     pim_down::keys_are_told_apart();
     let mut row = Vec::new(alloc);
     let mut places = Vec::new(alloc);
-    let mut records = ports.records_on(port);
-    let Some(first) = records.next() else {
-        return Ok(NormalForm { row, places });
-    };
-    row.reserve(ports.count_on(port))?;
-    let mut group = begin::<F>(&mut row, &first)?;
-    for record in records {
-        if record.key.group == group.group {
-            add::<F>(&mut row, &mut group, &record)?;
-        } else {
-            close::<F>(&mut places, &group)?;
-            group = begin::<F>(&mut row, &record)?;
-        }
-    }
-    close::<F>(&mut places, &group)?;
+    push_port::<F>(&mut row, &mut places, ports, port)?;
     Ok(NormalForm { row, places })
 }

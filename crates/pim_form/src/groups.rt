@@ -7,7 +7,7 @@ ghost use Rattle.pim_form.specs.NormalForm.{IsNormalGroup, group_wants};
 ghost use Rattle.pim_form.specs.Rows.{IsWithin, AreKept, exceptions_of, place_seen, form_seen};
 ghost use Rattle.pim_form.specs.Rows.{IsCut};
 
-use crate::place::Place;
+use crate::place::{Place, between};
 use crate::sorted::is_listed;
 use crate::tree::Tree;
 use pim_addr::Family;
@@ -98,15 +98,11 @@ pub(crate) fn group_at<'a, F: Family>(
     requires normal { IsNormalGroup F.family (place_seen F.bytes_of row.now place.now) }
     ensures { result ≡ place_seen F.bytes_of row.now place.now }
 {
-    let (front, _) = row.split_at(place.exceptions_end);
-    let (_, exceptions) = front.split_at(place.exceptions_start);
-    let (front, _) = row.split_at(place.sources_end);
-    let (_, sources) = front.split_at(place.sources_start);
     GroupView {
         group: place.group,
         starred: place.starred,
-        exceptions,
-        sources,
+        exceptions: between(row, place.exceptions_start, place.exceptions_end),
+        sources: between(row, place.sources_start, place.sources_end),
     }
 }
 

@@ -170,6 +170,45 @@ fn push_groups<F: Family>(
     Ok(())
 }
 
+/// Appends the merge of two forms to a form under construction, which has no group yet.
+fn push_merged<F: Family>(
+    row: &mut Vec<F::Addr>,
+    places: &mut Vec<Place<F::Addr>>,
+    one: &NormalForm<F>,
+    other: &NormalForm<F>,
+) -> Result<(), AllocError>
+    requires { places.old.items ≡ [] }
+    ensures { OnOk result
+        (IsDraft F.bytes_of row.new.items places.new.items (merged one.now other.now)) }
+{
+    let mut left: &[Place<F::Addr>] = &one.places;
+    let mut right: &[Place<F::Addr>] = &other.places;
+    while let Some((a, left_behind)) = left.split_first() {
+        let Some((b, right_behind)) = right.split_first() else {
+            break;
+        };
+        let (first, second) = (group_at::<F>(&one.row, a), group_at::<F>(&other.row, b));
+        match a.group.cmp(&b.group) {
+            Ordering::Less => {
+                push_group::<F>(row, places, &first)?;
+                left = left_behind;
+            }
+            Ordering::Equal => {
+                push_both::<F>(row, places, &first, &second)?;
+                left = left_behind;
+                right = right_behind;
+            }
+            Ordering::Greater => {
+                push_group::<F>(row, places, &second)?;
+                right = right_behind;
+            }
+        }
+    }
+    push_groups::<F>(row, places, Groups::new(&one.row, left))?;
+    push_groups::<F>(row, places, Groups::new(&other.row, right))?;
+    Ok(())
+}
+
 /// The form that wants what either wants. The only refusal is for lack of memory.
 pub(crate) fn merge<F: Family>(
     alloc: Global,
@@ -181,30 +220,6 @@ pub(crate) fn merge<F: Family>(
     let mut row = Vec::new(alloc);
     row.reserve(one.row.len().saturating_add(other.row.len()))?;
     let mut places = Vec::new(alloc);
-    let mut left: &[Place<F::Addr>] = &one.places;
-    let mut right: &[Place<F::Addr>] = &other.places;
-    while let Some((a, left_behind)) = left.split_first() {
-        let Some((b, right_behind)) = right.split_first() else {
-            break;
-        };
-        let (first, second) = (group_at::<F>(&one.row, a), group_at::<F>(&other.row, b));
-        match a.group.cmp(&b.group) {
-            Ordering::Less => {
-                push_group::<F>(&mut row, &mut places, &first)?;
-                left = left_behind;
-            }
-            Ordering::Equal => {
-                push_both::<F>(&mut row, &mut places, &first, &second)?;
-                left = left_behind;
-                right = right_behind;
-            }
-            Ordering::Greater => {
-                push_group::<F>(&mut row, &mut places, &second)?;
-                right = right_behind;
-            }
-        }
-    }
-    push_groups::<F>(&mut row, &mut places, Groups::new(&one.row, left))?;
-    push_groups::<F>(&mut row, &mut places, Groups::new(&other.row, right))?;
+    push_merged::<F>(&mut row, &mut places, one, other)?;
     Ok(NormalForm { row, places })
 }

@@ -4,14 +4,13 @@
 //! such a form, also where memory is short. The bytes of all messages are reserved once and written
 //! in place.
 
-ghost use Rattle.std.specs.Prelude.{◌≡◌, ◌≢◌, ◌≤◌, true, None, Err, length, map, option_map, IfOk};
+ghost use Rattle.std.specs.Prelude.{◌≡◌, ◌≢◌, true, None, Err, length, map, option_map, IfOk};
 ghost use Rattle.std.specs.List.{AllByRecursion};
 ghost use Rattle.pim_down.specs.Known.{known_in};
 ghost use Rattle.pim_form.specs.Messages.{HaveRps, TellRuns, AreCanonical};
 ghost use Rattle.pim_form.specs.Parts.{IsFitting, PartHasRps, runs_size};
 ghost use Rattle.pim_form.specs.Plan.{AreEnds, parts_from, run_of};
 ghost use Rattle.pim_form.specs.Refused.{told_too_big};
-ghost use Rattle.pim_form.specs.Rows.{between};
 ghost use Rattle.pim_form.specs.TooBig.{too_big};
 ghost use Rattle.pim_form.specs.Toward.{via_in, is_toward};
 
@@ -19,24 +18,13 @@ use crate::fault::FormFault;
 use crate::form::NormalForm;
 use crate::groups::Groups;
 use crate::messages::Messages;
-use crate::place::Place;
+use crate::place::{Place, between};
 use crate::plan::{Plan, plan_messages};
 use crate::sizes::too_big;
 use crate::writer::Writer;
 use crate::written::message_length;
 use pim_addr::{Family, Routes};
 use std::alloc::{AllocError, Global};
-
-/// The pieces from `start` up to `end`.
-fn pieces_between<A>(pieces: &[Place<A>], start: usize, end: usize) -> &[Place<A>]
-    requires start { start ≤ end }
-    requires end { end ≤ length pieces.now }
-    ensures { result.now ≡ between start end pieces.now }
-{
-    let (front, _) = pieces.split_at(end);
-    let (_, part) = front.split_at(start);
-    part
-}
 
 /// The number of bytes of all messages of a plan. It is an error if that can't be addressed.
 fn total_length<F: Family>(
@@ -54,7 +42,7 @@ fn total_length<F: Family>(
     let mut total: usize = 0;
     let mut start = 0;
     for &end in &plan.ends {
-        let part = pieces_between(&plan.pieces, start, end);
+        let part = between(&plan.pieces, start, end);
         let length = message_length::<F>(Groups::new(row, part));
         let Some(sum) = total.checked_add(length) else {
             return Err(AllocError);
@@ -88,7 +76,7 @@ fn told_plan<F: Family>(
     messages.reserve(plan.ends.len(), total)?;
     let mut start = 0;
     for &end in &plan.ends {
-        let part = pieces_between(&plan.pieces, start, end);
+        let part = between(&plan.pieces, start, end);
         messages.add::<F>(writer, routes, row, part)?;
         start = end;
     }

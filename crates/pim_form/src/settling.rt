@@ -93,7 +93,6 @@ fn all_held_settle<F: Family>(ports: &Ports<F>, port: usize, normal: &NormalForm
 }
 
 /// Whether the (S,G) machines of these sources are all in Join.
-#[tactic(auto, using(crate::proofs::Asked::all_left, crate::proofs::Asked::none_left))]
 fn all_joined<F: Family>(ports: &Ports<F>, port: usize, group: F::Addr, sources: &[F::Addr]) -> bool
     ensures { result
         ≡ list_all (is_joined_at ports.now.records port (F.bytes_of group))
@@ -108,7 +107,6 @@ fn all_joined<F: Family>(ports: &Ports<F>, port: usize, group: F::Addr, sources:
 }
 
 /// Whether the (S,G,rpt) machines of these sources are all in Prune.
-#[tactic(auto, using(crate::proofs::Asked::all_left, crate::proofs::Asked::none_left))]
 fn all_pruned<F: Family>(ports: &Ports<F>, port: usize, group: F::Addr, sources: &[F::Addr]) -> bool
     ensures { result
         ≡ list_all (is_pruned_at ports.now.records port (F.bytes_of group))

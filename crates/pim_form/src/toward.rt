@@ -53,7 +53,6 @@ pub(crate) fn is_rp_reached<F: Family>(
     is_asked::<F>(asked, upstream)
 }
 
-#[tactic(auto, using(crate::proofs::Asked::all_left, crate::proofs::Asked::none_left))]
 /// Whether this neighbour is RPF'(S,G) of all these sources.
 fn all_reached<F: Family>(sources: &[F::Addr], routes: &Routes<F>, upstream: F::Addr) -> bool
     ensures { result ≡ list_all (λ (source : List ℕ). is_neighbour (F.bytes_of upstream)

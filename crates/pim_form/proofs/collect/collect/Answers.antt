@@ -1,70 +1,16 @@
-use Rattle.std.proofs.Common.{◌∙◌, sym, subst}
-use Rattle.std.proofs.lemmas.Bool.{false≢true}
-use Rattle.pim_down.specs.Seen.{told_seen}
+use Rattle.std.proofs.Common.{sym, subst}
 use Rattle.pim_form.specs.NormalForm.{IsFormOf}
-use Rattle.pim_form.specs.Drafts.{IsDraft}
-use Rattle.pim_form.specs.Collect.{collected, of_port, wants_at}
-use Rattle.pim_form.proofs.Collected.{is_run, IsRun}
+use Rattle.pim_form.specs.Collect.{wants_at}
 use Rattle.pim_form.proofs.CollectedWants.{port_form}
-use Rattle.pim_form.proofs.Collecting.{IsCollecting, starts, nothing, takes, same_group, other_group, ends}
 use Rattle.pim_form.proofs.Merging.{kept_of_draft}
-use Rattle.pim_form.proofs.PortDemand.{are_of_port}
-use Rattle.pim_form.proofs.collect.collect.Given.{Over}
 use Rattle.pim_form.proofs.collect.collect.Goals as goal
-
-pub loop-record-init : goal.loop-record-init
-loop-record-init g c =
-    let bytes_of = g.F.Family.bytes_of in
-    let all = of_port c.args.port c.args.ports.now in
-    let are = are_of_port g.F.Family.family c.args.ports.now c.args.port c.is_sound.ensures in
-    let run : IsRun all = is_run c.args.port all are.here are.ascending in
-    let first = starts bytes_of c.reserve.new.self.items c.begin.new.row.items c.in_ok-group.group (told_seen bytes_of c.in-Some.first) c.next.new.self all (sym c.records_on-records.ensures ∙ c.in-Some.ensures.steps) run c.in_ok-group.ensures in
-    subst (λ places. IsCollecting bytes_of c.begin.new.row.items places c.in_ok-group.group c.into_iter-record-iterator.result (collected all)) (sym c.new-places.ensures.items)
-    (subst (λ left. IsCollecting bytes_of c.begin.new.row.items _ c.in_ok-group.group left (collected all)) (sym c.into_iter-record-iterator.ensures.into_iter_gives) first)
-
-pub add-requires-clause-takes : goal.add-requires-clause-takes
-add-requires-clause-takes g c =
-    let bytes_of = g.F.Family.bytes_of in
-    takes bytes_of c.loop-record.row.items c.loop-record.row.items c.loop-record.places.items c.loop-record.places.items c.loop-record.group c.loop-record.group (told_seen bytes_of c.in-Some-record.record) c.loop-record.record-iterator c.next-in-loop-record.new.self (collected (of_port c.args.port c.args.ports.now))
-    c.in-Some-record.ensures.steps c.loop-record.invariant ((g.met.F.Family.equality_of_bytes c.in-Some-record.record.key.group c.loop-record.group.group).0 (sym c.if-eq.ensures))
-
-pub loop-record-preserved-in-Continue-branch-3 : goal.loop-record-preserved-in-Continue-branch-3
-loop-record-preserved-in-Continue-branch-3 g c =
-    let bytes_of = g.F.Family.bytes_of in
-    same_group bytes_of c.loop-record.row.items c.add.new.row.items c.loop-record.places.items c.loop-record.places.items c.loop-record.group c.add.new.group (told_seen bytes_of c.in-Some-record.record) c.loop-record.record-iterator c.next-in-loop-record.new.self (collected (of_port c.args.port c.args.ports.now))
-    c.in-Some-record.ensures.steps c.loop-record.invariant ((g.met.F.Family.equality_of_bytes c.in-Some-record.record.key.group c.loop-record.group.group).0 (sym c.if-eq.ensures)) c.in_ok-add.ensures
-
-pub loop-record-preserved : goal.loop-record-preserved
-loop-record-preserved g c =
-    let bytes_of = g.F.Family.bytes_of in
-    other_group bytes_of c.loop-record.row.items c.begin-else-eq.new.row.items c.loop-record.places.items c.close.new.places.items c.loop-record.group c.in_ok-group-2.group (told_seen bytes_of c.in-Some-record.record) c.loop-record.record-iterator c.next-in-loop-record.new.self (collected (of_port c.args.port c.args.ports.now))
-    c.in-Some-record.ensures.steps c.loop-record.invariant
-    (λ same. false≢true (c.if-eq.ensures ∙ (g.met.F.Family.equality_of_bytes c.in-Some-record.record.key.group c.loop-record.group.group).1 same))
-    (λ form draft. c.in_ok-close.ensures c.loop-record.row.items form c.loop-record.invariant.last draft) c.in_ok-group-2.ensures
-
--- the whole form, at both ends
-whole_none : (g : Over) (c : goal.In_default g) → IsDraft g.F.Family.bytes_of c.new-row.result.items c.new-places.result.items (collected (of_port c.args.port c.args.ports.now))
-whole_none g c = nothing g.F.Family.bytes_of c.new-row.result.items c.new-places.result.items (of_port c.args.port c.args.ports.now) (sym c.records_on-records.ensures ∙ c.in_default.ensures.steps.0) c.new-places.ensures.items
 
 pub invariant_of-result : goal.invariant_of-result
 invariant_of-result g c =
     let form = port_form c.keys_are_told_apart.ensures g.F.Family.family c.args.ports.now c.args.port c.is_sound.ensures in
-    kept_of_draft g.F.Family.bytes_of g.F.Family.family c.new-row.result.items c.new-places.result.items (collected (of_port c.args.port c.args.ports.now)) (whole_none g c) form.normal
-
-pub returns-in_default : goal.returns-in_default
-returns-in_default g c =
-    subst (IsFormOf g.F.Family.family (wants_at c.args.port c.args.ports.now)) (sym (whole_none g c).seen) (port_form c.keys_are_told_apart.ensures g.F.Family.family c.args.ports.now c.args.port c.is_sound.ensures)
-
-whole : (g : Over) (c : goal.In_ok-close-2 g) → IsDraft g.F.Family.bytes_of c.loop-record.row.items c.close-2.new.places.items (collected (of_port c.args.port c.args.ports.now))
-whole g c =
-    ends g.F.Family.bytes_of c.loop-record.row.items c.loop-record.places.items c.close-2.new.places.items c.loop-record.group c.loop-record.record-iterator (collected (of_port c.args.port c.args.ports.now)) c.in-None.ensures.steps.0 c.loop-record.invariant
-    (λ form draft. c.in_ok-close-2.ensures c.loop-record.row.items form c.loop-record.invariant.last draft)
-
-pub invariant_of-result-2 : goal.invariant_of-result-2
-invariant_of-result-2 g c =
-    let form = port_form c.keys_are_told_apart.ensures g.F.Family.family c.args.ports.now c.args.port c.is_sound.ensures in
-    kept_of_draft g.F.Family.bytes_of g.F.Family.family c.loop-record.row.items c.close-2.new.places.items (collected (of_port c.args.port c.args.ports.now)) (whole g c) form.normal
+    kept_of_draft g.F.Family.bytes_of g.F.Family.family c.push_port.new.row.items c.push_port.new.places.items _ c.in_ok-push_port.ensures form.normal
 
 pub returns : goal.returns
 returns g c =
-    subst (IsFormOf g.F.Family.family (wants_at c.args.port c.args.ports.now)) (sym (whole g c).seen) (port_form c.keys_are_told_apart.ensures g.F.Family.family c.args.ports.now c.args.port c.is_sound.ensures)
+    subst (IsFormOf g.F.Family.family (wants_at c.args.port c.args.ports.now)) (sym c.in_ok-push_port.ensures.seen)
+    (port_form c.keys_are_told_apart.ensures g.F.Family.family c.args.ports.now c.args.port c.is_sound.ensures)

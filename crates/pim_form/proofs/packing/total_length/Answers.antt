@@ -8,40 +8,40 @@ use Rattle.pim_form.proofs.OnePacking.{fits_parts}
 use Rattle.pim_form.proofs.PlanParts.{next_part, of_next, no_end, of_others, one_more_run, no_more_run}
 use Rattle.pim_form.proofs.packing.total_length.Goals as goal
 
-pub pieces_between-part-requires-clause-start : goal.pieces_between-part-requires-clause-start
-pieces_between-part-requires-clause-start g c =
+pub between-part-requires-clause-start : goal.between-part-requires-clause-start
+between-part-requires-clause-start g c =
     let at = next_part c.args.plan.now.pieces.items c.deref-end-items.result.now c.args.plan.now.ends.items c.loop-end.end-index c.loop-end.start c.deref-end-items.ensures.value c.loop-end-test.true c.loop-end.invariant.ends in
     at.above
 
-pub pieces_between-part-requires-clause-end : goal.pieces_between-part-requires-clause-end
-pieces_between-part-requires-clause-end g c =
+pub between-part-requires-clause-end : goal.between-part-requires-clause-end
+between-part-requires-clause-end g c =
     let at = next_part c.args.plan.now.pieces.items c.deref-end-items.result.now c.args.plan.now.ends.items c.loop-end.end-index c.loop-end.start c.deref-end-items.ensures.value c.loop-end-test.true c.loop-end.invariant.ends in
     omega (arith, at.within, ap length c.deref.ensures.value)
 
 pub new-requires : goal.new-requires
 new-requires g c =
     let is = of_next c.args.plan.now.pieces.items c.deref-end-items.result.now c.args.plan.now.ends.items c.loop-end.end-index c.loop-end.start c.deref-end-items.ensures.value c.loop-end-test.true
-    (IsFitting g.F.Family.bytes_of g.F.Family.family c.args.writer.now.budget c.args.row.now) c.loop-end.invariant.parts _ _ c.deref.ensures.value c.pieces_between-part.ensures in
+    (IsFitting g.F.Family.bytes_of g.F.Family.family c.args.writer.now.budget c.args.row.now) c.loop-end.invariant.parts _ _ c.deref.ensures.value c.between-part.ensures in
     (is.kept.within, is.kept.normal.groups)
 
 pub message_length-length-requires-clause-normal : goal.message_length-length-requires-clause-normal
 message_length-length-requires-clause-normal g c =
     let is = of_next c.args.plan.now.pieces.items c.deref-end-items.result.now c.args.plan.now.ends.items c.loop-end.end-index c.loop-end.start c.deref-end-items.ensures.value c.loop-end-test.true
-    (IsFitting g.F.Family.bytes_of g.F.Family.family c.args.writer.now.budget c.args.row.now) c.loop-end.invariant.parts _ _ c.deref.ensures.value c.pieces_between-part.ensures in
+    (IsFitting g.F.Family.bytes_of g.F.Family.family c.args.writer.now.budget c.args.row.now) c.loop-end.invariant.parts _ _ c.deref.ensures.value c.between-part.ensures in
     subst (IsNormal g.F.Family.family) (sym c.new.ensures) is.kept.normal
 
 pub message_length-length-requires-clause-groups : goal.message_length-length-requires-clause-groups
 message_length-length-requires-clause-groups g c =
     let is = of_next c.args.plan.now.pieces.items c.deref-end-items.result.now c.args.plan.now.ends.items c.loop-end.end-index c.loop-end.start c.deref-end-items.ensures.value c.loop-end-test.true
-    (IsFitting g.F.Family.bytes_of g.F.Family.family c.args.writer.now.budget c.args.row.now) c.loop-end.invariant.parts _ _ c.deref.ensures.value c.pieces_between-part.ensures in
-    let bounds = fits_parts g.F.Family.family c.args.writer.now.budget (run_of g.F.Family.bytes_of c.args.row.now c.pieces_between-part.result.now) is.fitting in
+    (IsFitting g.F.Family.bytes_of g.F.Family.family c.args.writer.now.budget c.args.row.now) c.loop-end.invariant.parts _ _ c.deref.ensures.value c.between-part.ensures in
+    let bounds = fits_parts g.F.Family.family c.args.writer.now.budget (run_of g.F.Family.bytes_of c.args.row.now c.between-part.result.now) is.fitting in
     subst (λ (form : List GroupForm). run_groups (units_of form) ≤ 255) (sym c.new.ensures) bounds.1
 
 pub message_length-length-requires-clause-size : goal.message_length-length-requires-clause-size
 message_length-length-requires-clause-size g c =
     let is = of_next c.args.plan.now.pieces.items c.deref-end-items.result.now c.args.plan.now.ends.items c.loop-end.end-index c.loop-end.start c.deref-end-items.ensures.value c.loop-end-test.true
-    (IsFitting g.F.Family.bytes_of g.F.Family.family c.args.writer.now.budget c.args.row.now) c.loop-end.invariant.parts _ _ c.deref.ensures.value c.pieces_between-part.ensures in
-    let bounds = fits_parts g.F.Family.family c.args.writer.now.budget (run_of g.F.Family.bytes_of c.args.row.now c.pieces_between-part.result.now) is.fitting in
+    (IsFitting g.F.Family.bytes_of g.F.Family.family c.args.writer.now.budget c.args.row.now) c.loop-end.invariant.parts _ _ c.deref.ensures.value c.between-part.ensures in
+    let bounds = fits_parts g.F.Family.family c.args.writer.now.budget (run_of g.F.Family.bytes_of c.args.row.now c.between-part.result.now) is.fitting in
     subst (λ (form : List GroupForm). run_size g.F.Family.family (units_of form) ≤ 65000) (sym c.new.ensures) (omega (arith, bounds.0, c.is_writing.ensures.most))
 
 pub loop-end-preserved : goal.loop-end-preserved
@@ -53,7 +53,7 @@ loop-end-preserved g c =
     let at = next_part c.args.plan.now.pieces.items c.deref-end-items.result.now c.args.plan.now.ends.items c.loop-end.end-index c.loop-end.start c.deref-end-items.ensures.value c.loop-end-test.true c.loop-end.invariant.ends in
     let family = g.F.Family.family in
     let run = run_of g.F.Family.bytes_of c.args.row.now in
-    let part : c.pieces_between-part.result.now ≡ between c.loop-end.start end pieces = c.pieces_between-part.ensures ∙ ap (between c.loop-end.start end) c.deref.ensures.value in
+    let part : c.between-part.result.now ≡ between c.loop-end.start end pieces = c.between-part.ensures ∙ ap (between c.loop-end.start end) c.deref.ensures.value in
     let length_is : c.message_length-length.result ≡ run_size family (run (between c.loop-end.start end pieces)) =
     c.message_length-length.ensures ∙ ap (λ (form : List GroupForm). run_size family (units_of form)) c.new.ensures ∙ ap (λ (these : List _). run_size family (run these)) part in
     record {

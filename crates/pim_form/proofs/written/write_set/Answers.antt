@@ -1,4 +1,4 @@
-use Rattle.std.proofs.Common.{◌≡◌, ◌∙◌, ℕ, ◌+◌, ◌*◌, ◌/◌, ◌%◌, List, [], ◌∷◌, ◌++◌, length, sym, ap, arith}
+use Rattle.std.proofs.Common.{◌≡◌, ◌∙◌, ℕ, ◌+◌, ◌*◌, ◌/◌, ◌%◌, ◌≤◌, List, [], ◌∷◌, ◌++◌, length, sym, ap, arith}
 use Rattle.std.specs.List.{flat_map}
 use Rattle.std.proofs.lemmas.List.{length-map}
 use Rattle.pim_addr.specs.Canonical.{canonical_group}
@@ -13,6 +13,36 @@ use Rattle.pim_form.proofs.written.write_set.Goals as goal
 -- the two bytes of a count
 abbrev counted : ℕ → List ℕ
 counted n = n / 256 % 256 ∷ n % 256 ∷ []
+
+-- the star has room behind the front of a set, and the sources behind the star
+rooms : (size group star sources joined pruned whole first second : ℕ) → joined ≡ star + sources → whole ≡ group + 4 + joined * size + pruned * size
+    → first + (group + 4) ≡ whole → (star * size ≤ first) × (second + star * size ≡ first → sources * size ≤ second)
+rooms size group star sources joined pruned whole first second join is one = (grind (arith, join, is, one), λ two. grind (arith, join, is, one, two))
+
+pub split_at_mut-star-requires : goal.split_at_mut-star-requires
+split_at_mut-star-requires g c =
+    let rps = known_in g.F.Family.family c.args.routes.now in
+    let this = c.args.group.now in
+    let sources : length c.sources-sources.result.now ≡ length this.sources = sym (length-map c.sources-sources.result.now g.F.Family.bytes_of) ∙ ap length c.sources-sources.ensures in
+    let stars : c.from-stars.result ≡ length (star_entries (rps this.group) this.star) =
+    stars_count g.F.Family.family (rps this.group) this.star c.star.result c.from-stars.result c.requires.rp c.star.ensures c.from-stars.ensures in
+    let room = rooms (source_length g.F.Family.family) (group_length g.F.Family.family) c.from-stars.result (length c.sources-sources.result.now)
+    (length (told_set rps this).joined) (length (told_set rps this).pruned) (length c.args.bytes.now) (length c.split_at_mut-front.result.1.now) 0
+    (omega (arith, joined_count rps this, stars, sources)) c.requires.length (omega (arith, c.split_at_mut-front.ensures.back_len)) in
+    omega (arith, room.0, ap (λ (n : ℕ). c.from-stars.result * n) c.source_length.ensures)
+
+pub split_at_mut-joins-requires : goal.split_at_mut-joins-requires
+split_at_mut-joins-requires g c =
+    let rps = known_in g.F.Family.family c.args.routes.now in
+    let this = c.args.group.now in
+    let sources : length c.sources-sources.result.now ≡ length this.sources = sym (length-map c.sources-sources.result.now g.F.Family.bytes_of) ∙ ap length c.sources-sources.ensures in
+    let stars : c.from-stars.result ≡ length (star_entries (rps this.group) this.star) =
+    stars_count g.F.Family.family (rps this.group) this.star c.star.result c.from-stars.result c.requires.rp c.star.ensures c.from-stars.ensures in
+    let room = rooms (source_length g.F.Family.family) (group_length g.F.Family.family) c.from-stars.result (length c.sources-sources.result.now)
+    (length (told_set rps this).joined) (length (told_set rps this).pruned) (length c.args.bytes.now) (length c.split_at_mut-front.result.1.now) (length c.split_at_mut-star.result.1.now)
+    (omega (arith, joined_count rps this, stars, sources)) c.requires.length (omega (arith, c.split_at_mut-front.ensures.back_len)) in
+    let two = room.1 (ap (λ (n : ℕ). length c.split_at_mut-star.result.1.now + c.from-stars.result * n) (sym c.source_length.ensures) ∙ c.split_at_mut-star.ensures.back_len) in
+    omega (arith, two, ap (λ (n : ℕ). length c.sources-sources.result.now * n) c.source_length-2.ensures)
 
 pub write_exceptions-requires : goal.write_exceptions-requires
 write_exceptions-requires g c =

@@ -1,6 +1,6 @@
 use Rattle.pim_form.specs.Collect.{collected, of_port}
 use Rattle.pim_form.proofs.Collecting.{IsCollecting}
-use Rattle.pim_form.proofs.collect.collect.Given as goal
+use Rattle.pim_form.proofs.collect.push_port.Given as goal
 
 abbrev pub invariant-loop-record : goal.invariant-loop-record
 invariant-loop-record g l =

@@ -2,7 +2,7 @@ use Rattle.std.proofs.Common.{◌+◌, length}
 use Rattle.pim_form.specs.Rows.{form_seen}
 use Rattle.pim_form.specs.Merge.{merged}
 use Rattle.pim_form.proofs.Merging.{IsMerging}
-use Rattle.pim_form.proofs.merge.merge.Given as goal
+use Rattle.pim_form.proofs.merge.push_merged.Given as goal
 
 -- the groups that are there, and what is left of the two forms, are the merged form
 abbrev pub invariant-loop-a : goal.invariant-loop-a
