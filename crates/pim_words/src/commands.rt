@@ -405,7 +405,7 @@ unless its word gives one: a letter, then up to 31 letters, digits, . _ or -.
 FILE is pcapng or classic pcap: Ethernet, raw IP, Linux cooked as by
 `tcpdump -i any`, or BSD loopback, with up to two VLAN tags. A FIFO, /dev/stdin
 and <(zcat x.pcap.gz) work, too. A port is one link, so these are faults:
-  capture vlans 5,7.9     PIM packets of two VLANs, here 5, and 9 inside 7
+  capture vlans 5,7       PIM packets of two VLANs, here 5 and 7
   capture interfaces 0,1  PIM packets of two interfaces
 `tshark -r IN -Y 'vlan.id == 5' -w OUT` takes one VLAN out of a file.
 
