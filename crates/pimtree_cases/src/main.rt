@@ -1,9 +1,7 @@
 //! Runs scenarios and cases: tests that are files.
 //!
-//! A scenario is a session with its expected answers (`scenario`). A case is a command line with
-//! its files, and the output, errors and status that it must have (`case`). Each word names a file
-//! or a folder of them. A file whose name ends in `.case` is a list of cases, another one a
-//! scenario.
+//! `pim_cases` has what knows no command: it reads, runs and compares them. Each word names a file
+//! or a folder of them.
 //!
 //! The gate gives the word `session` alone. The program then does what `pimtree` does with it:
 //! it answers a session on standard input, which is `examples/override.session`. After that it runs
@@ -13,17 +11,10 @@
 //! The status is 0 if all is as expected, otherwise 1.
 #![tactic(auto)]
 
-mod case;
-mod differing;
-mod lines;
-mod listing;
-mod memory;
 mod running;
-mod scenario;
-mod tally;
 
-use crate::listing::files_below;
-use crate::tally::Tally;
+use crate::running::Commands;
+use pim_cases::{Tally, files_below};
 use pim_main::run_program;
 use std::process::ExitCode;
 use std::{env, io};
@@ -39,13 +30,13 @@ fn asks_for_session(rt: &HostRuntime) -> io::Result<bool> {
 }
 
 /// Runs this file, or the files of this folder.
-fn run_word(rt: &HostRuntime, tally: &mut Tally, word: &str) -> io::Result<()> {
+fn run_word(rt: &HostRuntime, tally: &mut Tally<Commands>, word: &str) -> io::Result<()> {
     let files = files_below(rt, word)?;
     tally.run_files(rt, &files)
 }
 
 /// Runs the files of each word behind the program's name.
-fn run_words(rt: &HostRuntime, tally: &mut Tally) -> io::Result<()> {
+fn run_words(rt: &HostRuntime, tally: &mut Tally<Commands>) -> io::Result<()> {
     for (index, word) in env::args(rt)?.enumerate() {
         if index > 0 {
             run_word(rt, tally, word.as_str())?;
@@ -56,7 +47,7 @@ fn run_words(rt: &HostRuntime, tally: &mut Tally) -> io::Result<()> {
 
 /// Answers a session on standard input as `pimtree` does, and then runs the files of both folders.
 /// Returns the status of the session.
-fn run_stored(rt: &HostRuntime, tally: &mut Tally) -> io::Result<ExitCode> {
+fn run_stored(rt: &HostRuntime, tally: &mut Tally<Commands>) -> io::Result<ExitCode> {
     let status = run_program(rt);
     run_word(rt, tally, "scenarios")?;
     run_word(rt, tally, "cases")?;
@@ -64,7 +55,7 @@ fn run_stored(rt: &HostRuntime, tally: &mut Tally) -> io::Result<ExitCode> {
 }
 
 /// Runs what the words ask for. Returns the status if no file fails.
-fn run_all(rt: &HostRuntime, tally: &mut Tally) -> io::Result<ExitCode> {
+fn run_all(rt: &HostRuntime, tally: &mut Tally<Commands>) -> io::Result<ExitCode> {
     if asks_for_session(rt)? {
         return run_stored(rt, tally);
     }
@@ -73,7 +64,7 @@ fn run_all(rt: &HostRuntime, tally: &mut Tally) -> io::Result<ExitCode> {
 }
 
 fn main(rt: HostRuntime) -> io::Result<ExitCode> {
-    let mut tally = Tally::new();
+    let mut tally = Tally::new(Commands);
     let status = run_all(&rt, &mut tally)?;
     tally.tell(&rt)?;
     if tally.has_failed() {

@@ -1,22 +1,24 @@
 //! How many scenarios and cases were run, and how many failed.
 
 use crate::case::Case;
-use crate::running::run_case;
+use crate::ending::{Runner, run_case};
 use crate::scenario::run_scenario;
 use std::{fs, io};
 
-/// The numbers of scenarios, of cases, and of those that failed.
+/// The numbers of scenarios, of cases, and of those that failed. The runner runs the cases.
 #[derive(Drop)]
-pub struct Tally {
+pub struct Tally<R: Runner + Drop> {
+    runner: R,
     scenarios: u64,
     cases: u64,
     failed: u64,
 }
 
-impl Tally {
-    /// Returns a tally of nothing.
-    pub fn new() -> Self {
+impl<R: Runner + Drop> Tally<R> {
+    /// Returns a tally of nothing, whose cases this runner will run.
+    pub fn new(runner: R) -> Self {
         Tally {
+            runner,
             scenarios: 0,
             cases: 0,
             failed: 0,
@@ -39,7 +41,7 @@ impl Tally {
     fn run_case(&mut self, rt: &HostRuntime, file: &str, case: &Case<'_>) -> io::Result<()> {
         if case.line > 0 {
             self.cases = self.cases.saturating_add(1);
-            let is_as_expected = run_case(rt, file, case)?;
+            let is_as_expected = run_case(rt, &self.runner, file, case)?;
             self.count(is_as_expected);
         }
         Ok(())

@@ -1,5 +1,5 @@
 use Rattle.std.proofs.Common.{length}
-use Rattle.pimtree_cases.proofs.differing.tell_difference.Given as goal
+use Rattle.pim_cases.proofs.differing.tell_difference.Given as goal
 
 abbrev pub decreases-loop-wanted : goal.decreases-loop-wanted
 decreases-loop-wanted l = length l.left
