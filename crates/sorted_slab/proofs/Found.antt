@@ -29,6 +29,12 @@ module _ {X : Type 0} (P : X → Type 0) where
   all_remove (y ∷ xs) zero w h = h.1
   all_remove (y ∷ xs) (suc i) w h = (h.0, all_remove xs i (omega arith) h.1)
 
+pub remove_insert : {X : Type 0} (xs : List X) (i : ℕ) (x : X) → i ≤ length xs → remove (insert xs i x) i ≡ xs
+remove_insert [] zero x w = refl
+remove_insert [] (suc i) x w = absurd (omega arith)
+remove_insert (y ∷ xs) zero x w = refl
+remove_insert (y ∷ xs) (suc i) x w = ap (λ ys. y ∷ ys) (remove_insert xs i x (omega arith))
+
 -- ---- numbers that differ
 
 pub differ_insert : (ns : List ℕ) (i k : ℕ) → i ≤ length ns → AllDiffer ns → AllByRecursion (λ other. other ≢ k) ns → AllDiffer (insert ns i k)

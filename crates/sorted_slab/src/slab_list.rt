@@ -1,7 +1,7 @@
 //! The list with its public calls.
 
 ghost use Rattle.std.specs.Prelude.{◌≡◌, ℕ, ◌+◌, ◌<◌, ◌≤◌, [], length, take, drop};
-ghost use Rattle.std.specs.Prelude.{slice_index_or, slice_set, OnOk, IsOk, IsTrue, ◌↔◌};
+ghost use Rattle.std.specs.Prelude.{slice_index_or, slice_set, OnOk, IsOk, IsTrue, ◌↔◌, ℕ, Some};
 ghost use Rattle.std.specs.List.{All, insert, remove};
 ghost use Rattle.sorted_blocks.specs.declared.place.Place.{Place};
 ghost use Rattle.sorted_slab.specs.Listed.{at, numbers, IsPlace, IsItem, IsFound};
@@ -88,6 +88,7 @@ impl<T: Copy, const HALF: usize> SortedSlab<T, HALF> {
         requires place { IsPlace self.old place }
         requires within { length self.old.items < self.old.capacity }
         ensures items { self.new.items ≡ insert self.old.items (at self.old place) item }
+        ensures numbers { remove (numbers self.new) (at self.old place) ≡ numbers self.old }
         ensures capacity { self.new.capacity ≡ self.old.capacity }
         ensures place { IsItem self.new result }
         ensures at { at self.new result ≡ at self.old place }
@@ -103,6 +104,7 @@ impl<T: Copy, const HALF: usize> SortedSlab<T, HALF> {
         requires { IsItem self.old place }
         ensures item { result.0 ≡ slice_index_or self.old.items (at self.old place) result.0 }
         ensures items { self.new.items ≡ remove self.old.items (at self.old place) }
+        ensures numbers { numbers self.new ≡ remove (numbers self.old) (at self.old place) }
         ensures capacity { self.new.capacity ≡ self.old.capacity }
         ensures place { IsPlace self.new result.1 }
         ensures at { at self.new result.1 ≡ at self.old place }
@@ -130,6 +132,24 @@ impl<T: Copy, const HALF: usize> SortedSlab<T, HALF> {
     {
         let number = *self.index.get(place);
         &self.slab[number]
+    }
+
+    /// Returns the number of the item at this place. The item keeps it until it is taken out.
+    pub fn number_of(&self, place: Place) -> usize
+        requires { IsItem self.now place }
+        ensures { result ≡ slice_index_or (numbers self.now) (at self.now place) result }
+    {
+        *self.index.get(place)
+    }
+
+    /// Returns the slab, in which each item has its number.
+    pub fn slab(&self) -> &Slab<T>
+        ensures count { length (numbers self.now) ≡ length self.now.items }
+        ensures item { (i d : ℕ) (e : T) → i < length (numbers self.now)
+            → get result.now (slice_index_or (numbers self.now) i d)
+            ≡ Some (slice_index_or self.now.items i e) }
+    {
+        &self.slab
     }
 
     /// Returns whether the place is that of an item.
