@@ -137,33 +137,6 @@ module _ {X : Type 0} (cmp : X → X → Ordering) (total : IsTotalOrder cmp) (s
       by true e rest = rw (not_tied (cmp x y) e) (ap (λ zs. y ∷ zs) rest)
       by false e rest = rw (ap is_eq (tied_itself total x)) refl
 
-  pub length_without : (x : X) (ys : List X) → length (without cmp x ys) ≤ length ys
-  unfolding without
-  length_without x [] = omega arith
-  length_without x (y ∷ ys) =
-      elim (is_eq (cmp x y)) as (λ b. length (cond b ys (y ∷ without cmp x ys)) ≤ suc (length ys)) [
-        | true ↦ omega arith
-        | false ↦ let rest = length_without x ys in omega (arith, rest)
-      ]
-
-  low_without : (x y : X) (zs : List X) → IsLow cmp x zs → IsLow cmp x (without cmp y zs)
-  unfolding without IsLow
-  low_without x y [] low = tt
-  low_without x y (z ∷ zs) low =
-      elim (is_eq (cmp y z)) as (λ b. IsLow cmp x (cond b zs (z ∷ without cmp y zs))) [
-        | true ↦ low.1
-        | false ↦ (low.0, low_without x y zs low.1)
-      ]
-
-  pub order_without : (x : X) (ys : List X) → IsInOrder cmp ys → IsInOrder cmp (without cmp x ys)
-  unfolding without IsInOrder
-  order_without x [] order = tt
-  order_without x (y ∷ ys) order =
-      elim (is_eq (cmp x y)) as (λ b. IsInOrder cmp (cond b ys (y ∷ without cmp x ys))) [
-        | true ↦ order.1
-        | false ↦ (low_without y x ys order.0, order_without x ys order.1)
-      ]
-
   -- ---- at a place
 
   pub low_at : (x : X) (ys : List X) (i : ℕ) (d : X) → i < length ys → IsLow cmp x ys → Le x (get_or ys i d)

@@ -1,6 +1,9 @@
 pub mod Order
 pub mod InOrder
 pub mod Deadlines
+pub mod AlarmOrder
+pub mod Numbered
+pub mod Soonest
 pub mod Searched
 pub mod Map
 pub mod Time

@@ -1,11 +1,14 @@
 -- The schedule: the timers that run, in the order in which they fire. They fire by end, at one end
 -- Prune-Pending Timers before Expiry Timers, then by key. This order is a choice of this project.
 use Rattle.std.specs.Prelude.{◌≡◌, ℕ, ◌+◌, ◌-◌, ◌*◌, ◌≤◌, false, if◌then◌else◌}
-use Rattle.std.specs.Prelude.{List, [], ◌∷◌, length, Option, None, Some}
+use Rattle.std.specs.Prelude.{List, [], ◌∷◌, length, map, Option, None, Some, option_map, nat_lt}
 use Rattle.std.specs.declared.cmp.Ordering.{Ordering}
-use Rattle.std.specs.List.{slice_get}
+use Rattle.std.specs.declared.cmp.Ordering.TheVariants.{Less}
+use Rattle.std.specs.List.{slice_get, AllByRecursion}
 use Rattle.std.specs.Ordering.{nat_cmp, ordering_then, is_eq, is_gt}
-use Rattle.sorted_slab.specs.Listed.{Listed}
+use Rattle.slab.specs.Slab.{Slab, get}
+use Rattle.sorted_slab.specs.Listed.{Listed, numbers}
+use Rattle.pim_down.specs.declared.deadline.Alarm.{Alarm}
 use Rattle.pim_down.specs.declared.deadline.Deadline.{Deadline}
 use Rattle.pim_down.specs.declared.deadline.TimerKind.{TimerKind}
 use Rattle.pim_down.specs.declared.deadline.TimerKind.TheVariants.{PendingTimer, ExpiryTimer}
@@ -80,22 +83,99 @@ unfoldable pub timers_of : List (Record (List ℕ)) → List (Deadline (List ℕ
 timers_of [] = []
 timers_of (held ∷ records) = with_timers held (timers_of records)
 
+-- ---- the timers of one kind
+
+-- A timer of one kind that runs: its end, the key of its record, and the number of its record.
+pub record Numbered : Type 0 where
+  pub ends_at : ℕ
+  pub key : Key (List ℕ)
+  pub number : ℕ
+
+-- The order in which timers of one kind fire: by end, by key. Numbers only tell apart timers that
+-- are equal in both.
+unfoldable pub alarm_cmp : Numbered → Numbered → Ordering
+alarm_cmp a b =
+    ordering_then (ordering_then (nat_cmp a.ends_at b.ends_at) (key_cmp a.key b.key)) (nat_cmp a.number b.number)
+
+-- The timer as the schedule keeps it, without the key.
+abbrev pub alarm_of : Numbered → Alarm
+alarm_of timer = record { ends_at = timer.ends_at; number = timer.number }
+
+-- An alarm with the key of its record.
+abbrev pub alarm_seen : {A : Type 0} → (A → List ℕ) → Key A → Alarm → Numbered
+alarm_seen bytes_of key alarm =
+    record { ends_at = alarm.ends_at; key = key_seen bytes_of key; number = alarm.number }
+
+-- The timers of one kind with one more, if it runs.
+abbrev pub with_alarm : Key (List ℕ) → ℕ → Option ℕ → List Numbered → List Numbered
+with_alarm key number None timers = timers
+with_alarm key number (Some ends) timers =
+    placed alarm_cmp (record { ends_at = ends; key = key; number = number }) timers
+
+-- The timers of this kind of the records that have these numbers, in the order in which they fire.
+unfoldable pub numbered : TimerKind → List ℕ → List (Record (List ℕ)) → List Numbered
+numbered timer [] records = []
+numbered timer (number ∷ numbers) [] = []
+numbered timer (number ∷ numbers) (held ∷ records) =
+    with_alarm held.key number (end_of timer held.machine) (numbered timer numbers records)
+
+module _ {A : Type 0} (bytes_of : A → List ℕ) (slab : Slab (Held A)) where
+  -- The key of the record with this number.
+  abbrev pub key_of : ℕ → Option (Key (List ℕ))
+  key_of number = option_map (λ held. key_seen bytes_of held.key) (get slab number)
+
+  -- The timers are in order, and each has the key of the record with its number.
+  pub record AreKnown (timers : List Numbered) : Type 0 where
+    pub keys : AllByRecursion (λ timer. key_of timer.number ≡ Some timer.key) timers
+    pub order : IsInOrder alarm_cmp timers
+
+  -- How the key of a record compares with this key; less where there is no record.
+  abbrev pub key_order : Key (List ℕ) → Option (Held A) → Ordering
+  key_order key None = Less
+  key_order key (Some held) = key_cmp (key_seen bytes_of held.key) key
+
+  -- How an alarm compares with a timer that is searched.
+  unfoldable pub alarm_order : Numbered → Alarm → Ordering
+  alarm_order sought alarm =
+      ordering_then
+      (ordering_then (nat_cmp alarm.ends_at sought.ends_at) (key_order sought.key (get slab alarm.number)))
+      (nat_cmp alarm.number sought.number)
+
 -- ---- the schedule
 
--- A schedule as a contract sees it: the timers in their order, and how many timers fit without
--- memory.
-pub record Scheduled : Type 0 where
-  pub timers : List (Deadline (List ℕ))
+-- The alarms of one kind as a contract sees them: in their order, and how many fit without memory.
+pub record AlarmList : Type 0 where
+  pub alarms : List Alarm
   pub capacity : ℕ
 
--- The invariant of a store: the schedule has exactly the timers of the records, of which there are
--- at most `space`. If `space` isn't 0, there is room for two timers of each of `space` records, and
--- for two more.
-pub record IsTimed {A : Type 0} (bytes_of : A → List ℕ) (rows : Listed (Held A)) (schedule : Scheduled) (space : ℕ) :
+-- The invariant of a store: the two lists have exactly the timers of the records, of which there
+-- are at most `space`. If `space` isn't 0, each list has room for timers of `space` records, and for
+-- one more.
+pub record IsTimed {A : Type 0} (bytes_of : A → List ℕ) (rows : Listed (Held A)) (pending expiry : AlarmList) (space : ℕ) :
     Type 0 where
-  pub timers : schedule.timers ≡ timers_of (records_seen bytes_of rows.items)
+  pub prunes : pending.alarms ≡ map alarm_of (numbered PendingTimer (numbers rows) (records_seen bytes_of rows.items))
+  pub expiries : expiry.alarms ≡ map alarm_of (numbered ExpiryTimer (numbers rows) (records_seen bytes_of rows.items))
   pub fits : length rows.items ≤ space
-  pub room : 2 * space ≤ schedule.capacity - 2
+  pub prune_room : space ≤ pending.capacity - 1
+  pub expiry_room : space ≤ expiry.capacity - 1
+  pub small : 2 * space + 2 ≤ 18446744073709551615
+
+-- The timer of this kind that an alarm stands for, with the key of its record.
+abbrev pub deadline_at : {A : Type 0} → Slab (Held A) → TimerKind → Option Alarm → Option (Deadline A)
+deadline_at slab timer None = None
+deadline_at slab timer (Some alarm) =
+    option_map (λ held. record { ends_at = alarm.ends_at; timer = timer; key = held.key }) (get slab alarm.number)
+
+-- The timer of this kind that fires first.
+abbrev pub first_in : TimerKind → List Numbered → Option (Deadline (List ℕ))
+first_in timer [] = None
+first_in timer (first ∷ timers) = Some (record { ends_at = first.ends_at; timer = timer; key = first.key })
+
+-- The second timer if it ends before the first one, and otherwise the first one.
+abbrev pub sooner_of : {A : Type 0} → Option (Deadline A) → Option (Deadline A) → Option (Deadline A)
+sooner_of None b = b
+sooner_of (Some a) None = Some a
+sooner_of (Some a) (Some b) = if nat_lt b.ends_at a.ends_at then Some b else Some a
 
 -- The first of the records' timers, if it ends no later than this moment; `None` if none does.
 abbrev pub IsFirstBy : {A : Type 0} → (A → List ℕ) → ℕ → List (Record (List ℕ)) → Option (Deadline A) → Type 0

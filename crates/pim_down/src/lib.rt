@@ -25,6 +25,7 @@
 #![tactic(auto)]
 
 mod after;
+mod alarms;
 mod blocks;
 mod deadline;
 mod edits;
@@ -34,7 +35,6 @@ mod fault;
 mod group;
 mod hear;
 mod held;
-mod hints;
 mod key;
 mod laws;
 mod listed;

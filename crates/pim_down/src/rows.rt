@@ -4,11 +4,12 @@
 
 ghost use Rattle.std.specs.Prelude.{◌≡◌, ℕ, List, ◌+◌, ◌-◌, ◌<◌, ◌≤◌, ◌↔◌, [], length, take, drop};
 ghost use Rattle.std.specs.Prelude.{slice_index_or, slice_set, OnOk, IsOk, IsTrue, Bool, true};
-ghost use Rattle.std.specs.Prelude.{false};
+ghost use Rattle.std.specs.Prelude.{false, Some};
 ghost use Rattle.std.specs.List.{All, insert, remove};
 ghost use Rattle.std.specs.List.Sorted.{IsPartitionedBy, IsPartitionPoint};
 ghost use Rattle.sorted_blocks.specs.declared.place.Place.{Place};
-ghost use Rattle.sorted_slab.specs.Listed.{at, IsPlace, IsItem, IsFound};
+ghost use Rattle.slab.specs.Slab.{get};
+ghost use Rattle.sorted_slab.specs.Listed.{at, numbers, IsPlace, IsItem, IsFound};
 ghost use Rattle.pim_down.specs.declared.held.Held.{Held};
 ghost use Rattle.pim_down.specs.Hearing.{is_rpt, rpt_count_on};
 ghost use Rattle.pim_down.specs.Records.{count_on};
@@ -17,6 +18,7 @@ ghost use Rattle.pim_down.specs.Seen.{what_seen, records_seen};
 use crate::blocks::HALF_OF_RECORDS;
 use crate::held::{Held, Timed};
 use crate::key::{Key, What};
+use slab::Slab;
 use sorted_blocks::{Place, Probe};
 use sorted_slab::{SortedSlab, Walk};
 use std::alloc::{AllocError, Global};
@@ -161,6 +163,7 @@ impl<A: Copy> Rows<A> {
         ensures ok { OnOk result (length self.new.items + additional ≤ self.new.capacity) }
         ensures none { additional ≡ 0 → IsOk result }
         ensures items { self.new.items ≡ self.old.items }
+        ensures numbers { numbers self.new ≡ numbers self.old }
         ensures capacity { self.old.capacity ≤ self.new.capacity }
     {
         self.list.reserve(additional)
@@ -171,6 +174,9 @@ impl<A: Copy> Rows<A> {
         requires place { IsPlace self.old place }
         requires within { length self.old.items < self.old.capacity }
         ensures items { self.new.items ≡ insert self.old.items (at self.old place) held }
+        ensures numbers { remove (numbers self.new) (at self.old place) ≡ numbers self.old }
+        ensures place { IsItem self.new result }
+        ensures at { at self.new result ≡ at self.old place }
         ensures capacity { self.new.capacity ≡ self.old.capacity }
     {
         let _most = self.list.capacity();
@@ -185,6 +191,7 @@ impl<A: Copy> Rows<A> {
     pub(crate) fn remove(&mut self, place: Place) -> Place
         requires { IsItem self.old place }
         ensures items { self.new.items ≡ remove self.old.items (at self.old place) }
+        ensures numbers { numbers self.new ≡ remove (numbers self.old) (at self.old place) }
         ensures capacity { self.new.capacity ≡ self.old.capacity }
         ensures place { IsPlace self.new result }
         ensures at { at self.new result ≡ at self.old place }
@@ -203,6 +210,7 @@ impl<A: Copy> Rows<A> {
         ensures items { (d : Held A) → self.new.items ≡ slice_set self.old.items (at self.old place)
             (record
             { key = (slice_index_or self.old.items (at self.old place) d).key; machine = machine }) }
+        ensures numbers { numbers self.new ≡ numbers self.old }
         ensures places { (p : Place) → IsItem self.old p → IsItem self.new p }
         ensures at { (p : Place) → at self.new p ≡ at self.old p }
         ensures capacity { self.new.capacity ≡ self.old.capacity }
@@ -217,6 +225,24 @@ impl<A: Copy> Rows<A> {
         ensures { result.now ≡ slice_index_or self.now.items (at self.now place) result.now }
     {
         self.list.get(place)
+    }
+
+    /// The number of the record at this place.
+    pub(crate) fn number_of(&self, place: Place) -> usize
+        requires { IsItem self.now place }
+        ensures { result ≡ slice_index_or (numbers self.now) (at self.now place) result }
+    {
+        self.list.number_of(place)
+    }
+
+    /// The slab, in which each record has its number.
+    pub(crate) fn slab(&self) -> &Slab<Held<A>>
+        ensures count { length (numbers self.now) ≡ length self.now.items }
+        ensures item { (i d : ℕ) (e : Held A) → i < length (numbers self.now)
+            → get result.now (slice_index_or (numbers self.now) i d)
+            ≡ Some (slice_index_or self.now.items i e) }
+    {
+        self.list.slab()
     }
 
     /// Whether there is a record at this place.

@@ -50,7 +50,8 @@ impl<A: Copy, O: KeyOrder<A>> Model for Store<A, O> {
     ghost view = { λ s. record
         { index = s.rows.index; items = s.rows.items; capacity = min s.rows.capacity s.room } };
 
-    ghost invariant = { λ s. IsTimed O.bytes_of s.rows s.schedule s.room };
+    ghost invariant = { λ s.
+        IsTimed O.bytes_of s.rows s.schedule.pending s.schedule.expiry s.room };
 }
 
 impl<A: Copy, O: KeyOrder<A>> Store<A, O> {
@@ -70,7 +71,6 @@ impl<A: Copy, O: KeyOrder<A>> Store<A, O> {
         ensures len { result ≡ length self.now.items }
         ensures small { 2 * length self.now.items + 2 ≤ 18446744073709551615 }
     {
-        let _most = self.schedule.capacity();
         self.rows.len()
     }
 
@@ -122,8 +122,10 @@ impl<A: Copy, O: KeyOrder<A>> Store<A, O> {
         ensures items { self.new.items ≡ insert self.old.items (at self.old place) held }
         ensures capacity { self.new.capacity ≡ self.old.capacity }
     {
-        self.schedule.start_all(&held);
-        self.rows.insert_within(place, held)
+        let stands = self.rows.insert_within(place, held);
+        let number = self.rows.number_of(stands);
+        self.schedule.start_all(self.rows.slab(), number, &held);
+        stands
     }
 
     /// Removes the record at this place. Returns the place of the next one.
@@ -136,7 +138,8 @@ impl<A: Copy, O: KeyOrder<A>> Store<A, O> {
         ensures item { at self.new result < length self.new.items → IsItem self.new result }
     {
         let gone = *self.rows.get(place);
-        self.schedule.stop_all(&gone);
+        let number = self.rows.number_of(place);
+        self.schedule.stop_all(self.rows.slab(), number, &gone);
         self.rows.remove(place)
     }
 
@@ -151,7 +154,9 @@ impl<A: Copy, O: KeyOrder<A>> Store<A, O> {
         ensures capacity { self.new.capacity ≡ self.old.capacity }
     {
         let old = *self.rows.get(place);
-        self.schedule.change_all(old.key, &old.machine, &machine);
+        let number = self.rows.number_of(place);
+        self.schedule
+            .change_all(self.rows.slab(), number, &old, &machine);
         self.rows.set_machine(place, machine);
     }
 
@@ -165,6 +170,7 @@ impl<A: Copy, O: KeyOrder<A>> Store<A, O> {
         ensures at { (p : Place) → at self.new p ≡ at self.old p }
         ensures capacity { self.new.capacity ≡ self.old.capacity }
     {
+        let _slab = self.rows.slab();
         let machine = self.rows.get(place).machine;
         self.rows.set_machine(place, Timed { state, ..machine });
     }
@@ -174,7 +180,7 @@ impl<A: Copy, O: KeyOrder<A>> Store<A, O> {
         ensures { option_map (deadline_seen O.bytes_of) result
             ≡ slice_get (timers_of (records_seen O.bytes_of self.now.items)) 0 }
     {
-        self.schedule.first()
+        self.schedule.first(self.rows.slab())
     }
 
     /// The record at this place.
