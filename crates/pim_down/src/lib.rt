@@ -20,8 +20,8 @@
 //! The caller ensures: 1 to 64 ports, a limit of 1 to 100,000, and a port that exists for `hear`.
 //! An override interval is at most 98,302 ms, a moment at most 10^15 ms.
 //!
-//! The code holds deadlines, and their timers in a list in the order in which they fire. So time
-//! alone changes no record, and a run looks only at the first timer.
+//! The code holds deadlines, and their timers in a list for each kind, in the order in which they
+//! fire. So time alone changes no record, and a run looks only at the first timers.
 #![tactic(auto)]
 
 mod after;
