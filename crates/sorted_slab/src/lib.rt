@@ -11,6 +11,7 @@
 //! - `find` and `find_near` return an item that compares equal, or a gap between a lesser and a
 //!   greater item. They require no order of the list.
 //! - `walk` yields a number of items from a place on.
+//! - `number_of` returns the number of an item in the slab. An item keeps it while it is there.
 //!
 //! The numbers of items are as wide as addresses: the contract of the slab bounds a number only by
 //! its capacity.
