@@ -218,6 +218,13 @@ module _ {A : Type 0} (counts rpts : List ℕ) (list new : Listed (Held A)) (lon
 pub kept_as : {A : Type 0} (counts rpts other others : List ℕ) (list : Listed (Held A)) → other ≡ counts → others ≡ rpts → IsKept counts rpts list → IsKept other others list
 kept_as counts rpts other others list one two kept = subst (λ c. IsKept c others list) (sym one) (subst (λ r. IsKept counts r list) (sym two) kept)
 
+pub kept_same : {A : Type 0} (counts rpts : List ℕ) (list new : Listed (Held A)) → IsKept counts rpts list → new.items ≡ list.items → list.capacity ≤ new.capacity → IsKept counts rpts new
+kept_same counts rpts list new kept items more = record {
+  counted = λ bytes_of port small. kept.counted bytes_of port small ∙ sym (ap (λ (xs : List (Held _)). count_on port (records_seen bytes_of xs)) items);
+  rpts_counted = λ bytes_of port small. kept.rpts_counted bytes_of port small ∙ sym (ap (λ (xs : List (Held _)). rpt_count_on port (records_seen bytes_of xs)) items);
+  fits = omega (arith, kept.fits, ap length items, more);
+}
+
 pub zeros : (n port : ℕ) → ◌≡◌ {A = ℕ} (get_or (replicate n 0) port 0) 0
 zeros zero port = refl
 zeros (suc n) zero = refl

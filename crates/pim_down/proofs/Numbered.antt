@@ -10,7 +10,7 @@ use Rattle.pim_down.specs.declared.deadline.TimerKind.TheVariants.{PendingTimer,
 use Rattle.pim_down.specs.declared.held.Held.{Held}
 use Rattle.pim_down.specs.declared.held.Timed.{Timed}
 use Rattle.pim_down.specs.declared.key.Key.{Key}
-use Rattle.pim_down.specs.Schedule.{IsInOrder, Numbered, alarm_cmp, alarm_of, end_of, with_alarm, numbered, AreKnown, AlarmList, IsTimed}
+use Rattle.pim_down.specs.Schedule.{IsInOrder, Numbered, alarm_cmp, alarm_of, end_of, with_alarm, with_its, numbered, AreKnown, AlarmList, IsTimed}
 use Rattle.pim_down.specs.Seen.{timed_seen, key_seen, records_seen}
 use Rattle.pim_down.proofs.InOrder.{placed_swap, order_placed, length_placed}
 use Rattle.pim_down.proofs.AlarmOrder.{alarm_total, same_alarm, all_placed, known_rest}
@@ -66,10 +66,6 @@ module _ {A : Type 0} (bytes_of : A → List ℕ) (timer : TimerKind) where
   abbrev pub timers : List ℕ → List (Held A) → List Numbered
   timers ns items = numbered timer ns (records_seen bytes_of items)
 
-  -- the timers with that of a record
-  abbrev pub with_its : Held A → ℕ → List Numbered → List Numbered
-  with_its held n ts = with_alarm (key_seen bytes_of held.key) n (end_of timer (timed_seen held.machine)) ts
-
   pub order_timers : (ns : List ℕ) (items : List (Held A)) → IsInOrder alarm_cmp (timers ns items)
   unfolding numbered IsInOrder
   order_timers [] items = tt
@@ -100,19 +96,19 @@ module _ {A : Type 0} (bytes_of : A → List ℕ) (timer : TimerKind) where
   }
 
   -- the timer of the record at an index, and those of the others
-  pub timers_remove : (ns : List ℕ) (items : List (Held A)) (i n : ℕ) (d : Held A) → i < length ns → i < length items → timers ns items ≡ with_its (get_or items i d) (get_or ns i n) (timers (remove ns i) (remove items i))
+  pub timers_remove : (ns : List ℕ) (items : List (Held A)) (i n : ℕ) (d : Held A) → i < length ns → i < length items → timers ns items ≡ with_its bytes_of timer (get_or items i d) (get_or ns i n) (timers (remove ns i) (remove items i))
   unfolding numbered
   timers_remove [] items i n d w v = absurd (omega arith)
   timers_remove (m ∷ ns) [] i n d w v = absurd (omega arith)
   timers_remove (m ∷ ns) (x ∷ items) zero n d w v = refl
   timers_remove (m ∷ ns) (x ∷ items) (suc i) n d w v =
-      ap (with_its x m) (timers_remove ns items i n d (omega arith) (omega arith))
+      ap (with_its bytes_of timer x m) (timers_remove ns items i n d (omega arith) (omega arith))
       ∙ alarm_swap (key_seen bytes_of x.key) (key_seen bytes_of (get_or items i d).key) m (get_or ns i n) (end_of timer (timed_seen x.machine)) (end_of timer (timed_seen (get_or items i d).machine)) (timers (remove ns i) (remove items i))
 
   -- the same, by the record and its number
-  split : (ns : List ℕ) (items : List (Held A)) (i n : ℕ) (held : Held A) → length ns ≡ length items → i < length items → n ≡ get_or ns i n → held ≡ get_or items i held → timers ns items ≡ with_its held n (timers (remove ns i) (remove items i))
+  split : (ns : List ℕ) (items : List (Held A)) (i n : ℕ) (held : Held A) → length ns ≡ length items → i < length items → n ≡ get_or ns i n → held ≡ get_or items i held → timers ns items ≡ with_its bytes_of timer held n (timers (remove ns i) (remove items i))
   split ns items i n held count w number here =
-      timers_remove ns items i n held (omega (arith, count, w)) w ∙ (λ k. with_its (sym here k) (sym number k) (timers (remove ns i) (remove items i)))
+      timers_remove ns items i n held (omega (arith, count, w)) w ∙ (λ k. with_its bytes_of timer (sym here k) (sym number k) (timers (remove ns i) (remove items i)))
 
   -- ---- edits of records and of alarms
 
@@ -120,28 +116,28 @@ module _ {A : Type 0} (bytes_of : A → List ℕ) (timer : TimerKind) where
     abbrev others : List Numbered
     others = timers (remove ns i) (remove items i)
 
-    known : AreKnown bytes_of slab (with_its held n others)
+    known : AreKnown bytes_of slab (with_its bytes_of timer held n others)
     known = subst (AreKnown bytes_of slab) (split ns items i n held count w number here) (known_timers slab ns items count there)
 
-    pub kept_in : (olds : List ℕ) (before : List (Held A)) (alarms new : List Alarm) → remove ns i ≡ olds → remove items i ≡ before → alarms ≡ map alarm_of (timers olds before) →
-        ((ts : List Numbered) → AreKnown bytes_of slab ts → alarms ≡ map alarm_of ts → new ≡ map alarm_of (with_its held n ts)) → new ≡ map alarm_of (timers ns items)
-    kept_in olds before alarms new was_ns was_items kept put =
+    pub timers_in : (olds : List ℕ) (before : List (Held A)) (alarms new : List Alarm) → remove ns i ≡ olds → remove items i ≡ before → alarms ≡ map alarm_of (timers olds before) →
+        ((ts : List Numbered) → AreKnown bytes_of slab ts → alarms ≡ map alarm_of ts → new ≡ map alarm_of (with_its bytes_of timer held n ts)) → new ≡ map alarm_of (timers ns items)
+    timers_in olds before alarms new was_ns was_items kept put =
         put others (known_rest bytes_of slab (key_seen bytes_of held.key) n (end_of timer (timed_seen held.machine)) others known) (kept ∙ (λ k. map alarm_of (timers (sym was_ns k) (sym was_items k))))
         ∙ ap (map alarm_of) (sym (split ns items i n held count w number here))
 
-    pub kept_out : (alarms new : List Alarm) (rest : List ℕ) (after : List (Held A)) → rest ≡ remove ns i → after ≡ remove items i → alarms ≡ map alarm_of (timers ns items) →
-        ((ts : List Numbered) → AreKnown bytes_of slab (with_its held n ts) → alarms ≡ map alarm_of (with_its held n ts) → new ≡ map alarm_of ts) → new ≡ map alarm_of (timers rest after)
-    kept_out alarms new rest after left_ns left_items kept taken =
+    pub timers_out : (alarms new : List Alarm) (rest : List ℕ) (after : List (Held A)) → rest ≡ remove ns i → after ≡ remove items i → alarms ≡ map alarm_of (timers ns items) →
+        ((ts : List Numbered) → AreKnown bytes_of slab (with_its bytes_of timer held n ts) → alarms ≡ map alarm_of (with_its bytes_of timer held n ts) → new ≡ map alarm_of ts) → new ≡ map alarm_of (timers rest after)
+    timers_out alarms new rest after left_ns left_items kept taken =
         taken others known (kept ∙ ap (map alarm_of) (split ns items i n held count w number here)) ∙ (λ k. map alarm_of (timers (sym left_ns k) (sym left_items k)))
 
-    pub kept_set : (alarms new : List Alarm) (machine : Timed) (same : List ℕ) (after : List (Held A)) → same ≡ ns → after ≡ set items i (record { key = held.key; machine = machine }) → alarms ≡ map alarm_of (timers ns items) →
-        ((ts : List Numbered) → AreKnown bytes_of slab (with_its held n ts) → alarms ≡ map alarm_of (with_its held n ts) → new ≡ map alarm_of (with_its (record { key = held.key; machine = machine }) n ts)) → new ≡ map alarm_of (timers same after)
-    kept_set alarms new machine same after is_ns is_items kept changed =
+    pub timers_set : (alarms new : List Alarm) (machine : Timed) (same : List ℕ) (after : List (Held A)) → same ≡ ns → after ≡ set items i (record { key = held.key; machine = machine }) → alarms ≡ map alarm_of (timers ns items) →
+        ((ts : List Numbered) → AreKnown bytes_of slab (with_its bytes_of timer held n ts) → alarms ≡ map alarm_of (with_its bytes_of timer held n ts) → new ≡ map alarm_of (with_its bytes_of timer (record { key = held.key; machine = machine }) n ts)) → new ≡ map alarm_of (timers same after)
+    timers_set alarms new machine same after is_ns is_items kept changed =
         let one : Held A = record { key = held.key; machine = machine } in
         let now = set items i one in
         let long = length-set items i one in
         changed others known (kept ∙ ap (map alarm_of) (split ns items i n held count w number here))
-        ∙ ap (map alarm_of) (ap (λ xs. with_its one n (timers (remove ns i) xs)) (sym (remove_set items i one w)) ∙ sym (split ns now i n one (omega (arith, count, long)) (omega (arith, w, long)) number (sym (at_set items i one one w))))
+        ∙ ap (map alarm_of) (ap (λ xs. with_its bytes_of timer one n (timers (remove ns i) xs)) (sym (remove_set items i one w)) ∙ sym (split ns now i n one (omega (arith, count, long)) (omega (arith, w, long)) number (sym (at_set items i one one w))))
         ∙ (λ k. map alarm_of (timers (sym is_ns k) (sym is_items k)))
 
 -- ---- records with their schedule

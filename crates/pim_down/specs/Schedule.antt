@@ -18,7 +18,7 @@ use Rattle.pim_down.specs.declared.machine.Machine.{Machine}
 use Rattle.pim_down.specs.declared.machine.Record.{Record}
 use Rattle.pim_down.specs.Key.{key_cmp}
 use Rattle.pim_down.specs.Ends.{pending_end, first_end, ends_by}
-use Rattle.pim_down.specs.Seen.{key_seen, records_seen}
+use Rattle.pim_down.specs.Seen.{timed_seen, key_seen, records_seen}
 
 -- ---- lists in an order
 
@@ -111,6 +111,11 @@ abbrev pub with_alarm : Key (List ℕ) → ℕ → Option ℕ → List Numbered 
 with_alarm key number None timers = timers
 with_alarm key number (Some ends) timers =
     placed alarm_cmp (record { ends_at = ends; key = key; number = number }) timers
+
+-- The timers of this kind with that of one more record, if it runs; the record has this number.
+abbrev pub with_its : {A : Type 0} → (A → List ℕ) → TimerKind → Held A → ℕ → List Numbered → List Numbered
+with_its bytes_of timer held number timers =
+    with_alarm (key_seen bytes_of held.key) number (end_of timer (timed_seen held.machine)) timers
 
 -- The timers of this kind of the records that have these numbers, in the order in which they fire.
 unfoldable pub numbered : TimerKind → List ℕ → List (Record (List ℕ)) → List Numbered

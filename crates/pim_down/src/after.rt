@@ -8,10 +8,10 @@ ghost use Rattle.pim_down.specs.After.{is_machine_after, is_of_group};
 ghost use Rattle.pim_down.specs.Records.{IsAscending};
 ghost use Rattle.pim_down.specs.Seen.{what_seen, key_seen, record_seen, records_seen};
 
+use crate::bound::Bound;
 use crate::held::Held;
 use crate::key::{Key, OfFamily, compare_addresses, compare_groups, compare_keys};
 use crate::near::Near;
-use crate::rows::Bound;
 use crate::store::Store;
 use pim_addr::Family;
 

@@ -14,12 +14,12 @@ ghost use Rattle.pim_down.specs.Running.{start_after};
 ghost use Rattle.pim_down.specs.Seen.{start_seen, machine_seen, what_seen, key_seen};
 ghost use Rattle.pim_down.specs.Seen.{records_seen, event_seen, events_seen};
 
+use crate::bound::Bound;
 use crate::edits::{find_place, machine_of, put_machine};
 use crate::event::{Event, Timing};
 use crate::held::{Start, Timed, Waiting};
 use crate::key::{Key, OfFamily, What, compare_groups};
 use crate::machine::{on_join, on_prune, on_rpt_prune, star_joined};
-use crate::rows::Bound;
 use crate::store::Store;
 use pim_addr::{Family, Routes};
 use pim_jp::Entry;

@@ -27,6 +27,7 @@
 mod after;
 mod alarms;
 mod blocks;
+mod bound;
 mod deadline;
 mod edits;
 mod end;
@@ -43,7 +44,6 @@ mod message;
 mod near;
 mod ordered;
 mod ports;
-mod rows;
 mod run;
 mod scattered;
 mod schedule;

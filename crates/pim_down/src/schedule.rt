@@ -6,10 +6,10 @@ ghost use Rattle.std.specs.Prelude.{◌≡◌, ℕ, List, ◌+◌, ◌-◌, ◌*
 ghost use Rattle.std.specs.Prelude.{option_map, OnOk};
 ghost use Rattle.slab.specs.Slab.{get};
 ghost use Rattle.pim_down.specs.declared.deadline.TimerKind.TheVariants.{PendingTimer, ExpiryTimer};
-ghost use Rattle.pim_down.specs.Schedule.{Numbered, deadline_seen, alarm_of, with_alarm, AreKnown};
+ghost use Rattle.pim_down.specs.Schedule.{Numbered, deadline_seen, alarm_of, with_its, AreKnown};
 ghost use Rattle.pim_down.specs.Schedule.{first_in, sooner_of, deadline_at};
 ghost use Rattle.pim_down.specs.Ends.{pending_end};
-ghost use Rattle.pim_down.specs.Seen.{key_seen, waiting_seen};
+ghost use Rattle.pim_down.specs.Seen.{waiting_seen};
 
 use crate::alarms::Alarms;
 use crate::deadline::{Alarm, Deadline, TimerKind};
@@ -114,12 +114,10 @@ impl<A: Copy, O: KeyOrder<A>, const HALF: usize> Schedule<A, O, HALF> {
         requires expiry { length self.old.expiry.alarms < self.old.expiry.capacity }
         ensures pending { (timers : List Numbered) → AreKnown O.bytes_of slab.now timers
             → self.old.pending.alarms ≡ map alarm_of timers → self.new.pending.alarms
-            ≡ map alarm_of (with_alarm (key_seen O.bytes_of held.now.key) number
-            (pending_end (waiting_seen held.now.machine.pending)) timers) }
+            ≡ map alarm_of (with_its O.bytes_of PendingTimer held.now number timers) }
         ensures expiry { (timers : List Numbered) → AreKnown O.bytes_of slab.now timers
             → self.old.expiry.alarms ≡ map alarm_of timers → self.new.expiry.alarms
-            ≡ map alarm_of (with_alarm (key_seen O.bytes_of held.now.key) number
-            held.now.machine.expires_at timers) }
+            ≡ map alarm_of (with_its O.bytes_of ExpiryTimer held.now number timers) }
         ensures pending_room { self.new.pending.capacity ≡ self.old.pending.capacity }
         ensures expiry_room { self.new.expiry.capacity ≡ self.old.expiry.capacity }
     {
@@ -132,18 +130,14 @@ impl<A: Copy, O: KeyOrder<A>, const HALF: usize> Schedule<A, O, HALF> {
     /// Removes the timers of the record with this number.
     pub(crate) fn stop_all(&mut self, slab: &Slab<Held<A>>, number: usize, held: &Held<A>)
         ensures pending { (timers : List Numbered)
-            → AreKnown O.bytes_of slab.now (with_alarm (key_seen O.bytes_of held.now.key) number
-            (pending_end (waiting_seen held.now.machine.pending)) timers)
+            → AreKnown O.bytes_of slab.now (with_its O.bytes_of PendingTimer held.now number timers)
             → self.old.pending.alarms
-            ≡ map alarm_of (with_alarm (key_seen O.bytes_of held.now.key) number
-            (pending_end (waiting_seen held.now.machine.pending)) timers)
+            ≡ map alarm_of (with_its O.bytes_of PendingTimer held.now number timers)
             → self.new.pending.alarms ≡ map alarm_of timers }
         ensures expiry { (timers : List Numbered)
-            → AreKnown O.bytes_of slab.now (with_alarm (key_seen O.bytes_of held.now.key) number
-            held.now.machine.expires_at timers)
+            → AreKnown O.bytes_of slab.now (with_its O.bytes_of ExpiryTimer held.now number timers)
             → self.old.expiry.alarms
-            ≡ map alarm_of (with_alarm (key_seen O.bytes_of held.now.key) number
-            held.now.machine.expires_at timers)
+            ≡ map alarm_of (with_its O.bytes_of ExpiryTimer held.now number timers)
             → self.new.expiry.alarms ≡ map alarm_of timers }
         ensures pending_room { self.new.pending.capacity ≡ self.old.pending.capacity }
         ensures expiry_room { self.new.expiry.capacity ≡ self.old.expiry.capacity }
@@ -165,23 +159,19 @@ impl<A: Copy, O: KeyOrder<A>, const HALF: usize> Schedule<A, O, HALF> {
         requires pending { length self.old.pending.alarms < self.old.pending.capacity }
         requires expiry { length self.old.expiry.alarms < self.old.expiry.capacity }
         ensures pending { (timers : List Numbered)
-            → AreKnown O.bytes_of slab.now (with_alarm (key_seen O.bytes_of held.now.key) number
-            (pending_end (waiting_seen held.now.machine.pending)) timers)
+            → AreKnown O.bytes_of slab.now (with_its O.bytes_of PendingTimer held.now number timers)
             → self.old.pending.alarms
-            ≡ map alarm_of (with_alarm (key_seen O.bytes_of held.now.key) number
-            (pending_end (waiting_seen held.now.machine.pending)) timers)
+            ≡ map alarm_of (with_its O.bytes_of PendingTimer held.now number timers)
             → self.new.pending.alarms
-            ≡ map alarm_of (with_alarm (key_seen O.bytes_of held.now.key) number
-            (pending_end (waiting_seen to.now.pending)) timers) }
+            ≡ map alarm_of (with_its O.bytes_of PendingTimer
+            (record { key = held.now.key; machine = to.now }) number timers) }
         ensures expiry { (timers : List Numbered)
-            → AreKnown O.bytes_of slab.now (with_alarm (key_seen O.bytes_of held.now.key) number
-            held.now.machine.expires_at timers)
+            → AreKnown O.bytes_of slab.now (with_its O.bytes_of ExpiryTimer held.now number timers)
             → self.old.expiry.alarms
-            ≡ map alarm_of (with_alarm (key_seen O.bytes_of held.now.key) number
-            held.now.machine.expires_at timers)
+            ≡ map alarm_of (with_its O.bytes_of ExpiryTimer held.now number timers)
             → self.new.expiry.alarms
-            ≡ map alarm_of (with_alarm (key_seen O.bytes_of held.now.key) number to.now.expires_at
-            timers) }
+            ≡ map alarm_of (with_its O.bytes_of ExpiryTimer
+            (record { key = held.now.key; machine = to.now }) number timers) }
         ensures pending_room { self.new.pending.capacity ≡ self.old.pending.capacity }
         ensures expiry_room { self.new.expiry.capacity ≡ self.old.expiry.capacity }
     {

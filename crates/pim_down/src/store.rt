@@ -1,39 +1,49 @@
-//! The records of all ports, and a schedule of their timers. The schedule always has exactly the
-//! timers of the records: each change of a record puts timers in and removes others.
+//! The records of all ports in key order, with a schedule of their timers, and for each port the
+//! number of its records and of its (S,G,rpt) records. Records are in a slab under numbers, and the
+//! list of numbers is in blocks. So an insert or a removal moves only numbers of one block. The
+//! schedule always has exactly the timers of the records: each change of a record puts timers in
+//! and removes others.
 
-ghost use Rattle.std.specs.Prelude.{◌≡◌, ℕ, List, ◌+◌, ◌*◌, ◌<◌, ◌≤◌, ◌↔◌, [], length, take, drop};
-ghost use Rattle.std.specs.Prelude.{option_map};
+ghost use Rattle.std.specs.Prelude.{◌≡◌, ℕ, List, ◌+◌, ◌-◌, ◌*◌, ◌<◌, ◌≤◌, ◌↔◌, [], length, take};
+ghost use Rattle.std.specs.Prelude.{drop, option_map};
 ghost use Rattle.std.specs.Prelude.{slice_index_or, slice_set, OnOk, IsOk, IsTrue, true, false};
 ghost use Rattle.std.specs.List.{All, insert, remove, slice_get};
 ghost use Rattle.std.specs.List.Sorted.{IsPartitionedBy, IsPartitionPoint};
 ghost use Rattle.sorted_blocks.specs.declared.place.Place.{Place};
 ghost use Rattle.sorted_slab.specs.Listed.{at, IsPlace, IsItem, IsFound};
 ghost use Rattle.pim_down.specs.declared.held.Held.{Held};
-ghost use Rattle.pim_down.specs.Hearing.{rpt_count_on};
+ghost use Rattle.pim_down.specs.Hearing.{is_rpt, rpt_count_on};
 ghost use Rattle.pim_down.specs.Records.{count_on};
 ghost use Rattle.pim_down.specs.Schedule.{deadline_seen, timers_of};
-ghost use Rattle.pim_down.specs.Seen.{records_seen};
+ghost use Rattle.pim_down.specs.Seen.{what_seen, records_seen};
 ghost use Rattle.pim_down.specs.Store.{in_state};
 
 use crate::blocks::{HALF_OF_RECORDS, HALF_OF_TIMERS};
+use crate::bound::{Bound, Side};
 use crate::deadline::Deadline;
 use crate::held::{Held, Timed};
-use crate::key::KeyOrder;
+use crate::key::{KeyOrder, What};
 use crate::machine::State;
-use crate::rows::{Bound, Rows};
 use crate::schedule::Schedule;
 use sorted_blocks::{Place, Probe};
-use sorted_slab::Walk;
+use sorted_slab::{SortedSlab, Walk};
 use std::alloc::{AllocError, Global};
 use std::fmt;
 use std::marker::Model;
+
+/// The greatest number of ports.
+const PORTS: usize = 64;
 
 /// The records of all ports. Contracts see their list, its places, and the number of records that
 /// fit without memory.
 #[derive(Drop)]
 pub(crate) struct Store<A: Copy, O: KeyOrder<A>> {
-    rows: Rows<A>,
+    list: SortedSlab<Held<A>, HALF_OF_RECORDS>,
     schedule: Schedule<A, O, HALF_OF_TIMERS>,
+    /// How many records each port has.
+    counts: [usize; 64],
+    /// How many of them are (S,G,rpt) records.
+    rpts: [usize; 64],
     /// For how many records the schedule has room.
     room: usize,
 }
@@ -46,12 +56,47 @@ impl<A: Copy, O: KeyOrder<A>> Model for Store<A, O> {
 
     ghost use Rattle.std.specs.Prelude.{min};
     ghost use Rattle.pim_down.specs.Schedule.{IsTimed};
+    ghost use Rattle.pim_down.specs.Store.{IsKept};
 
     ghost view = { λ s. record
-        { index = s.rows.index; items = s.rows.items; capacity = min s.rows.capacity s.room } };
+        { index = s.list.index; items = s.list.items; capacity = min s.list.capacity s.room } };
 
-    ghost invariant = { λ s.
-        IsTimed O.bytes_of s.rows s.schedule.pending s.schedule.expiry s.room };
+    ghost invariant = { λ s. IsKept s.counts s.rpts s.list
+        × IsTimed O.bytes_of s.list s.schedule.pending s.schedule.expiry s.room };
+}
+
+/// No record on any port.
+fn no_counts() -> [usize; 64]
+    ensures { (port : ℕ) → slice_index_or result port 0 ≡ 0 }
+{
+    [0; 64]
+}
+
+/// Adds to the count of this port.
+fn count_in(counts: &mut [usize; 64], port: usize, more: usize)
+    requires { slice_index_or counts.old port 0 + more ≤ 18446744073709551615 }
+    ensures { counts.new ≡ slice_set counts.old port (slice_index_or counts.old port 0 + more) }
+{
+    if port < PORTS {
+        counts[port] += more;
+    }
+}
+
+/// Subtracts from the count of this port.
+fn count_out(counts: &mut [usize; 64], port: usize, fewer: usize)
+    requires { port < 64 → fewer ≤ slice_index_or counts.old port 0 }
+    ensures { counts.new ≡ slice_set counts.old port (slice_index_or counts.old port 0 - fewer) }
+{
+    if port < PORTS {
+        counts[port] -= fewer;
+    }
+}
+
+/// Whether it is an (S,G,rpt) machine.
+fn is_rpt<A>(what: &What<A>) -> bool
+    ensures { (bytes_of : A → List ℕ) → result ≡ is_rpt (what_seen bytes_of what.now) }
+{
+    matches!(what, What::Rpt(_))
 }
 
 impl<A: Copy, O: KeyOrder<A>> Store<A, O> {
@@ -60,8 +105,10 @@ impl<A: Copy, O: KeyOrder<A>> Store<A, O> {
         ensures { result.items ≡ [] }
     {
         Store {
-            rows: Rows::new(alloc),
+            list: SortedSlab::new(alloc),
             schedule: Schedule::new(alloc),
+            counts: no_counts(),
+            rpts: no_counts(),
             room: 0,
         }
     }
@@ -71,7 +118,7 @@ impl<A: Copy, O: KeyOrder<A>> Store<A, O> {
         ensures len { result ≡ length self.now.items }
         ensures small { 2 * length self.now.items + 2 ≤ 18446744073709551615 }
     {
-        self.rows.len()
+        self.list.len()
     }
 
     /// How many records this port has.
@@ -80,7 +127,7 @@ impl<A: Copy, O: KeyOrder<A>> Store<A, O> {
         ensures { (bytes_of : A → List ℕ) → result
             ≡ count_on port (records_seen bytes_of self.now.items) }
     {
-        self.rows.count_on(port)
+        self.counts[port]
     }
 
     /// How many (S,G,rpt) records this port has.
@@ -89,7 +136,7 @@ impl<A: Copy, O: KeyOrder<A>> Store<A, O> {
         ensures { (bytes_of : A → List ℕ) → result
             ≡ rpt_count_on port (records_seen bytes_of self.now.items) }
     {
-        self.rows.rpt_count_on(port)
+        self.rpts[port]
     }
 
     /// Takes memory for `additional` more records: after `Ok` they fit. The records stay, also
@@ -100,11 +147,11 @@ impl<A: Copy, O: KeyOrder<A>> Store<A, O> {
         ensures items { self.new.items ≡ self.old.items }
         ensures capacity { self.old.capacity ≤ self.new.capacity }
     {
-        self.rows.reserve(additional)?;
+        self.list.reserve(additional)?;
         if additional == 0 {
             return Ok(());
         }
-        let Some(wanted) = self.rows.len().checked_add(additional) else {
+        let Some(wanted) = self.list.len().checked_add(additional) else {
             return Err(AllocError);
         };
         if wanted <= self.room {
@@ -122,9 +169,13 @@ impl<A: Copy, O: KeyOrder<A>> Store<A, O> {
         ensures items { self.new.items ≡ insert self.old.items (at self.old place) held }
         ensures capacity { self.new.capacity ≡ self.old.capacity }
     {
-        let stands = self.rows.insert_within(place, held);
-        let number = self.rows.number_of(stands);
-        self.schedule.start_all(self.rows.slab(), number, &held);
+        let _most = self.list.capacity();
+        let stands = self.list.insert_within(place, held);
+        let number = self.list.number_of(stands);
+        self.schedule.start_all(self.list.slab(), number, &held);
+        count_in(&mut self.counts, held.key.port, 1);
+        let rpts = usize::from(is_rpt(&held.key.what));
+        count_in(&mut self.rpts, held.key.port, rpts);
         stands
     }
 
@@ -137,10 +188,14 @@ impl<A: Copy, O: KeyOrder<A>> Store<A, O> {
         ensures at { at self.new result ≡ at self.old place }
         ensures item { at self.new result < length self.new.items → IsItem self.new result }
     {
-        let gone = *self.rows.get(place);
-        let number = self.rows.number_of(place);
-        self.schedule.stop_all(self.rows.slab(), number, &gone);
-        self.rows.remove(place)
+        let number = self.list.number_of(place);
+        let held = *self.list.get(place);
+        self.schedule.stop_all(self.list.slab(), number, &held);
+        let (gone, behind) = self.list.remove(place);
+        count_out(&mut self.counts, gone.key.port, 1);
+        let rpts = usize::from(is_rpt(&gone.key.what));
+        count_out(&mut self.rpts, gone.key.port, rpts);
+        self.list.settled(behind)
     }
 
     /// Gives the record at this place another machine; its key stays.
@@ -153,11 +208,17 @@ impl<A: Copy, O: KeyOrder<A>> Store<A, O> {
         ensures at { (p : Place) → at self.new p ≡ at self.old p }
         ensures capacity { self.new.capacity ≡ self.old.capacity }
     {
-        let old = *self.rows.get(place);
-        let number = self.rows.number_of(place);
+        let old = *self.list.get(place);
+        let number = self.list.number_of(place);
         self.schedule
-            .change_all(self.rows.slab(), number, &old, &machine);
-        self.rows.set_machine(place, machine);
+            .change_all(self.list.slab(), number, &old, &machine);
+        self.list.set(
+            place,
+            Held {
+                key: old.key,
+                machine,
+            },
+        );
     }
 
     /// Gives the machine of the record at this place another state. Its timers stay, so that the
@@ -170,9 +231,10 @@ impl<A: Copy, O: KeyOrder<A>> Store<A, O> {
         ensures at { (p : Place) → at self.new p ≡ at self.old p }
         ensures capacity { self.new.capacity ≡ self.old.capacity }
     {
-        let _slab = self.rows.slab();
-        let machine = self.rows.get(place).machine;
-        self.rows.set_machine(place, Timed { state, ..machine });
+        let _slab = self.list.slab();
+        let Held { key, machine } = *self.list.get(place);
+        let machine = Timed { state, ..machine };
+        self.list.set(place, Held { key, machine });
     }
 
     /// The timer that fires first.
@@ -180,7 +242,7 @@ impl<A: Copy, O: KeyOrder<A>> Store<A, O> {
         ensures { option_map (deadline_seen O.bytes_of) result
             ≡ slice_get (timers_of (records_seen O.bytes_of self.now.items)) 0 }
     {
-        self.schedule.first(self.rows.slab())
+        self.schedule.first(self.list.slab())
     }
 
     /// The record at this place.
@@ -188,14 +250,14 @@ impl<A: Copy, O: KeyOrder<A>> Store<A, O> {
         requires { IsItem self.now place }
         ensures { result.now ≡ slice_index_or self.now.items (at self.now place) result.now }
     {
-        self.rows.get(place)
+        self.list.get(place)
     }
 
     /// Whether there is a record at this place.
     pub(crate) fn is_item(&self, place: Place) -> bool
         ensures { IsTrue result ↔ IsItem self.now place }
     {
-        self.rows.is_item(place)
+        self.list.is_item(place)
     }
 
     /// The place before all records: that of the first one, if there is any.
@@ -204,7 +266,7 @@ impl<A: Copy, O: KeyOrder<A>> Store<A, O> {
         ensures at { at self.now result ≡ 0 }
         ensures item { 0 < length self.now.items → IsItem self.now result }
     {
-        self.rows.first()
+        self.list.first()
     }
 
     /// The place after this record: that of the next one, if there is any.
@@ -214,7 +276,7 @@ impl<A: Copy, O: KeyOrder<A>> Store<A, O> {
         ensures at { at self.now result ≡ at self.now place + 1 }
         ensures item { at self.now place + 1 < length self.now.items → IsItem self.now result }
     {
-        self.rows.next(place)
+        self.list.next(place)
     }
 
     /// At most `count` records from this place on, in order.
@@ -222,14 +284,14 @@ impl<A: Copy, O: KeyOrder<A>> Store<A, O> {
         requires { IsPlace self.now place }
         ensures { result ≡ take count (drop (at self.now place) self.now.items) }
     {
-        self.rows.walk(place, count)
+        self.list.walk(place, count)
     }
 
     /// All records, in order.
     pub(crate) fn iter(&self) -> Walk<'_, Held<A>, HALF_OF_RECORDS>
         ensures { result ≡ self.now.items }
     {
-        self.rows.iter()
+        self.list.walk(self.list.first(), self.list.len())
     }
 
     /// The place of a record that compares as equal, or as an error a place between records. The
@@ -242,7 +304,7 @@ impl<A: Copy, O: KeyOrder<A>> Store<A, O> {
         requires { All (P.can_compare probe.now) self.now.items }
         ensures { IsFound (P.order probe.now) self.now result }
     {
-        self.rows.find_near(near, probe)
+        self.list.find_near(near, probe)
     }
 
     /// The place after the records that come before the bound: that of the first other record, if
@@ -255,7 +317,10 @@ impl<A: Copy, O: KeyOrder<A>> Store<A, O> {
         ensures parts { IsPartitionPoint (λ held. B.is_before bound.now held.key ≡ true)
             (λ held. B.is_before bound.now held.key ≡ false) self.now.items (at self.now result) }
     {
-        self.rows.first_behind(bound)
+        match self.list.find(&Side { bound }) {
+            Ok(_) => unreachable!(),
+            Err(place) => self.list.settled(place),
+        }
     }
 
     /// The same as `first_behind`. The search begins near a place, if there is one.
@@ -267,7 +332,13 @@ impl<A: Copy, O: KeyOrder<A>> Store<A, O> {
         ensures parts { IsPartitionPoint (λ held. B.is_before bound.now held.key ≡ true)
             (λ held. B.is_before bound.now held.key ≡ false) self.now.items (at self.now result) }
     {
-        self.rows.first_behind_near(near, bound)
+        let Some(near) = near else {
+            return self.first_behind(bound);
+        };
+        match self.list.find_near(near, &Side { bound }) {
+            Ok(_) => unreachable!(),
+            Err(place) => self.list.settled(place),
+        }
     }
 }
 

@@ -10,10 +10,10 @@ ghost use Rattle.pim_down.specs.Time.{machine_after, record_after};
 ghost use Rattle.pim_down.specs.Seen.{timed_seen, record_seen, told_seen, records_seen, shown};
 
 use crate::blocks::HALF_OF_RECORDS;
+use crate::bound::Bound;
 use crate::held::{Held, Timed};
 use crate::key::{Key, OfFamily};
 use crate::machine::{Machine, Pending, Record};
-use crate::rows::Bound;
 use crate::store::Store;
 use pim_addr::Family;
 use sorted_slab::Walk;

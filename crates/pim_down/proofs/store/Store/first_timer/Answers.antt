@@ -14,10 +14,10 @@ pub returns : goal.returns
 returns g c =
     let bytes_of = g.O.KeyOrder.bytes_of in
     let s = c.self.inside in
-    let ns = numbers s.rows in
+    let ns = numbers s.list in
     let slab = c.slab.result.now in
     let count = c.slab.ensures.count in
-    let found = c.first.ensures (timers bytes_of PendingTimer ns s.rows.items) (timers bytes_of ExpiryTimer ns s.rows.items)
-    (known_timers bytes_of PendingTimer slab ns s.rows.items count c.slab.ensures.item) (known_timers bytes_of ExpiryTimer slab ns s.rows.items count c.slab.ensures.item) c.self.invariant.prunes c.self.invariant.expiries in
+    let found = c.first.ensures (timers bytes_of PendingTimer ns s.list.items) (timers bytes_of ExpiryTimer ns s.list.items)
+    (known_timers bytes_of PendingTimer slab ns s.list.items count c.slab.ensures.item) (known_timers bytes_of ExpiryTimer slab ns s.list.items count c.slab.ensures.item) c.self.invariant.1.prunes c.self.invariant.1.expiries in
     subst (λ (l : Listed (Held g.row.A.Denot)). option_map (deadline_seen bytes_of) c.first.result ≡ slice_get (timers_of (records_seen bytes_of l.items)) 0) c.self.view_is
-    (found ∙ first_of_both ns (records_seen bytes_of s.rows.items) (omega (arith, count, length-map s.rows.items (record_seen bytes_of))))
+    (found ∙ first_of_both ns (records_seen bytes_of s.list.items) (omega (arith, count, length-map s.list.items (record_seen bytes_of))))

@@ -6,4 +6,4 @@ use Rattle.pim_down.proofs.store.Store.len.Goals as goal
 pub returns-clause-small : goal.returns-clause-small
 returns-clause-small g c =
     subst (λ (l : Listed (Held g.row.A.Denot)). 2 * length l.items + 2 ≤ 18446744073709551615) c.self.view_is
-    (omega (arith, c.self.invariant.fits, c.self.invariant.small))
+    (omega (arith, c.self.invariant.1.fits, c.self.invariant.1.small))

@@ -3,7 +3,7 @@ use Rattle.std.specs.List.Sorted.{IsPartitionedBy, IsPartitionPoint}
 use Rattle.sorted_slab.specs.Listed.{Listed, at}
 use Rattle.pim_down.specs.declared.held.Held.{Held}
 use Rattle.pim_down.proofs.Bounds.{never_found, gap_parts}
-use Rattle.pim_down.proofs.rows.Rows.first_behind.Goals as goal
+use Rattle.pim_down.proofs.store.Store.first_behind.Goals as goal
 
 pub unreachable-requires : goal.unreachable-requires
 unreachable-requires g c =
