@@ -4,7 +4,7 @@ value.
 
     python3 tools/changed_bytes.py
 
-Bodies are those of crates/pim_codec_tests/src/tests/jp/changed_bytes.rt, whole messages those of
+Bodies are those of crates/pim_down_tests/src/tests/jp/changed_bytes.rt, whole messages those of
 crates/pim_router_tests/src/tests/router/spoilt.rt.
 
 This is a reader of PIM messages (RFC 7761, 4.9) that shares no code with the engine. It lists all

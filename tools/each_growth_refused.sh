@@ -69,8 +69,8 @@ while read -r crate name calls; do
     refuse "$crate" "$name"
     ran=1
 done << 'LIST'
-pim_codec_tests addr::routes::refusals_change_nothing Routes::add_via
-pim_codec_tests hello::neighbours::refusals_change_nothing Neighbours::hear
+pim_down_tests addr::routes::refusals_change_nothing Routes::add_via
+pim_down_tests hello::neighbours::refusals_change_nothing Neighbours::hear
 pim_down_tests limits::refusals_change_nothing Ports::hear
 pim_router_tests form::forms::refusals_leave_the_ports NormalForm::of
 pim_router_tests form::toward::refusals_of_toward_change_nothing NormalForm::toward
@@ -80,7 +80,7 @@ pim_router_tests change::refusals_leave_the_change changed, triggered
 pim_router_tests router::memory::refusals_change_nothing Router::new, take_packet of Hellos and of Join/Prunes
 pim_router_tests router::refused::calls_are_made_again Router::canonical, same_wants
 pim_router_tests mirror::mirrored::messages_make_mirrors mirror
-pim_codec_tests capture::refused_growth Capture::next
+pim_down_tests capture::refused_growth Capture::next
 pimtree_tests refused::replay_leaves_a_front replay
 pimtree_tests refused::trace_leaves_a_front trace
 pimtree_tests refused::trace_as_json_leaves_a_front trace

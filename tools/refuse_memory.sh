@@ -5,7 +5,7 @@
 # reads the same standard input. Examples, at the top of the repository:
 #
 #   tools/refuse_memory.sh crates/pimtree/out/pimtree check < examples/join-star.pim
-#   tools/refuse_memory.sh crates/pim_codec_tests/out/pim_codec_tests_tests tests::hello::neighbours::refusals_change_nothing
+#   tools/refuse_memory.sh crates/pim_down_tests/out/pim_down_tests_tests tests::hello::neighbours::refusals_change_nothing
 #
 # each_growth_refused.sh does this for all tests of refused memory.
 set -eu

@@ -1,19 +1,30 @@
-//! What no command of a session shows of the machines: look-ups, walks, looks, prints, a moment
-//! that is far away, and growths that are refused; and thousands of messages beside a slow list.
+//! What no command shows of devices, times, tables, Hellos, bodies, items of sessions, captures and
+//! the two lists, each in a module of its own.
+//!
+//! This module and the others have what no command of a session shows of the machines: look-ups,
+//! walks, looks, prints, a moment that is far away, and growths that are refused; and thousands of
+//! messages beside a slow list.
 //! The group is 239.1.1.1 with the RP 10.9.9.9, the sources are 192.0.2.1 and 192.0.2.2. Examples
 //! are constant tables of rows that are played one after the other, each by a small helper: a test
 //! that makes its calls itself takes far longer to prove. The scenarios of `pimtree_cases` show the
 //! machines.
 
+mod addr;
 mod blocks;
 mod bodies;
+mod capture;
 mod courses;
+mod device;
+mod hello;
+mod items;
+mod jp;
 mod limits;
 mod looks;
 mod nexts;
 mod random;
 mod running;
 mod slow;
+mod times;
 
 use bodies::{body, hear_body, table};
 use pim_addr::V4;
