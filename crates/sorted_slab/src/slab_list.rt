@@ -3,6 +3,7 @@
 ghost use Rattle.std.specs.Prelude.{◌≡◌, ℕ, ◌+◌, ◌<◌, ◌≤◌, [], length, take, drop};
 ghost use Rattle.std.specs.Prelude.{slice_index_or, slice_set, OnOk, IsOk, IsTrue, ◌↔◌, ℕ, Some};
 ghost use Rattle.std.specs.List.{All, insert, remove};
+ghost use Rattle.slab.specs.Slab.{get};
 ghost use Rattle.sorted_blocks.specs.declared.place.Place.{Place};
 ghost use Rattle.sorted_slab.specs.Listed.{at, numbers, IsPlace, IsItem, IsFound};
 
