@@ -3,10 +3,13 @@
 pcapng draft and the pcap format alone.
 
     tools/random_captures.py PROGRAM [COUNT [SEED]]
+    tools/random_captures.py PROGRAM --cut FOLDER     each file of FOLDER, whole and cut at every byte
 
-PROGRAM prints the events of the file that it is given, as tools/captures_of_tools.py says; of the others
-it prints the first word: `skipped`, `unread`, `untimed`, `section`, `interface`, `passed`, `end`, `fault NAME`.
+tools/captures_of_tools.py makes a folder of captures as tools write them, and says which events PROGRAM
+prints. Of others it prints the first word: `skipped`, `unread`, `untimed`, `section`, `interface`,
+`passed`, `end`, `fault NAME`.
 """
+import os
 import random
 import struct
 import subprocess
@@ -202,15 +205,31 @@ def some_file(source):
     return data[:source.randrange(len(data) + 1)] if source.random() < 0.3 else data
 
 
+def random_files(count, seed):
+    source = random.Random(seed)
+    return (some_file(source) for _ in range(count))
+
+
+def cut_files(folder):
+    for name in sorted(os.listdir(folder)):
+        with open(f"{folder}/{name}", "rb") as file:
+            data = file.read()
+        yield from (data[:size] for size in range(len(data) + 1))
+
+
 def main():
-    program, count = sys.argv[1], int(sys.argv[2]) if len(sys.argv) > 2 else 500
-    source = random.Random(int(sys.argv[3]) if len(sys.argv) > 3 else 1)
-    for at in range(count):
-        data = some_file(source)
+    program, *words = sys.argv[1:]
+    if words[:1] == ["--cut"]:
+        files = cut_files(words[1])
+    else:
+        count, seed = (int(it) for it in (words + ["500", "1"][len(words):])[:2])
+        files = random_files(count, seed)
+    at = -1
+    for at, data in enumerate(files):
         if expected(data) != found(program, data):
             print(f"file {at}: {data.hex()}\n  expected {expected(data)}\n  found    {found(program, data)}")
             return 1
-    print(f"{count} files: equal")
+    print(f"{at + 1} files: equal")
     return 0
 
 
