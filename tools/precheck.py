@@ -7,6 +7,7 @@ It checks
 - that each crate has the layout of `rt fmt`,
 - that each must-fail edit fits its file,
 - that each bench compiles,
+- if a reader of captures differs from BASE, that random captures are read as a slow reader reads them,
 - that documents keep their length, and that the files which they name exist,
 - that each JSON line of a trace that a case expects is an object with the members of docs/TRACE.md,
 - the tests of each crate that differs from the commit BASE (HEAD unless given), and of the test crates that name it.
@@ -189,6 +190,18 @@ def tests(crate):
     return [f"{crate}: {it}" for it in bad] if ran.returncode else []
 
 
+def captures(folder, base):
+    """The first random capture that the reader reads otherwise than tools/random_captures.py."""
+    if not changed_crates(base) & {"pim_capture", "pim_container"}:
+        return []
+    program = f"{folder}/container"
+    for words in (["sh", "tools/quick_build.sh", "container", program], [sys.executable, "tools/random_captures.py", program]):
+        ran = subprocess.run(words, cwd=TOP, capture_output=True, text=True)
+        if ran.returncode:
+            return [f"{words[1]}: {it}" for it in (ran.stdout + ran.stderr).splitlines()[-3:]]
+    return []
+
+
 def main():
     if len(sys.argv) > 2 or sys.argv[1:2] in (["-h"], ["--help"]):
         sys.exit(__doc__)
@@ -199,7 +212,7 @@ def main():
     wrong = 0
     with tempfile.TemporaryDirectory() as folder, concurrent.futures.ThreadPoolExecutor(os.cpu_count()) as pool:
         parts = [pool.submit(tests, it) for it in tested_crates(base)]
-        parts += [pool.submit(benches, folder)]
+        parts += [pool.submit(benches, folder), pool.submit(captures, folder, base)]
         parts += [pool.submit(layout, it) for it in crates()] + [pool.submit(edits), pool.submit(json_lines)]
         parts += [pool.submit(document, it) for it in WORDS]
         for part in concurrent.futures.as_completed(parts):
