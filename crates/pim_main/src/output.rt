@@ -3,6 +3,7 @@
 ghost use Rattle.std.specs.Prelude.{◌≡◌, ◌+◌, min, None};
 ghost use Rattle.pim_device.specs.Device.{top_count};
 
+use crate::files::STANDARD_INPUT;
 use pim_addr::{Drain, Failed};
 use pim_items::Answers;
 use pim_words::{Port, Task};
@@ -40,10 +41,24 @@ impl<W: Write + Drop> Write for Output<W> {
     }
 }
 
+/// Whether `-` names standard input among the captures of this task.
+pub fn names_input<A>(task: &Task<'_, A>) -> bool {
+    matches!(task, Task::Trace(..))
+}
+
+/// The path of what a port is captured from.
+fn path_of<'a, A>(port: &Port<'a, A>, names_input: bool) -> &'a str {
+    if names_input && port.file == STANDARD_INPUT {
+        "/dev/stdin"
+    } else {
+        port.file
+    }
+}
+
 /// Whether the capture of some port may still grow: it is a pipe, a terminal or another device.
-fn some_may_grow<A>(rt: &HostRuntime, ports: &[Port<'_, A>]) -> bool {
+fn some_may_grow<A>(rt: &HostRuntime, ports: &[Port<'_, A>], names_input: bool) -> bool {
     for port in ports {
-        if metadata(rt, port.file).is_ok_and(|it| !it.is_file()) {
+        if metadata(rt, path_of(port, names_input)).is_ok_and(|it| !it.is_file()) {
             return true;
         }
     }
@@ -52,14 +67,15 @@ fn some_may_grow<A>(rt: &HostRuntime, ports: &[Port<'_, A>]) -> bool {
 
 /// Whether the task reads from a pipe, a terminal or another device.
 fn reads_live<A>(rt: &HostRuntime, task: &Task<'_, A>) -> bool {
-    match task {
-        Task::Check { .. } | Task::Build { .. } => false,
-        Task::Replay(captures) | Task::Trace(captures, _) => some_may_grow(rt, &captures.ports),
+    let captures = match task {
+        Task::Check { .. } | Task::Build { .. } => return false,
+        Task::Replay(captures) | Task::Trace(captures, _) => captures,
         Task::Same(captures, _)
         | Task::Mirror(captures, _)
         | Task::Emit(captures, _)
-        | Task::Change(captures, _) => some_may_grow(rt, &captures.ports),
-    }
+        | Task::Change(captures, _) => captures,
+    };
+    some_may_grow(rt, &captures.ports, names_input(task))
 }
 
 /// Whether standard output is a FIFO or a pipe. If the system doesn't say, it is none.
