@@ -3,7 +3,8 @@ use Rattle.std.proofs.Common.{◌≡◌, ℕ, zero, suc, ◌+◌, ◌-◌, ◌<�
 use Rattle.std.specs.List.{insert, remove}
 use Rattle.std.proofs.lemmas.List.{take-append-drop, get_or_append_left, get_or-append-add}
 use Rattle.std.proofs.lemmas.List.Edits.{insert-append_left, insert-append_right, remove-append_left, remove-append_right}
-use Rattle.sorted_blocks.specs.Shape.{joined}
+use Rattle.sorted_blocks.specs.Shape.{joined, cut}
+use Rattle.sorted_blocks.proofs.Cuts.{cut-append_left, cut-append_right}
 
 module _ {A : Type 0} where
   -- how many items stand before the block of this number
@@ -42,6 +43,16 @@ module _ {A : Type 0} where
       let n = length-append b (joined (take i bs)) in
       let m : start (b ∷ bs) (suc i) - length b ≡ start bs i = omega (arith, n) in
       ap (λ xs. b ++ xs) r ∙ ap (λ k. b ++ remove (joined bs) k) (sym m) ∙ sym (remove-append_right b (joined bs) (length b) (start (b ∷ bs) (suc i)) refl (omega (arith, n)))
+
+  -- items of a block go
+  pub joined-cut : (bs : List (List A)) (i at count : ℕ) → i < length bs → at + count ≤ length (get_or bs i []) → joined (set bs i (cut (get_or bs i []) at count)) ≡ cut (joined bs) (start bs i + at) count
+  joined-cut [] i at count h l = absurd (omega arith)
+  joined-cut (b ∷ bs) zero at count h l = rw zero-add (sym (cut-append_left b (joined bs) at count l))
+  joined-cut (b ∷ bs) (suc i) at count h l =
+      let r = joined-cut bs i at count (omega arith) l in
+      let n = length-append b (joined (take i bs)) in
+      let m : start (b ∷ bs) (suc i) + at - length b ≡ start bs i + at = omega (arith, n) in
+      ap (λ xs. b ++ xs) r ∙ ap (λ k. b ++ cut (joined bs) k count) (sym m) ∙ sym (cut-append_right b (joined bs) (length b) (start (b ∷ bs) (suc i) + at) count refl (omega (arith, n)))
 
   pub joined-split : (half : ℕ) (bs : List (List A)) (i : ℕ) → i < length bs → joined (insert (set bs i (take half (get_or bs i []))) (suc i) (drop half (get_or bs i []))) ≡ joined bs
   joined-split half [] i h = absurd (omega arith)

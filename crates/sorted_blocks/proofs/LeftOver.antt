@@ -1,9 +1,9 @@
 -- What an edit leaves of a block whose first items are left over.
-use Rattle.std.proofs.Common.{◌≡◌, ℕ, suc, ◌+◌, ◌-◌, ◌<◌, ◌≤◌, List, ◌++◌, length, take, drop, ap, sym, ◌∙◌, arith, append_assoc, length-drop, zero-add}
+use Rattle.std.proofs.Common.{◌≡◌, ℕ, suc, ◌+◌, ◌-◌, ◌<◌, ◌≤◌, List, ◌++◌, length, take, drop, ap, sym, ◌∙◌, arith, append_assoc}
 use Rattle.std.proofs.Math.Seq.{paste}
 use Rattle.std.specs.List.{insert, remove}
-use Rattle.std.proofs.lemmas.List.{drop-drop, drop-take, drop_at, length-take-le, take_all, take-append-drop}
-use Rattle.std.proofs.lemmas.List.Edits.{insert-append_right, remove-append_right, take-paste}
+use Rattle.std.proofs.lemmas.List.{drop-drop, drop-take, drop_at, length-take-le, take-append-drop}
+use Rattle.std.proofs.lemmas.List.Edits.{insert-append_right, remove-append_right}
 
 pub insert_beyond : {X : Type 0} (start at : ℕ) (xs : List X) (y : X) → start ≤ length xs → drop start (insert xs (start + at) y) ≡ insert (drop start xs) at y
 insert_beyond start at xs y within =
@@ -29,10 +29,3 @@ front_moved start at xs within =
     let moved : start + at - start ≡ at = omega arith in
     let behind : start + 1 + (start + at - start) ≡ start + suc at = omega arith in
     ap (drop (start + 1)) (append_assoc (take (start + 1) xs) _ _) ∙ drop_at (take (start + 1) xs) _ (start + 1) len ∙ (λ i. take (moved i) (drop start xs) ++ drop (behind i) xs) ∙ ap (λ ys. take at (drop start xs) ++ ys) (sym (drop-drop (suc at) start xs))
-
--- all items moved down
-pub moved_down : {X : Type 0} (count long : ℕ) (xs : List X) → length xs ≡ long → count ≤ long → take (long - count) (paste xs 0 (drop count xs) (long - count)) ≡ drop count xs
-moved_down count long xs is within =
-    let n = long - count in
-    let left : length (drop count xs) ≡ n = length-drop count xs ∙ ap (λ k. k - count) is in
-    ap (λ k. take k (paste xs 0 (drop count xs) n)) (sym (zero-add n)) ∙ take-paste xs 0 (drop count xs) n (omega arith) (omega (arith, left)) ∙ take_all n (drop count xs) (omega (arith, left))

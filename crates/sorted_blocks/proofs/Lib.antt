@@ -1,5 +1,6 @@
 pub mod Capacity
 pub mod Counted
+pub mod Cuts
 pub mod Dense
 pub mod Finding
 pub mod Firsts
@@ -7,6 +8,7 @@ pub mod Joined
 pub mod Kept
 pub mod LeftOver
 pub mod Moves
+pub mod Rests
 pub mod Seeking
 pub mod Starts
 pub mod Walking

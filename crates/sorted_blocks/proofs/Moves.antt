@@ -4,9 +4,10 @@ use Rattle.std.specs.List.{insert, remove}
 use Rattle.std.proofs.lemmas.List.{length-set, length-take-le, get_or-set_same}
 use Rattle.std.proofs.lemmas.List.Edits.{length-insert, length-remove}
 use Rattle.sorted_blocks.specs.declared.place.Place.{Place}
-use Rattle.sorted_blocks.specs.Shape.{Shape, items, joined}
+use Rattle.sorted_blocks.specs.Shape.{Shape, items, joined, cut}
 use Rattle.sorted_blocks.specs.Places.{before, IsPlace, IsItem}
-use Rattle.sorted_blocks.proofs.Joined.{start, joined-put, joined-take, joined-whole, joined-split, joined-merge, item_at, start-suc, start-all}
+use Rattle.sorted_blocks.proofs.Cuts.{length-cut}
+use Rattle.sorted_blocks.proofs.Joined.{start, joined-put, joined-take, joined-cut, joined-whole, joined-split, joined-merge, item_at, start-suc, start-all}
 use Rattle.sorted_blocks.proofs.Starts.{start-set, start-split, start-split_suc, at-split, at-split_suc, start-merge, at-merge, start-remove}
 
 -- the list is the same, and the second place stands in a block where the first one stood
@@ -94,6 +95,20 @@ module _ {A : Type 0} where
       let c = remove (get_or s.blocks p.block []) p.at in
       let r = ap length (ap (λ bs. get_or bs p.block []) e ∙ get_or-set_same s.blocks p.block c [] h) in
       omega (arith, r, l, length-remove (get_or s.blocks p.block []) p.at l)
+
+  -- items of a block go
+  pub cut_items : (s t : Shape A) (p : Place) (n : ℕ) → p.block < length s.blocks → p.at + n ≤ length (get_or s.blocks p.block []) → t.blocks ≡ set s.blocks p.block (cut (get_or s.blocks p.block []) p.at n) → items t ≡ cut (items s) (before s p) n
+  unfolding before
+  cut_items s t p n h l e = ap joined e ∙ joined-cut s.blocks p.block p.at n h l
+
+  pub cut_block : (s t : Shape A) (p : Place) (c : List A) → p.block < length s.blocks → t.blocks ≡ set s.blocks p.block c → p.block < length t.blocks
+  cut_block s t p c h e = omega (arith, h, ap length e ∙ length-set s.blocks p.block c)
+
+  pub cut_at : (s t : Shape A) (p : Place) (n : ℕ) → p.block < length s.blocks → p.at + n ≤ length (get_or s.blocks p.block []) → t.blocks ≡ set s.blocks p.block (cut (get_or s.blocks p.block []) p.at n) → p.at ≤ length (get_or t.blocks p.block [])
+  cut_at s t p n h l e =
+      let c = cut (get_or s.blocks p.block []) p.at n in
+      let r = ap length (ap (λ bs. get_or bs p.block []) e ∙ get_or-set_same s.blocks p.block c [] h) in
+      omega (arith, r, l, length-cut (get_or s.blocks p.block []) p.at n l)
 
   -- a block of one item goes
   pub whole_items : (s t : Shape A) (p : Place) → p.block < length s.blocks → p.at < length (get_or s.blocks p.block []) → length (get_or s.blocks p.block []) ≡ 1 → t.blocks ≡ remove s.blocks p.block → items t ≡ remove (items s) (before s p)

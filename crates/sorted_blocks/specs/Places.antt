@@ -1,5 +1,5 @@
 -- Places in a list in blocks.
-use Rattle.std.specs.Prelude.{ℕ, ◌+◌, ◌-◌, ◌<◌, ◌≤◌, length, take}
+use Rattle.std.specs.Prelude.{ℕ, ◌+◌, ◌-◌, ◌<◌, ◌≤◌, List, length, take, drop}
 use Rattle.sorted_blocks.specs.declared.place.Place.{Place}
 use Rattle.sorted_blocks.specs.Shape.{Shape, joined, block_at}
 
@@ -17,3 +17,7 @@ module _ {A : Type 0} where
   -- The place is that of an item.
   unfoldable pub IsItem : Shape A → Place → Type 0
   IsItem shape place = (place.block < length shape.blocks) × (place.at < length (block_at shape.blocks place.block))
+
+  -- The items of a block from the place on.
+  unfoldable pub rest_of : Shape A → Place → List A
+  rest_of shape place = drop place.at (block_at shape.blocks place.block)

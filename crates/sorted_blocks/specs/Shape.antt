@@ -8,6 +8,10 @@ pub record Shape (A : Type 0) : Type 0 where
   pub blocks : List (List A)
   pub spare : ℕ
 
+-- The list without the `count` items from index `at` on.
+unfoldable pub cut : {A : Type 0} → List A → ℕ → ℕ → List A
+cut xs at count = take at xs ++ drop (at + count) xs
+
 module _ {A : Type 0} where
   -- The block with this number.
   abbrev pub block_at : List (List A) → ℕ → List A
@@ -24,6 +28,10 @@ module _ {A : Type 0} where
   -- The blocks with an item taken out of one of them.
   abbrev pub taken_out : List (List A) → ℕ → ℕ → List (List A)
   taken_out blocks block at = slice_set blocks block (remove (block_at blocks block) at)
+
+  -- The blocks with `count` items of one of them taken out.
+  abbrev pub cut_from : List (List A) → ℕ → ℕ → ℕ → List (List A)
+  cut_from blocks block at count = slice_set blocks block (cut (block_at blocks block) at count)
 
   -- The blocks with one of them split into its first `half` items and the others.
   abbrev pub split : ℕ → List (List A) → ℕ → List (List A)

@@ -7,6 +7,7 @@
 ghost use Rattle.std.specs.Prelude.{◌≡◌, ℕ, ◌+◌, ◌<◌, ◌≤◌, [], ◌++◌, length, take, drop};
 ghost use Rattle.std.specs.Prelude.{slice_index_or, vec_len, vec_capacity, IfOk};
 ghost use Rattle.std.specs.List.{insert, remove};
+ghost use Rattle.sorted_blocks.specs.Shape.{cut};
 
 use std::alloc::{AllocError, Global};
 use std::marker::Model;
@@ -109,6 +110,21 @@ impl<T: Copy, const HALF: usize> Block<T, HALF> {
         item
     }
 
+    /// Takes out `count` items from this place on. It moves the items before them where these are
+    /// few, else the items after them.
+    pub(crate) fn cut_out(&mut self, at: usize, count: usize)
+        requires { at + count ≤ length self.old }
+        ensures { self.new ≡ cut self.old at count }
+    {
+        let start = self.start;
+        if at <= self.len() / FRONT {
+            self.items.copy_within(start..start + at, start + count);
+            self.start += count;
+            return;
+        }
+        cut_out(&mut self.items, start + at, count);
+    }
+
     /// Removes all items.
     pub(crate) fn clear(&mut self)
         ensures { self.new ≡ [] }
@@ -166,13 +182,24 @@ fn make_room<T: Copy>(items: &mut Vec<T>, start: usize, most: usize) -> usize
 }
 
 /// Removes the first `count` items, and moves the others to the beginning.
+#[tactic(auto, using(crate::proofs::Cuts::cut_first))]
 fn move_down<T: Copy>(items: &mut Vec<T>, count: usize)
     requires { count ≤ vec_len items.old }
     ensures items { items.new.items ≡ drop count items.old.items }
     ensures len { vec_len items.new + count ≡ vec_len items.old }
     ensures capacity { vec_capacity items.new ≡ vec_capacity items.old }
 {
+    cut_out(items, 0, count);
+}
+
+/// Removes `count` items from `at` on, and moves those after them down.
+fn cut_out<T: Copy>(items: &mut Vec<T>, at: usize, count: usize)
+    requires { at + count ≤ vec_len items.old }
+    ensures items { items.new.items ≡ cut items.old.items at count }
+    ensures len { vec_len items.new + count ≡ vec_len items.old }
+    ensures capacity { vec_capacity items.new ≡ vec_capacity items.old }
+{
     let len = items.len();
-    items.copy_within(count..len, 0);
+    items.copy_within(at + count..len, at);
     items.truncate(len - count);
 }

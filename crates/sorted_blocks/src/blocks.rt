@@ -1,10 +1,10 @@
 //! The list with its public calls.
 
-ghost use Rattle.std.specs.Prelude.{◌≡◌, ◌+◌, ◌-◌, ◌*◌, ◌<◌, ◌≤◌, [], length, drop, slice_index_or};
-ghost use Rattle.std.specs.Prelude.{OnOk, IsOk, IsTrue, ◌↔◌};
+ghost use Rattle.std.specs.Prelude.{◌≡◌, ◌+◌, ◌-◌, ◌*◌, ◌<◌, ◌≤◌, [], length, take, drop};
+ghost use Rattle.std.specs.Prelude.{slice_index_or, OnOk, IsOk, IsTrue, ◌↔◌};
 ghost use Rattle.std.specs.List.{All, insert, remove};
-ghost use Rattle.sorted_blocks.specs.Shape.{items, capacity, Shape};
-ghost use Rattle.sorted_blocks.specs.Places.{before, IsPlace, IsItem};
+ghost use Rattle.sorted_blocks.specs.Shape.{items, capacity, cut, Shape};
+ghost use Rattle.sorted_blocks.specs.Places.{before, rest_of, IsPlace, IsItem};
 ghost use Rattle.sorted_blocks.specs.Found.{IsFound};
 ghost use Rattle.sorted_blocks.specs.declared.place.Place.{Place};
 
@@ -54,7 +54,7 @@ impl<T: Copy, const HALF: usize> Blocks<T, HALF> {
     }
 
     /// Returns the number of items that fit without memory, for any inserts and removals in
-    /// between. `insert_within` and `remove` keep it.
+    /// between. The edits keep it.
     pub fn capacity(&self) -> usize
         ensures { result ≡ capacity HALF self.now }
     {
@@ -106,6 +106,19 @@ impl<T: Copy, const HALF: usize> Blocks<T, HALF> {
         self.store.remove(place)
     }
 
+    /// Takes out `count` items of one block from this place on, and returns the place of the item
+    /// that followed them. It moves as much as `remove`.
+    pub fn remove_in_block(&mut self, place: Place, count: usize) -> Place
+        requires item { IsItem self.old place }
+        requires within { count ≤ length (rest_of self.old place) }
+        ensures items { items self.new ≡ cut (items self.old) (before self.old place) count }
+        ensures capacity { capacity HALF self.new ≡ capacity HALF self.old }
+        ensures place { IsPlace self.new result }
+        ensures before { before self.new result ≡ before self.old place }
+    {
+        self.store.remove_in_block(place, count)
+    }
+
     /// Returns whether the place is that of an item.
     pub fn is_item(&self, place: Place) -> bool
         ensures { IsTrue result ↔ IsItem self.now place }
@@ -150,6 +163,19 @@ impl<T: Copy, const HALF: usize> Blocks<T, HALF> {
         ensures item { before self.now place < length (items self.now) → IsItem self.now result }
     {
         self.store.settled(place)
+    }
+
+    /// Returns the items from this place on in its block, none for a place that is none. From the
+    /// place of an item on there is at least one.
+    // It is inlined, so that a loop of a caller over the items has no call in it.
+    #[inline(always)]
+    pub fn row_from(&self, place: Place) -> &[T]
+        ensures rest { result.now ≡ rest_of self.now place }
+        ensures row { IsPlace self.now place → result.now
+            ≡ take (length result.now) (drop (before self.now place) (items self.now)) }
+        ensures some { IsItem self.now place → 0 < length result.now }
+    {
+        self.store.row_from(place)
     }
 
     /// Returns a walk over the items from this place on. It starts without a search, and takes no

@@ -7,8 +7,8 @@
 ghost use Rattle.std.specs.Prelude.{◌≡◌, ℕ, ◌+◌, ◌-◌, ◌<◌, ◌≤◌, [], ◌∷◌, ◌++◌, length};
 ghost use Rattle.std.specs.Prelude.{slice_index_or, IsTrue, ◌↔◌};
 ghost use Rattle.std.specs.List.{insert, remove};
-ghost use Rattle.sorted_blocks.specs.Shape.{items, block_total, block_at, together};
-ghost use Rattle.sorted_blocks.specs.Places.{before, IsPlace, IsItem};
+ghost use Rattle.sorted_blocks.specs.Shape.{items, block_total, block_at, together, cut};
+ghost use Rattle.sorted_blocks.specs.Places.{before, rest_of, IsPlace, IsItem};
 ghost use Rattle.sorted_blocks.specs.Sound.{IsDense, IsDenseIn};
 
 use crate::place::Place;
@@ -77,6 +77,43 @@ impl<T: Copy, const HALF: usize> Store<T, HALF> {
         let item = self.take_out(place.block, place.at);
         let place = self.join_behind(place);
         (item, self.join_before(place))
+    }
+
+    /// Takes out `count` items of one block from this place on, and returns the place of the item
+    /// that followed them.
+    pub(crate) fn remove_in_block(&mut self, place: Place, count: usize) -> Place
+        requires item { IsItem self.old place }
+        requires within { count ≤ length (rest_of self.old place) }
+        ensures items { items self.new ≡ cut (items self.old) (before self.old place) count }
+        ensures place { IsPlace self.new result }
+        ensures before { before self.new result ≡ before self.old place }
+        ensures total { block_total self.new ≡ block_total self.old }
+        ensures dense { IsDense HALF self.old.blocks → IsDense HALF self.new.blocks }
+    {
+        if count < self.block_len(place.block) {
+            return self.remove_within(place, count);
+        }
+        let behind = self.remove_within(place, count - 1);
+        let last = self.settled(behind);
+        let (_gone, behind) = self.remove(last);
+        behind
+    }
+
+    /// Takes `count` items out of a block that keeps others. Returns the place of the item that
+    /// followed them.
+    fn remove_within(&mut self, place: Place, count: usize) -> Place
+        requires item { IsItem self.old place }
+        requires within { place.at + count ≤ length (block_at self.old.blocks place.block) }
+        requires others { count < length (block_at self.old.blocks place.block) }
+        ensures items { items self.new ≡ cut (items self.old) (before self.old place) count }
+        ensures place { IsPlace self.new result }
+        ensures before { before self.new result ≡ before self.old place }
+        ensures total { block_total self.new ≡ block_total self.old }
+        ensures dense { IsDense HALF self.old.blocks → IsDense HALF self.new.blocks }
+    {
+        self.cut_out(place.block, place.at, count);
+        let place = self.join_behind(place);
+        self.join_before(place)
     }
 
     /// Returns the place before the items of this block, or after all items where the list has no

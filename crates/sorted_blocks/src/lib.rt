@@ -2,11 +2,13 @@
 //! nothing of PIM, and of its items only that they are `Copy`, since edits copy items.
 //!
 //! Contracts see the list of the items, and a place as the number of items before it.
-//! - `insert_within` is `insert` of std on the list, and `remove` is its `remove`. Each returns a
-//!   place with as many items before it.
-//! - `reserve_capacity(n)` at Ok leaves a capacity for n more items, which `insert_within` and
-//!   `remove` keep. Below it `insert_within` always succeeds.
+//! - `insert_within` is `insert` of std on the list, and `remove` is its `remove`.
+//!   `remove_in_block` takes out several items of one block. Each returns a place with as many
+//!   items before it.
+//! - `reserve_capacity(n)` at Ok leaves a capacity for n more items, which the edits keep. Below it
+//!   `insert_within` always succeeds.
 //! - Only `reserve_capacity` can run out of memory. The list and its places then stay.
+//! - `row_from` lends the items from a place on that are in its block.
 //! - `find` and `find_near` return an item that compares equal, or a gap between a lesser and a
 //!   greater item. They require no order of the list.
 //!

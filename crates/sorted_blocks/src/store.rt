@@ -7,7 +7,7 @@ ghost use Rattle.std.specs.Prelude.{◌≡◌, ◌+◌, ◌<◌, ◌≤◌, [], 
 ghost use Rattle.std.specs.Prelude.{OnOk, OnErr};
 ghost use Rattle.std.specs.List.{remove};
 ghost use Rattle.sorted_blocks.specs.Shape.{Shape, joined, block_at, together, put_into, taken_out};
-ghost use Rattle.sorted_blocks.specs.Shape.{split, merged, block_total};
+ghost use Rattle.sorted_blocks.specs.Shape.{cut_from, split, merged, block_total};
 ghost use Rattle.sorted_blocks.specs.Sound.{AllFilled};
 ghost use Rattle.sorted_blocks.specs.Sought.{IsLead};
 
@@ -210,6 +210,20 @@ impl<T: Copy, const HALF: usize> Store<T, HALF> {
         self.firsts[block] = *row.get(0);
         self.count -= 1;
         item
+    }
+
+    /// Takes `count` items out of a block that keeps others.
+    pub(crate) fn cut_out(&mut self, block: usize, at: usize, count: usize)
+        requires block { block < length self.old.blocks }
+        requires within { at + count ≤ length (block_at self.old.blocks block) }
+        requires others { count < length (block_at self.old.blocks block) }
+        ensures blocks { self.new.blocks ≡ cut_from self.old.blocks block at count }
+        ensures spare { self.new.spare ≡ self.old.spare }
+    {
+        let row = &mut self.used[block];
+        row.cut_out(at, count);
+        self.firsts[block] = *row.get(0);
+        self.count -= count;
     }
 
     /// Takes out the only item of a block, which becomes spare.

@@ -1,8 +1,8 @@
 //! Reading of items: at a place, and from one place to the next.
 
-ghost use Rattle.std.specs.Prelude.{◌≡◌, ◌+◌, ◌<◌, length, slice_index_or, IsTrue, ◌↔◌};
+ghost use Rattle.std.specs.Prelude.{◌≡◌, ◌+◌, ◌<◌, length, take, drop, slice_index_or, IsTrue, ◌↔◌};
 ghost use Rattle.sorted_blocks.specs.Shape.{items};
-ghost use Rattle.sorted_blocks.specs.Places.{before, IsPlace, IsItem};
+ghost use Rattle.sorted_blocks.specs.Places.{before, rest_of, IsPlace, IsItem};
 
 use crate::place::Place;
 use crate::store::Store;
@@ -73,5 +73,25 @@ impl<T: Copy, const HALF: usize> Store<T, HALF> {
             block: place.block + 1,
             at: 0,
         }
+    }
+
+    /// Returns the items from this place on in its block, none for a place that is none.
+    #[inline(always)]
+    #[tactic(auto, using(crate::proofs::Rests::rest_past))]
+    pub(crate) fn row_from(&self, place: Place) -> &[T]
+        ensures rest { result.now ≡ rest_of self.now place }
+        ensures row { IsPlace self.now place → result.now
+            ≡ take (length result.now) (drop (before self.now place) (items self.now)) }
+        ensures some { IsItem self.now place → 0 < length result.now }
+    {
+        if place.block >= self.block_count() {
+            return &[];
+        }
+        let row = self.row(place.block);
+        if place.at >= row.len() {
+            return &[];
+        }
+        let (_before, rest) = row.split_at(place.at);
+        rest
     }
 }

@@ -12,6 +12,7 @@
 //!   greater item. They require no order of the list.
 //! - `walk` yields a number of items from a place on.
 //! - `number_of` returns the number of an item in the slab. An item keeps it while it is there.
+//!   `numbers_from` lends those of the items from a place on that are in its block of the index.
 //!
 //! The numbers of items are as wide as addresses: the contract of the slab bounds a number only by
 //! its capacity.

@@ -143,6 +143,18 @@ impl<T: Copy, const HALF: usize> SortedSlab<T, HALF> {
         *self.index.get(place)
     }
 
+    /// Returns the numbers of the items from this place on in its block of the index, none for a
+    /// place that is none. From the place of an item on there is at least one.
+    // It is inlined, so that a loop of a caller over the numbers has no call in it.
+    #[inline(always)]
+    pub fn numbers_from(&self, place: Place) -> &[usize]
+        ensures row { IsPlace self.now place → result.now
+            ≡ take (length result.now) (drop (at self.now place) (numbers self.now)) }
+        ensures some { IsItem self.now place → 0 < length result.now }
+    {
+        self.index.row_from(place)
+    }
+
     /// Returns the slab, in which each item has its number.
     pub fn slab(&self) -> &Slab<T>
         ensures count { length (numbers self.now) ≡ length self.now.items }
