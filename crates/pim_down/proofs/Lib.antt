@@ -3,6 +3,8 @@ pub mod InOrder
 pub mod Deadlines
 pub mod AlarmOrder
 pub mod Numbered
+pub mod AlarmRun
+pub mod PutOff
 pub mod Soonest
 pub mod Searched
 pub mod Map

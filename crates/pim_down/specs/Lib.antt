@@ -16,6 +16,7 @@ pub mod Places
 pub mod Store
 pub mod Running
 pub mod Schedule
+pub mod PutOff
 pub mod Sound
 pub mod Heard
 pub mod Space

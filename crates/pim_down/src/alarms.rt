@@ -2,11 +2,14 @@
 //! the number of its record. Its key is read from the slab, only where ends are equal.
 
 ghost use Rattle.std.specs.Prelude.{◌≡◌, ℕ, List, Option, ◌+◌, ◌<◌, ◌≤◌, [], length, map, OnOk};
+ghost use Rattle.std.specs.Prelude.{slice_index_or, take};
 ghost use Rattle.std.specs.List.{slice_get, insert};
 ghost use Rattle.slab.specs.Slab.{get};
 ghost use Rattle.sorted_blocks.specs.Shape.{items};
 ghost use Rattle.sorted_blocks.specs.Places.{before, IsPlace};
 ghost use Rattle.pim_down.specs.declared.deadline.Alarm.{Alarm};
+ghost use Rattle.pim_down.specs.declared.held.Held.{Held};
+ghost use Rattle.pim_down.specs.PutOff.{with_run};
 ghost use Rattle.pim_down.specs.Schedule.{Numbered, alarm_cmp, alarm_of, alarm_seen, with_alarm};
 ghost use Rattle.pim_down.specs.Schedule.{AreKnown, key_order, alarm_order, placed, without};
 ghost use Rattle.pim_down.specs.Seen.{key_seen};
@@ -116,6 +119,28 @@ fn slot_of<A: Copy, O: KeyOrder<A>, const HALF: usize>(
     }
 }
 
+/// How many of these alarms, from the first one on, have this end and these numbers.
+fn count_run(row: &[Alarm], from: u64, numbers: &[usize]) -> usize
+    ensures numbers { result ≤ length numbers.now }
+    ensures row { result ≤ length row.now }
+    ensures same { (i d : ℕ) (a : Alarm) → i < result → slice_index_or row.now i a
+        ≡ record { ends_at = from; number = slice_index_or numbers.now i d } }
+{
+    let most = row.len().min(numbers.len());
+    let mut count = 0;
+    while count < most {
+        let alarm = row[count];
+        if alarm.ends_at != from {
+            return count;
+        }
+        if alarm.number != numbers[count] {
+            return count;
+        }
+        count += 1;
+    }
+    count
+}
+
 impl<A: Copy, O: KeyOrder<A>, const HALF: usize> Alarms<A, O, HALF> {
     /// No timer; it takes no memory.
     pub(crate) fn new(alloc: Global) -> Self
@@ -161,6 +186,7 @@ impl<A: Copy, O: KeyOrder<A>, const HALF: usize> Alarms<A, O, HALF> {
         ensures alarms { (timers : List Numbered) → AreKnown O.bytes_of slab.now timers
             → self.old.alarms ≡ map alarm_of timers → self.new.alarms
             ≡ map alarm_of (placed alarm_cmp (alarm_seen O.bytes_of key alarm) timers) }
+        ensures more { length self.new.alarms ≡ length self.old.alarms + 1 }
         ensures capacity { self.new.capacity ≡ self.old.capacity }
     {
         let place = slot_of::<A, O, HALF>(&self.list, self.put, slab, key, alarm);
@@ -253,5 +279,89 @@ impl<A: Copy, O: KeyOrder<A>, const HALF: usize> Alarms<A, O, HALF> {
             self.stop(slab, key, number, from);
             self.start(slab, key, number, to);
         }
+    }
+
+    /// Removes the timers of the records with these numbers that end at this moment: as many of the
+    /// first ones as are side by side in a block. Returns their number.
+    fn take_run(&mut self, slab: &Slab<Held<A>>, from: u64, numbers: &[usize]) -> usize
+        ensures numbers { result ≤ length numbers.now }
+        ensures alarms { (run : List (Held A)) (timers : List Numbered) → length run ≡ result
+            → AreKnown O.bytes_of slab.now
+            (with_run O.bytes_of from (take result numbers.now) run timers)
+            → self.old.alarms
+            ≡ map alarm_of (with_run O.bytes_of from (take result numbers.now) run timers)
+            → self.new.alarms ≡ map alarm_of timers }
+        ensures fewer { length self.new.alarms + result ≡ length self.old.alarms }
+        ensures capacity { self.new.capacity ≡ self.old.capacity }
+    {
+        item_has_a_place::<Alarm>();
+        let Some(number) = numbers.first() else {
+            return 0;
+        };
+        let Some(held) = slab.get(*number) else {
+            return 0;
+        };
+        let wanted: Wanted<'_, A, O> = Wanted {
+            slab,
+            key: held.key,
+            alarm: Alarm {
+                ends_at: from,
+                number: *number,
+            },
+            order: PhantomData,
+        };
+        let Ok(place) = self.list.find_near(self.taken, &wanted) else {
+            return 0;
+        };
+        let count = count_run(self.list.row_from(place), from, numbers);
+        self.taken = self.list.remove_in_block(place, count);
+        count
+    }
+
+    /// Puts in the timers of the records with these numbers, all with this end.
+    fn put_run(&mut self, slab: &Slab<Held<A>>, to: u64, numbers: &[usize])
+        requires { length self.old.alarms + length numbers.now ≤ self.old.capacity }
+        ensures alarms { (ends : ℕ) (run : List (Held A)) (timers : List Numbered)
+            → length run ≡ length numbers.now
+            → AreKnown O.bytes_of slab.now (with_run O.bytes_of ends numbers.now run timers)
+            → self.old.alarms ≡ map alarm_of timers → self.new.alarms
+            ≡ map alarm_of (with_run O.bytes_of to numbers.now run timers) }
+        ensures capacity { self.new.capacity ≡ self.old.capacity }
+    {
+        for number in numbers {
+            if let Some(held) = slab.get(*number) {
+                let alarm = Alarm {
+                    ends_at: to,
+                    number: *number,
+                };
+                self.put(slab, held.key, alarm);
+            }
+        }
+    }
+
+    /// Gives the timers of the records with these numbers that end at one moment another end: as
+    /// many of the first ones as are side by side in a block. Returns their number.
+    pub(crate) fn put_off(
+        &mut self,
+        slab: &Slab<Held<A>>,
+        from: u64,
+        to: u64,
+        numbers: &[usize],
+    ) -> usize
+        requires { length self.old.alarms < self.old.capacity }
+        ensures numbers { result ≤ length numbers.now }
+        ensures alarms { (run : List (Held A)) (timers : List Numbered) → length run ≡ result
+            → AreKnown O.bytes_of slab.now
+            (with_run O.bytes_of from (take result numbers.now) run timers)
+            → self.old.alarms
+            ≡ map alarm_of (with_run O.bytes_of from (take result numbers.now) run timers)
+            → self.new.alarms
+            ≡ map alarm_of (with_run O.bytes_of to (take result numbers.now) run timers) }
+        ensures capacity { self.new.capacity ≡ self.old.capacity }
+    {
+        let count = self.take_run(slab, from, numbers);
+        let (run, _others) = numbers.split_at(count);
+        self.put_run(slab, to, run);
+        count
     }
 }

@@ -3,9 +3,11 @@
 //! records, so that a message puts timers in without memory.
 
 ghost use Rattle.std.specs.Prelude.{◌≡◌, ℕ, List, ◌+◌, ◌-◌, ◌*◌, ◌<◌, ◌≤◌, [], length, map};
-ghost use Rattle.std.specs.Prelude.{option_map, OnOk};
+ghost use Rattle.std.specs.Prelude.{option_map, OnOk, take};
 ghost use Rattle.slab.specs.Slab.{get};
 ghost use Rattle.pim_down.specs.declared.deadline.TimerKind.TheVariants.{PendingTimer, ExpiryTimer};
+ghost use Rattle.pim_down.specs.declared.held.Held.{Held};
+ghost use Rattle.pim_down.specs.PutOff.{with_run};
 ghost use Rattle.pim_down.specs.Schedule.{Numbered, deadline_seen, alarm_of, with_its, AreKnown};
 ghost use Rattle.pim_down.specs.Schedule.{first_in, sooner_of, deadline_at};
 ghost use Rattle.pim_down.specs.Ends.{pending_end};
@@ -189,6 +191,31 @@ impl<A: Copy, O: KeyOrder<A>, const HALF: usize> Schedule<A, O, HALF> {
             held.machine.expires_at,
             to.expires_at,
         );
+    }
+
+    /// Gives the Expiry Timers of the records with these numbers that end at one moment another
+    /// end: as many of the first ones as are side by side in a block. Returns their number.
+    pub(crate) fn put_off(
+        &mut self,
+        slab: &Slab<Held<A>>,
+        from: u64,
+        to: u64,
+        numbers: &[usize],
+    ) -> usize
+        requires { length self.old.expiry.alarms < self.old.expiry.capacity }
+        ensures numbers { result ≤ length numbers.now }
+        ensures pending { self.new.pending.alarms ≡ self.old.pending.alarms }
+        ensures expiry { (run : List (Held A)) (timers : List Numbered) → length run ≡ result
+            → AreKnown O.bytes_of slab.now
+            (with_run O.bytes_of from (take result numbers.now) run timers)
+            → self.old.expiry.alarms
+            ≡ map alarm_of (with_run O.bytes_of from (take result numbers.now) run timers)
+            → self.new.expiry.alarms
+            ≡ map alarm_of (with_run O.bytes_of to (take result numbers.now) run timers) }
+        ensures pending_room { self.new.pending.capacity ≡ self.old.pending.capacity }
+        ensures expiry_room { self.new.expiry.capacity ≡ self.old.expiry.capacity }
+    {
+        self.expiry.put_off(slab, from, to, numbers)
     }
 }
 

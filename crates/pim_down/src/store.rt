@@ -16,7 +16,8 @@ ghost use Rattle.pim_down.specs.Hearing.{is_rpt, rpt_count_on};
 ghost use Rattle.pim_down.specs.Records.{count_on};
 ghost use Rattle.pim_down.specs.Schedule.{deadline_seen, timers_of};
 ghost use Rattle.pim_down.specs.Seen.{what_seen, records_seen};
-ghost use Rattle.pim_down.specs.Store.{in_state};
+ghost use Rattle.pim_down.specs.PutOff.{put_off_from};
+ghost use Rattle.pim_down.specs.Store.{in_state, IsKept};
 
 use crate::blocks::{HALF_OF_RECORDS, HALF_OF_TIMERS};
 use crate::bound::{Bound, Side};
@@ -25,7 +26,7 @@ use crate::held::{Held, Timed};
 use crate::key::{KeyOrder, What};
 use crate::machine::State;
 use crate::schedule::Schedule;
-use sorted_blocks::{Place, Probe};
+use sorted_blocks::{Place, Probe, item_has_a_place};
 use sorted_slab::{SortedSlab, Walk};
 use std::alloc::{AllocError, Global};
 use std::fmt;
@@ -97,6 +98,36 @@ fn is_rpt<A>(what: &What<A>) -> bool
     ensures { (bytes_of : A → List ℕ) → result ≡ is_rpt (what_seen bytes_of what.now) }
 {
     matches!(what, What::Rpt(_))
+}
+
+/// Gives the Expiry Timers of `count` records from this place on another end, in the records alone.
+fn put_off_rows<A: Copy, const HALF: usize>(
+    list: &mut SortedSlab<Held<A>, HALF>,
+    place: Place,
+    count: usize,
+    to: u64,
+)
+    requires place { IsItem list.old place }
+    requires within { at list.old place + count ≤ length list.old.items }
+    ensures items { list.new.items ≡ put_off_from (at list.old place) count to list.old.items }
+    ensures kept { (counts rpts : List ℕ) → length counts ≡ 64 → length rpts ≡ 64
+        → IsKept counts rpts list.old → IsKept counts rpts list.new }
+    ensures index { list.new.index ≡ list.old.index }
+    ensures capacity { list.new.capacity ≡ list.old.capacity }
+{
+    let mut here = place;
+    let mut left = count;
+    while left > 0 {
+        let Held { key, machine } = *list.get(here);
+        let expires_at = Some(to);
+        let machine = Timed {
+            expires_at,
+            ..machine
+        };
+        list.set(here, Held { key, machine });
+        here = list.next(here);
+        left -= 1;
+    }
 }
 
 impl<A: Copy, O: KeyOrder<A>> Store<A, O> {
@@ -235,6 +266,29 @@ impl<A: Copy, O: KeyOrder<A>> Store<A, O> {
         let Held { key, machine } = *self.list.get(place);
         let machine = Timed { state, ..machine };
         self.list.set(place, Held { key, machine });
+    }
+
+    /// Puts off the Expiry Timers, which all end at one moment, of the first ones of these records:
+    /// as many as are side by side in a block of the index, and their timers in a block of the
+    /// schedule. Returns their number.
+    pub(crate) fn put_off(&mut self, place: Place, count: usize, from: u64, to: u64) -> usize
+        requires place { IsItem self.old place }
+        requires within { at self.old place + count ≤ length self.old.items }
+        requires ends { All (λ held. held.machine.expires_at ≡ Some from)
+            (take count (drop (at self.old place) self.old.items)) }
+        ensures count { result ≤ count }
+        ensures items { self.new.items
+            ≡ put_off_from (at self.old place) result to self.old.items }
+        ensures places { (p : Place) → IsItem self.old p → IsItem self.new p }
+        ensures at { (p : Place) → at self.new p ≡ at self.old p }
+        ensures capacity { self.new.capacity ≡ self.old.capacity }
+    {
+        item_has_a_place::<usize>();
+        let numbers = self.list.numbers_from(place);
+        let (numbers, _others) = numbers.split_at(count.min(numbers.len()));
+        let moved = self.schedule.put_off(self.list.slab(), from, to, numbers);
+        put_off_rows(&mut self.list, place, moved, to);
+        moved
     }
 
     /// The timer that fires first.
