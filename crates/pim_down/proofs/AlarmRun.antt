@@ -1,5 +1,5 @@
 -- Timers of one kind that end together: taken out where they are side by side, and put in again.
-use Rattle.std.proofs.Common.{◌≡◌, ℕ, zero, suc, ◌+◌, ◌-◌, ◌<◌, ◌≤◌, true, false, cond, List, [], ◌∷◌, ◌++◌, Option, Some, None, option_map, map, length, take, drop, get_or, refl, sym, ap, ap₂, subst, ◌∙◌, arith, add-one, length-append, length-drop}
+use Rattle.std.proofs.Common.{◌≡◌, ℕ, zero, suc, ◌+◌, ◌<◌, ◌≤◌, true, false, cond, List, [], ◌∷◌, ◌++◌, Option, Some, None, option_map, map, length, take, drop, get_or, refl, sym, ap, ap₂, subst, ◌∙◌, arith, add-one, length-append, length-drop}
 use Rattle.std.specs.List.{remove, AllByRecursion}
 use Rattle.std.specs.Ordering.{is_gt}
 use Rattle.std.proofs.lemmas.List.{drop-drop, take_at, drop_at, length-take-le, map-append, take-map, drop-map, length-map, get_or-map, get_or-take, get_or-drop, take-append-drop}
@@ -9,7 +9,7 @@ use Rattle.sorted_blocks.specs.Shape.{cut}
 use Rattle.pim_down.specs.declared.deadline.Alarm.{Alarm}
 use Rattle.pim_down.specs.declared.held.Held.{Held}
 use Rattle.pim_down.specs.declared.key.Key.{Key}
-use Rattle.pim_down.specs.Schedule.{placed, without, IsInOrder, Numbered, alarm_cmp, alarm_of, alarm_seen, key_of, AreKnown}
+use Rattle.pim_down.specs.Schedule.{placed, without, Numbered, alarm_cmp, alarm_of, alarm_seen, key_of, AreKnown}
 use Rattle.pim_down.specs.PutOff.{with_run}
 use Rattle.pim_down.specs.Seen.{key_seen}
 use Rattle.pim_down.proofs.InOrder.{placed_swap, order_placed, without_placed, remove_is}

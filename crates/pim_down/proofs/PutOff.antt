@@ -1,8 +1,8 @@
 -- Records side by side whose Expiry Timers are put off, and the timers of these records.
-use Rattle.std.proofs.Common.{◌≡◌, ℕ, zero, suc, ◌+◌, ◌-◌, ◌<◌, ◌≤◌, List, [], ◌∷◌, ◌++◌, Some, map, length, take, drop, get_or, set, refl, sym, ap, ap₂, subst, ◌∙◌, arith, add-one, append_assoc, length-append, length-drop}
+use Rattle.std.proofs.Common.{◌≡◌, ℕ, zero, suc, ◌+◌, ◌<◌, ◌≤◌, List, [], ◌∷◌, ◌++◌, Some, map, length, take, drop, get_or, set, refl, sym, ap, subst, ◌∙◌, arith, add-one, append_assoc, length-append, length-drop}
 use Rattle.std.specs.List.{All, AllByRecursion}
-use Rattle.std.proofs.lemmas.List.{drop-drop, take-append-drop, length-take-le, length-map, length-set}
-use Rattle.std.proofs.lemmas.List.Elements.{recursion_from_All, All-take}
+use Rattle.std.proofs.lemmas.List.{drop-drop, take-append-drop, length-take-le, length-map}
+use Rattle.std.proofs.lemmas.List.Elements.{recursion_from_All}
 use Rattle.slab.specs.Slab.{Slab, get}
 use Rattle.pim_down.specs.declared.deadline.Alarm.{Alarm}
 use Rattle.pim_down.specs.declared.deadline.TimerKind.{TimerKind}

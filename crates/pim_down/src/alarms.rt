@@ -281,8 +281,8 @@ impl<A: Copy, O: KeyOrder<A>, const HALF: usize> Alarms<A, O, HALF> {
         }
     }
 
-    /// Removes the timers of the records with these numbers that end at this moment: as many of the
-    /// first ones as are side by side in a block. Returns their number.
+    /// Removes timers of the records with these numbers, all with this end. It takes as many of the
+    /// first ones as are side by side in a block, and returns their number.
     fn take_run(&mut self, slab: &Slab<Held<A>>, from: u64, numbers: &[usize]) -> usize
         ensures numbers { result ≤ length numbers.now }
         ensures alarms { (run : List (Held A)) (timers : List Numbered) → length run ≡ result
@@ -339,8 +339,8 @@ impl<A: Copy, O: KeyOrder<A>, const HALF: usize> Alarms<A, O, HALF> {
         }
     }
 
-    /// Gives the timers of the records with these numbers that end at one moment another end: as
-    /// many of the first ones as are side by side in a block. Returns their number.
+    /// Gives timers of the records with these numbers, all with one end, another end. It takes as
+    /// many of the first ones as are side by side in a block, and returns their number.
     pub(crate) fn put_off(
         &mut self,
         slab: &Slab<Held<A>>,

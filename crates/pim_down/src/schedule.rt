@@ -193,8 +193,8 @@ impl<A: Copy, O: KeyOrder<A>, const HALF: usize> Schedule<A, O, HALF> {
         );
     }
 
-    /// Gives the Expiry Timers of the records with these numbers that end at one moment another
-    /// end: as many of the first ones as are side by side in a block. Returns their number.
+    /// Gives Expiry Timers of the records with these numbers, all with one end, another end. It takes
+    /// as many of the first ones as are side by side in a block, and returns their number.
     pub(crate) fn put_off(
         &mut self,
         slab: &Slab<Held<A>>,

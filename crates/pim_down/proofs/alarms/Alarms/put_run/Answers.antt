@@ -1,4 +1,4 @@
-use Rattle.std.proofs.Common.{◌≡◌, ◌<◌, ◌+◌, ◌≤◌, None, length, get_or, refl, sym, ap, arith, ◌∙◌}
+use Rattle.std.proofs.Common.{◌≡◌, ◌<◌, None, length, get_or, refl, sym, ap, arith, ◌∙◌}
 use Rattle.std.specs.Option.{option_copied}
 use Rattle.slab.specs.Slab.{get}
 use Rattle.pim_down.specs.PutOff.{with_run}

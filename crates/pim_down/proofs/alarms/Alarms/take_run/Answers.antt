@@ -1,4 +1,4 @@
-use Rattle.std.proofs.Common.{◌≡◌, ◌+◌, ◌≤◌, length, take, ap, sym, arith, ◌∙◌}
+use Rattle.std.proofs.Common.{◌+◌, length, take, ap, sym, arith, ◌∙◌}
 use Rattle.std.proofs.lemmas.List.{length-take-le}
 use Rattle.sorted_blocks.specs.Shape.{items}
 use Rattle.sorted_blocks.specs.Places.{before}

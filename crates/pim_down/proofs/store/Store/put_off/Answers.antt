@@ -7,7 +7,7 @@ use Rattle.sorted_blocks.specs.Places.{before, IsItem as IsIndexItem}
 use Rattle.sorted_slab.specs.Listed.{Listed, at, numbers, IsItem}
 use Rattle.pim_down.specs.declared.deadline.TimerKind.TheVariants.{PendingTimer, ExpiryTimer}
 use Rattle.pim_down.specs.declared.held.Held.{Held}
-use Rattle.pim_down.specs.PutOff.{put_off_from, with_run}
+use Rattle.pim_down.specs.PutOff.{with_run}
 use Rattle.pim_down.specs.Schedule.{Numbered, alarm_of, AreKnown}
 use Rattle.pim_down.proofs.Numbered.{room_among, timers}
 use Rattle.pim_down.proofs.PutOff.{length_put_off, prunes_stay, expiries_move}
