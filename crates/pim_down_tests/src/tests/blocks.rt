@@ -267,3 +267,61 @@ fn is_emptied_and_filled_at_both_ends_of_longer_blocks(rt: HostRuntime) {
     let mut plain: Vec<u32> = Vec::new(rt.alloc());
     assert!(rt; uses_ends(&mut more, &mut plain, 2));
 }
+
+/// Takes at most `most` numbers of one block out at once, after the first number. Returns whether
+/// the block lent them, and the others stay.
+fn take_seconds<const HALF: usize>(
+    list: &mut Blocks<u32, HALF>,
+    plain: &mut Vec<u32>,
+    most: usize,
+) -> bool {
+    let first = list.first();
+    if !list.is_item(first) {
+        return false;
+    }
+    let second = list.next(first);
+    if !list.is_item(second) {
+        return plain.len() == 1;
+    }
+    let row = list.row_from(second);
+    let count = most.min(row.len());
+    let lent = row.first() == plain.get(1);
+    let behind = list.remove_in_block(second, count);
+    for _gone in 0..count {
+        if plain.len() > 1 {
+            let _number = plain.remove(1);
+        }
+    }
+    match plain.split_first() {
+        Some((_first, others)) => {
+            lent && are_left(list.iter_from(behind), others) && holds(list, plain)
+        }
+        None => false,
+    }
+}
+
+/// Puts 40 numbers in, and takes up to four at once out until one is left. Returns whether the list
+/// goes as the vector.
+fn some_go(list: &mut Blocks<u32, 2>, plain: &mut Vec<u32>) -> bool {
+    if list.reserve_capacity(40).is_err() {
+        return false;
+    }
+    for number in 0..40u32 {
+        if !put(list, plain, number) {
+            return false;
+        }
+    }
+    for step in 0..60usize {
+        if !take_seconds(list, plain, step % 5) {
+            return false;
+        }
+    }
+    list.len() == 1
+}
+
+#[test]
+fn some_of_a_block_go_at_once(rt: HostRuntime) {
+    let mut list: Blocks<u32, 2> = Blocks::new(rt.alloc());
+    let mut plain: Vec<u32> = Vec::new(rt.alloc());
+    assert!(rt; some_go(&mut list, &mut plain));
+}

@@ -112,8 +112,16 @@ fn is_changed(list: &mut SortedSlab<u32, 2>) -> bool {
     are_left(list.walk(before, 2), &[35, 40]) && holds(list, &[10, 20, 35, 40, 50])
 }
 
+/// Whether the numbers from the place of 20 on begin with its own.
+fn are_lent(list: &SortedSlab<u32, 2>) -> bool {
+    let Ok(place) = list.find(&Number(20)) else {
+        return false;
+    };
+    list.numbers_from(place).first() == Some(&list.number_of(place))
+}
+
 #[test]
 fn changes_in_place(rt: HostRuntime) {
     let mut list: SortedSlab<u32, 2> = SortedSlab::new(rt.alloc());
-    assert!(rt; is_filled(&mut list) && is_changed(&mut list));
+    assert!(rt; is_filled(&mut list) && are_lent(&list) && is_changed(&mut list));
 }
