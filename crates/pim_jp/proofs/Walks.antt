@@ -1,5 +1,7 @@
 -- How the lists of a message are walked: one item, and then the others.
-use Rattle.std.proofs.Common.{◌≡◌, ℕ, zero, suc, ◌-◌, ◌≤◌, ◌<◌, List, [], ◌∷◌, length, drop, refl, arith}
+use Rattle.std.proofs.Common.{◌≡◌, ℕ, zero, suc, ◌+◌, ◌-◌, ◌*◌, ◌≤◌, ◌<◌, List, [], ◌∷◌, length, drop, refl, sym, ap, ◌∙◌, arith}
+use Rattle.std.proofs.lemmas.List.{drop-drop}
+use Rattle.std.proofs.Math.Nat.{suc-mul, add-mul}
 use Rattle.pim_addr.specs.declared.family.AddressFamily.{AddressFamily}
 use Rattle.pim_addr.specs.Encoded.{source_length, source_value}
 use Rattle.pim_jp.specs.Message.{entry_of, entries_of, set_of, sets_of, after_set}
@@ -19,6 +21,21 @@ pub entries_step : (family : AddressFamily) (count : ℕ) (bytes : List ℕ) →
 unfolding entries_of
 entries_step family zero bytes h = absurd (omega arith)
 entries_step family (suc count) bytes h = let e : suc count - 1 ≡ count = omega arith in rw e refl
+
+pub entries_passed : (family : AddressFamily) (count passed left : ℕ) (bytes : List ℕ) → count ≡ passed + left → entries_of family left (drop (passed * source_length family) bytes) ≡ drop passed (entries_of family count bytes)
+unfolding entries_of
+entries_passed family count zero left bytes e =
+    let none : 0 * source_length family ≡ 0 = omega arith in
+    let all : left ≡ count = omega arith in
+    rw (none, all) refl
+entries_passed family zero (suc passed) left bytes e = absurd (omega arith)
+entries_passed family (suc count) (suc passed) left bytes e =
+    let size = source_length family in
+    let more : suc passed * size ≡ size + passed * size = omega (arith, suc-mul passed size) in
+    rw more (ap (entries_of family left) (sym (drop-drop (passed * size) size bytes)) ∙ entries_passed family count passed left (drop size bytes) (omega arith))
+
+pub entries_fit : (count passed left size : ℕ) → count ≡ passed + left → count * size ≡ passed * size + left * size
+entries_fit count passed left size e = ap (λ n. n * size) e ∙ add-mul passed left size
 
 pub sets_count : (family : AddressFamily) (count : ℕ) (bytes : List ℕ) → length (sets_of family count bytes) ≡ count
 unfolding sets_of

@@ -1,6 +1,6 @@
 //! The entries of one list of a group set, read in place.
 
-ghost use Rattle.std.specs.Prelude.{◌≡◌, ℕ, ◌*◌, ◌≤◌, List, length};
+ghost use Rattle.std.specs.Prelude.{◌≡◌, ℕ, ◌*◌, ◌≤◌, List, length, drop};
 ghost use Rattle.std.specs.Iterator.{YieldsFirstBy, item_count};
 ghost use Rattle.pim_addr.specs.Encoded.{source_length, source_value};
 ghost use Rattle.pim_addr.specs.Seen.{source_seen};
@@ -8,6 +8,7 @@ ghost use Rattle.pim_jp.specs.Message.{entry_of, entries_of};
 ghost use Rattle.pim_jp.specs.Seen.{entry_seen};
 
 use crate::entry::Entry;
+use crate::walking::entries_size;
 use bitflags::Flags;
 use pim_addr::{Family, SourceAddress, SourceBits, source_length};
 use std::marker::{Model, PhantomData};
@@ -84,7 +85,7 @@ impl<'a, F: Family> Entries<'a, F> {
     }
 
     /// Another iterator over the entries that are left.
-    pub(crate) fn again(&self) -> Entries<'a, F>
+    pub fn again(&self) -> Entries<'a, F>
         ensures { result ≡ self.now }
     {
         Entries {
@@ -92,6 +93,18 @@ impl<'a, F: Family> Entries<'a, F> {
             left: self.left,
             family: PhantomData,
         }
+    }
+
+    /// Passes over the first `count` entries at once.
+    pub fn pass(&mut self, count: usize)
+        requires { count ≤ length self.old }
+        ensures { self.new ≡ drop count self.old }
+    {
+        let _most = self.count_left();
+        let passed = count as u16;
+        let (_, others) = self.bytes.split_at(entries_size::<F>(passed));
+        self.bytes = others;
+        self.left -= passed;
     }
 }
 
