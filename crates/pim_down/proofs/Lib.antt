@@ -32,6 +32,7 @@ pub mod Each
 pub mod Room
 pub mod Origin
 pub mod Events
+pub mod Refreshed
 pub mod Heard
 pub mod Hears
 pub mod OneList

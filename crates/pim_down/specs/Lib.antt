@@ -17,6 +17,7 @@ pub mod Store
 pub mod Running
 pub mod Schedule
 pub mod PutOff
+pub mod Refresh
 pub mod Sound
 pub mod Heard
 pub mod Space

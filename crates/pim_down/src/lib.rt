@@ -44,6 +44,7 @@ mod message;
 mod near;
 mod ordered;
 mod ports;
+mod refresh;
 mod run;
 mod scattered;
 mod schedule;

@@ -24,6 +24,7 @@ use crate::held::Start;
 use crate::key::{Key, OfFamily, What};
 use crate::listed::hear_events;
 use crate::ordered::{entry_count, in_key_order};
+use crate::refresh::refresh_front;
 use crate::store::Store;
 use crate::walk::count_on;
 use pim_addr::{Family, Routes};
@@ -91,7 +92,8 @@ fn count_list<F: Family>(
     count
 }
 
-/// Hears the entries of one list of a message.
+/// Hears the entries of one list of a message: those that put off timers of records side by side at
+/// once, the others one by one.
 fn hear_list<F: Family>(
     records: &mut Store<F::Addr, OfFamily<F>>,
     near: &mut Place,
@@ -111,7 +113,12 @@ fn hear_list<F: Family>(
         (records_seen F.bytes_of records.old.items) }
     ensures capacity { records.old.capacity ≤ records.new.capacity }
 {
-    for entry in entries {
+    let mut left = entries;
+    loop {
+        let _taken = refresh_front::<F>(records, near, port, start, joins, group, &mut left);
+        let Some(entry) = left.next() else {
+            return;
+        };
         match event_of::<F>(routes, joins, group, entry) {
             Some(event) => act::<F>(records, near, port, start, event),
             None => {}
@@ -145,8 +152,8 @@ fn count_sets<F: Family>(
 
 /// Hears the sets of a message, without End of Message.
 ///
-/// It looks up each entry once, and walks through the (S,G,rpt) machines of a group at each of its
-/// Joins(*,G).
+/// It looks up each entry at most once, and walks through the (S,G,rpt) machines of a group at each
+/// of its Joins(*,G).
 fn hear_sets<F: Family>(
     records: &mut Store<F::Addr, OfFamily<F>>,
     port: usize,
