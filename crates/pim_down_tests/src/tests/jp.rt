@@ -2,7 +2,9 @@
 //! parts.
 
 use pim_addr::V4;
-use pim_jp::{Entry, JpView, SetView, head_length, put_entry, put_group_and_counts, put_head};
+use pim_jp::{
+    Entries, Entry, JpView, SetView, head_length, put_entry, put_group_and_counts, put_head,
+};
 use std::alloc::Global;
 use std::fmt::Debug;
 
@@ -24,6 +26,24 @@ fn has_one_star(set: &SetView<'_, V4>) -> bool {
         && joined.next().is_none()
         && set.pruned().count_left() == 0
         && set.pruned().next().is_none()
+}
+
+/// Upstream 10.0.0.2, holdtime 210, and 239.1.1.1 with two sources joined.
+const TWO_SOURCES: [u8; 38] = [
+    1, 0, 10, 0, 0, 2, 0, 1, 0, 210, 1, 0, 0, 32, 239, 1, 1, 1, 0, 2, 0, 0, 1, 0, 4, 32, 192, 0, 2,
+    1, 1, 0, 4, 32, 192, 0, 2, 2,
+];
+
+/// Whether another walk over the entries of `TWO_SOURCES` passes over the first one alone.
+fn passes_over_one(joined: &Entries<'_, V4>) -> bool {
+    let mut left = joined.again();
+    if left.count_left() != 2 {
+        return false;
+    }
+    left.pass(1);
+    left.next() == Some(Entry::Source([192, 0, 2, 2]))
+        && left.next().is_none()
+        && joined.count_left() == 2
 }
 
 /// Whether the only set of a message is that of `STAR`.
@@ -72,6 +92,18 @@ fn views_count_what_is_left(rt: HostRuntime) {
             assert!(rt; message_shows(rt.alloc(), &message));
         }
         Err(_) => assert!(rt; false),
+    }
+}
+
+#[test]
+fn entries_are_passed_over(rt: HostRuntime) {
+    let found = match JpView::<V4>::read(&TWO_SOURCES) {
+        Ok(message) => message.sets().next(),
+        Err(_) => None,
+    };
+    match found {
+        Some(set) => assert!(rt; passes_over_one(&set.joined())),
+        None => assert!(rt; false),
     }
 }
 

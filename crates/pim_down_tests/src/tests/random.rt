@@ -93,6 +93,35 @@ fn body(alloc: Global, holdtime: u16, message: &[Named]) -> Result<Vec<u8>, Allo
     Ok(body)
 }
 
+/// The body of a message with one set, of joined entries of one group.
+fn body_of_joins(alloc: Global, holdtime: u16, message: &[Named]) -> Result<Vec<u8>, AllocError> {
+    let [high, low] = holdtime.to_be_bytes();
+    let group = message.first().map_or(0, |named| named.group[3]);
+    let joined = (message.len() % 256) as u8;
+    let mut body = Vec::from_slice(alloc, &[1, 0, 10, 0, 0, 2, 0, 1, high, low])?;
+    body.extend_from_slice(&[1, 0, 0, 32, 239, 1, 1, group, 0, joined, 0, 0])?;
+    for named in message {
+        body.extend_from_slice(&entry_bytes(named.entry))?;
+    }
+    Ok(body)
+}
+
+/// Joins of up to 80 sources of a group, one after another. The first source follows the last one.
+fn joins(alloc: Global, numbers: &mut Numbers) -> Result<Vec<Named>, AllocError> {
+    let mut entries = Vec::new(alloc);
+    let group = [239, 1, 1, numbers.byte(8)];
+    let first = numbers.below(256);
+    for number in 0..numbers.below(80).saturating_add(1) {
+        let source = [192, 0, 2, (first.wrapping_add(number) & 0xff) as u8];
+        entries.push(Named {
+            joins: true,
+            group,
+            entry: Entry::Source(source),
+        })?;
+    }
+    Ok(entries)
+}
+
 /// Up to ten entries, or now and then up to 120, which come in no order.
 fn message(alloc: Global, numbers: &mut Numbers) -> Result<Vec<Named>, AllocError> {
     let mut entries = Vec::new(alloc);
@@ -105,20 +134,17 @@ fn message(alloc: Global, numbers: &mut Numbers) -> Result<Vec<Named>, AllocErro
 
 /// Both hear this message: whether they answer alike.
 fn answer_alike(
-    alloc: Global,
     numbers: &mut Numbers,
     routes: &Routes<V4>,
     ports: &mut Ports<V4>,
     slow: &mut Slow,
     message: &[Named],
+    holdtime: u16,
+    body: &[u8],
 ) -> bool {
-    let holdtime = numbers.holdtime();
     let timing = numbers.timing();
     let port = usize::from(numbers.byte(2));
-    let Ok(body) = body(alloc, holdtime, message) else {
-        return false;
-    };
-    let told = hear_body(ports, routes, port, &body, timing);
+    let told = hear_body(ports, routes, port, body, timing);
     match slow.hear(port, message, holdtime, timing) {
         Ok(None) => told == Some(Ok(())),
         Ok(Some(needed)) => told == Some(Err(HearFault::Full { needed })),
@@ -126,7 +152,7 @@ fn answer_alike(
     }
 }
 
-/// The same of the next message.
+/// The same of the next message: with a set for each entry.
 fn hear(
     alloc: Global,
     numbers: &mut Numbers,
@@ -134,8 +160,30 @@ fn hear(
     ports: &mut Ports<V4>,
     slow: &mut Slow,
 ) -> bool {
-    match message(alloc, numbers) {
-        Ok(message) => answer_alike(alloc, numbers, routes, ports, slow, &message),
+    let Ok(message) = message(alloc, numbers) else {
+        return false;
+    };
+    let holdtime = numbers.holdtime();
+    match body(alloc, holdtime, &message) {
+        Ok(body) => answer_alike(numbers, routes, ports, slow, &message, holdtime, &body),
+        Err(_) => false,
+    }
+}
+
+/// The same of the next message: with one set of joined sources.
+fn hear_joins(
+    alloc: Global,
+    numbers: &mut Numbers,
+    routes: &Routes<V4>,
+    ports: &mut Ports<V4>,
+    slow: &mut Slow,
+) -> bool {
+    let Ok(message) = joins(alloc, numbers) else {
+        return false;
+    };
+    let holdtime = numbers.holdtime();
+    match body_of_joins(alloc, holdtime, &message) {
+        Ok(body) => answer_alike(numbers, routes, ports, slow, &message, holdtime, &body),
         Err(_) => false,
     }
 }
@@ -247,10 +295,10 @@ fn step(
     slow: &mut Slow,
     near: &mut Near,
 ) -> bool {
-    let goes = if numbers.below(4) == 0 {
-        run(numbers, ports, slow)
-    } else {
-        hear(alloc, numbers, routes, ports, slow)
+    let goes = match numbers.below(8) {
+        0 | 1 => run(numbers, ports, slow),
+        2 => hear_joins(alloc, numbers, routes, ports, slow),
+        _ => hear(alloc, numbers, routes, ports, slow),
     };
     goes && is_alike(ports, slow) && answers_alike(numbers, ports, slow, near)
 }
