@@ -9,7 +9,7 @@ mod spoilt;
 mod spoilt_rows;
 mod tables;
 
-use pim_addr::{Routes, V4};
+use pim_addr::{RouteFault, Routes, V4};
 use pim_frame::all_routers;
 use pim_router::{Config, PortConfig, Router, Verdict};
 use std::alloc::{AllocError, Global};
@@ -68,13 +68,17 @@ fn neighbour_count(router: &Router<'_, V4>, port: usize) -> usize {
     router.neighbours(port).count()
 }
 
-/// A table with one RP for all groups, and this neighbour for all addresses; `None` where a growth
-/// is refused.
+/// Adds the RP of all groups, and this neighbour for all addresses.
+fn add_both(routes: &mut Routes<V4>, upstream: [u8; 4]) -> Result<(), RouteFault> {
+    routes.add_rp([224, 0, 0, 0], 4, RP)?;
+    routes.add_via([0, 0, 0, 0], 0, upstream)
+}
+
+/// A table with both; `None` where a growth is refused.
 pub(super) fn table(alloc: Global, upstream: [u8; 4]) -> Option<Routes<V4>> {
     let mut routes = Routes::new(alloc);
-    routes.add_rp([224, 0, 0, 0], 4, RP).ok()?;
-    routes.add_via([0, 0, 0, 0], 0, upstream).ok()?;
-    Some(routes)
+    let are_added = add_both(&mut routes, upstream).is_ok();
+    are_added.then_some(routes)
 }
 
 /// A new router of the ports under this table; `None` where a growth is refused.

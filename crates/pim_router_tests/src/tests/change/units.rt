@@ -1,7 +1,7 @@
 //! The units of changes.
 
 use super::old_form;
-use crate::tests::state::{FIRST, GROUP, SECOND, refused, state4};
+use crate::tests::state::{FIRST, GROUP, SECOND, State, refused, state4};
 use pim_addr::V4;
 use pim_change::{Kind, Telling, Unit, changed, too_big};
 use pim_form::NormalForm;
@@ -42,11 +42,25 @@ pub(super) fn are_units_at_last(
     }
 }
 
-/// The group of a new star of this form that is too big for this budget.
+/// The group of a star of this form, but not of a router, that is too big for this budget.
+fn big_beside(
+    alloc: Global,
+    state: &State,
+    new: &NormalForm<V4>,
+    budget: usize,
+) -> Option<[u8; 4]> {
+    match NormalForm::of(alloc, &state.ports) {
+        Ok(nothing) => too_big(&nothing, new, budget),
+        Err(_) => None,
+    }
+}
+
+/// The same of a new router.
 fn big_of_new(alloc: Global, new: &NormalForm<V4>, budget: usize) -> Option<[u8; 4]> {
-    let state = state4(alloc, 1, 1400)?;
-    let nothing = NormalForm::of(alloc, &state.ports).ok()?;
-    too_big(&nothing, new, budget)
+    match state4(alloc, 1, 1400) {
+        Some(state) => big_beside(alloc, &state, new, budget),
+        None => None,
+    }
 }
 
 /// Whether the star is too big where it is new and has no room. A message of it, with one

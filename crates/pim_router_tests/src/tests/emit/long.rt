@@ -24,13 +24,12 @@ fn push_entries(bytes: &mut Vec<u8>, first: u8, last: u8) -> Result<(), AllocErr
     Ok(())
 }
 
-/// The two messages of 200 sources, each after its length.
-fn messages_of_200(alloc: Global) -> Result<Vec<u8>, AllocError> {
-    let mut bytes = Vec::from_slice(alloc, &FIRST_OF_200)?;
-    push_entries(&mut bytes, 1, 181)?;
+/// Appends the two messages of 200 sources, each after its length.
+fn push_messages(bytes: &mut Vec<u8>) -> Result<(), AllocError> {
+    bytes.extend_from_slice(&FIRST_OF_200)?;
+    push_entries(bytes, 1, 181)?;
     bytes.extend_from_slice(&SECOND_OF_200)?;
-    push_entries(&mut bytes, 182, 200)?;
-    Ok(bytes)
+    push_entries(bytes, 182, 200)
 }
 
 /// Whether a device that fails from this byte on was written the bytes before it, as is told.
@@ -42,21 +41,28 @@ fn is_cut(alloc: Global, state: &State, bytes: &[u8], fails_from: usize) -> bool
         && out.failures() == 1
 }
 
-/// Whether these are the bytes of two messages, which the normal form has, too, and a device that
-/// fails at any of them was written the ones before.
+/// Whether a device that fails at any of these bytes was written the ones before.
+fn is_cut_anywhere(alloc: Global, state: &State, bytes: &[u8]) -> bool {
+    for fails_from in 0..bytes.len() {
+        if !is_cut(alloc, state, bytes, fails_from) {
+            return false;
+        }
+    }
+    true
+}
+
+/// The same where these are the bytes of two messages, which the normal form has, too.
 fn are_told(alloc: Global, state: &State, bytes: &[u8]) -> bool {
     bytes.len() == 1656
         && is_written(alloc, state, 2, bytes)
         && is_kept(alloc, state) == Some(true)
-        && (0..bytes.len()).all(|fails_from| is_cut(alloc, state, bytes, fails_from))
+        && is_cut_anywhere(alloc, state, bytes)
 }
 
 /// The same where 200 sources were heard.
 fn are_told_of_200(alloc: Global, state: &State) -> bool {
-    match messages_of_200(alloc) {
-        Ok(bytes) => are_told(alloc, state, &bytes),
-        Err(_) => false,
-    }
+    let mut bytes = Vec::new(alloc);
+    push_messages(&mut bytes).is_ok() && are_told(alloc, state, &bytes)
 }
 
 /// The same where they are heard now.

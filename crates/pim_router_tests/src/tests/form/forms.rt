@@ -68,13 +68,20 @@ fn both_want_at_last(alloc: Global, ports: &Ports<V4>) -> Result<bool, AllocErro
     Ok(want_at_last(alloc, ports)? && wanted(ports) == [true, false, true, true])
 }
 
-/// The same of three ports that heard the messages.
-fn heard_want_at_last(alloc: Global) -> Result<bool, AllocError> {
-    let mut state = state4(alloc, 3, 1480).ok_or(AllocError)?;
-    if hear_held(alloc, &mut state) && state.ports.port_count() == 3 {
+/// The same of three ports that hear the messages first.
+fn hear_and_want(alloc: Global, state: &mut State) -> Result<bool, AllocError> {
+    if hear_held(alloc, state) && state.ports.port_count() == 3 {
         both_want_at_last(alloc, &state.ports)
     } else {
         Err(AllocError)
+    }
+}
+
+/// The same of three new ports.
+fn heard_want_at_last(alloc: Global) -> Result<bool, AllocError> {
+    match state4(alloc, 3, 1480) {
+        Some(mut state) => hear_and_want(alloc, &mut state),
+        None => Err(AllocError),
     }
 }
 

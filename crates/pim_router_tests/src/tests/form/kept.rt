@@ -3,6 +3,7 @@
 use crate::tests::change::new_form;
 use crate::tests::state::{FIRST, GROUP, SECOND, refused, state4};
 use pim_addr::V4;
+use pim_down::Ports;
 use pim_form::{Messages, NormalForm, Tree, normal_again};
 use std::alloc::{AllocError, Global};
 use std::test::Fail;
@@ -13,11 +14,20 @@ fn is_nothing_again(alloc: Global, form: &NormalForm<V4>) -> Option<bool> {
     Some(again.groups().next().is_none() && !again.wants(FIRST, GROUP, Tree::Shared))
 }
 
-/// The same of the form of what a new port wants.
+/// The same of the form of what these ports want.
+fn want_nothing(alloc: Global, ports: &Ports<V4>) -> Option<bool> {
+    match NormalForm::of(alloc, ports) {
+        Ok(form) => is_nothing_again(alloc, &form),
+        Err(_) => None,
+    }
+}
+
+/// The same of a new port.
 fn is_nothing(alloc: Global) -> Option<bool> {
-    let state = state4(alloc, 1, 1480)?;
-    let form = NormalForm::of(alloc, &state.ports).ok()?;
-    is_nothing_again(alloc, &form)
+    match state4(alloc, 1, 1480) {
+        Some(state) => want_nothing(alloc, &state.ports),
+        None => None,
+    }
 }
 
 #[test]
@@ -25,13 +35,11 @@ fn holds_nothing(rt: HostRuntime) {
     assert_eq!(rt; is_nothing(rt.alloc()), Some(true));
 }
 
-/// Messages that were pushed one by one.
-fn pushed(alloc: Global) -> Result<Messages, AllocError> {
-    let mut messages = Messages::none(alloc);
+/// Pushes messages one by one.
+fn push_three(messages: &mut Messages) -> Result<(), AllocError> {
     messages.push(&[0x23, 0, 0xc4, 0xd4])?;
     messages.push(&[])?;
-    messages.push(&[0x20])?;
-    Ok(messages)
+    messages.push(&[0x20])
 }
 
 /// Whether the message with this number has these bytes.
@@ -49,10 +57,9 @@ fn are_kept(messages: &Messages) -> bool {
 }
 
 #[test]
-fn keeps_what_is_pushed(rt: HostRuntime) -> Result<(), Fail> {
-    let messages = pushed(rt.alloc())?;
-    assert!(rt; are_kept(&messages));
-    Ok(())
+fn keeps_what_is_pushed(rt: HostRuntime) {
+    let mut messages = Messages::none(rt.alloc());
+    assert!(rt; push_three(&mut messages).is_ok() && are_kept(&messages));
 }
 
 /// Whether the form wants the first source on its own tree, and all sources but the second on the
@@ -77,11 +84,18 @@ fn wants_at_last(alloc: Global, form: &NormalForm<V4>) -> Result<bool, AllocErro
     }
 }
 
+/// The same of the new form of a change.
+fn new_wants_at_last(alloc: Global) -> Result<bool, AllocError> {
+    match new_form(alloc) {
+        Some(form) => wants_at_last(alloc, &form),
+        None => Err(AllocError),
+    }
+}
+
 // With each allocation refused in turn (`tools/each_growth_refused.sh`): the form is as before, and
 // the same call, with memory, gives it again.
 #[test]
 fn refusals_leave_the_form(rt: HostRuntime) -> Result<(), Fail> {
-    let form = new_form(rt.alloc()).ok_or(AllocError)?;
-    assert!(rt; wants_at_last(rt.alloc(), &form)?);
+    assert!(rt; new_wants_at_last(rt.alloc())?);
     Ok(())
 }

@@ -47,8 +47,10 @@ fn is_told_so_again(
     form: &NormalForm<V4>,
     bytes: &[u8],
 ) -> Option<bool> {
-    let again = normal_again(alloc, form).ok()?;
-    is_told_so(alloc, state, &again, bytes)
+    match normal_again(alloc, form) {
+        Ok(again) => is_told_so(alloc, state, &again, bytes),
+        Err(_) => None,
+    }
 }
 
 /// The same of the star without 192.0.2.1, and of the normal form of its normal form.
@@ -66,33 +68,35 @@ fn tells_both(alloc: Global, state: &State) -> Option<[bool; 2]> {
     }
 }
 
-#[test]
-fn packs_a_form_and_its_form(rt: HostRuntime) {
-    match state4(rt.alloc(), 1, 1480) {
-        Some(state) => assert_eq!(rt; tells_both(rt.alloc(), &state), Some([true, true])),
-        None => assert!(rt; false),
+/// The same of a new router.
+fn new_tells_both(alloc: Global) -> Option<[bool; 2]> {
+    match state4(alloc, 1, 1480) {
+        Some(state) => tells_both(alloc, &state),
+        None => None,
     }
 }
 
+#[test]
+fn packs_a_form_and_its_form(rt: HostRuntime) {
+    assert_eq!(rt; new_tells_both(rt.alloc()), Some([true, true]));
+}
+
 /// Whether a fault is told in these words.
-fn is_in_words<F: Family>(
-    alloc: Global,
-    fault: FormFault<F>,
-    words: &str,
-) -> Result<bool, AllocError> {
-    let text = format!(in alloc; "{fault}")?;
-    Ok(text.as_str() == words)
+fn is_in_words<F: Family>(alloc: Global, fault: FormFault<F>, words: &str) -> bool {
+    match format!(in alloc; "{fault}") {
+        Ok(text) => text.as_str() == words,
+        Err(_) => false,
+    }
 }
 
 #[test]
-fn tells_faults_in_words(rt: HostRuntime) -> Result<(), Fail> {
+fn tells_faults_in_words(rt: HostRuntime) {
     let too_big: FormFault<V4> = FormFault::TooBig(GROUP);
-    assert!(rt; is_in_words(rt.alloc(), too_big, "too big 239.1.1.1")?);
+    assert!(rt; is_in_words(rt.alloc(), too_big, "too big 239.1.1.1"));
     let memory: FormFault<V6> = FormFault::Memory;
-    assert!(rt; is_in_words(rt.alloc(), memory, "memory")?);
+    assert!(rt; is_in_words(rt.alloc(), memory, "memory"));
     let tables: FormFault<V4> = FormFault::Tables;
-    assert!(rt; is_in_words(rt.alloc(), tables, "tables")?);
-    Ok(())
+    assert!(rt; is_in_words(rt.alloc(), tables, "tables"));
 }
 
 /// How long a message is; 0 where it isn't there.
@@ -141,11 +145,18 @@ fn heard_are_packed(alloc: Global, state: &mut State) -> Result<bool, AllocError
     }
 }
 
+/// The same of a new router.
+fn new_are_packed(alloc: Global) -> Result<bool, AllocError> {
+    match state4(alloc, 1, 1480) {
+        Some(mut state) => heard_are_packed(alloc, &mut state),
+        None => Err(AllocError),
+    }
+}
+
 // With each allocation refused in turn (`tools/each_growth_refused.sh`): the form is as it was, and
 // the same call, with memory, gives its messages.
 #[test]
 fn refusals_change_nothing(rt: HostRuntime) -> Result<(), Fail> {
-    let mut state = state4(rt.alloc(), 1, 1480).ok_or(AllocError)?;
-    assert!(rt; heard_are_packed(rt.alloc(), &mut state)?);
+    assert!(rt; new_are_packed(rt.alloc())?);
     Ok(())
 }

@@ -84,37 +84,64 @@ fn hear_until(
         && state.ports.run_to(until) == Step::Reached
 }
 
-/// The form of a router that was told this.
-fn form_of(alloc: Global, told: Told) -> Option<NormalForm<V4>> {
-    let mut state = state4(alloc, 1, 1480)?;
-    if !hear_until(alloc, &mut state, (told, ALONE), 0) {
-        return None;
+/// The form of a router that is told this.
+fn form_after(alloc: Global, state: &mut State, told: Told) -> Option<NormalForm<V4>> {
+    if hear_until(alloc, state, (told, ALONE), 0) {
+        NormalForm::of(alloc, &state.ports).ok()
+    } else {
+        None
     }
-    NormalForm::of(alloc, &state.ports).ok()
+}
+
+/// The same of a new router.
+fn form_of(alloc: Global, told: Told) -> Option<NormalForm<V4>> {
+    match state4(alloc, 1, 1480) {
+        Some(mut state) => form_after(alloc, &mut state, told),
+        None => None,
+    }
 }
 
 /// Whether the first port is settled at the form of a router that was told this; `None` where
 /// memory is wanting.
 fn is_settled(alloc: Global, state: &State, asked: Told) -> Option<bool> {
-    let form = form_of(alloc, asked)?;
-    Some(settled(&state.ports, 0, &form))
+    match form_of(alloc, asked) {
+        Some(form) => Some(settled(&state.ports, 0, &form)),
+        None => None,
+    }
 }
 
-fn is_so(alloc: Global, ([first, second], timing, until, asked, settled): Case) -> bool {
+/// Whether a case is so on two new ports.
+fn is_so_of(
+    alloc: Global,
+    state: &mut State,
+    ([first, second], timing, until, asked, settled): Case,
+) -> bool {
+    hear_told(alloc, state, first, timing)
+        && hear_until(alloc, state, (second, timing), until)
+        && is_settled(alloc, state, asked) == Some(settled)
+}
+
+/// Whether a case is so.
+fn is_so(alloc: Global, case: Case) -> bool {
     match state4(alloc, 2, 1480) {
-        Some(mut state) => {
-            hear_told(alloc, &mut state, first, timing)
-                && hear_until(alloc, &mut state, (second, timing), until)
-                && is_settled(alloc, &state, asked) == Some(settled)
-        }
+        Some(mut state) => is_so_of(alloc, &mut state, case),
         None => false,
     }
 }
 
+/// The first case that isn't so.
+fn wrong(alloc: Global, cases: &[Case]) -> Option<usize> {
+    for index in 0..cases.len() {
+        if !is_so(alloc, cases[index]) {
+            return Some(index);
+        }
+    }
+    None
+}
+
 #[test]
 fn settles_machine_by_machine(rt: HostRuntime) {
-    let wrong = CASES.iter().position(|case| !is_so(rt.alloc(), *case));
-    assert_eq!(rt; wrong, None);
+    assert_eq!(rt; wrong(rt.alloc(), &CASES), None);
 }
 
 /// A port is told the star and, at 10, that it is gone, at 2,000 perhaps once more, and time passes

@@ -40,15 +40,10 @@ fn hear_both(alloc: Global, state: &mut State) -> bool {
         && hear(alloc, state, 0, OTHER_GROUP, &[STAR, JOIN_FIRST], &[])
 }
 
-/// A port that has heard this under the six rows; `None` where it is refused.
-fn heard(alloc: Global) -> Option<State> {
-    let mut state = state4(alloc, 1, 1480)?;
+/// Lets a port hear this under the six rows: whether it is taken.
+fn hear_under_six(alloc: Global, state: &mut State) -> bool {
     state.routes = Routes::new(alloc);
-    if lead(&mut state.routes) && hear_both(alloc, &mut state) {
-        Some(state)
-    } else {
-        None
-    }
+    lead(&mut state.routes) && hear_both(alloc, state)
 }
 
 /// A group as a form shows it: whether it has a star, its exceptions and its sources.
@@ -110,16 +105,28 @@ fn wrong(alloc: Global, state: &State) -> Result<Option<usize>, AllocError> {
 
 /// Whether a form of all that is wanted isn't asked of one neighbour.
 fn is_of_two(alloc: Global, state: &State) -> Result<bool, AllocError> {
-    let form = NormalForm::of(alloc, &state.ports)?;
-    Ok(!is_toward(&form, &state.routes, TWO) && !is_toward(&form, &state.routes, SIX))
+    match NormalForm::of(alloc, &state.ports) {
+        Ok(form) => {
+            let of_two = is_toward(&form, &state.routes, TWO);
+            Ok(!of_two && !is_toward(&form, &state.routes, SIX))
+        }
+        Err(_) => Err(AllocError),
+    }
+}
+
+/// The same of a new port that hears this.
+fn heard_is_of_two(alloc: Global) -> bool {
+    match state4(alloc, 1, 1480) {
+        Some(mut state) => {
+            hear_under_six(alloc, &mut state) && is_of_two(alloc, &state) == Ok(true)
+        }
+        None => false,
+    }
 }
 
 #[test]
 fn tells_what_others_are_asked(rt: HostRuntime) {
-    match heard(rt.alloc()) {
-        Some(state) => assert!(rt; is_of_two(rt.alloc(), &state) == Ok(true)),
-        None => assert!(rt; false),
-    }
+    assert!(rt; heard_is_of_two(rt.alloc()));
 }
 
 /// Whether no case is wrong: at once or, where a growth is refused, when all are tried again.
@@ -130,11 +137,27 @@ fn none_is_wrong(alloc: Global, state: &State) -> Result<bool, AllocError> {
     }
 }
 
+/// The same of a port that hears this first.
+fn hear_and_ask(alloc: Global, state: &mut State) -> Result<bool, AllocError> {
+    if hear_under_six(alloc, state) {
+        none_is_wrong(alloc, state)
+    } else {
+        Err(AllocError)
+    }
+}
+
+/// The same of a new port.
+fn none_is_wrong_of_new(alloc: Global) -> Result<bool, AllocError> {
+    match state4(alloc, 1, 1480) {
+        Some(mut state) => hear_and_ask(alloc, &mut state),
+        None => Err(AllocError),
+    }
+}
+
 // With each allocation refused in turn (`tools/each_growth_refused.sh`): the answer is want of
 // memory, and the same call, with memory, answers what it would have answered.
 #[test]
 fn refusals_of_toward_change_nothing(rt: HostRuntime) -> Result<(), Fail> {
-    let state = heard(rt.alloc()).ok_or(AllocError)?;
-    assert!(rt; none_is_wrong(rt.alloc(), &state)?);
+    assert!(rt; none_is_wrong_of_new(rt.alloc())?);
     Ok(())
 }

@@ -47,13 +47,24 @@ fn takes(router: &mut Router<'_, V4>) -> bool {
         && router.run_to(0) == Step::Reached
 }
 
-/// The messages by which a router under this table asks then; `None` where memory is refused.
-fn messages(alloc: Global, routes: &Routes<V4>, writer: &Writer<V4>) -> Option<Messages> {
-    let mut router = made(alloc, routes)?;
-    if takes(&mut router) {
+/// The messages by which a router asks then; `None` where memory is refused.
+fn messages_of(
+    alloc: Global,
+    router: &mut Router<'_, V4>,
+    writer: &Writer<V4>,
+) -> Option<Messages> {
+    if takes(router) {
         router.canonical(alloc, writer).ok()
     } else {
         None
+    }
+}
+
+/// The same of a new router under this table.
+fn messages(alloc: Global, routes: &Routes<V4>, writer: &Writer<V4>) -> Option<Messages> {
+    match made(alloc, routes) {
+        Some(mut router) => messages_of(alloc, &mut router, writer),
+        None => None,
     }
 }
 

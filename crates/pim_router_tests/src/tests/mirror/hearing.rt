@@ -2,7 +2,7 @@
 
 use super::super::router::{FOR_EVER, receive};
 use super::asked::{Asking, OTHER, UP, WRITER, asked, asks_by};
-use pim_addr::{Routes, V4};
+use pim_addr::V4;
 use pim_form::Messages;
 use pim_mirror::{Delivery, MirrorFault, are_short, hear_deliveries};
 use pim_router::{Config, Router};
@@ -24,18 +24,9 @@ const DELIVERIES: [Delivery; 3] = [
     },
 ];
 
-/// The upstream neighbour with room for so many records, which knows the writer and another
-/// neighbour for ever.
-fn upstream(alloc: Global, routes: &Routes<V4>, limit: usize) -> Option<Router<'_, V4>> {
-    let config = Config {
-        ports: &[UP],
-        routes,
-        limit,
-    };
-    let mut router = Router::new(alloc, &config).ok()?;
-    let knows_both = receive(&mut router, 0, WRITER, &FOR_EVER).is_ok()
-        && receive(&mut router, 0, OTHER, &FOR_EVER).is_ok();
-    knows_both.then_some(router)
+/// Lets the upstream neighbour know the writer and another neighbour for ever.
+fn knows_both(router: &mut Router<'_, V4>) -> bool {
+    receive(router, 0, WRITER, &FOR_EVER).is_ok() && receive(router, 0, OTHER, &FOR_EVER).is_ok()
 }
 
 /// Lets the router hear the deliveries and run to this moment.
@@ -67,9 +58,11 @@ fn heard_at(
     Some((answer, router.now(), records, asks))
 }
 
-/// The room for records, the moment, and what is heard by then. Without room for the first message
-/// the router has heard what came before it.
-const ROWS: [(usize, u64, Heard); 5] = [
+/// The room for records, the moment, and what is heard by then.
+type Row = (usize, u64, Heard);
+
+/// Without room for the first message the router has heard what came before it.
+const ROWS: [Row; 5] = [
     (5, 3_999, (Ok(()), 3_999, 5, false)),
     (5, 4_000, (Ok(()), 4_000, 5, true)),
     (5, 210_999, (Ok(()), 210_999, 5, true)),
@@ -81,18 +74,44 @@ const ROWS: [(usize, u64, Heard); 5] = [
     ),
 ];
 
+/// Whether the upstream neighbour hears this by this moment.
+fn hears(
+    alloc: Global,
+    router: &mut Router<'_, V4>,
+    asking: &Asking,
+    moment: u64,
+    heard: Heard,
+) -> bool {
+    knows_both(router) && heard_at(alloc, router, asking, moment) == Some(heard)
+}
+
 /// Whether a row goes so.
-fn goes(alloc: Global, asking: &Asking, &(limit, moment, heard): &(usize, u64, Heard)) -> bool {
-    match upstream(alloc, &asking.routes, limit) {
-        Some(mut router) => heard_at(alloc, &mut router, asking, moment) == Some(heard),
-        None => false,
+fn goes(alloc: Global, asking: &Asking, (limit, moment, heard): Row) -> bool {
+    let config = Config {
+        ports: &[UP],
+        routes: &asking.routes,
+        limit,
+    };
+    match Router::new(alloc, &config) {
+        Ok(mut router) => hears(alloc, &mut router, asking, moment, heard),
+        Err(_) => false,
     }
 }
 
 /// The first row that doesn't go so.
+fn wrong_row(alloc: Global, asking: &Asking, rows: &[Row]) -> Option<usize> {
+    for index in 0..rows.len() {
+        if !goes(alloc, asking, rows[index]) {
+            return Some(index);
+        }
+    }
+    None
+}
+
+/// The same of what the writer asks.
 fn wrong(alloc: Global) -> Option<usize> {
     match asked(alloc, 210) {
-        Some(asking) => ROWS.iter().position(|row| !goes(alloc, &asking, row)),
+        Some(asking) => wrong_row(alloc, &asking, &ROWS),
         None => Some(0),
     }
 }

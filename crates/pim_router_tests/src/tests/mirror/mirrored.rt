@@ -244,6 +244,14 @@ fn stands(alloc: Global, router: &mut Router<'_, V4>, asking: &Asking, told: Tol
     }
 }
 
+/// Whether a message has no room, as is told.
+fn is_full(fault: MirrorFault, told: Told) -> bool {
+    match fault {
+        MirrorFault::Full { needed } => told == Told::Full(needed),
+        MirrorFault::Memory => false,
+    }
+}
+
 /// Whether the fresh router becomes that; `None` where memory is refused.
 fn becomes(
     alloc: Global,
@@ -253,8 +261,7 @@ fn becomes(
 ) -> Option<bool> {
     match mirrored(alloc, &asking.messages, &asking.writer, fresh) {
         None => Some(told == Told::Unfit),
-        Some(Err(MirrorFault::Full { needed })) => Some(told == Told::Full(needed)),
-        Some(Err(MirrorFault::Memory)) => Some(false),
+        Some(Err(fault)) => Some(is_full(fault, told)),
         Some(Ok(mut router)) => stands(alloc, &mut router, asking, told),
     }
 }
@@ -320,10 +327,20 @@ fn asked_at_last(alloc: Global, holdtime: u16) -> Option<Asking> {
     }
 }
 
-/// The first row for messages with this holdtime that doesn't go so.
+/// The first row that doesn't go so.
+fn wrong_row(alloc: Global, asking: &Asking, rows: &[(Given, Told)]) -> Option<usize> {
+    for index in 0..rows.len() {
+        if !goes(alloc, asking, &rows[index]) {
+            return Some(index);
+        }
+    }
+    None
+}
+
+/// The same for messages with this holdtime.
 fn wrong(alloc: Global, holdtime: u16, rows: &[(Given, Told)]) -> Option<usize> {
     match asked_at_last(alloc, holdtime) {
-        Some(asking) => rows.iter().position(|row| !goes(alloc, &asking, row)),
+        Some(asking) => wrong_row(alloc, &asking, rows),
         None => Some(0),
     }
 }

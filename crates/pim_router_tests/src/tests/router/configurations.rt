@@ -22,7 +22,8 @@ type Configuration<'a> = (&'a [PortConfig<[u8; 4]>], usize, Option<ConfigFault>)
 
 /// The first of these that has another fault.
 fn wrong(alloc: Global, rows: &[Configuration<'_>]) -> Option<usize> {
-    for (index, &(ports, limit, wanted)) in rows.iter().enumerate() {
+    for index in 0..rows.len() {
+        let (ports, limit, wanted) = rows[index];
         if fault(alloc, ports, limit) != wanted {
             return Some(index);
         }
@@ -30,26 +31,46 @@ fn wrong(alloc: Global, rows: &[Configuration<'_>]) -> Option<usize> {
     None
 }
 
+const FIRST: PortConfig<[u8; 4]> = PortConfig {
+    address: [10, 0, 0, 1],
+    propagation: 500,
+    override_ms: 2500,
+};
+
+const SECOND: PortConfig<[u8; 4]> = PortConfig {
+    address: [10, 0, 1, 1],
+    propagation: 500,
+    override_ms: 2500,
+};
+
+/// Its address is that of a group.
+const OF_GROUP: PortConfig<[u8; 4]> = PortConfig {
+    address: [224, 0, 0, 1],
+    propagation: 500,
+    override_ms: 2500,
+};
+
+/// Its propagation delay is too long.
+const SLOW: PortConfig<[u8; 4]> = PortConfig {
+    address: [10, 0, 0, 1],
+    propagation: 32_768,
+    override_ms: 2500,
+};
+
+const ROWS: [Configuration<'static>; 6] = [
+    (&[], 0, Some(ConfigFault::Ports)),
+    (&PORTS, 100_000, None),
+    (
+        &[SLOW, SECOND, OF_GROUP, OF_GROUP],
+        0,
+        Some(ConfigFault::Address { port: 2 }),
+    ),
+    (&[FIRST, SLOW], 0, Some(ConfigFault::Delay { port: 1 })),
+    (&PORTS, 0, Some(ConfigFault::Limit)),
+    (&PORTS, 100_001, Some(ConfigFault::Limit)),
+];
+
 #[test]
 fn ports_addresses_delays_and_limits(rt: HostRuntime) {
-    let [first, second, _] = PORTS;
-    let group = PortConfig {
-        address: [224, 0, 0, 1],
-        ..first
-    };
-    let slow = PortConfig {
-        propagation: 32_768,
-        ..first
-    };
-    let of_group = Some(ConfigFault::Address { port: 2 });
-    let of_delay = Some(ConfigFault::Delay { port: 1 });
-    let rows: [Configuration<'_>; 6] = [
-        (&[], 0, Some(ConfigFault::Ports)),
-        (&PORTS, 100_000, None),
-        (&[slow, second, group, group], 0, of_group),
-        (&[first, slow], 0, of_delay),
-        (&PORTS, 0, Some(ConfigFault::Limit)),
-        (&PORTS, 100_001, Some(ConfigFault::Limit)),
-    ];
-    assert_eq!(rt; wrong(rt.alloc(), &rows), None);
+    assert_eq!(rt; wrong(rt.alloc(), &ROWS), None);
 }

@@ -74,14 +74,6 @@ fn take_all(router: &mut Router<'_, V4>) -> Result<(), AllocError> {
     Ok(())
 }
 
-/// A router that took all packets, 7 ms later; `None` where a growth is refused.
-fn after<'a>(alloc: Global, routes: &'a Routes<V4>) -> Option<Router<'a, V4>> {
-    let mut router = made(alloc, routes)?;
-    take_all(&mut router).ok()?;
-    router.run_to(7);
-    Some(router)
-}
-
 /// Whether a router asks by one message of these bytes.
 fn asks(
     alloc: Global,
@@ -135,17 +127,34 @@ fn both_again(
     Ok(asks_again(alloc, router, writer)? && same_again(alloc, router, writer)?)
 }
 
-/// The same of a router under this table that took all packets.
+/// The same where the router takes all packets first, and 7 ms pass.
+fn both_again_later(alloc: Global, router: &mut Router<'_, V4>) -> Result<bool, AllocError> {
+    take_all(router)?;
+    router.run_to(7);
+    match writer() {
+        Some(writer) => both_again(alloc, router, &writer),
+        None => Ok(false),
+    }
+}
+
+/// The same of a new router under this table.
 fn are_made_again(alloc: Global, routes: &Routes<V4>) -> Result<bool, AllocError> {
-    match (after(alloc, routes), writer()) {
-        (Some(router), Some(writer)) => both_again(alloc, &router, &writer),
-        _ => Err(AllocError),
+    match made(alloc, routes) {
+        Some(mut router) => both_again_later(alloc, &mut router),
+        None => Err(AllocError),
+    }
+}
+
+/// The same of a new table.
+fn all_are_made_again(alloc: Global) -> Result<bool, AllocError> {
+    match table(alloc, [10, 0, 0, 2]) {
+        Some(routes) => are_made_again(alloc, &routes),
+        None => Err(AllocError),
     }
 }
 
 #[test]
 fn calls_are_made_again(rt: HostRuntime) -> Result<(), Fail> {
-    let routes = table(rt.alloc(), [10, 0, 0, 2]).ok_or(AllocError)?;
-    assert!(rt; are_made_again(rt.alloc(), &routes)?);
+    assert!(rt; all_are_made_again(rt.alloc())?);
     Ok(())
 }

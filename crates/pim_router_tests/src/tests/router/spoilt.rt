@@ -379,20 +379,30 @@ fn answers<F: Family>(
     }
 }
 
+/// The first row to whose message the port answers otherwise.
+fn wrong<F: Family>(
+    alloc: Global,
+    ports: &[PortConfig<F::Addr>],
+    from: F::Addr,
+    rows: &[Row],
+) -> Option<usize> {
+    for index in 0..rows.len() {
+        if !answers::<F>(alloc, ports, from, &rows[index]) {
+            return Some(index);
+        }
+    }
+    None
+}
+
 #[test]
 fn spoilt_messages(rt: HostRuntime) {
-    let alloc = rt.alloc();
-    let wrong = ROWS
-        .iter()
-        .position(|row| !answers::<V4>(alloc, &[PORT], SENDER, row));
-    assert_eq!(rt; wrong, None);
+    assert_eq!(rt; wrong::<V4>(rt.alloc(), &[PORT], SENDER, &ROWS), None);
 }
 
 #[test]
 fn spoilt_messages_of_ipv6(rt: HostRuntime) {
-    let alloc = rt.alloc();
-    let wrong = ROWS_V6
-        .iter()
-        .position(|row| !answers::<V6>(alloc, &[PORT_V6], SENDER_V6, row));
-    assert_eq!(rt; wrong, None);
+    assert_eq!(rt;
+        wrong::<V6>(rt.alloc(), &[PORT_V6], SENDER_V6, &ROWS_V6),
+        None
+    );
 }

@@ -43,11 +43,19 @@ fn answer_under(alloc: Global, of_one: &Routes<V4>, of_other: &Routes<V4>) -> Op
     }
 }
 
-/// The same where the first table leads to 10.0.0.2, and the other one to 10.0.0.6.
+/// The same where the other table leads to 10.0.0.6.
+fn answer_against(alloc: Global, of_one: &Routes<V4>) -> Option<Answer> {
+    match table(alloc, [10, 0, 0, 6]) {
+        Some(of_other) => answer_under(alloc, of_one, &of_other),
+        None => None,
+    }
+}
+
+/// The same where the first table leads to 10.0.0.2.
 fn answer(alloc: Global) -> Option<Answer> {
-    match (table(alloc, [10, 0, 0, 2]), table(alloc, [10, 0, 0, 6])) {
-        (Some(of_one), Some(of_other)) => answer_under(alloc, &of_one, &of_other),
-        _ => None,
+    match table(alloc, [10, 0, 0, 2]) {
+        Some(of_one) => answer_against(alloc, &of_one),
+        None => None,
     }
 }
 
