@@ -26,7 +26,7 @@ mod running;
 mod slow;
 mod times;
 
-use bodies::{body, hear_body, table};
+use bodies::{body, is_heard, table};
 use pim_addr::V4;
 use pim_down::{Ports, State, Step, Timing, What};
 use pim_jp::Entry;
@@ -117,6 +117,14 @@ struct Example {
     rows: &'static [Row],
 }
 
+/// Hears a body on a port: whether it is taken.
+fn hears_body(alloc: Global, ports: &mut Ports<V4>, port: usize, body: &[u8]) -> bool {
+    match table(alloc, &ONE_RP) {
+        Some(routes) => is_heard(ports, &routes, port, body),
+        None => false,
+    }
+}
+
 /// Hears a message of this holdtime on a port: whether it is taken.
 fn hears(
     alloc: Global,
@@ -125,9 +133,9 @@ fn hears(
     holdtime: u16,
     sets: &'static [Set],
 ) -> bool {
-    match (body(alloc, holdtime, sets), table(alloc, &ONE_RP)) {
-        (Ok(bytes), Some(routes)) => hear_body(ports, &routes, port, &bytes, ALONE) == Some(Ok(())),
-        _ => false,
+    match body(alloc, holdtime, sets) {
+        Ok(bytes) => hears_body(alloc, ports, port, &bytes),
+        Err(_) => false,
     }
 }
 
@@ -170,10 +178,7 @@ fn lasting(ports: &Ports<V4>) -> usize {
 
 /// The machine of a group that comes next on the first port.
 fn machine_after(ports: &Ports<V4>, group: [u8; 4], what: What<[u8; 4]>) -> Option<What<[u8; 4]>> {
-    match ports.record_after(0, group, what) {
-        Some(record) => Some(record.key.what),
-        None => None,
-    }
+    nexts::what_of(ports.record_after(0, group, what))
 }
 
 /// Whether what a row sees is so.

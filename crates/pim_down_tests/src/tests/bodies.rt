@@ -1,6 +1,6 @@
 //! Bodies of messages, and tables, as the examples name them.
 
-use super::{Lead, Set};
+use super::{ALONE, Lead, Set};
 use pim_addr::{Routes, V4};
 use pim_down::{HearFault, Ports, Timing};
 use pim_jp::{Entry, JpView};
@@ -63,4 +63,17 @@ pub(super) fn hear_body(
         return None;
     }
     Some(ports.hear(port, &message, routes, timing))
+}
+
+/// Whether a body is taken on a port with one neighbour.
+pub(super) fn is_heard(
+    ports: &mut Ports<V4>,
+    routes: &Routes<V4>,
+    port: usize,
+    body: &[u8],
+) -> bool {
+    match hear_body(ports, routes, port, body, ALONE) {
+        Some(heard) => heard.is_ok(),
+        None => false,
+    }
 }

@@ -223,7 +223,9 @@ fn ipv6_frames_cut_anywhere(rt: HostRuntime) {
 
 /// A byte of the Hello's packet that is changed, to which value, and why the packet is passed over
 /// then.
-const CHANGES: [(usize, u8, Why); 7] = [
+type Change = (usize, u8, Why);
+
+const CHANGES: [Change; 7] = [
     (0, 0x00, Why::NotIp),
     (0, 0x44, Why::BadHeader),
     (3, 0x13, Why::BadHeader),
@@ -234,7 +236,7 @@ const CHANGES: [(usize, u8, Why); 7] = [
 ];
 
 /// Whether the Hello is passed over so, and the empty record after it as one that is cut.
-fn is_skipped(buffer: &mut Vec<u8>, (at, byte, why): (usize, u8, Why)) -> bool {
+fn is_skipped(buffer: &mut Vec<u8>, (at, byte, why): Change) -> bool {
     let mut bytes = HELLO;
     if at >= 30 {
         return false;
@@ -252,13 +254,20 @@ fn is_skipped(buffer: &mut Vec<u8>, (at, byte, why): (usize, u8, Why)) -> bool {
     answers(feed, buffer, &[first, second], None)
 }
 
+/// The first change with which the packet isn't.
+fn wrong_change(buffer: &mut Vec<u8>, changes: &[Change]) -> Option<usize> {
+    for index in 0..changes.len() {
+        if !is_skipped(buffer, changes[index]) {
+            return Some(index);
+        }
+    }
+    None
+}
+
 #[test]
 fn packets_passed_over(rt: HostRuntime) {
     let mut buffer = Vec::new(rt.alloc());
-    let wrong = CHANGES
-        .iter()
-        .position(|change| !is_skipped(&mut buffer, *change));
-    assert_eq!(rt; wrong, None);
+    assert_eq!(rt; wrong_change(&mut buffer, &CHANGES), None);
 }
 
 /// Whether the next answer is this packet. Where memory is refused, each later answer has to be

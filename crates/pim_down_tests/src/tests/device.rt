@@ -89,7 +89,9 @@ fn counted_counts_failures(rt: HostRuntime) {
 
 /// A scripted reader of 8 bytes that gives at most so many a call and fails from a byte on: whether
 /// 6 bytes are read.
-const FEEDS: [(usize, usize, bool); 5] = [
+type FeedRow = (usize, usize, bool);
+
+const FEEDS: [FeedRow; 5] = [
     (1, usize::MAX, true),
     (4, usize::MAX, true),
     (4, 6, true),
@@ -98,7 +100,7 @@ const FEEDS: [(usize, usize, bool); 5] = [
 ];
 
 /// Whether a scripted reader answers this, and counts it where it is a failure.
-fn is_fed(&(most, fails_from, is_read): &(usize, usize, bool)) -> bool {
+fn is_fed((most, fails_from, is_read): FeedRow) -> bool {
     let mut feed = ScriptedFeed::new(b"abcdefgh", most, fails_from);
     let answer = read_up_to(&mut feed, &mut [0; 6]);
     let wanted = if is_read { Ok(6) } else { Err(Failed) };
@@ -117,15 +119,27 @@ fn is_fed_in_parts() -> bool {
     &buffer == b"cb\0\0"
 }
 
+/// The first reader that answers otherwise.
+fn wrong_feed(rows: &[FeedRow]) -> Option<usize> {
+    for index in 0..rows.len() {
+        if !is_fed(rows[index]) {
+            return Some(index);
+        }
+    }
+    None
+}
+
 #[test]
 fn scripted_feed_fails_from_a_byte_on(rt: HostRuntime) {
-    assert_eq!(rt; FEEDS.iter().position(|row| !is_fed(row)), None);
+    assert_eq!(rt; wrong_feed(&FEEDS), None);
     assert!(rt; is_fed_in_parts());
 }
 
 /// A scripted writer that takes at most so many bytes a call and fails from a byte on: whether
 /// `abcdef` goes out, and the front of it that does.
-const DRAINS: [(usize, usize, bool, &[u8]); 5] = [
+type DrainRow<'a> = (usize, usize, bool, &'a [u8]);
+
+const DRAINS: [DrainRow<'static>; 5] = [
     (1, usize::MAX, true, b"abcdef"),
     (4, 6, true, b"abcdef"),
     (4, 5, false, b"abcde"),
@@ -134,10 +148,7 @@ const DRAINS: [(usize, usize, bool, &[u8]); 5] = [
 ];
 
 /// Whether a scripted writer answers this, holds that front, and counts a failure.
-fn is_drained(
-    alloc: Global,
-    &(most, fails_from, goes_out, front): &(usize, usize, bool, &[u8]),
-) -> bool {
+fn is_drained(alloc: Global, (most, fails_from, goes_out, front): DrainRow<'_>) -> bool {
     let mut drain = ScriptedDrain::new(alloc, most, fails_from);
     let answer = write_all(&mut drain, b"abcdef");
     answer.is_ok() == goes_out
@@ -145,8 +156,17 @@ fn is_drained(
         && drain.failures() == u64::from(!goes_out)
 }
 
+/// The first writer that answers otherwise.
+fn wrong_drain(alloc: Global, rows: &[DrainRow<'_>]) -> Option<usize> {
+    for index in 0..rows.len() {
+        if !is_drained(alloc, rows[index]) {
+            return Some(index);
+        }
+    }
+    None
+}
+
 #[test]
 fn scripted_drain_fails_from_a_byte_on(rt: HostRuntime) {
-    let alloc = rt.alloc();
-    assert_eq!(rt; DRAINS.iter().position(|row| !is_drained(alloc, row)), None);
+    assert_eq!(rt; wrong_drain(rt.alloc(), &DRAINS), None);
 }

@@ -14,7 +14,9 @@ const NEVER: usize = usize::MAX;
 
 /// Inputs, and their items: `L` and a line, or `T`, a `from` line, `|`, its text and `.` if it was
 /// sent, `,` if not. Each item ends with `;`.
-const INPUTS: [(&[u8], &[u8]); 22] = [
+type Row<'a> = (&'a [u8], &'a [u8]);
+
+const INPUTS: [Row<'static>; 22] = [
     (b"", b""),
     (b"\n\n", b""),
     (b"now", b"Lnow;"),
@@ -42,20 +44,19 @@ const INPUTS: [(&[u8], &[u8]); 22] = [
     (b"from 0\n\nsend\n\nfrom 1", b"Tfrom 0|\n.;Tfrom 1|,;"),
 ];
 
-/// Writes a text as the rows have it: of one that isn't held, only what is known.
-fn show_text<'a>(
-    out: &mut Vec<u8>,
-    text: TextItem,
-    from: &'a [u8],
-    lines: &'a [u8],
-) -> Result<(), AllocError> {
+/// The pieces of a text as the rows have it: of one that isn't held, only what is known.
+fn pieces<'a>(text: TextItem, from: &'a [u8], lines: &'a [u8]) -> [&'a [u8]; 5] {
     let end: &'a [u8] = if text.is_sent { b".;" } else { b",;" };
-    let pieces: [&'a [u8]; 5] = match text.fault {
+    match text.fault {
         _ if text.has_long_line => [b"T?;", b"", b"", b"", b""],
         Some(Unheld::Memory) => [b"TM;", b"", b"", b"", b""],
         Some(Unheld::TooLong) => [b"T", from, b"!;", b"", b""],
         None => [b"T", from, b"|", lines, end],
-    };
+    }
+}
+
+/// Writes pieces one after the other.
+fn show_pieces(out: &mut Vec<u8>, pieces: &[&[u8]]) -> Result<(), AllocError> {
     for piece in pieces {
         out.extend_from_slice(piece)?;
     }
@@ -72,7 +73,7 @@ fn show(out: &mut Vec<u8>, items: &Items<ScriptedFeed<'_>>, item: Item) -> Resul
             Ok(())
         }
         Item::LongLine => out.extend_from_slice(b"!;"),
-        Item::Text(text) => show_text(out, text, items.from_line(), items.text()),
+        Item::Text(text) => show_pieces(out, &pieces(text, items.from_line(), items.text())),
     }
 }
 
@@ -104,16 +105,21 @@ fn has(alloc: Global, feed: ScriptedFeed<'_>, wanted: &[u8]) -> bool {
     shown && out.as_slice() == wanted
 }
 
+/// The first row with other items, where a read gives at most so many bytes.
+fn wrong(alloc: Global, rows: &[Row<'_>], most: usize) -> Option<usize> {
+    for index in 0..rows.len() {
+        let (input, wanted) = rows[index];
+        if !has(alloc, ScriptedFeed::new(input, most, NEVER), wanted) {
+            return Some(index);
+        }
+    }
+    None
+}
+
 #[test]
 fn items_are_read(rt: HostRuntime) {
-    let alloc = rt.alloc();
     for most in [1, 2, 7, NEVER] {
-        let wrong = INPUTS.iter().position(|row| !has(
-            alloc,
-            ScriptedFeed::new(row.0, most, NEVER),
-            row.1,
-        ));
-        assert_eq!(rt; wrong, None);
+        assert_eq!(rt; wrong(rt.alloc(), &INPUTS, most), None);
     }
 }
 

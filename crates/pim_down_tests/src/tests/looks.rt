@@ -1,7 +1,7 @@
 //! How many timers a run looks at: 1,000 (*,G) machines, all heard of at the same moment.
 
-use super::bodies::{hear_body, table};
-use super::{ALONE, ONE_RP};
+use super::ONE_RP;
+use super::bodies::{is_heard, table};
 use pim_addr::{Routes, V4};
 use pim_down::{Ports, Step};
 use std::alloc::Global;
@@ -26,7 +26,7 @@ fn message(high: u8, low: u8) -> [u8; 30] {
 /// Hears of 250 groups.
 fn hear_row(ports: &mut Ports<V4>, routes: &Routes<V4>, high: u8) -> bool {
     for low in 0..250 {
-        if hear_body(ports, routes, 0, &message(high, low), ALONE) != Some(Ok(())) {
+        if !is_heard(ports, routes, 0, &message(high, low)) {
             return false;
         }
     }
@@ -61,7 +61,36 @@ fn is_refreshed(ports: &mut Ports<V4>, routes: &Routes<V4>) -> bool {
     ports.run_to(100_000) == Step::Reached && hear_all(ports, routes)
 }
 
-/// The first of these runs that doesn't go so, under this table.
+/// Hears of all and, where it is to be, runs to 100,000 and hears of all again.
+fn is_heard_of(ports: &mut Ports<V4>, routes: &Routes<V4>, refreshes: bool) -> bool {
+    hear_all(ports, routes) && (!refreshes || is_refreshed(ports, routes))
+}
+
+/// The first of these runs that doesn't go so.
+fn first_wrong(ports: &mut Ports<V4>, turns: &[Turn]) -> Option<usize> {
+    for index in 0..turns.len() {
+        if !goes(ports, &turns[index]) {
+            return Some(index);
+        }
+    }
+    None
+}
+
+/// The same of ports that hear of all first.
+fn wrong_after(
+    ports: &mut Ports<V4>,
+    routes: &Routes<V4>,
+    refreshes: bool,
+    turns: &[Turn],
+) -> Option<usize> {
+    if is_heard_of(ports, routes, refreshes) {
+        first_wrong(ports, turns)
+    } else {
+        Some(0)
+    }
+}
+
+/// The same of new ports under this table.
 fn wrong_under(
     alloc: Global,
     routes: &Routes<V4>,
@@ -69,10 +98,7 @@ fn wrong_under(
     turns: &[Turn],
 ) -> Option<usize> {
     let mut ports: Ports<V4> = Ports::new(alloc, 1, 1_000);
-    if !hear_all(&mut ports, routes) || refreshes && !is_refreshed(&mut ports, routes) {
-        return Some(0);
-    }
-    turns.iter().position(|turn| !goes(&mut ports, turn))
+    wrong_after(&mut ports, routes, refreshes, turns)
 }
 
 /// The first of these runs that doesn't go so, behind a hearing at 0 and, where it is to be, a

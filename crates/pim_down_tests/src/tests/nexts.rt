@@ -4,7 +4,7 @@ use super::{
     Example, FIRST, GROUP, JOIN_FIRST, JOIN_SECOND, JOIN_STAR, RPT_FIRST, Row, SECOND, goes,
 };
 use pim_addr::{V4, V6};
-use pim_down::{Near, Ports, State, What, compare_addresses};
+use pim_down::{Near, Ports, Record, State, What, compare_addresses};
 use std::alloc::Global;
 use std::cmp::Ordering;
 
@@ -81,6 +81,14 @@ fn is_at_its_end(ports: &Ports<V6>) -> bool {
         && left.next_machine().is_none()
 }
 
+/// The machine of a record, if there is one.
+pub(super) fn what_of(record: Option<Record<[u8; 4]>>) -> Option<What<[u8; 4]>> {
+    match record {
+        Some(record) => Some(record.key.what),
+        None => None,
+    }
+}
+
 /// Whether the three look-ups near this place tell this.
 fn is_told_near(
     ports: &Ports<V4>,
@@ -91,7 +99,7 @@ fn is_told_near(
     let (next, _place) = ports.record_after_near(port, group, what, near);
     let (above, _place) = ports.group_after_near(port, Some(group), near);
     let (state, _place) = ports.state_of_near(port, group, what, near);
-    next.map(|record| record.key.what) == told.0 && above == told.1 && state == told.2
+    what_of(next) == told.0 && above == told.1 && state == told.2
 }
 
 /// Whether look-ups near this place tell this: before, at and after records, and on no port.
@@ -162,11 +170,16 @@ fn all_are_heard(alloc: Global, ports: &mut Ports<V4>) -> bool {
 }
 
 /// Whether they are told from a place among them, and from none.
+fn heard_are_told(alloc: Global, ports: &mut Ports<V4>) -> bool {
+    all_are_heard(alloc, ports)
+        && are_told(ports, Near::UNKNOWN)
+        && are_told(ports, place_in(ports))
+}
+
+/// The same of new ports.
 fn are_told_from_each(alloc: Global) -> bool {
     let mut ports: Ports<V4> = Ports::new(alloc, 2, 100);
-    all_are_heard(alloc, &mut ports)
-        && are_told(&ports, Near::UNKNOWN)
-        && are_told(&ports, place_in(&ports))
+    heard_are_told(alloc, &mut ports)
 }
 
 #[test]
@@ -176,17 +189,30 @@ fn machines_of_a_group_are_told_one_after_another(rt: HostRuntime) {
 
 const FEW: Row = Row::Hear(0, &[(GROUP, &[JOIN_FIRST], &[])]);
 
+/// Whether look-ups in both states go right from this place.
+fn both_are_told_near(all: &Ports<V4>, few: &Ports<V4>, near: Near) -> bool {
+    are_told_near(few, near, OF_FEW) && are_told_near(all, near, OF_ALL)
+}
+
+/// The same from a place of each, and from this one.
+fn both_are_told(all: &Ports<V4>, few: &Ports<V4>, before: Near) -> bool {
+    both_are_told_near(all, few, before)
+        && both_are_told_near(all, few, place_in(all))
+        && both_are_told_near(all, few, place_in(few))
+        && both_are_told_near(all, few, Near::UNKNOWN)
+}
+
 /// Whether look-ups in each of two states go right from a place of the other, and of its own.
+fn hints_go_right(alloc: Global, all: &mut Ports<V4>, few: &mut Ports<V4>) -> bool {
+    let before = place_in(few);
+    all_are_heard(alloc, all) && goes(alloc, few, FEW) && both_are_told(all, few, before)
+}
+
+/// The same of two new states.
 fn hints_are_exchanged(alloc: Global) -> bool {
     let mut all: Ports<V4> = Ports::new(alloc, 2, 100);
     let mut few: Ports<V4> = Ports::new(alloc, 2, 100);
-    let before = place_in(&few);
-    if !all_are_heard(alloc, &mut all) || !goes(alloc, &mut few, FEW) {
-        return false;
-    }
-    let places = [before, place_in(&all), place_in(&few), Near::UNKNOWN];
-    places.iter().all(|near| are_told_near(&few, *near, OF_FEW)
-        && are_told_near(&all, *near, OF_ALL))
+    hints_go_right(alloc, &mut all, &mut few)
 }
 
 #[test]

@@ -1,6 +1,7 @@
 //! Random messages and runs, each told alike by `Ports` and by the slow list.
 
 use super::bodies::{entry_bytes, hear_body, table};
+use super::courses::Course;
 use super::slow::{Named, Slow, SlowRecord};
 use super::{ONE_RP, RP};
 use pim_addr::{Routes, V4};
@@ -209,21 +210,27 @@ fn is_alike(ports: &Ports<V4>, slow: &Slow) -> bool {
 /// A record of the slow list, as it is told at this moment.
 fn told(held: &SlowRecord, moment: u64) -> Record<[u8; 4]> {
     let SlowRecord { key, course } = *held;
-    let pending = course.pending.map(|(ends_at, several)| Pending {
-        ends_in: ends_at.saturating_sub(moment),
-        several,
-    });
-    let expires_in = course
-        .expires_at
-        .map(|ends_at| ends_at.saturating_sub(moment));
     Record {
         key,
         machine: Machine {
             state: course.state,
-            expires_in,
-            pending,
+            expires_in: expires_in(course, moment),
+            pending: pending(course, moment),
         },
     }
+}
+
+/// What is left of an expiry timer at this moment.
+fn expires_in(course: Course, moment: u64) -> Option<u64> {
+    let ends_at = course.expires_at?;
+    Some(ends_at.saturating_sub(moment))
+}
+
+/// What is left of a prune-pending timer at this moment.
+fn pending(course: Course, moment: u64) -> Option<Pending> {
+    let (ends_at, several) = course.pending?;
+    let ends_in = ends_at.saturating_sub(moment);
+    Some(Pending { ends_in, several })
 }
 
 /// Whether the same records are told.
@@ -239,8 +246,12 @@ fn holds_alike(ports: &Ports<V4>, slow: &Slow) -> bool {
 
 /// The least group above this one with a record on the port.
 fn group_after(slow: &Slow, port: usize, group: [u8; 4]) -> Option<[u8; 4]> {
-    let is_next = |held: &&SlowRecord| held.key.port == port && held.key.group > group;
-    Some(slow.records.iter().find(is_next)?.key.group)
+    for held in &slow.records {
+        if held.key.port == port && held.key.group > group {
+            return Some(held.key.group);
+        }
+    }
+    None
 }
 
 /// The next (S,G) or (S,G,rpt) of the group behind an (S,G).
@@ -259,8 +270,12 @@ fn source_after(
     group: [u8; 4],
     source: [u8; 4],
 ) -> Option<Record<[u8; 4]>> {
-    let is_next = |held: &&SlowRecord| is_behind(held.key, port, group, source);
-    Some(told(slow.records.iter().find(is_next)?, slow.moment))
+    for held in &slow.records {
+        if is_behind(held.key, port, group, source) {
+            return Some(told(held, slow.moment));
+        }
+    }
+    None
 }
 
 /// Whether look-ups of a machine, a group and a machine behind one answer alike, from nothing and
@@ -270,9 +285,7 @@ fn answers_alike(numbers: &mut Numbers, ports: &Ports<V4>, slow: &Slow, near: &m
     let group = [239, 1, 1, numbers.byte(8)];
     let source = numbers.source();
     let what = What::Rpt(source);
-    let state = slow
-        .course(Key { port, group, what })
-        .map(|course| course.state);
+    let state = slow.state_of(Key { port, group, what });
     let above = group_after(slow, port, group);
     let next = source_after(slow, port, group, source);
     let before = *near;

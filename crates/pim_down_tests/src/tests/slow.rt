@@ -69,6 +69,24 @@ fn creates(named: Named) -> bool {
     named.joins != matches!(named.entry, Entry::Rpt(_)) && !is_dropped(named)
 }
 
+/// The moment at which the prune-pending timer ends; the greatest number where it doesn't.
+fn pending_end(course: Course) -> u64 {
+    match course.pending {
+        Some((ends_at, _)) => ends_at,
+        None => u64::MAX,
+    }
+}
+
+/// The same of the expiry timer.
+fn expiry_end(course: Course) -> u64 {
+    course.expires_at.unwrap_or(u64::MAX)
+}
+
+/// The first of both.
+fn end_of(course: Course) -> u64 {
+    expiry_end(course).min(pending_end(course))
+}
+
 impl Slow {
     pub(super) fn new(alloc: Global, limit: usize) -> Self {
         Slow {
@@ -91,9 +109,14 @@ impl Slow {
     }
 
     /// The key's machine.
-    pub(super) fn course(&self, key: Key<[u8; 4]>) -> Option<Course> {
+    fn course(&self, key: Key<[u8; 4]>) -> Option<Course> {
         let at = self.find(key).ok()?;
         Some(self.records.get(at)?.course)
+    }
+
+    /// The state of the key's machine.
+    pub(super) fn state_of(&self, key: Key<[u8; 4]>) -> Option<State> {
+        Some(self.course(key)?.state)
     }
 
     fn let_go(&mut self, at: usize) {
@@ -158,16 +181,20 @@ impl Slow {
         Ok(())
     }
 
+    /// Whether this machine is in a Tmp state.
+    fn is_over(&self, at: usize) -> bool {
+        match self.records.get(at) {
+            Some(held) => is_tmp(held.course.state),
+            None => false,
+        }
+    }
+
     /// End of message: no Tmp state is left.
     fn end(&mut self) {
         let count = self.records.len();
         for back in 1..count.saturating_add(1) {
             let at = count - back;
-            let is_over = self
-                .records
-                .get(at)
-                .is_some_and(|held| is_tmp(held.course.state));
-            if is_over {
+            if self.is_over(at) {
                 self.let_go(at);
             }
         }
@@ -226,8 +253,7 @@ impl Slow {
     fn first_end(&self) -> Option<u64> {
         let mut first: Option<u64> = None;
         for held in &self.records {
-            let pending = held.course.pending.map_or(u64::MAX, |(ends_at, _)| ends_at);
-            let end = held.course.expires_at.unwrap_or(u64::MAX).min(pending);
+            let end = end_of(held.course);
             if end < first.unwrap_or(u64::MAX) {
                 first = Some(end);
             }
@@ -242,20 +268,22 @@ impl Slow {
 
     /// The first machine in key order whose prune-pending timer is due.
     fn due_pending(&self) -> Option<usize> {
-        let moment = self.moment;
-        self.records.iter().position(|held| held
-            .course
-            .pending
-            .is_some_and(|(ends_at, _)| ends_at <= moment))
+        for at in 0..self.records.len() {
+            if pending_end(self.records[at].course) <= self.moment {
+                return Some(at);
+            }
+        }
+        None
     }
 
     /// The same of an expiry timer.
     fn due_expiry(&self) -> Option<usize> {
-        let moment = self.moment;
-        self.records.iter().position(|held| held
-            .course
-            .expires_at
-            .is_some_and(|ends_at| ends_at <= moment))
+        for at in 0..self.records.len() {
+            if expiry_end(self.records[at].course) <= self.moment {
+                return Some(at);
+            }
+        }
+        None
     }
 
     /// A prune-pending timer fires: the echo, if one is told.

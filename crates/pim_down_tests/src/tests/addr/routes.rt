@@ -104,10 +104,20 @@ fn is_as(alloc: Global, first: &Routes<V4>, order: usize) -> bool {
     }
 }
 
-/// The first order in which the table is another one.
+/// The first order in which the table is another one than this.
+fn other_order(alloc: Global, first: &Routes<V4>) -> Option<usize> {
+    for order in 0..720 {
+        if !is_as(alloc, first, order) {
+            return Some(order);
+        }
+    }
+    None
+}
+
+/// The first order in which the table is another one than in the first order.
 fn wrong_order(alloc: Global) -> Option<usize> {
     match six_in_order(alloc, 0) {
-        Some(first) => (0..720).find(|&order| !is_as(alloc, &first, order)),
+        Some(first) => other_order(alloc, &first),
         None => Some(0),
     }
 }

@@ -86,14 +86,17 @@ fn is_unread(alloc: Global, length: usize) -> bool {
     merges(alloc, first, turns_before(length), Some(CaptureFault::Read))
 }
 
-#[test]
-fn cut_anywhere(rt: HostRuntime) {
-    let wrong = (0..=140).find(|length| !is_cut(rt.alloc(), *length));
-    assert_eq!(rt; wrong, None);
+/// The first length at which the merge goes otherwise.
+fn wrong_length(alloc: Global) -> Option<usize> {
+    for length in 0..=140 {
+        if !is_cut(alloc, length) || !is_unread(alloc, length) {
+            return Some(length);
+        }
+    }
+    None
 }
 
 #[test]
-fn reads_that_fail(rt: HostRuntime) {
-    let wrong = (0..=140).find(|length| !is_unread(rt.alloc(), *length));
-    assert_eq!(rt; wrong, None);
+fn cut_anywhere_or_unread(rt: HostRuntime) {
+    assert_eq!(rt; wrong_length(rt.alloc()), None);
 }

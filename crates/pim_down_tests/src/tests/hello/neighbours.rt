@@ -107,10 +107,20 @@ fn goes(neighbours: &mut Neighbours<V4>, row: Row) -> bool {
     }
 }
 
-/// The first of these rows, played on a new table, that doesn't go as it says.
+/// The first of these rows, played one after the other, that doesn't go as it says.
+fn wrong_row(neighbours: &mut Neighbours<V4>, rows: &[Row]) -> Option<usize> {
+    for index in 0..rows.len() {
+        if !goes(neighbours, rows[index]) {
+            return Some(index);
+        }
+    }
+    None
+}
+
+/// The same on a new table.
 fn first_wrong(alloc: Global, rows: &[Row]) -> Option<usize> {
     let mut neighbours: Neighbours<V4> = Neighbours::new(alloc);
-    rows.iter().position(|row| !goes(&mut neighbours, *row))
+    wrong_row(&mut neighbours, rows)
 }
 
 /// With the default delays of a port.
@@ -147,9 +157,19 @@ fn is_left(neighbours: &mut Neighbours<V4>, (sender, says, want): Left) -> bool 
 
 /// The first of these Hellos, which come one after the other, that leaves another override
 /// interval.
+fn otherwise(neighbours: &mut Neighbours<V4>, rows: &[Left]) -> Option<usize> {
+    for index in 0..rows.len() {
+        if !is_left(neighbours, rows[index]) {
+            return Some(index);
+        }
+    }
+    None
+}
+
+/// The same on a new table.
 fn first_otherwise(alloc: Global, rows: &[Left]) -> Option<usize> {
     let mut neighbours: Neighbours<V4> = Neighbours::new(alloc);
-    rows.iter().position(|row| !is_left(&mut neighbours, *row))
+    otherwise(&mut neighbours, rows)
 }
 
 const GREATEST: [Left; 14] = [
@@ -238,14 +258,21 @@ const ENDS: [Row; 4] = [
     Row::Count(0),
 ];
 
+/// The first of forty neighbours that doesn't come so.
+fn first_that_fails(neighbours: &mut Neighbours<V4>) -> Option<u8> {
+    for number in 0..40 {
+        if !comes_behind(neighbours, number) {
+            return Some(number);
+        }
+    }
+    None
+}
+
 // With each allocation refused in turn (`tools/each_growth_refused.sh`): the table is as it was,
 // and the same Hello, with memory, is told as it would have been.
 #[test]
 fn refusals_change_nothing(rt: HostRuntime) {
     let mut neighbours: Neighbours<V4> = Neighbours::new(rt.alloc());
-    for number in 0..40 {
-        assert!(rt; comes_behind(&mut neighbours, number));
-    }
-    let wrong = ENDS.iter().position(|row| !goes(&mut neighbours, *row));
-    assert_eq!(rt; wrong, None);
+    assert_eq!(rt; first_that_fails(&mut neighbours), None);
+    assert_eq!(rt; wrong_row(&mut neighbours, &ENDS), None);
 }

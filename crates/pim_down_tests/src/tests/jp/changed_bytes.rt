@@ -30,18 +30,20 @@ struct Told {
 fn number_of(fault: Option<JpFault>) -> usize
     ensures { result ≤ 10 }
 {
-    match fault.map(|fault| fault.kind) {
-        None => 0,
-        Some(JpKind::Short) => 1,
-        Some(JpKind::Family) => 2,
-        Some(JpKind::Encoding) => 3,
-        Some(JpKind::Mask) => 4,
-        Some(JpKind::NotGroup) => 5,
-        Some(JpKind::Flags) => 6,
-        Some(JpKind::NotSource) => 7,
-        Some(JpKind::SecondStar) => 8,
-        Some(JpKind::BothLists) => 9,
-        Some(JpKind::Trailing) => 10,
+    let Some(fault) = fault else {
+        return 0;
+    };
+    match fault.kind {
+        JpKind::Short => 1,
+        JpKind::Family => 2,
+        JpKind::Encoding => 3,
+        JpKind::Mask => 4,
+        JpKind::NotGroup => 5,
+        JpKind::Flags => 6,
+        JpKind::NotSource => 7,
+        JpKind::SecondStar => 8,
+        JpKind::BothLists => 9,
+        JpKind::Trailing => 10,
     }
 }
 
@@ -51,7 +53,10 @@ impl Told {
         let fault = JpView::<V4>::read(body).err();
         let number = number_of(fault);
         self.counts[number] = self.counts[number].saturating_add(1);
-        let at = fault.map_or(0, |fault| fault.at);
+        let at = match fault {
+            Some(fault) => fault.at,
+            None => 0,
+        };
         let place = at.saturating_mul(16).saturating_add(number);
         let place = u32::try_from(place).unwrap_or(u32::MAX);
         self.digest = self.digest.wrapping_mul(31).wrapping_add(place);
@@ -132,12 +137,19 @@ const IN_BOTH_LISTS: [(usize, usize, [u32; 11], u32); 6] = [
     ),
 ];
 
+/// Whether all changes of the body give this where a joined entry is written among the pruned ones.
+fn is_told_with(joined: usize, pruned: usize, want: Told) -> bool {
+    if joined > 54 || pruned > 54 {
+        return false;
+    }
+    let mut body = LISTS;
+    body.copy_within(joined..joined + 8, pruned);
+    told_of_changes(&mut body) == want
+}
+
 #[test]
 fn tells_of_changed_bytes_in_both_lists(rt: HostRuntime) {
     for (joined, pruned, counts, digest) in IN_BOTH_LISTS {
-        let mut body = LISTS;
-        body.copy_within(joined..joined + 8, pruned);
-        let want = Told { counts, digest };
-        assert_eq!(rt; told_of_changes(&mut body), want, "{joined} {pruned}");
+        assert!(rt; is_told_with(joined, pruned, Told { counts, digest }));
     }
 }

@@ -163,57 +163,70 @@ fn tells<F: Family>(
     push_row(form, flags, row, &mut body).is_ok() && fault::<F>(&body) == want
 }
 
-/// Whether the first pruned twin is the fault, over both families.
-fn tells_twin(alloc: Global, flags: Flags, row: Row) -> bool {
-    tells::<V4>(alloc, &FORM_V4, flags, row, fault_wanted(22, 8, row))
-        && tells::<V6>(alloc, &FORM_V6, flags, row, fault_wanted(46, 20, row))
+/// Whether the first pruned twin is the fault over both families, or there is none if twins don't
+/// clash.
+fn is_told(alloc: Global, flags: Flags, clashes: bool, row: Row) -> bool {
+    let (of_v4, of_v6) = if clashes {
+        (fault_wanted(22, 8, row), fault_wanted(46, 20, row))
+    } else {
+        (None, None)
+    };
+    tells::<V4>(alloc, &FORM_V4, flags, row, of_v4)
+        && tells::<V6>(alloc, &FORM_V6, flags, row, of_v6)
 }
 
-/// All entries are (S,G), or all are (S,G,rpt).
-const ALIKE: [Flags; 2] = [
-    Flags {
-        joined: 4,
-        pruned: 4,
-        mixed: false,
-    },
-    Flags {
-        joined: 5,
-        pruned: 5,
-        mixed: false,
-    },
+/// The first row of which something else is told.
+fn wrong(alloc: Global, flags: Flags, clashes: bool, rows: &[Row]) -> Option<usize> {
+    for index in 0..rows.len() {
+        if !is_told(alloc, flags, clashes, rows[index]) {
+            return Some(index);
+        }
+    }
+    None
+}
+
+/// Flags, and whether twins clash.
+const KINDS: [(Flags, bool); 4] = [
+    // all entries are (S,G), or all are (S,G,rpt)
+    (
+        Flags {
+            joined: 4,
+            pruned: 4,
+            mixed: false,
+        },
+        true,
+    ),
+    (
+        Flags {
+            joined: 5,
+            pruned: 5,
+            mixed: false,
+        },
+        true,
+    ),
+    // both types are in each list
+    (
+        Flags {
+            joined: 4,
+            pruned: 4,
+            mixed: true,
+        },
+        true,
+    ),
+    // a source that is joined as (S,G) and pruned as (S,G,rpt) doesn't clash
+    (
+        Flags {
+            joined: 4,
+            pruned: 5,
+            mixed: false,
+        },
+        false,
+    ),
 ];
 
 #[test]
 fn finds_a_source_among_many(rt: HostRuntime) {
-    for flags in ALIKE {
-        let wrong = ROWS
-            .iter()
-            .position(|row| !tells_twin(rt.alloc(), flags, *row));
-        assert_eq!(rt; wrong, None);
+    for (flags, clashes) in KINDS {
+        assert_eq!(rt; wrong(rt.alloc(), flags, clashes, &ROWS), None);
     }
-}
-
-/// A source that is joined as (S,G) and pruned as (S,G,rpt) doesn't clash.
-#[test]
-fn passes_twins_of_two_types(rt: HostRuntime) {
-    let flags = Flags {
-        joined: 4,
-        pruned: 5,
-        mixed: false,
-    };
-    let wrong = ROWS.iter().position(|row| !tells::<V4>(rt.alloc(), &FORM_V4, flags, *row, None));
-    assert_eq!(rt; wrong, None);
-}
-
-#[test]
-fn finds_a_source_among_both_types(rt: HostRuntime) {
-    let flags = Flags {
-        joined: 4,
-        pruned: 4,
-        mixed: true,
-    };
-    let wrong = ROWS
-        .iter()
-        .position(|row| !tells_twin(rt.alloc(), flags, *row));
-    assert_eq!(rt; wrong, None);
 }
