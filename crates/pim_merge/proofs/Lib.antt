@@ -10,3 +10,4 @@ pub mod Contents
 pub mod Advancing
 pub mod Choosing
 pub mod Clocks
+pub mod Repeating

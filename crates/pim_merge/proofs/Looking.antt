@@ -1,10 +1,10 @@
 -- Reading the heads of captures, one after the other.
-use Rattle.std.proofs.Common.{◌≡◌, ◌<◌, ◌≤◌, ◌+◌, ◌∙◌, ◌∷◌, ◌++◌, [], ℕ, zero, suc, List, None, Some, length, get_or, set, take, drop, map, refl, sym, ap, subst, arith, inl, ⊎_elim, add-zero}
+use Rattle.std.proofs.Common.{◌≡◌, ◌<◌, ◌≤◌, ◌+◌, ◌∙◌, ◌∷◌, ◌++◌, [], ℕ, zero, suc, List, None, Some, length, get_or, set, take, drop, map, refl, sym, ap, subst, arith, inl, inr, ◌⊎◌, ⊎_elim, add-zero}
 use Rattle.std.specs.List.{AllByRecursion}
 use Rattle.std.proofs.lemmas.Bool.{cases_eq}
 use Rattle.std.proofs.lemmas.List.{map-set, set-get_or, get_or-map, take_more_set, drop-set-lt, drop-drop, get_or-drop, get_or_default, get_or-set_same, get_or-set_other}
 use Rattle.pim_capture.specs.Capture.{Answer}
-use Rattle.pim_merge.specs.Lane.{LaneState, coming_on, IsComing, IsLooked, lane_left, records_to_come, failures_of, lane_at, no_lane, KeepsRoom, KeepRooms}
+use Rattle.pim_merge.specs.Lane.{LaneState, coming_on, IsComing, IsLooked, lane_left, records_to_come, failures_of, lane_at, no_lane, KeepsRoom, KeepRooms, HasFailed, FailsAt}
 use Rattle.pim_merge.specs.Looks.{StillComes}
 
 -- ---- lists of captures
@@ -68,22 +68,28 @@ pub record IsLookedUpTo (number : ℕ) (old now : List LaneState) : Type 0 where
   pub lighter : records_to_come now ≤ records_to_come old
   pub reads : failures_of now ≡ failures_of old
   pub rooms : KeepRooms old now
+  pub early : (n : ℕ) → FailsAt n old → number ≤ n
 
 pub begin_looking : (lanes : List LaneState) → IsLookedUpTo 0 lanes lanes
-begin_looking lanes = record { coming = λ captures coming. coming; looked = tt; rest = refl; lighter = omega arith; reads = refl; rooms = λ n. inl refl }
+begin_looking lanes = record { coming = λ captures coming. coming; looked = tt; rest = refl; lighter = omega arith; reads = refl; rooms = λ n. inl refl; early = λ n fails. omega arith }
 
 pub look_more : (number : ℕ) (old now : List LaneState) (lane d : LaneState) → number < length now → IsLookedUpTo number old now
     → StillComes (get_or now number d) lane → IsLooked lane → lane_left lane ≤ lane_left (get_or now number d) → lane.failures ≡ (get_or now number d).failures
-    → KeepsRoom (get_or now number d) lane → IsLookedUpTo (number + 1) old (set now number lane)
-look_more number old now lane d below w still looked lighter reads kept = record {
+    → KeepsRoom (get_or now number d) lane → (HasFailed (get_or now number d) → ⊥) → IsLookedUpTo (number + 1) old (set now number lane)
+look_more number old now lane d below w still looked lighter reads kept fine = record {
   coming = λ captures coming. same_comes now captures number lane d below (w.coming captures coming) still;
   looked = rw (take_more_set now number lane below) (all_push IsLooked (take number now) lane w.looked looked);
   rest = rest_more;
   lighter = let total = total_with now number lane d below in omega (arith, total, w.lighter, lighter);
   reads = map-set (λ (l : LaneState). l.failures) now number lane ∙ (ap (set (failures_of now) number) reads ∙ (same_failures ∙ w.reads));
   rooms = set_keeps old now number lane below w.rooms (subst (λ (l : LaneState). KeepsRoom l lane) (as_before number old now d below w.rest) kept);
+  early = λ n fails. later n fails (cases_eq n number);
 }
   where
+    later : (n : ℕ) → FailsAt n old → (n ≡ number) ⊎ (n ≡ number → ⊥) → number + 1 ≤ n
+    later n fails (inl e) = absurd (fine (subst HasFailed (sym (as_before number old now d below w.rest ∙ ap (λ k. lane_at k old) (sym e))) fails.1))
+    later n fails (inr other) = let early = w.early n fails in omega (arith, early, other)
+
     rest_more : drop (number + 1) (set now number lane) ≡ drop (number + 1) old
     rest_more = drop-set-lt (number + 1) now number lane (omega arith) ∙ sym (drop-drop 1 number now) ∙ (ap (drop 1) w.rest ∙ drop-drop 1 number old)
 

@@ -1,12 +1,16 @@
 -- What contracts see of the captures of a merge.
-use Rattle.std.specs.Prelude.{◌≡◌, ◌⊎◌, ℕ, ◌+◌, max, Bool, false, List, [], ◌∷◌, length, map}
-use Rattle.std.specs.Prelude.{Option, None, Some, Ok, IsSome, slice_index_or}
+use Rattle.std.specs.Prelude.{◌≡◌, ◌⊎◌, ℕ, ◌+◌, max, Bool, true, false, List, [], ◌∷◌, length, map, take}
+use Rattle.std.specs.Prelude.{Option, None, Some, Ok, IsSome, slice_index_or, Result, Err}
 use Rattle.std.specs.Option.{option_map}
+use Rattle.std.specs.List.{AllByRecursion}
 use Rattle.pim_capture.specs.declared.event.Event.{Event}
+use Rattle.pim_capture.specs.declared.fault.CaptureFault.{CaptureFault}
+use Rattle.pim_capture.specs.declared.fault.CaptureFault.TheVariants as fault
 use Rattle.pim_capture.specs.Capture.{Told, packet, skipped, ended, Answer}
 use Rattle.pim_capture.specs.Next.{event_seen, in_front, LacksRoom}
 use Rattle.pim_merge.specs.declared.source.Source.{Source}
-use Rattle.pim_merge.specs.Source.{coming, failures_in, left_in, passes_over, room_in, size_in, HadAllIf}
+use Rattle.pim_merge.specs.Source.{coming, failures_in, left_in, passes_over, room_in, size_in}
+use Rattle.pim_merge.specs.Source.{is_over_in, HadAllIf}
 use Rattle.pim_merge.specs.Merge.{time_told}
 
 -- A capture of a merge.
@@ -26,6 +30,8 @@ pub record LaneState : Type 0 where
   -- the number of bytes that its buffer holds without new memory; of any container 0, since
   -- nothing is said of its memory
   pub room : ℕ
+  -- whether a call returned a fault
+  pub is_over : Bool
   -- the captured length of the record that is read next, where the bytes of its reader are known;
   -- `Some None` if none is read next, and `None` for any container
   pub size : Option (Option ℕ)
@@ -41,6 +47,7 @@ lane_seen remaining failures source head bytes capacity = record {
   passes = passes_over source;
   bytes = bytes;
   room = room_in source capacity;
+  is_over = is_over_in source;
   size = size_in remaining source;
 }
 
@@ -71,12 +78,22 @@ without_head lane = record {
   passes = lane.passes;
   bytes = lane.bytes;
   room = lane.room;
+  is_over = lane.is_over;
   size = lane.size;
 }
 
 -- The head of the capture was read.
 abbrev pub IsLooked : LaneState → Type 0
 IsLooked lane = IsSome lane.head
+
+-- The capture returned a fault in place of its head.
+abbrev pub HasFailed : LaneState → Type 0
+HasFailed lane = (lane.head ≡ None) × (lane.is_over ≡ true)
+
+-- The result of a call for the head is `Failed`.
+abbrev pub IsFailedHead : {A : Type 0} → Result A CaptureFault → Type 0
+IsFailedHead (Ok value) = ⊥
+IsFailedHead (Err told) = told ≡ fault.Failed
 
 -- All records that are read of a capture were read before. Of any container nothing is said.
 abbrev pub HadAll : LaneState → Type 0
@@ -130,12 +147,18 @@ no_lane = record {
   passes = false;
   bytes = [];
   room = 0;
+  is_over = false;
   size = Some None;
 }
 
 -- The capture with this number.
 abbrev pub lane_at : ℕ → List LaneState → LaneState
 lane_at number lanes = slice_index_or lanes number no_lane
+
+-- The capture with this number returned a fault in place of its head, after the heads of those before
+-- it were read.
+abbrev pub FailsAt : ℕ → List LaneState → Type 0
+FailsAt number lanes = AllByRecursion IsLooked (take number lanes) × HasFailed (lane_at number lanes)
 
 -- The count of failures of each capture's reader.
 abbrev pub failures_of : List LaneState → List ℕ

@@ -1,6 +1,7 @@
 -- What a call of `Merge::next` or `Merge::next_by` returns and leaves.
 use Rattle.std.specs.Prelude.{◌≡◌, ◌≤◌, ◌⊎◌, ⊤, ℕ, List, [], ◌∷◌, length, slice_set}
 use Rattle.std.specs.Prelude.{Option, None, Some, Result, Ok, Err}
+use Rattle.pim_capture.specs.declared.fault.CaptureFault.TheVariants as fault
 use Rattle.pim_capture.specs.Capture.{Told, Answer, most_captured}
 use Rattle.pim_capture.specs.Next.{event_seen, PayloadLiesIn, IsRefusal, CountsReads, OnMemory}
 use Rattle.pim_time.specs.declared.reading.Time.{Time}
@@ -68,6 +69,11 @@ CountsFailures old (Err told) new =
     (failures_of new ≡ slice_set (failures_of old) told.capture (lane_at told.capture new).failures)
     × CountsReads {A = ⊤} (HadAll (lane_at told.capture old))
     (lane_at told.capture old).failures (lane_at told.capture new).failures (Err told.fault)
+
+-- The result is `Failed` of the capture with this number.
+abbrev pub IsFailed : {A : Type 0} → ℕ → Result A MergeFault → Type 0
+IsFailed number (Ok value) = ⊥
+IsFailed number (Err told) = (told.capture ≡ number) × (told.fault ≡ fault.Failed)
 
 -- A turn moves the clock on by its record and has the clock's moment. Other results leave the
 -- clock.

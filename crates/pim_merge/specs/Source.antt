@@ -1,9 +1,11 @@
 -- What contracts see of the source of a lane: a classic capture, or any container with a choice.
-use Rattle.std.specs.Prelude.{◌≡◌, ◌⊎◌, ⊤, ℕ, Bool, true, false, List, Option, None, Some, Result, Ok, Err}
+use Rattle.std.specs.Prelude.{◌≡◌, ◌⊎◌, ⊤, ℕ, Bool, true, false, List, [], ◌∷◌, Option, None, Some, Result, Ok, Err}
 use Rattle.std.specs.Option.{option_map, IfSome}
 use Rattle.pim_capture.specs.declared.fault.CaptureFault.{CaptureFault}
 use Rattle.pim_capture.specs.declared.fault.CaptureFault.TheVariants as fault
 use Rattle.pim_capture.specs.declared.event.Event.{Event}
+use Rattle.pim_capture.specs.declared.capture.State.{State}
+use Rattle.pim_capture.specs.declared.capture.State.TheVariants.{Failed}
 use Rattle.pim_capture.specs.declared.event.Event.TheVariants.{Packet, Skipped, End}
 use Rattle.pim_capture.specs.Capture.{Answer}
 use Rattle.pim_capture.specs.Next as classic
@@ -14,11 +16,24 @@ use Rattle.pim_merge.specs.declared.source.Source.{Source}
 use Rattle.pim_merge.specs.declared.source.Source.TheVariants.{Classic, Any}
 use Rattle.pim_merge.specs.Chosen.{chosen}
 
--- The results that a container has still to return for its choice, if the bytes of its device are
--- known.
-abbrev pub chosen_coming : {R : Type 0} → (R → Option (List ℕ)) → Chosen R → Option (List Answer)
-chosen_coming remaining it =
+-- The results that a container has to return for its choice, as long as it returned no fault, if the
+-- bytes of its device are known.
+abbrev pub read_coming : {R : Type 0} → (R → Option (List ℕ)) → Chosen R → Option (List Answer)
+read_coming remaining it =
     option_map (chosen (choice_of it.chooser) (first_of it.chooser)) (any.coming remaining it.reader)
+
+-- A call returned a fault.
+abbrev pub chosen_is_over : {R : Type 0} → Chosen R → Bool
+chosen_is_over it = it.is_over
+
+-- These results, unless a call returned a fault. Then each call returns `Failed`.
+abbrev pub coming_unless : Bool → Option (List Answer) → Option (List Answer)
+coming_unless false all = all
+coming_unless true all = Some (Err fault.Failed ∷ [])
+
+-- The results that a container has still to return for its choice, if they are known.
+abbrev pub chosen_coming : {R : Type 0} → (R → Option (List ℕ)) → Chosen R → Option (List Answer)
+chosen_coming remaining it = coming_unless (chosen_is_over it) (read_coming remaining it)
 
 -- The device's count of failures.
 abbrev pub chosen_failures : {R : Type 0} → (R → ℕ) → Chosen R → ℕ
@@ -39,6 +54,21 @@ coming remaining (Any it) = chosen_coming remaining it
 abbrev pub failures_in : {R : Type 0} → (R → ℕ) → Source R → ℕ
 failures_in failures (Classic capture) = failures (classic.reader_of capture)
 failures_in failures (Any it) = chosen_failures failures it
+
+-- A call of a classic capture returned a fault.
+abbrev pub has_failed : State → Bool
+has_failed Failed = true
+has_failed _ = false
+
+-- A call of the source returned a fault.
+abbrev pub is_over_in : {R : Type 0} → Source R → Bool
+is_over_in (Classic capture) = has_failed (classic.state_of capture)
+is_over_in (Any it) = chosen_is_over it
+
+-- After a fault a call returns `Failed`.
+abbrev pub IsRepeatedIf : {A : Type 0} → Bool → Result A CaptureFault → Type 0
+IsRepeatedIf false result = ⊤
+IsRepeatedIf true result = result ≡ Err fault.Failed
 
 -- The number of records or pieces that may still be read.
 abbrev pub left_in : {R : Type 0} → Source R → ℕ

@@ -5,7 +5,7 @@
 //! than those of a classic one.
 
 ghost use Rattle.std.specs.Prelude.{◌≡◌, ◌+◌, ◌≤◌, ◌⊎◌, ⊤, Some, Ok, Err, IfOk, option_map};
-ghost use Rattle.std.specs.Prelude.{vec_len};
+ghost use Rattle.std.specs.Prelude.{vec_len, is_err, true, false};
 ghost use Rattle.std.specs.Option.{IfSome};
 ghost use Rattle.pim_addr.specs.Faults.{Answers};
 ghost use Rattle.pim_capture.specs.declared.event.Event.TheVariants.{End};
@@ -20,7 +20,8 @@ ghost use Rattle.pim_container.specs.Told as any;
 ghost use Rattle.pim_merge.specs.Chosen.{fault_of, mixed_fault, given, first_then, answers_by};
 ghost use Rattle.pim_merge.specs.Chosen.{packet_given};
 ghost use Rattle.pim_merge.specs.Source.{chosen_coming, chosen_failures, chosen_left, IsGiven};
-ghost use Rattle.pim_merge.specs.Source.{Steps, step_count, count_of};
+ghost use Rattle.pim_merge.specs.Source.{Steps, step_count, count_of, read_coming};
+ghost use Rattle.pim_merge.specs.Source.{chosen_is_over, IsRepeatedIf};
 
 use pim_addr::Feed;
 use pim_capture::{CaptureFault, Event, Ip};
@@ -34,6 +35,8 @@ pub(crate) struct Chosen<R> {
     chooser: Chooser,
     /// The piece that was read last.
     piece: Vec<u8>,
+    /// A call returned a fault.
+    is_over: bool,
 }
 
 /// A fault of a container, as one of a capture.
@@ -183,11 +186,13 @@ impl<R: Feed> Chosen<R> {
             ≡ option_map (answers_by choice) (R.remaining device) }
         ensures failures { chosen_failures R.failures result ≡ R.failures device }
         ensures left { chosen_left result ≡ 4294967296 }
+        ensures over { chosen_is_over result ≡ false }
     {
         Chosen {
             reader: Reader::new(alloc, device),
             chooser: Chooser::new(choice),
             piece: Vec::new(alloc),
+            is_over: false,
         }
     }
 
@@ -195,8 +200,8 @@ impl<R: Feed> Chosen<R> {
     fn step(&mut self, buffer: &mut Vec<u8>) -> Result<Option<Event>, CaptureFault>
         requires length { vec_len buffer.old ≤ most_captured }
         ensures answer { Steps (chosen_failures R.failures self.old)
-            (chosen_failures R.failures self.new) (chosen_coming R.remaining self.old)
-            (chosen_coming R.remaining self.new) buffer.new.items result }
+            (chosen_failures R.failures self.new) (read_coming R.remaining self.old)
+            (read_coming R.remaining self.new) buffer.new.items result }
         ensures reads { CountsReads ⊤ (chosen_failures R.failures self.old)
             (chosen_failures R.failures self.new) result }
         ensures left { chosen_left self.new + step_count result ≤ chosen_left self.old }
@@ -215,12 +220,12 @@ impl<R: Feed> Chosen<R> {
     ///
     /// # Errors
     /// The first fault of the container, or packets of more than one link where none is chosen.
-    pub(crate) fn next(&mut self, buffer: &mut Vec<u8>) -> Result<Event, CaptureFault>
+    fn read_on(&mut self, buffer: &mut Vec<u8>) -> Result<Event, CaptureFault>
         requires length { vec_len buffer.old ≤ most_captured }
         ensures answer { IsRefusal (chosen_failures R.failures self.old)
             (chosen_failures R.failures self.new) result
-            ⊎ IsNext (chosen_coming R.remaining self.old) (seen buffer.new.items result)
-            (chosen_coming R.remaining self.new) }
+            ⊎ IsNext (read_coming R.remaining self.old) (seen buffer.new.items result)
+            (read_coming R.remaining self.new) }
         ensures reads { CountsReads ⊤ (chosen_failures R.failures self.old)
             (chosen_failures R.failures self.new) result }
         ensures left { chosen_left self.new + count_of result ≤ chosen_left self.old }
@@ -233,5 +238,33 @@ impl<R: Feed> Chosen<R> {
                 return Ok(event);
             }
         }
+    }
+    /// Reads up to the next record that is taken, or the end. After a fault it reads nothing.
+    ///
+    /// # Errors
+    /// The first fault of the container, or packets of more than one link where none is chosen.
+    /// Later calls return `Failed`.
+    pub(crate) fn next(&mut self, buffer: &mut Vec<u8>) -> Result<Event, CaptureFault>
+        requires length { vec_len buffer.old ≤ most_captured }
+        ensures answer { IsRefusal (chosen_failures R.failures self.old)
+            (chosen_failures R.failures self.new) result
+            ⊎ IsNext (chosen_coming R.remaining self.old) (seen buffer.new.items result)
+            (chosen_coming R.remaining self.new) }
+        ensures reads { CountsReads ⊤ (chosen_failures R.failures self.old)
+            (chosen_failures R.failures self.new) result }
+        ensures left { chosen_left self.new + count_of result ≤ chosen_left self.old }
+        ensures payload { IfOk result (PayloadLiesIn buffer.new.items) }
+        ensures moment { IfOk result (IsBy latest_moment) }
+        ensures length { vec_len buffer.new ≤ most_captured }
+        ensures over { chosen_is_over self.new ≡ is_err result }
+        ensures repeated { IsRepeatedIf (chosen_is_over self.old) result }
+        ensures unread { chosen_is_over self.old ≡ true → self.new ≡ self.old }
+    {
+        if self.is_over {
+            return Err(CaptureFault::Failed);
+        }
+        let result = self.read_on(buffer);
+        self.is_over = result.is_err();
+        result
     }
 }

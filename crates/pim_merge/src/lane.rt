@@ -10,7 +10,8 @@ ghost use Rattle.pim_capture.specs.Next.{CountsReads};
 ghost use Rattle.pim_capture.specs.Next.{OnMemory, named_in};
 ghost use Rattle.pim_capture.specs.declared.capture.State.TheVariants.{Unbegun};
 ghost use Rattle.pim_merge.specs.Lane.{coming_on, without_head, IsLooked, head_time, lane_left};
-ghost use Rattle.pim_merge.specs.Lane.{LacksHeadRoom, KeepsRoom, HadAll};
+ghost use Rattle.pim_merge.specs.Lane.{LacksHeadRoom, KeepsRoom, HadAll, HasFailed};
+ghost use Rattle.pim_merge.specs.Lane.{IsFailedHead};
 ghost use Rattle.pim_merge.specs.Chosen.{answers_by};
 ghost use Rattle.pim_merge.specs.Looks.{StillComes, IsToldOrRefused};
 
@@ -90,7 +91,8 @@ impl<R: Feed + Drop> Lane<R> {
     /// Reads the head, if it wasn't read.
     ///
     /// # Errors
-    /// The fault that the capture returns in its place. Then there is no head.
+    /// The fault that the capture returns in its place. Then there is no head, and later calls
+    /// return `Failed`.
     pub(crate) fn look(&mut self) -> Result<(), CaptureFault>
         ensures coming { IfOk result (λ _. StillComes self.old self.new) }
         ensures looked { IfOk result (λ _. IsLooked self.new) }
@@ -99,6 +101,9 @@ impl<R: Feed + Drop> Lane<R> {
         ensures reads { CountsReads (HadAll self.old) self.old.failures self.new.failures result }
         ensures memory { OnMemory result (LacksHeadRoom self.old) }
         ensures room { KeepsRoom self.old self.new }
+        ensures over { IfErr result (λ _. HasFailed self.new) }
+        ensures repeated { HasFailed self.old → IsFailedHead result }
+        ensures unlooked { IfErr result (λ _. self.old.head ≡ None) }
     {
         if self.head.is_some() {
             return Ok(());

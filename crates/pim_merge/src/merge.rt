@@ -1,6 +1,7 @@
 //! The merge of captures.
 
-ghost use Rattle.std.specs.Prelude.{◌≡◌, ◌<◌, ◌≤◌, [], ◌∷◌, ◌++◌, List, length, map, None, Some};
+ghost use Rattle.std.specs.Prelude.{◌≡◌, ◌<◌, ◌≤◌, ℕ, [], ◌∷◌, ◌++◌, List, length, map, None};
+ghost use Rattle.std.specs.Prelude.{Some};
 ghost use Rattle.std.specs.Prelude.{IfOk, IfErr, OnErr};
 ghost use Rattle.std.specs.Prelude.{false};
 ghost use Rattle.std.specs.Prelude.{slice_set};
@@ -13,10 +14,10 @@ ghost use Rattle.pim_time.specs.Text.{millis_of};
 ghost use Rattle.pim_merge.specs.Merge.{turn, fails, earliest_from, clock_by, is_past, moment_at};
 ghost use Rattle.pim_merge.specs.Lane.{IsComing, IsLooked, coming_on, failures_of, records_to_come};
 ghost use Rattle.pim_merge.specs.Lane.{head_time, lane_at};
-ghost use Rattle.pim_merge.specs.Lane.{without_head, rooms_of, sizes_of, KeepRooms};
+ghost use Rattle.pim_merge.specs.Lane.{without_head, rooms_of, sizes_of, KeepRooms, FailsAt};
 ghost use Rattle.pim_merge.specs.Next.{TellsTurn, IsCause, CountsFailures, KeepsTime, IfTaken};
 ghost use Rattle.pim_merge.specs.Next.{HoldsRecord, turns_left};
-ghost use Rattle.pim_merge.specs.Next.{TellsTurnBy};
+ghost use Rattle.pim_merge.specs.Next.{TellsTurnBy, IsFailed};
 ghost use Rattle.pim_merge.specs.Next.{bytes_at, with_fault, LacksMemory};
 ghost use Rattle.pim_merge.specs.Chosen.{answers_by};
 
@@ -150,6 +151,8 @@ impl<R: Feed + Drop> Merge<R> {
         ensures rooms { KeepRooms self.old.lanes self.new.lanes }
         ensures length { length self.new.lanes ≡ length self.old.lanes }
         ensures clock { self.new.clock ≡ self.old.clock }
+        ensures over { IfErr result (λ told. FailsAt told.capture self.new.lanes) }
+        ensures repeated { (number : ℕ) → FailsAt number self.old.lanes → IsFailed number result }
     {
         look_at_all(&mut self.lanes)
     }
@@ -203,7 +206,7 @@ impl<R: Feed + Drop> Merge<R> {
     ///
     /// # Errors
     /// The fault at the head of a capture, before any record is taken; of several faults the one of
-    /// the first capture.
+    /// the first capture. Each later call returns `Failed` of this capture.
     pub fn next(&mut self) -> Result<Option<Turn>, MergeFault>
         ensures turn { (captures : List (List Answer)) → IsComing self.old.lanes captures →
             TellsTurn captures result self.new }
@@ -219,6 +222,9 @@ impl<R: Feed + Drop> Merge<R> {
         ensures lanes { length self.new.lanes ≡ length self.old.lanes }
         ensures nearer { IfTaken result (λ _. turns_left self.new < turns_left self.old) }
         ensures left { turns_left self.new ≤ turns_left self.old }
+        // After a fault each call returns `Failed` of the same capture.
+        ensures over { IfErr result (λ told. FailsAt told.capture self.new.lanes) }
+        ensures repeated { (number : ℕ) → FailsAt number self.old.lanes → IsFailed number result }
     {
         self.next_by(None)
     }
@@ -247,6 +253,9 @@ impl<R: Feed + Drop> Merge<R> {
         ensures lanes { length self.new.lanes ≡ length self.old.lanes }
         ensures nearer { IfTaken result (λ _. turns_left self.new < turns_left self.old) }
         ensures left { turns_left self.new ≤ turns_left self.old }
+        // After a fault each call returns `Failed` of the same capture.
+        ensures over { IfErr result (λ told. FailsAt told.capture self.new.lanes) }
+        ensures repeated { (number : ℕ) → FailsAt number self.old.lanes → IsFailed number result }
     {
         self.look()?;
         let Some((capture, time)) = self.earliest() else {

@@ -1,13 +1,13 @@
 //! Reads the heads of all captures, and finds the one that is taken next.
 
-ghost use Rattle.std.specs.Prelude.{◌≡◌, ◌<◌, ◌≤◌, List, map, length, Some, IfOk, IfErr};
+ghost use Rattle.std.specs.Prelude.{◌≡◌, ◌<◌, ◌≤◌, ℕ, List, map, length, Some, IfOk, IfErr};
 ghost use Rattle.std.specs.Option.{IfSome};
 ghost use Rattle.std.specs.List.{AllByRecursion};
 ghost use Rattle.pim_capture.specs.Capture.{Answer};
 ghost use Rattle.pim_merge.specs.Merge.{turn, fails, sooner, numbered, earliest_from};
 ghost use Rattle.pim_merge.specs.Lane.{IsComing, IsLooked, head_time, lane_at, records_to_come};
-ghost use Rattle.pim_merge.specs.Lane.{KeepRooms};
-ghost use Rattle.pim_merge.specs.Next.{with_fault, IsCause, CountsFailures, LacksMemory};
+ghost use Rattle.pim_merge.specs.Lane.{KeepRooms, FailsAt};
+ghost use Rattle.pim_merge.specs.Next.{with_fault, IsCause, CountsFailures, LacksMemory, IsFailed};
 
 use crate::lane::Lane;
 use crate::merge::MergeFault;
@@ -29,6 +29,8 @@ pub(crate) fn look_at_all<R: Feed + Drop>(lanes: &mut [Lane<R>]) -> Result<(), M
     ensures reads { CountsFailures lanes.old result lanes.new }
     ensures memory { IfErr result (LacksMemory lanes.old) }
     ensures rooms { KeepRooms lanes.old lanes.new }
+    ensures over { IfErr result (λ told. FailsAt told.capture lanes.new) }
+    ensures repeated { (number : ℕ) → FailsAt number lanes.old → IsFailed number result }
 {
     for (capture, lane) in lanes.iter_mut().enumerate() {
         if let Err(fault) = lane.look() {

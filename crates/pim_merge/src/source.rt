@@ -1,11 +1,12 @@
 //! What the records of a lane are read from.
 
-ghost use Rattle.std.specs.Prelude.{◌≡◌, ◌+◌, ◌≤◌, ◌⊎◌, IfOk, max, vec_len, vec_capacity};
+ghost use Rattle.std.specs.Prelude.{◌≡◌, ◌+◌, ◌≤◌, ◌⊎◌, IfOk, IfErr, max, vec_len, vec_capacity};
+ghost use Rattle.std.specs.Prelude.{true};
 ghost use Rattle.pim_capture.specs.Capture.{most_captured};
 ghost use Rattle.pim_capture.specs.Next.{seen, PayloadLiesIn, IsBy, latest_moment, LacksRoom};
 ghost use Rattle.pim_capture.specs.Next.{IsNext, IsRefusal, CountsReads, OnMemory};
 ghost use Rattle.pim_merge.specs.Source.{coming, failures_in, left_in, passes_over, HadAllIf};
-ghost use Rattle.pim_merge.specs.Source.{room_in, size_in, count_of};
+ghost use Rattle.pim_merge.specs.Source.{room_in, size_in, count_of, is_over_in, IsRepeatedIf};
 
 use crate::chosen::Chosen;
 use pim_addr::Feed;
@@ -24,7 +25,7 @@ impl<R: Feed> Source<R> {
     /// Reads the next record. The buffer then has its bytes.
     ///
     /// # Errors
-    /// The first fault, a failed read, or refused memory.
+    /// The first fault, a failed read, or refused memory. Later calls return `Failed`.
     pub(crate) fn next(&mut self, buffer: &mut Vec<u8>) -> Result<Event, CaptureFault>
         requires length { vec_len buffer.old ≤ most_captured }
         ensures answer { IsRefusal (failures_in R.failures self.old)
@@ -44,6 +45,8 @@ impl<R: Feed> Source<R> {
         ensures payload { IfOk result (PayloadLiesIn buffer.new.items) }
         ensures moment { IfOk result (IsBy latest_moment) }
         ensures passes { passes_over self.new ≡ passes_over self.old }
+        ensures over { IfErr result (λ _. is_over_in self.new ≡ true) }
+        ensures repeated { IsRepeatedIf (is_over_in self.old) result }
     {
         match self {
             Source::Classic(capture) => capture.next(buffer),

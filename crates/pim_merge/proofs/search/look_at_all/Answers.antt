@@ -1,5 +1,6 @@
 use Rattle.pim_merge.proofs.Looking.{begin_looking, look_more}
 use Rattle.pim_merge.proofs.Stopped.{stopped_turn, stopped_left, stopped_cause, stopped_reads, stopped_memory, stopped_rooms}
+use Rattle.pim_merge.proofs.Repeating.{failed_again, none_failed}
 use Rattle.pim_merge.proofs.search.look_at_all.Goals as goal
 
 pub loop-capture-init : goal.loop-capture-init
@@ -8,7 +9,7 @@ loop-capture-init g c = begin_looking _
 pub loop-capture-preserved : goal.loop-capture-preserved
 loop-capture-preserved g c =
     look_more c.loop-capture.capture _ c.loop-capture.lanes c.look.new.self c.index-lanes-capture.result (rw c.loop-capture.auto.lanes c.loop-capture-test.true) c.loop-capture.invariant
-    c.in_default.ensures.coming c.in_default.ensures.looked c.look.ensures.left c.in_default.ensures.reads c.look.ensures.room
+    c.in_default.ensures.coming c.in_default.ensures.looked c.look.ensures.left c.in_default.ensures.reads c.look.ensures.room c.in_default.ensures.repeated
 
 pub returns-in-Err-clause-fault : goal.returns-in-Err-clause-fault
 returns-in-Err-clause-fault g c =
@@ -38,3 +39,12 @@ pub returns-in-Err-clause-rooms : goal.returns-in-Err-clause-rooms
 returns-in-Err-clause-rooms g c =
     stopped_rooms c.loop-capture.capture _ c.loop-capture.lanes c.look.new.self c.index-lanes-capture.result c.in-Err.fault (rw c.loop-capture.auto.lanes c.loop-capture-test.true) c.loop-capture.invariant
     c.look.ensures.room
+
+pub returns-in-Err-clause-repeated : goal.returns-in-Err-clause-repeated
+returns-in-Err-clause-repeated g c number fails =
+    failed_again c.loop-capture.capture _ c.loop-capture.lanes c.index-lanes-capture.result (rw c.loop-capture.auto.lanes c.loop-capture-test.true) c.loop-capture.invariant
+    c.in-Err.fault number c.in-Err.ensures.unlooked c.in-Err.ensures.repeated fails
+
+pub returns-clause-repeated : goal.returns-clause-repeated
+returns-clause-repeated g c number fails =
+    none_failed c.loop-capture.capture number _ c.loop-capture.lanes (rw c.loop-capture.auto.lanes c.loop-capture-test.false) c.loop-capture.invariant fails

@@ -1,15 +1,50 @@
-use Rattle.std.proofs.Common.{◌≡◌, ◌∙◌, List, length, drop, sym, ap, subst, arith}
-use Rattle.std.proofs.lemmas.List.{take_at}
-use Rattle.pim_merge.specs.Lane.{LaneState, lane_at, KeepsRoom}
-use Rattle.pim_merge.specs.Next.{MergeState}
+use Rattle.std.proofs.Common.{◌≡◌, ◌∙◌, ℕ, List, length, ap, arith, IfOk, IfErr}
+use Rattle.std.specs.List.{AllByRecursion}
+use Rattle.pim_capture.specs.Capture.{Answer}
+use Rattle.pim_merge.specs.Merge.{turn, fails}
+use Rattle.pim_merge.specs.Lane.{LaneState, IsComing, IsLooked, KeepRooms, FailsAt}
+use Rattle.pim_merge.specs.Next.{MergeState, with_fault, CountsFailures, IsFailed}
+use Rattle.pim_merge.proofs.Repeating.{put_back}
 use Rattle.pim_merge.proofs.merge.Merge.look.Goals as goal
 
+pub returns-clause-coming : goal.returns-clause-coming
+returns-clause-coming g c =
+    put_back (λ old new. IfOk c.look_at_all.result (λ x. (captures : List (List Answer)) → IsComing old captures → IsComing new captures))
+    c.deref_mut.result.now c.args.self.now.lanes c.look_at_all.new.lanes c.self.inside.lanes.items c.self.inside.lanes.len
+    (c.deref_mut.ensures.value ∙ ap (λ (m : MergeState). m.lanes) c.self.view_is) (omega (arith, c.deref_mut.ensures.len, c.look_at_all.auto.lanes)) c.look_at_all.ensures.coming
+
+pub returns-clause-looked : goal.returns-clause-looked
+returns-clause-looked g c =
+    put_back (λ old new. IfOk c.look_at_all.result (λ x. AllByRecursion IsLooked new))
+    c.deref_mut.result.now c.args.self.now.lanes c.look_at_all.new.lanes c.self.inside.lanes.items c.self.inside.lanes.len
+    (c.deref_mut.ensures.value ∙ ap (λ (m : MergeState). m.lanes) c.self.view_is) (omega (arith, c.deref_mut.ensures.len, c.look_at_all.auto.lanes)) c.look_at_all.ensures.looked
+
+pub returns-clause-fault : goal.returns-clause-fault
+returns-clause-fault g c =
+    put_back (λ old new. IfErr c.look_at_all.result (λ told. (captures : List (List Answer)) → IsComing old captures → turn (with_fault told captures) ≡ fails told.capture told.fault))
+    c.deref_mut.result.now c.args.self.now.lanes c.look_at_all.new.lanes c.self.inside.lanes.items c.self.inside.lanes.len
+    (c.deref_mut.ensures.value ∙ ap (λ (m : MergeState). m.lanes) c.self.view_is) (omega (arith, c.deref_mut.ensures.len, c.look_at_all.auto.lanes)) c.look_at_all.ensures.fault
+
+pub returns-clause-reads : goal.returns-clause-reads
+returns-clause-reads g c =
+    put_back (λ old new. CountsFailures old c.look_at_all.result new)
+    c.deref_mut.result.now c.args.self.now.lanes c.look_at_all.new.lanes c.self.inside.lanes.items c.self.inside.lanes.len
+    (c.deref_mut.ensures.value ∙ ap (λ (m : MergeState). m.lanes) c.self.view_is) (omega (arith, c.deref_mut.ensures.len, c.look_at_all.auto.lanes)) c.look_at_all.ensures.reads
+
 pub returns-clause-rooms : goal.returns-clause-rooms
-returns-clause-rooms g c number =
-    let new = c.look_at_all.new.lanes in
-    let size : c.self.inside.lanes.len ≡ length new = omega (arith, c.deref_mut.ensures.len, c.look_at_all.auto.lanes) in
-    let old : c.deref_mut.result.now ≡ c.args.self.now.lanes =
-    c.deref_mut.ensures.value ∙ ap (λ (m : MergeState). m.lanes) c.self.view_is in
-    let kept = subst (λ (l : List LaneState). KeepsRoom (lane_at number l) (lane_at number new)) old (c.look_at_all.ensures.rooms number) in
-    subst (λ (l : List LaneState). KeepsRoom (lane_at number c.args.self.now.lanes) (lane_at number l))
-    (sym (take_at new (drop (length new) c.self.inside.lanes.items) c.self.inside.lanes.len (sym size))) kept
+returns-clause-rooms g c =
+    put_back KeepRooms
+    c.deref_mut.result.now c.args.self.now.lanes c.look_at_all.new.lanes c.self.inside.lanes.items c.self.inside.lanes.len
+    (c.deref_mut.ensures.value ∙ ap (λ (m : MergeState). m.lanes) c.self.view_is) (omega (arith, c.deref_mut.ensures.len, c.look_at_all.auto.lanes)) c.look_at_all.ensures.rooms
+
+pub returns-clause-over : goal.returns-clause-over
+returns-clause-over g c =
+    put_back (λ old new. IfErr c.look_at_all.result (λ told. FailsAt told.capture new))
+    c.deref_mut.result.now c.args.self.now.lanes c.look_at_all.new.lanes c.self.inside.lanes.items c.self.inside.lanes.len
+    (c.deref_mut.ensures.value ∙ ap (λ (m : MergeState). m.lanes) c.self.view_is) (omega (arith, c.deref_mut.ensures.len, c.look_at_all.auto.lanes)) c.look_at_all.ensures.over
+
+pub returns-clause-repeated : goal.returns-clause-repeated
+returns-clause-repeated g c =
+    put_back (λ old new. (number : ℕ) → FailsAt number old → IsFailed number c.look_at_all.result)
+    c.deref_mut.result.now c.args.self.now.lanes c.look_at_all.new.lanes c.self.inside.lanes.items c.self.inside.lanes.len
+    (c.deref_mut.ensures.value ∙ ap (λ (m : MergeState). m.lanes) c.self.view_is) (omega (arith, c.deref_mut.ensures.len, c.look_at_all.auto.lanes)) c.look_at_all.ensures.repeated

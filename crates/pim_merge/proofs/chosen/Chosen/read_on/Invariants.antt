@@ -1,14 +1,14 @@
 use Rattle.std.proofs.Common.{◌≤◌, vec_len}
 use Rattle.pim_capture.specs.Capture.{most_captured}
-use Rattle.pim_merge.specs.Source.{chosen_coming, chosen_failures, chosen_left}
+use Rattle.pim_merge.specs.Source.{read_coming, chosen_failures, chosen_left}
 use Rattle.pim_merge.proofs.Choosing.{HasPassed}
-use Rattle.pim_merge.proofs.chosen.Chosen.next.Given as goal
+use Rattle.pim_merge.proofs.chosen.Chosen.read_on.Given as goal
 
 abbrev pub invariant-loop-event : goal.invariant-loop-event
 invariant-loop-event g l =
     HasPassed (chosen_left l.fn.self) (chosen_left l.self)
     (chosen_failures g.R.Feed.failures l.fn.self) (chosen_failures g.R.Feed.failures l.self)
-    (chosen_coming g.R.Feed.remaining l.fn.self) (chosen_coming g.R.Feed.remaining l.self)
+    (read_coming g.R.Feed.remaining l.fn.self) (read_coming g.R.Feed.remaining l.self)
     × (vec_len l.buffer ≤ most_captured)
 
 abbrev pub decreases-loop-event : goal.decreases-loop-event
