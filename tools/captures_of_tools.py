@@ -102,6 +102,19 @@ def by_hand(folder):
         file.write(block("<", 3, struct.pack("<I", len(frame)) + frame) + block("<", 0xBAD, b"1234"))
 
 
+def numbers(folder):
+    """Packets between what tools number and what they don't number: tshark numbers the Hellos 2 and 6."""
+    first, second = ethernet(message(1)), ethernet(message(2))
+    simple, custom = block("<", 3, struct.pack("<I", len(first)) + first), block("<", 0xBAD, b"1234")
+    statistics = block("<", 5, bytes(12))
+    head = len(section("<", [], []))
+    with open(f"{folder}/numbers.pcapng", "wb") as file:
+        file.write(section("<", [(1, []), (147, [])], []) + simple)
+        file.write(section("<", [], [(0, 1700000000123456, first)])[head:])
+        file.write(section("<", [(1, [])], [(1, 1700000001123456, first)])[head:] + statistics + custom + simple)
+        file.write(section("<", [], [(0, 1700000002123456, second)])[head:])
+
+
 def make(folder):
     os.makedirs(folder, exist_ok=True)
     for name, (link, frames) in FRAMES.items():
@@ -110,6 +123,7 @@ def make(folder):
     run("editcap", "-F", "pcap", "-T", "ether", f"{folder}/vlans.pcapng", f"{folder}/edited.pcap")
     run("editcap", "-s", "40", f"{folder}/ethernet.pcapng", f"{folder}/snapped.pcapng")
     by_hand(folder)
+    numbers(folder)
 
 
 def told_by_tshark(path):

@@ -6,8 +6,8 @@ pcapng draft and the pcap format alone.
     tools/random_captures.py PROGRAM --cut FOLDER     each file of FOLDER, whole and cut at every byte
 
 tools/captures_of_tools.py makes a folder of captures as tools write them, and says which events PROGRAM
-prints. Of others it prints the first word: `skipped`, `unread`, `untimed`, `section`, `interface`,
-`passed`, `end`, `fault NAME`.
+prints. Of others it prints the first word: `skipped`, `untimed`, `section`, `interface`, `passed`, `end`,
+`fault NAME`.
 """
 import os
 import random
@@ -130,9 +130,9 @@ def blocks(data):
             if not 0 <= millis <= LATEST:
                 return (yield "fault time")
             known = link in made_links
-            yield told(link, order, millis, number, block[28:28 + length]) if known else "unread"
+            yield told(link, order, millis, number, block[28:28 + length]) if known else "skipped"
         else:
-            yield "untimed" if kind == 3 else "passed"
+            yield "untimed" if kind in (3, 9, 0x204, 0x216, 0x221, 0xBAD, 0x40000BAD) else "passed"
     yield "end"
 
 

@@ -57,6 +57,13 @@ pub enum Why {
     NotPim,
     /// A fragment of an IPv4 packet.
     Fragment,
+    /// It has no time, as a simple packet of pcapng. Its time counts as 0. `Capture` never returns
+    /// it.
+    NoTime,
+    /// Its link type isn't read. `Capture` never returns it.
+    LinkType,
+    /// The reader of the file wants packets of other links. `Capture` never returns it.
+    NotChosen,
 }
 
 /// What a record of a capture holds.

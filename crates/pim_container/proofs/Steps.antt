@@ -66,7 +66,6 @@ told left c c' is is' bytes later t some there e k i l =
 in_front_event : (bytes : List ℕ) (e : Event) (later : List Answer) → e ≢ event.End → in_front (Ok (event_seen bytes e)) later ≡ Ok (event_seen bytes e) ∷ later
 in_front_event bytes (event.Packet millis origin ip) later h = refl
 in_front_event bytes (event.Skipped millis why) later h = refl
-in_front_event bytes event.Unread later h = refl
 in_front_event bytes event.Untimed later h = refl
 in_front_event bytes event.Section later h = refl
 in_front_event bytes (event.Interface name) later h = refl

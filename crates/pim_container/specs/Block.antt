@@ -137,8 +137,15 @@ abbrev pub interface_block : Option Settings → List ℕ → Result Told Fault
 interface_block None block = Err fault.Block
 interface_block (Some settings) block = Ok (described (name_of block settings))
 
--- A section header, an interface description, a packet and an obsolete packet, a simple packet
--- (which has no time), or a block that is passed over.
+-- Blocks of this type have no time that is read, but a number among the packets of a file, as tshark
+-- counts them: simple packets, entries of a journal, events of sysdig (three types), and custom
+-- blocks (two types).
+abbrev pub is_untimed : ℕ → Bool
+is_untimed type =
+    type == 3 || type == 9 || type == 0x204 || type == 0x216 || type == 0x221 || type == 0xbad || type == 0x40000bad
+
+-- A section header, an interface description, a packet and an obsolete packet, a block without a
+-- time, or a block that is passed over.
 abbrev pub block_told : Endianness → List Interface → List ℕ → Result Told Fault
 block_told order interfaces block =
     if is_unequal order block then Err fault.Block
@@ -146,7 +153,7 @@ block_told order interfaces block =
     else (if block_type order block == 1 then interface_block (settings_of order (without_end block)) block
     else (if block_type order block == 2 || block_type order block == 6
     then packet_block order interfaces block
-    else (if block_type order block == 3 then Ok untimed else Ok passed))))
+    else (if is_untimed (block_type order block) then Ok untimed else Ok passed))))
 
 -- The interfaces of the section with a further one.
 abbrev pub with_interface : List Interface → Option Settings → Endianness → List ℕ → List Interface

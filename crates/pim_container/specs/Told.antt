@@ -1,6 +1,7 @@
 -- What a capture returns, and what of it a frame gives.
 use Rattle.std.specs.Prelude.{◌≤◌, ℕ, List, drop, length, slice_range, Option, None, Some, Result, Ok, Err, ⊤}
 use Rattle.pim_capture.specs.declared.event.Why.{Why}
+use Rattle.pim_capture.specs.declared.event.Why.TheVariants.{LinkType}
 use Rattle.pim_capture.specs.Frame.{Datagram, judge_packet}
 use Rattle.pim_capture.specs.Seen.{ip_seen, LiesIn, IsShort}
 use Rattle.pim_container.specs.declared.link.Link.{Link}
@@ -15,7 +16,6 @@ use Rattle.pim_container.specs.Link.{place_of}
 pub data Told : Type 0 where
   packet : ℕ → Origin → Datagram → Told
   skipped : ℕ → Why → Told
-  unread : Told
   untimed : Told
   section : Told
   described : List ℕ → Told
@@ -38,10 +38,10 @@ placed_told millis interface frame (Ok place) =
     packet_told millis (origin_of interface place) (judge_packet (Some place.family) (drop place.at frame))
 placed_told millis interface frame (Err why) = skipped millis why
 
--- What a frame gives that was captured at this time on an interface with this number and link. A
--- link of another type is not read.
+-- What a frame gives that was captured at this time on an interface with this number and link. One
+-- of a link type that isn't read is skipped.
 abbrev pub frame_told : ℕ → ℕ → Option Link → List ℕ → Told
-frame_told millis interface None frame = unread
+frame_told millis interface None frame = skipped millis LinkType
 frame_told millis interface (Some layer) frame = placed_told millis interface frame (place_of layer frame)
 
 -- ---- an event, with the bytes in the buffer
@@ -50,7 +50,6 @@ frame_told millis interface (Some layer) frame = placed_told millis interface fr
 abbrev pub event_seen : List ℕ → Event → Told
 event_seen bytes (event.Packet millis origin ip) = packet millis origin (ip_seen bytes ip)
 event_seen bytes (event.Skipped millis why) = skipped millis why
-event_seen bytes event.Unread = unread
 event_seen bytes event.Untimed = untimed
 event_seen bytes event.Section = section
 event_seen bytes (event.Interface name) = described (slice_range bytes name.start name.end)

@@ -9,7 +9,7 @@ ghost use Rattle.std.specs.List.{slice_get};
 ghost use Rattle.pim_container.specs.Block.{is_unequal, block_type, interface_number, stamp_of};
 ghost use Rattle.pim_container.specs.Block.{captured_length};
 ghost use Rattle.pim_container.specs.Block.{captured_on, packet_block, interface_block};
-ghost use Rattle.pim_container.specs.Block.{without_end, block_told};
+ghost use Rattle.pim_container.specs.Block.{without_end, block_told, is_untimed};
 ghost use Rattle.pim_container.specs.Block.{interfaces_after, with_interface};
 ghost use Rattle.pim_container.specs.Interface.{settings_of, interface_of};
 ghost use Rattle.pim_container.specs.Told.{latest_moment, event_seen, EventLiesIn, IsBy};
@@ -125,6 +125,17 @@ pub fn read_head(before: Endianness, head: &[u8]) -> Result<Head, Fault>
         order,
         length: length as usize,
     })
+}
+
+/// Whether blocks of this type have no time that is read, but a number among the packets of a file:
+/// simple packets, entries of a journal, events of sysdig, and custom blocks.
+fn is_untimed(block_type: u32) -> bool
+    ensures { result ≡ is_untimed block_type }
+{
+    match block_type {
+        SIMPLE_PACKET | 9 | 0x204 | 0x216 | 0x221 | 0x0bad | 0x4000_0bad => true,
+        _ => false,
+    }
 }
 
 /// Whether the length at the end of a block is another one than its own.
@@ -283,7 +294,7 @@ pub fn tell_block(
         }
         INTERFACE => tell_interface(order, interfaces, buffer.as_slice()),
         OBSOLETE_PACKET | ENHANCED_PACKET => tell_packet(order, interfaces.as_slice(), buffer),
-        SIMPLE_PACKET => Ok(Event::Untimed),
+        other if is_untimed(other) => Ok(Event::Untimed),
         _ => Ok(Event::Passed),
     }
 }

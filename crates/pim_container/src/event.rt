@@ -35,9 +35,8 @@ pub enum Event {
         /// Why it is skipped.
         why: Why,
     },
-    /// A packet on an interface with a link type that isn't read.
-    Unread,
-    /// A simple packet block, which has no time.
+    /// A simple packet block, which has no time, or another block that tools number as a packet: a
+    /// custom one, an entry of a journal, or an event of sysdig.
     Untimed,
     /// A section of a pcapng file begins, with no interfaces; or a classic file begins.
     Section,

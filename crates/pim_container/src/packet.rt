@@ -6,7 +6,7 @@ ghost use Rattle.pim_container.specs.Told.{event_seen, EventLiesIn, IsBy, frame_
 use crate::event::{Event, Origin};
 use crate::link::Link;
 use crate::place::place_of;
-use pim_capture::judge_packet;
+use pim_capture::{Why, judge_packet};
 
 /// The event of the frame that begins at the index `start` of these bytes and ends with them.
 pub fn event_of(
@@ -24,7 +24,10 @@ pub fn event_of(
     ensures record { result ≢ Event.End }
 {
     let Some(link) = link else {
-        return Event::Unread;
+        return Event::Skipped {
+            millis,
+            why: Why::LinkType,
+        };
     };
     let (_, frame) = bytes.split_at(start);
     let place = match place_of(link, frame) {

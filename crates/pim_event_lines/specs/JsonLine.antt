@@ -3,7 +3,7 @@
 use Rattle.std.specs.Prelude.{ℕ, Bool, true, false, List, [], ◌++◌, Option, None, Some, codes, decimal}
 use Rattle.pim_addr.specs.declared.family.AddressFamily.{AddressFamily}
 use Rattle.pim_capture.specs.declared.event.Why.{Why}
-use Rattle.pim_capture.specs.declared.event.Why.TheVariants.{Cut, NotIp, BadHeader, NotPim, Fragment}
+use Rattle.pim_capture.specs.declared.event.Why.TheVariants.{Cut, NotIp, BadHeader, NotPim, Fragment, NoTime, LinkType, NotChosen}
 use Rattle.pim_down.specs.declared.key.What.{What}
 use Rattle.pim_down.specs.declared.key.What.TheVariants.{Star, Source, Rpt}
 use Rattle.pim_down.specs.declared.machine.Machine.{Machine}
@@ -108,6 +108,9 @@ skip_word (NoPacket NotIp) = codes "not-ip"
 skip_word (NoPacket BadHeader) = codes "bad-header"
 skip_word (NoPacket NotPim) = codes "not-pim"
 skip_word (NoPacket Fragment) = codes "fragment"
+skip_word (NoPacket NoTime) = codes "no-time"
+skip_word (NoPacket LinkType) = codes "link-type"
+skip_word (NoPacket NotChosen) = codes "not-chosen"
 skip_word OtherFamily = codes "family"
 
 -- A timer.

@@ -3,7 +3,7 @@ use Rattle.std.specs.Prelude.{ℕ, ◌-◌, ◌==◌, if◌then◌else◌, Bool,
 use Rattle.std.specs.Prelude.{slice_index_or, codes, decimal}
 use Rattle.pim_addr.specs.declared.family.AddressFamily.{AddressFamily}
 use Rattle.pim_capture.specs.declared.event.Why.{Why}
-use Rattle.pim_capture.specs.declared.event.Why.TheVariants.{Cut, NotIp, BadHeader, NotPim, Fragment}
+use Rattle.pim_capture.specs.declared.event.Why.TheVariants.{Cut, NotIp, BadHeader, NotPim, Fragment, NoTime, LinkType, NotChosen}
 use Rattle.pim_down.specs.declared.key.What.{What}
 use Rattle.pim_down.specs.declared.key.What.TheVariants.{Star, Source, Rpt}
 use Rattle.pim_down.specs.declared.machine.Machine.{Machine}
@@ -63,6 +63,9 @@ by_words by.End = codes " no longer prunes "
 -- Why a record is skipped.
 abbrev pub skip_words : Skip → List ℕ
 skip_words (NoPacket Fragment) = codes "a fragment of a PIM message"
+skip_words (NoPacket NoTime) = codes "without a time"
+skip_words (NoPacket LinkType) = codes "a link type that is not read"
+skip_words (NoPacket NotChosen) = codes "of another link than the chosen one"
 skip_words (NoPacket Cut) = codes "fewer bytes captured than its lengths say"
 skip_words (NoPacket NotIp) = codes "not IPv4 or IPv6"
 skip_words (NoPacket BadHeader) = codes "a bad IP header"

@@ -100,6 +100,9 @@ fn reason_words(why: &Why) -> &[u8]
         Why::BadHeader => b"a bad IP header",
         Why::NotPim => b"not PIM",
         Why::Fragment => b"a fragment of a PIM message",
+        Why::NoTime => b"without a time",
+        Why::LinkType => b"a link type that is not read",
+        Why::NotChosen => b"of another link than the chosen one",
     }
 }
 
@@ -123,6 +126,9 @@ fn reason_word(why: &Why) -> &[u8]
         Why::BadHeader => b"bad-header",
         Why::NotPim => b"not-pim",
         Why::Fragment => b"fragment",
+        Why::NoTime => b"no-time",
+        Why::LinkType => b"link-type",
+        Why::NotChosen => b"not-chosen",
     }
 }
 

@@ -2,7 +2,7 @@
 use Rattle.std.specs.Prelude.{ℕ, Bool, true, false, not, ◌&&◌, ◌||◌, ◌==◌, nat_lt, if◌then◌else◌, List, [], ◌∷◌}
 use Rattle.std.specs.Prelude.{length, map, bytes_eq, Option, None, Some}
 use Rattle.std.specs.List.{list_any}
-use Rattle.pim_capture.specs.declared.event.Why.TheVariants.{Fragment}
+use Rattle.pim_capture.specs.declared.event.Why.TheVariants.{Fragment, NoTime}
 use Rattle.pim_down.specs.declared.key.What.{What}
 use Rattle.pim_down.specs.declared.key.What.TheVariants.{Star, Source, Rpt}
 use Rattle.pim_down.specs.declared.machine.Pending.{Pending}
@@ -76,17 +76,18 @@ abbrev pub is_over : Option Pending → Bool
 is_over None = false
 is_over (Some timer) = timer.ends_in == 0
 
--- A fragment of an IP packet.
-abbrev pub is_fragment : Skip → Bool
-is_fragment (NoPacket Fragment) = true
-is_fragment other = false
+-- A record that may hold a PIM message: a fragment of an IP packet, or one without a time.
+abbrev pub may_hold_pim : Skip → Bool
+may_hold_pim (NoPacket Fragment) = true
+may_hold_pim (NoPacket NoTime) = true
+may_hold_pim other = false
 
 -- The event is shown without `--all`.
 abbrev pub is_news : Happened → Bool
 is_news (hello_taken hello) = not (is_same_again hello.verdict)
 is_news (packet_judged packet) = not (is_usual packet.verdict)
 is_news (machine_changed change) = not (keeps_state change) && not (is_over (pending_in change.after))
-is_news (record_skipped skipped) = is_fragment skipped.why
+is_news (record_skipped skipped) = may_hold_pim skipped.why
 is_news other = true
 
 -- ---- groups and sources

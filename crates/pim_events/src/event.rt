@@ -182,7 +182,8 @@ pub struct Fired<A> {
     pub cause: Cause<A>,
 }
 
-/// The number of skipped records, by reason.
+/// The number of skipped records, by reason. Those without a time and those of other links are not
+/// counted.
 #[derive(Clone, Copy, Debug, PartialEq, Eq)]
 pub struct SkipCounts {
     /// Fewer bytes were captured than the headers name.

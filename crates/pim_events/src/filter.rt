@@ -9,7 +9,7 @@ ghost use Rattle.pim_events.specs.Events.{event_seen, happening_seen, transition
 ghost use Rattle.pim_events.specs.Parts.{pending_in};
 ghost use Rattle.pim_events.specs.Filter.{filter_seen, is_same_again, is_usual, state_number};
 ghost use Rattle.pim_events.specs.Filter.{keeps_state, is_over};
-ghost use Rattle.pim_events.specs.Filter.{is_fragment, is_news, is_wanted, is_wanted_machine};
+ghost use Rattle.pim_events.specs.Filter.{may_hold_pim, is_news, is_wanted, is_wanted_machine};
 ghost use Rattle.pim_events.specs.Filter.{is_wanted_entry};
 ghost use Rattle.pim_events.specs.Filter.{has_wanted_entry, is_wanted_set, is_wanted_message};
 ghost use Rattle.pim_events.specs.Filter.{is_wanted_packet};
@@ -93,12 +93,12 @@ fn is_news_of_machine<F: Family>(change: &Transition<F::Addr>) -> bool
     before != after && !over
 }
 
-/// Whether a record is skipped because it is a fragment.
-fn is_fragment(skip: Skip) -> bool
-    ensures { result ≡ is_fragment skip }
+/// Whether a record that is skipped may hold a PIM message: it is a fragment, or has no time.
+fn may_hold_pim(skip: Skip) -> bool
+    ensures { result ≡ may_hold_pim skip }
 {
     match skip {
-        Skip::NoPacket(Why::Fragment) => true,
+        Skip::NoPacket(Why::Fragment | Why::NoTime) => true,
         _ => false,
     }
 }
@@ -111,7 +111,7 @@ fn is_news<F: Family>(what: &Happening<'_, F>) -> bool
         Happening::Hello(hello) => !is_same_again(hello.verdict),
         Happening::Packet(packet) => !is_usual(packet.verdict),
         Happening::Transition(change) => is_news_of_machine::<F>(change),
-        Happening::Skipped(skipped) => is_fragment(skipped.why),
+        Happening::Skipped(skipped) => may_hold_pim(skipped.why),
         _ => true,
     }
 }

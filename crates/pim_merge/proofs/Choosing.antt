@@ -26,7 +26,6 @@ put_is : (choice : Choice) (first : Option Origin) (told : any.Told) (later : Li
 unfolding chosen
 put_is choice first (any.packet millis origin datagram) later = refl
 put_is choice first (any.skipped millis why) later = refl
-put_is choice first any.unread later = refl
 put_is choice first any.untimed later = refl
 put_is choice first any.section later = refl
 put_is choice first (any.described name) later = refl

@@ -3,7 +3,7 @@ use Rattle.std.proofs.Common.{◌≡◌, ◌∷◌, ◌<◌, ◌≤◌, ◌+◌,
 use Rattle.std.proofs.lemmas.Bool.Decides.{nat_tests}
 use Rattle.std.proofs.lemmas.List.{drop_more, drop_all}
 use Rattle.pim_merge.specs.Merge.{sooner, numbered, earliest_from}
-use Rattle.pim_merge.specs.Lane.{LaneState, head_time}
+use Rattle.pim_merge.specs.Lane.{LaneState, head_rank}
 
 sooner_once_more : (a b c : Option (ℕ × ℕ)) → sooner (sooner a b) c ≡ sooner a (sooner b c)
 sooner_once_more None b c = refl
@@ -13,14 +13,14 @@ sooner_once_more (Some a) (Some b) (Some c) = grind (arith, nat_tests)
 
 -- the head of this number is the earliest so far, or isn't
 pub one_head_more : (lanes : List LaneState) (i : ℕ) (d : LaneState) (found : Option (ℕ × ℕ)) → i < length lanes
-    → sooner (sooner found (numbered i (head_time (get_or lanes i d)))) (earliest_from (i + 1) (map head_time (drop (i + 1) lanes)))
-    ≡ sooner found (earliest_from i (map head_time (drop i lanes)))
+    → sooner (sooner found (numbered i (head_rank (get_or lanes i d)))) (earliest_from (i + 1) (map head_rank (drop (i + 1) lanes)))
+    ≡ sooner found (earliest_from i (map head_rank (drop i lanes)))
 unfolding earliest_from
 one_head_more lanes i d found below =
     let split : drop i lanes ≡ get_or lanes i d ∷ drop (suc i) lanes = drop_more lanes i d below ∙ ap (λ n. get_or lanes i d ∷ drop n lanes) (add-one i) in
-    rw (add-one i, split) (sooner_once_more found (numbered i (head_time (get_or lanes i d))) (earliest_from (suc i) (map head_time (drop (suc i) lanes))))
+    rw (add-one i, split) (sooner_once_more found (numbered i (head_rank (get_or lanes i d))) (earliest_from (suc i) (map head_rank (drop (suc i) lanes))))
 
-pub no_head_more : (lanes : List LaneState) (i : ℕ) (found : Option (ℕ × ℕ)) → length lanes ≤ i → sooner found (earliest_from i (map head_time (drop i lanes))) ≡ found
+pub no_head_more : (lanes : List LaneState) (i : ℕ) (found : Option (ℕ × ℕ)) → length lanes ≤ i → sooner found (earliest_from i (map head_rank (drop i lanes))) ≡ found
 unfolding earliest_from
-no_head_more lanes i None over = ap (λ rest. earliest_from i (map head_time rest)) (drop_all i lanes over)
-no_head_more lanes i (Some found) over = ap (λ rest. sooner (Some found) (earliest_from i (map head_time rest))) (drop_all i lanes over)
+no_head_more lanes i None over = ap (λ rest. earliest_from i (map head_rank rest)) (drop_all i lanes over)
+no_head_more lanes i (Some found) over = ap (λ rest. sooner (Some found) (earliest_from i (map head_rank rest))) (drop_all i lanes over)

@@ -1,56 +1,66 @@
 -- The turn that takes the head that was found.
 use Rattle.std.proofs.Common.{◌≡◌, ◌<◌, ◌≤◌, ◌∙◌, [], ℕ, List, Option, None, Some, Ok, length, get_or, set, map, refl, sym, ap, subst, arith}
 use Rattle.std.specs.List.{AllByRecursion}
-use Rattle.std.specs.Option.{option_map}
+use Rattle.std.specs.Option.{option_map, IfSome}
 use Rattle.std.proofs.lemmas.List.{map-set, set-get_or, get_or-map, get_or-set_same, length-set}
 use Rattle.pim_capture.specs.declared.event.Event.{Event}
 use Rattle.pim_capture.specs.declared.event.Event.TheVariants.{Packet, Skipped, End}
+use Rattle.pim_capture.specs.declared.event.Why.{Why}
+use Rattle.pim_capture.specs.declared.event.Why.TheVariants.{Cut, NotIp, BadHeader, NotPim, Fragment, NoTime, LinkType, NotChosen}
 use Rattle.pim_capture.specs.Capture.{Told, packet, skipped, ended, Answer}
 use Rattle.pim_capture.specs.Next.{in_front, event_seen, IsBy}
-use Rattle.pim_merge.specs.Merge.{behind_head, time_told, earliest_from, taken, turn, takes, ends, after_turn}
-use Rattle.pim_merge.specs.Lane.{LaneState, with_head, IsComing, IsLooked, time_at, head_time, without_head, counted, records_to_come, no_lane, lane_at, failures_of, KeepRooms}
+use Rattle.pim_merge.specs.Merge.{behind_head, time_told, time_by, rank_told, earliest_from, taken, turn, takes, ends, after_turn}
+use Rattle.pim_merge.specs.Lane.{LaneState, with_head, IsComing, IsLooked, rank_at, head_rank, time_at, head_time, without_head, counted, records_to_come, no_lane, lane_at, failures_of, KeepRooms}
 use Rattle.pim_merge.proofs.Looking.{one_comes, set_comes, total_with, set_keeps}
 use Rattle.pim_merge.proofs.Turning.{some_list, told_comes, turns_by_times, Stands, found_stands}
 
 -- no head is taken where all captures are at their ends
-pub no_turn : (lanes : List LaneState) (captures : List (List Answer)) → AllByRecursion IsLooked lanes → None ≡ earliest_from 0 (map head_time lanes) → IsComing lanes captures
+pub no_turn : (lanes : List LaneState) (captures : List (List Answer)) → AllByRecursion IsLooked lanes → None ≡ earliest_from 0 (map head_rank lanes) → IsComing lanes captures
     → (turn captures ≡ ends) × IsComing lanes captures
 no_turn lanes captures looked none coming = (turns_by_times lanes captures None looked coming none, coming)
 
 -- what is behind a head that is a record
-behind_comes : (told : Told) (behind : Option (List Answer)) (capture : List Answer) (time : ℕ) → time_told told ≡ Some time → option_map (in_front (Ok told)) behind ≡ Some capture
+behind_comes : (told : Told) (behind : Option (List Answer)) (capture : List Answer) (time : ℕ) → rank_told told ≡ Some time → option_map (in_front (Ok told)) behind ≡ Some capture
     → behind ≡ Some (behind_head capture)
 behind_comes told None capture time timed comes = absurd cc
 behind_comes (packet millis frame datagram) (Some later) capture time timed comes = ap (λ o. Some (behind_head (some_list o))) comes
 behind_comes (skipped millis why) (Some later) capture time timed comes = ap (λ o. Some (behind_head (some_list o))) comes
 behind_comes ended (Some later) capture time timed comes = absurd cc
 
-counts_one : (told : Told) (time : ℕ) → time_told told ≡ Some time → counted (Some told) ≡ 1
+counts_one : (told : Told) (time : ℕ) → rank_told told ≡ Some time → counted (Some told) ≡ 1
 counts_one (packet millis frame datagram) time timed = refl
 counts_one (skipped millis why) time timed = refl
 counts_one ended time timed = absurd cc
 
-some_number : (one other : ℕ) → Some one ≡ Some other → one ≡ other
-some_number one other same = cc
+skipped_by : (why : Why) (millis latest : ℕ) → millis ≤ latest → IfSome (time_by why millis) (λ time. time ≤ latest)
+skipped_by Cut millis latest by = by
+skipped_by NotIp millis latest by = by
+skipped_by BadHeader millis latest by = by
+skipped_by NotPim millis latest by = by
+skipped_by Fragment millis latest by = by
+skipped_by NoTime millis latest by = tt
+skipped_by LinkType millis latest by = by
+skipped_by NotChosen millis latest by = by
 
-pub by_then : (event : Event) (bytes : List ℕ) (time latest : ℕ) → time_told (event_seen bytes event) ≡ Some time → IsBy latest event → time ≤ latest
-by_then (Packet millis ip) bytes time latest timed by = rw (sym (some_number millis time timed)) by
-by_then (Skipped millis why) bytes time latest timed by = rw (sym (some_number millis time timed)) by
-by_then End bytes time latest timed by = absurd cc
+-- the time of a record is within the bound of its event
+pub by_then : (event : Event) (bytes : List ℕ) (time : Option ℕ) (latest : ℕ) → time ≡ time_told (event_seen bytes event) → IsBy latest event → IfSome time (λ it. it ≤ latest)
+by_then (Packet millis ip) bytes time latest is by = subst (λ it. IfSome it (λ t. t ≤ latest)) (sym is) by
+by_then (Skipped millis why) bytes time latest is by = subst (λ it. IfSome it (λ t. t ≤ latest)) (sym is) (skipped_by why millis latest by)
+by_then End bytes time latest is by = subst (λ it. IfSome it (λ t. t ≤ latest)) (sym is) tt
 
 -- the head that was found is that of a capture, and this is its time
-module _ (lanes : List LaneState) (capture time : ℕ) (found : Some (capture, time) ≡ earliest_from 0 (map head_time lanes)) where
+module _ (lanes : List LaneState) (capture time : ℕ) (found : Some (capture, time) ≡ earliest_from 0 (map head_rank lanes)) where
   stands : Stands 0 lanes (capture, time)
   stands = found_stands 0 lanes (capture, time) (sym found)
 
   pub found_within : capture < length lanes
   found_within = omega (arith, stands.is, stands.within)
 
-  pub found_time : head_time (lane_at capture lanes) ≡ Some time
-  found_time = let same : stands.place ≡ capture = omega (arith, stands.is) in subst (λ n. head_time (get_or lanes n no_lane) ≡ Some time) same (stands.there no_lane)
+  pub found_time : head_rank (lane_at capture lanes) ≡ Some time
+  found_time = let same : stands.place ≡ capture = omega (arith, stands.is) in subst (λ n. head_rank (get_or lanes n no_lane) ≡ Some time) same (stands.there no_lane)
 
   pub found_head : (lane_at capture lanes).head ≡ None → ⊥
-  found_head none = let timed : time_at None ≡ Some time = subst (λ h. time_at h ≡ Some time) none found_time in cc
+  found_head none = let timed : rank_at None ≡ Some time = subst (λ h. rank_at h ≡ Some time) none found_time in cc
 
   module _ (new : List LaneState) (event : Event) (head : option_map (event_seen (lane_at capture lanes).bytes) (Some event) ≡ (lane_at capture lanes).head)
       (is : new ≡ set lanes capture (without_head (lane_at capture lanes))) where
@@ -60,8 +70,12 @@ module _ (lanes : List LaneState) (capture time : ℕ) (found : Some (capture, t
     told_head : (lane_at capture lanes).head ≡ Some (event_seen (lane_at capture new).bytes event)
     told_head = sym (ap (λ bytes. Some (event_seen bytes event)) same_bytes ∙ head)
 
-    pub timed : time_told (event_seen (lane_at capture new).bytes event) ≡ Some time
-    timed = sym (ap time_at told_head) ∙ found_time
+    pub timed : rank_told (event_seen (lane_at capture new).bytes event) ≡ Some time
+    timed = sym (ap rank_at told_head) ∙ found_time
+
+    -- its time
+    pub stamped : head_time (lane_at capture lanes) ≡ time_told (event_seen (lane_at capture new).bytes event)
+    stamped = ap time_at told_head
 
     comes : (captures : List (List Answer)) → IsComing lanes captures → option_map (in_front (Ok (event_seen (lane_at capture new).bytes event))) (lane_at capture lanes).behind ≡ Some (get_or captures capture [])
     comes captures coming = ap (λ h. with_head h (lane_at capture lanes).behind) (sym told_head) ∙ one_comes lanes captures capture no_lane [] found_within coming

@@ -5,8 +5,8 @@ use Rattle.std.specs.Option.{option_map}
 use Rattle.pim_capture.specs.declared.fault.CaptureFault.{CaptureFault}
 use Rattle.pim_capture.specs.Capture.{Told, packet, skipped, ended, Answer}
 use Rattle.pim_capture.specs.Next.{in_front}
-use Rattle.pim_merge.specs.Merge.{head_of, time_of, or_fault, fault_from, sooner, numbered, earliest_from, turn_at, turn, fails}
-use Rattle.pim_merge.specs.Lane.{LaneState, coming_on, IsComing, IsLooked, time_at, head_time, with_head}
+use Rattle.pim_merge.specs.Merge.{head_of, rank_of, or_fault, fault_from, sooner, numbered, earliest_from, turn_at, turn, fails}
+use Rattle.pim_merge.specs.Lane.{LaneState, coming_on, IsComing, IsLooked, rank_at, head_rank, with_head}
 
 -- ---- the head that was read is the head of what comes
 
@@ -28,10 +28,10 @@ reads_no_fault lane capture number later looked comes = by lane.head lane.behind
     by None behind looked comes = absurd cc
     by (Some told) behind looked comes = rw (told_comes told behind capture comes) refl
 
-same_time : (lane : LaneState) (capture : List Answer) → IsLooked lane → coming_on lane ≡ Some capture → time_of (head_of capture) ≡ head_time lane
+same_time : (lane : LaneState) (capture : List Answer) → IsLooked lane → coming_on lane ≡ Some capture → rank_of (head_of capture) ≡ head_rank lane
 same_time lane capture looked comes = by lane.head lane.behind looked comes
   where
-    by : (head : Option Told) (behind : Option (List Answer)) → is_some head ≡ true → with_head head behind ≡ Some capture → time_of (head_of capture) ≡ time_at head
+    by : (head : Option Told) (behind : Option (List Answer)) → is_some head ≡ true → with_head head behind ≡ Some capture → rank_of (head_of capture) ≡ rank_at head
     by None behind looked comes = absurd cc
     by (Some told) behind looked comes = rw (told_comes told behind capture comes) refl
 
@@ -63,7 +63,7 @@ no_fault start (lane ∷ lanes) [] looked coming = absurd cc
 no_fault start (lane ∷ lanes) (capture ∷ captures) looked coming =
     reads_no_fault lane capture start _ looked.0 (ap (λ l. get_or l 0 None) coming) ∙ no_fault (suc start) lanes captures looked.1 (ap (drop 1) coming)
 
-same_times : (lanes : List LaneState) (captures : List (List Answer)) → AllByRecursion IsLooked lanes → IsComing lanes captures → map (λ capture. time_of (head_of capture)) captures ≡ map head_time lanes
+same_times : (lanes : List LaneState) (captures : List (List Answer)) → AllByRecursion IsLooked lanes → IsComing lanes captures → map (λ capture. rank_of (head_of capture)) captures ≡ map head_rank lanes
 same_times [] [] looked coming = refl
 same_times [] (capture ∷ captures) looked coming = absurd cc
 same_times (lane ∷ lanes) [] looked coming = absurd cc
@@ -74,7 +74,7 @@ same_times (lane ∷ lanes) (capture ∷ captures) looked coming =
 
 -- where all heads were read, the turn goes by their times
 pub turns_by_times : (lanes : List LaneState) (captures : List (List Answer)) (found : Option (ℕ × ℕ)) → AllByRecursion IsLooked lanes → IsComing lanes captures
-    → found ≡ earliest_from 0 (map head_time lanes) → turn captures ≡ turn_at captures found
+    → found ≡ earliest_from 0 (map head_rank lanes) → turn captures ≡ turn_at captures found
 unfolding turn
 turns_by_times lanes captures found looked coming is = rw (no_fault 0 lanes captures looked coming, same_times lanes captures looked coming, sym is) refl
 
@@ -85,7 +85,7 @@ pub record Stands (start : ℕ) (lanes : List LaneState) (found : ℕ × ℕ) : 
   pub place : ℕ
   pub is : found.0 ≡ start + place
   pub within : place < length lanes
-  pub there : (d : LaneState) → head_time (get_or lanes place d) ≡ Some found.1
+  pub there : (d : LaneState) → head_rank (get_or lanes place d) ≡ Some found.1
 
 one_of_both : (one other : Option (ℕ × ℕ)) (found : ℕ × ℕ) → sooner one other ≡ Some found → (one ≡ Some found) ⊎ (other ≡ Some found)
 one_of_both None other found is = inr is
@@ -100,20 +100,20 @@ abbrev some_pair : Option (ℕ × ℕ) → ℕ × ℕ
 some_pair None = (0, 0)
 some_pair (Some found) = found
 
-first_stands : (start : ℕ) (time : Option ℕ) (lane : LaneState) (lanes : List LaneState) (found : ℕ × ℕ) → head_time lane ≡ time → numbered start time ≡ Some found → Stands start (lane ∷ lanes) found
+first_stands : (start : ℕ) (time : Option ℕ) (lane : LaneState) (lanes : List LaneState) (found : ℕ × ℕ) → head_rank lane ≡ time → numbered start time ≡ Some found → Stands start (lane ∷ lanes) found
 first_stands start None lane lanes found timed is = absurd cc
 first_stands start (Some time) lane lanes found timed is =
     let same : (start, time) ≡ found = ap some_pair is in
     record { place = 0; is = let n : start ≡ found.0 = ap (λ p. p.0) same in omega (arith, n); within = omega arith; there = λ d. timed ∙ ap (λ (p : ℕ × ℕ). Some p.1) same }
 
-either_stands : (start : ℕ) (lane : LaneState) (lanes : List LaneState) (found : ℕ × ℕ) → (numbered start (head_time lane) ≡ Some found) ⊎ (earliest_from (suc start) (map head_time lanes) ≡ Some found)
-    → (earliest_from (suc start) (map head_time lanes) ≡ Some found → Stands (suc start) lanes found) → Stands start (lane ∷ lanes) found
-either_stands start lane lanes found (inl here) stands = first_stands start (head_time lane) lane lanes found refl here
+either_stands : (start : ℕ) (lane : LaneState) (lanes : List LaneState) (found : ℕ × ℕ) → (numbered start (head_rank lane) ≡ Some found) ⊎ (earliest_from (suc start) (map head_rank lanes) ≡ Some found)
+    → (earliest_from (suc start) (map head_rank lanes) ≡ Some found → Stands (suc start) lanes found) → Stands start (lane ∷ lanes) found
+either_stands start lane lanes found (inl here) stands = first_stands start (head_rank lane) lane lanes found refl here
 either_stands start lane lanes found (inr there) stands =
     let s = stands there in
     record { place = suc s.place; is = omega (arith, s.is); within = omega (arith, s.within); there = s.there }
 
-pub found_stands : (start : ℕ) (lanes : List LaneState) (found : ℕ × ℕ) → earliest_from start (map head_time lanes) ≡ Some found → Stands start lanes found
+pub found_stands : (start : ℕ) (lanes : List LaneState) (found : ℕ × ℕ) → earliest_from start (map head_rank lanes) ≡ Some found → Stands start lanes found
 unfolding earliest_from
 found_stands start [] found is = absurd cc
-found_stands start (lane ∷ lanes) found is = either_stands start lane lanes found (one_of_both (numbered start (head_time lane)) (earliest_from (suc start) (map head_time lanes)) found is) (found_stands (suc start) lanes found)
+found_stands start (lane ∷ lanes) found is = either_stands start lane lanes found (one_of_both (numbered start (head_rank lane)) (earliest_from (suc start) (map head_rank lanes)) found is) (found_stands (suc start) lanes found)

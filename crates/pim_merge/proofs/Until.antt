@@ -6,12 +6,12 @@ use Rattle.pim_time.specs.declared.reading.Time.{Time}
 use Rattle.pim_merge.specs.declared.clock.Clock.{Clock}
 use Rattle.pim_merge.specs.declared.merge.Turn.{Turn}
 use Rattle.pim_merge.specs.declared.merge.MergeFault.{MergeFault}
-use Rattle.pim_merge.specs.Merge.{Outcome, takes, ends, taken, turn, turn_by, until, is_past, clock_by, clock_after, time_told, earliest_from}
-use Rattle.pim_merge.specs.Lane.{LaneState, IsComing, IsLooked, with_head, time_at, head_time, lane_at, no_lane}
+use Rattle.pim_merge.specs.Merge.{Outcome, takes, ends, taken, turn, turn_by, until, is_past, clock_after, time_told, earliest_from}
+use Rattle.pim_merge.specs.Lane.{LaneState, IsComing, IsLooked, with_head, time_at, head_time, head_rank, lane_at, no_lane}
 use Rattle.pim_merge.specs.Next.{MergeState, TellsTurn, TellsTurnBy}
 use Rattle.pim_merge.proofs.Looking.{one_comes}
 use Rattle.pim_merge.proofs.Turning.{told_comes, turns_by_times}
-use Rattle.pim_merge.proofs.Taking.{found_within, found_time, found_head}
+use Rattle.pim_merge.proofs.Taking.{found_within, found_head}
 
 pub ends_by : (last : Option Time) (clock : Option Clock) (outcome : Outcome) → outcome ≡ ends → until last clock outcome ≡ ends
 ends_by None clock outcome is = is
@@ -36,15 +36,14 @@ without_time clock captures (Ok (Some next)) new tells = tells
 without_time clock captures (Err told) new tells = tells
 
 -- the head that was found is past the time
-pub passes_turn : (lanes : List LaneState) (capture time : ℕ) → Some (capture, time) ≡ earliest_from 0 (map head_time lanes) → (last : Option Time) (clock : Option Clock)
-    → is_past last (Some (clock_by clock time)) ≡ true → (captures : List (List Answer)) → AllByRecursion IsLooked lanes → IsComing lanes captures
+pub passes_turn : (lanes : List LaneState) (capture rank : ℕ) → Some (capture, rank) ≡ earliest_from 0 (map head_rank lanes) → (last : Option Time) (clock : Option Clock)
+    → is_past last (clock_after clock (head_time (lane_at capture lanes))) ≡ true → (captures : List (List Answer)) → AllByRecursion IsLooked lanes → IsComing lanes captures
     → (turn_by last clock captures ≡ ends) × IsComing lanes captures
-passes_turn lanes capture time found last clock past captures looked coming = (at (lane_at capture lanes).head refl, coming)
+passes_turn lanes capture rank found last clock past captures looked coming = (at (lane_at capture lanes).head refl, coming)
   where
     at : (head : Option Told) → (lane_at capture lanes).head ≡ head → turn_by last clock captures ≡ ends
-    at None is = absurd (found_head lanes capture time found is)
+    at None is = absurd (found_head lanes capture rank found is)
     at (Some told) is =
-        let comes = ap (λ h. with_head h (lane_at capture lanes).behind) (sym is) ∙ one_comes lanes captures capture no_lane [] (found_within lanes capture time found) coming in
-        let taking = turns_by_times lanes captures (Some (capture, time)) looked coming found ∙ ap (taken capture) (told_comes told (lane_at capture lanes).behind (get_or captures capture []) comes) in
-        let timed = sym (ap time_at is) ∙ found_time lanes capture time found in
-        past_by last clock capture told (turn captures) taking (ap (λ t. is_past last (clock_after clock t)) timed ∙ past)
+        let comes = ap (λ h. with_head h (lane_at capture lanes).behind) (sym is) ∙ one_comes lanes captures capture no_lane [] (found_within lanes capture rank found) coming in
+        let taking = turns_by_times lanes captures (Some (capture, rank)) looked coming found ∙ ap (taken capture) (told_comes told (lane_at capture lanes).behind (get_or captures capture []) comes) in
+        past_by last clock capture told (turn captures) taking (ap (λ h. is_past last (clock_after clock (time_at h))) (sym is) ∙ past)

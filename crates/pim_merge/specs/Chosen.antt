@@ -3,6 +3,7 @@
 use Rattle.std.specs.Prelude.{ℕ, Bool, true, false, List, [], ◌∷◌, Option, None, Some, Result, Ok, Err}
 use Rattle.pim_capture.specs.declared.fault.CaptureFault.{CaptureFault}
 use Rattle.pim_capture.specs.declared.fault.CaptureFault.TheVariants as fault
+use Rattle.pim_capture.specs.declared.event.Why.TheVariants.{NoTime, NotChosen}
 use Rattle.pim_capture.specs.Frame.{Datagram}
 use Rattle.pim_capture.specs.Capture.{packet, skipped, ended, Answer}
 use Rattle.pim_capture.specs.Next.{in_front}
@@ -33,21 +34,23 @@ abbrev pub mixed_fault : Mixed → CaptureFault
 mixed_fault (Interfaces first other) = fault.Interfaces first other
 mixed_fault (Vlans first other) = fault.Vlans first other
 
--- What a packet gives, by the judgment of its origin. Of its bytes only the message is kept. A
--- packet that isn't taken gives nothing.
-abbrev pub packet_given : ℕ → Datagram → Result Bool Mixed → Option Answer
-packet_given millis datagram (Ok true) = Some (Ok (packet millis datagram.payload datagram))
-packet_given millis datagram (Ok false) = None
-packet_given millis datagram (Err mixed) = Some (Err (mixed_fault mixed))
+-- What a packet gives, by the judgment of its origin. Of its bytes only the message is kept. One that
+-- isn't taken is skipped.
+abbrev pub packet_given : ℕ → Datagram → Result Bool Mixed → Answer
+packet_given millis datagram (Ok true) = Ok (packet millis datagram.payload datagram)
+packet_given millis datagram (Ok false) = Ok (skipped millis NotChosen)
+packet_given millis datagram (Err mixed) = Err (mixed_fault mixed)
 
--- What a result of the container gives, after a first packet of that origin. What is no record
--- gives nothing, as a section, an interface, a block of another type, or a packet that has no time
--- or a link that isn't read.
+-- What a result of the container gives, after a first packet of that origin. What is no packet gives
+-- nothing: a section, an interface, or a block of another type. So each packet gives one result, and
+-- the number of a record among the results is that of its packet in the file. One without a time is
+-- skipped, with 0 in place of its time.
 abbrev pub given : Choice → Option Origin → pieces.Answer → Option Answer
 given choice first (Err fault) = Some (Err (fault_of fault))
 given choice first (Ok (any.packet millis origin datagram)) =
-    packet_given millis datagram (judge_origin choice first origin)
+    Some (packet_given millis datagram (judge_origin choice first origin))
 given choice first (Ok (any.skipped millis why)) = Some (Ok (skipped millis why))
+given choice first (Ok any.untimed) = Some (Ok (skipped 0 NoTime))
 given choice first (Ok any.ended) = Some (Ok ended)
 given choice first (Ok _) = None
 

@@ -11,7 +11,7 @@ use Rattle.pim_capture.specs.Next.{event_seen, in_front, LacksRoom}
 use Rattle.pim_merge.specs.declared.source.Source.{Source}
 use Rattle.pim_merge.specs.Source.{coming, failures_in, left_in, passes_over, room_in, size_in}
 use Rattle.pim_merge.specs.Source.{is_over_in, HadAllIf}
-use Rattle.pim_merge.specs.Merge.{time_told}
+use Rattle.pim_merge.specs.Merge.{time_told, rank_told}
 
 -- A capture of a merge.
 pub record LaneState : Type 0 where
@@ -108,12 +108,21 @@ LacksHeadRoom lane = (lane.head ≡ None) × LacksRoom lane.room lane.size
 abbrev pub KeepsRoom : LaneState → LaneState → Type 0
 KeepsRoom old new = (new.room ≡ old.room) ⊎ (new.room ≡ max old.room (length new.bytes))
 
--- The time of a head, if it was read and is a record.
+-- The time by which a head is taken, if it was read and is a record.
+abbrev pub rank_at : Option Told → Option ℕ
+rank_at None = None
+rank_at (Some told) = rank_told told
+
+-- The time by which the head of a capture is taken, if it was read and is a record.
+abbrev pub head_rank : LaneState → Option ℕ
+head_rank lane = rank_at lane.head
+
+-- The time of a head, if it was read and has one.
 abbrev pub time_at : Option Told → Option ℕ
 time_at None = None
 time_at (Some told) = time_told told
 
--- The time of the head of a capture, if it was read and is a record.
+-- The time of the head of a capture, if it was read and has one.
 abbrev pub head_time : LaneState → Option ℕ
 head_time lane = time_at lane.head
 

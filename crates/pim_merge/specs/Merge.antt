@@ -5,6 +5,8 @@ use Rattle.std.specs.Prelude.{slice_set, slice_index_or, Option, None, Some, Ok,
 use Rattle.pim_time.specs.declared.reading.Time.{Time}
 use Rattle.pim_time.specs.declared.reading.Time.TheVariants.{Moment, Epoch}
 use Rattle.pim_capture.specs.declared.fault.CaptureFault.{CaptureFault}
+use Rattle.pim_capture.specs.declared.event.Why.{Why}
+use Rattle.pim_capture.specs.declared.event.Why.TheVariants.{NoTime}
 use Rattle.pim_capture.specs.Capture.{Told, packet, skipped, ended, Answer}
 use Rattle.pim_merge.specs.declared.clock.Clock.{Clock}
 
@@ -20,16 +22,28 @@ abbrev pub behind_head : List Answer → List Answer
 behind_head [] = []
 behind_head (answer ∷ later) = later
 
--- The time of a record, in milliseconds since 1970. The end has none.
+-- The time of a record that is skipped for this reason, in milliseconds since 1970.
+abbrev pub time_by : Why → ℕ → Option ℕ
+time_by NoTime millis = None
+time_by _ millis = Some millis
+
+-- The time of a record, in milliseconds since 1970. The end, and a record without a time, have none.
 abbrev pub time_told : Told → Option ℕ
 time_told (packet millis frame datagram) = Some millis
-time_told (skipped millis why) = Some millis
+time_told (skipped millis why) = time_by why millis
 time_told ended = None
 
--- The time of a result. A fault has none.
-abbrev pub time_of : Answer → Option ℕ
-time_of (Ok told) = time_told told
-time_of (Err fault) = None
+-- The time by which a record is taken: its own. That without a time has 0, so it comes before all
+-- others that are heads. The end has none.
+abbrev pub rank_told : Told → Option ℕ
+rank_told (packet millis frame datagram) = Some millis
+rank_told (skipped millis why) = Some millis
+rank_told ended = None
+
+-- The time by which a result is taken. A fault has none.
+abbrev pub rank_of : Answer → Option ℕ
+rank_of (Ok told) = rank_told told
+rank_of (Err fault) = None
 
 -- ---- the first fault among heads, with the number of its capture
 
@@ -44,7 +58,7 @@ unfoldable pub fault_from : ℕ → List Answer → Option (ℕ × CaptureFault)
 fault_from number [] = None
 fault_from number (answer ∷ answers) = or_fault number answer (fault_from (suc number) answers)
 
--- ---- the head of least time, with the number of its capture
+-- ---- the head that is taken first, with the number of its capture
 
 -- The lesser of two numbered times; of equal times the first.
 abbrev pub sooner : Option (ℕ × ℕ) → Option (ℕ × ℕ) → Option (ℕ × ℕ)
@@ -85,7 +99,7 @@ turn_at captures (Some (number, time)) = taken number (head_of (slice_index_or c
 -- The turn that fails with this fault. Without a fault it takes the first head of least time.
 abbrev pub turn_or : List (List Answer) → Option (ℕ × CaptureFault) → Outcome
 turn_or captures (Some (number, fault)) = fails number fault
-turn_or captures None = turn_at captures (earliest_from 0 (map (λ capture. time_of (head_of capture)) captures))
+turn_or captures None = turn_at captures (earliest_from 0 (map (λ capture. rank_of (head_of capture)) captures))
 
 -- The next turn of captures. A head that is a fault comes before all records; of several faults the
 -- one of the first capture counts.
@@ -104,7 +118,8 @@ abbrev pub clock_by : Option Clock → ℕ → Clock
 clock_by None time = record { begin = time; moment = 0 }
 clock_by (Some clock) time = record { begin = clock.begin; moment = max clock.moment (time - clock.begin) }
 
--- The clock after a result of this time. The end leaves it.
+-- The clock after a result of this time. One without a time leaves it, so its moment is that of the
+-- record before it.
 abbrev pub clock_after : Option Clock → Option ℕ → Option Clock
 clock_after clock None = clock
 clock_after clock (Some time) = Some (clock_by clock time)

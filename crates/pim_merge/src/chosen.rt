@@ -1,8 +1,9 @@
 //! Reads the records of any container, by a choice of packets.
 //!
-//! What is no record is passed over: sections, interfaces, blocks of other types, and packets that
-//! aren't taken. Of a packet the message alone is kept, so that the bytes of a record are no more
-//! than those of a classic one.
+//! Each packet gives one event, so that a reader who counts events has the numbers of packets in the
+//! file. Packets that aren't taken are skipped. Sections, interfaces and blocks of other types give
+//! nothing. Of a packet that is taken the message alone is kept, so that the bytes of a record are
+//! no more than those of a classic one.
 
 ghost use Rattle.std.specs.Prelude.{◌≡◌, ◌+◌, ◌≤◌, ◌⊎◌, ⊤, Some, Ok, Err, IfOk, option_map};
 ghost use Rattle.std.specs.Prelude.{vec_len, is_err, true, false};
@@ -24,7 +25,7 @@ ghost use Rattle.pim_merge.specs.Source.{Steps, step_count, count_of, read_comin
 ghost use Rattle.pim_merge.specs.Source.{chosen_is_over, IsRepeatedIf};
 
 use pim_addr::Feed;
-use pim_capture::{CaptureFault, Event, Ip};
+use pim_capture::{CaptureFault, Event, Ip, Why};
 use pim_container::{Choice, Chooser, Event as Piece, Fault, Mixed, Origin, Reader};
 use std::alloc::Global;
 
@@ -115,7 +116,7 @@ fn keep_message(
     }
 }
 
-/// The event of a packet of this origin, if it is taken.
+/// The event of a packet of this origin: it is taken, or skipped.
 fn packet_of(
     millis: u64,
     origin: Origin,
@@ -123,19 +124,19 @@ fn packet_of(
     chooser: &mut Chooser,
     piece: &[u8],
     buffer: &mut Vec<u8>,
-) -> Result<Option<Event>, CaptureFault>
+) -> Result<Event, CaptureFault>
     requires lies { LiesIn piece.now ip.now }
     requires short { IsShort ip.now }
     requires moment { millis ≤ latest_moment }
     requires length { vec_len buffer.old ≤ most_captured }
-    ensures answer { IsGiven (packet_given millis (ip_seen piece.now ip.now)
-        (judge_origin (choice_of chooser.old) (first_of chooser.old) origin))
-        buffer.new.items result }
+    ensures answer { (result ≡ Err Memory) ⊎ Answers (event_seen buffer.new.items) result
+        (packet_given millis (ip_seen piece.now ip.now)
+        (judge_origin (choice_of chooser.old) (first_of chooser.old) origin)) }
     ensures choice { choice_of chooser.new ≡ choice_of chooser.old }
     ensures first { first_of chooser.new
         ≡ first_after (choice_of chooser.old) (first_of chooser.old) origin }
-    ensures payload { IfOk result (λ it. IfSome it (PayloadLiesIn buffer.new.items)) }
-    ensures moment { IfOk result (λ it. IfSome it (IsBy latest_moment)) }
+    ensures payload { IfOk result (PayloadLiesIn buffer.new.items) }
+    ensures moment { IfOk result (IsBy latest_moment) }
     ensures length { vec_len buffer.new ≤ most_captured }
 {
     let is_taken = match chooser.take(origin) {
@@ -143,13 +144,15 @@ fn packet_of(
         Err(mixed) => return Err(mixed_fault(mixed)),
     };
     if !is_taken {
-        return Ok(None);
+        return Ok(Event::Skipped {
+            millis,
+            why: Why::NotChosen,
+        });
     }
-    let event = keep_message(millis, ip, piece, buffer)?;
-    Ok(Some(event))
+    keep_message(millis, ip, piece, buffer)
 }
 
-/// The event of a piece, if it is a record that is taken, or the end.
+/// The event of a piece, if it is a packet or the end.
 fn event_of(
     piece_event: Piece,
     chooser: &mut Chooser,
@@ -171,9 +174,14 @@ fn event_of(
 {
     match piece_event {
         Piece::Packet { millis, origin, ip } => {
-            packet_of(millis, origin, &ip, chooser, piece, buffer)
+            let event = packet_of(millis, origin, &ip, chooser, piece, buffer)?;
+            Ok(Some(event))
         }
         Piece::Skipped { millis, why } => Ok(Some(Event::Skipped { millis, why })),
+        Piece::Untimed => Ok(Some(Event::Skipped {
+            millis: 0,
+            why: Why::NoTime,
+        })),
         Piece::End => Ok(Some(Event::End)),
         _ => Ok(None),
     }
@@ -196,7 +204,7 @@ impl<R: Feed> Chosen<R> {
         }
     }
 
-    /// Reads one piece. Returns its event, if it is a record that is taken, or the end.
+    /// Reads one piece. Returns its event, if it is a packet or the end.
     fn step(&mut self, buffer: &mut Vec<u8>) -> Result<Option<Event>, CaptureFault>
         requires length { vec_len buffer.old ≤ most_captured }
         ensures answer { Steps (chosen_failures R.failures self.old)
@@ -216,7 +224,7 @@ impl<R: Feed> Chosen<R> {
         event_of(event, &mut self.chooser, self.piece.as_slice(), buffer)
     }
 
-    /// Reads up to the next record that is taken, or the end.
+    /// Reads up to the next packet, or the end.
     ///
     /// # Errors
     /// The first fault of the container, or packets of more than one link where none is chosen.
@@ -239,7 +247,7 @@ impl<R: Feed> Chosen<R> {
             }
         }
     }
-    /// Reads up to the next record that is taken, or the end. After a fault it reads nothing.
+    /// Reads up to the next packet, or the end. After a fault it reads nothing.
     ///
     /// # Errors
     /// The first fault of the container, or packets of more than one link where none is chosen.

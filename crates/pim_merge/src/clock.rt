@@ -2,7 +2,7 @@
 
 ghost use Rattle.std.specs.Prelude.{◌≡◌, ◌≤◌, Some};
 ghost use Rattle.pim_time.specs.Text.{millis_of};
-ghost use Rattle.pim_merge.specs.Merge.{clock_by, is_past, moment_at};
+ghost use Rattle.pim_merge.specs.Merge.{clock_by, clock_after, is_past, moment_at, moment_of};
 
 use pim_time::Time;
 
@@ -33,6 +33,16 @@ impl Clock {
         }
     }
 
+    /// The clock after a record of this time. One without a time leaves it.
+    pub(crate) fn after(clock: Option<Clock>, time: Option<u64>) -> Option<Clock>
+        ensures { result ≡ clock_after clock time }
+    {
+        match time {
+            Some(time) => Some(Clock::by(clock, time)),
+            None => clock,
+        }
+    }
+
     /// Whether the moment is later than this time. Without a time it is not.
     pub(crate) fn is_past(self, last: Option<Time>) -> bool
         ensures { result ≡ is_past last (Some self) }
@@ -44,6 +54,16 @@ impl Clock {
                 u128::from(last) < u128::from(self.begin) + u128::from(self.moment)
             }
         }
+    }
+}
+
+/// The moment of a clock, in milliseconds since the first record; 0 before it.
+pub(crate) fn moment_of(clock: Option<Clock>) -> u64
+    ensures { result ≡ moment_of clock }
+{
+    match clock {
+        Some(clock) => clock.moment,
+        None => 0,
     }
 }
 

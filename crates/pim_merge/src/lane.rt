@@ -11,14 +11,15 @@ ghost use Rattle.pim_capture.specs.Next.{OnMemory, named_in};
 ghost use Rattle.pim_capture.specs.declared.capture.State.TheVariants.{Unbegun};
 ghost use Rattle.pim_merge.specs.Lane.{coming_on, without_head, IsLooked, head_time, lane_left};
 ghost use Rattle.pim_merge.specs.Lane.{LacksHeadRoom, KeepsRoom, HadAll, HasFailed};
-ghost use Rattle.pim_merge.specs.Lane.{IsFailedHead};
+ghost use Rattle.pim_merge.specs.Lane.{IsFailedHead, head_rank};
+ghost use Rattle.pim_merge.specs.Merge.{time_told, time_by};
 ghost use Rattle.pim_merge.specs.Chosen.{answers_by};
 ghost use Rattle.pim_merge.specs.Looks.{StillComes, IsToldOrRefused};
 
 use crate::chosen::Chosen;
 use crate::source::Source;
 use pim_addr::Feed;
-use pim_capture::{Capture, CaptureFault, Event};
+use pim_capture::{Capture, CaptureFault, Event, Why};
 use pim_container::Choice;
 use std::alloc::Global;
 use std::marker::Model;
@@ -52,6 +53,28 @@ impl<R: Feed + Drop> Model for Lane<R> {
     ghost invariant = { λ lane. (vec_len lane.buffer ≤ most_captured)
         × IfSome lane.head (PayloadLiesIn lane.buffer.items)
         × IfSome lane.head (IsBy latest_moment) };
+}
+
+/// The time of a record that is skipped for this reason.
+fn time_by(why: Why, millis: u64) -> Option<u64>
+    ensures { result ≡ time_by why millis }
+{
+    match why {
+        Why::NoTime => None,
+        _ => Some(millis),
+    }
+}
+
+/// The time of a record in milliseconds since 1970. The end, and a record without a time, have
+/// none.
+pub(crate) fn time_of(event: &Event) -> Option<u64>
+    ensures { (bytes : List ℕ) → result ≡ time_told (event_seen bytes event.now) }
+{
+    match event {
+        Event::Packet { millis, .. } => Some(*millis),
+        Event::Skipped { millis, why } => time_by(*why, *millis),
+        Event::End => None,
+    }
 }
 
 impl<R: Feed + Drop> Lane<R> {
@@ -113,15 +136,26 @@ impl<R: Feed + Drop> Lane<R> {
         Ok(())
     }
 
-    /// The time of the head, in milliseconds since 1970; `None` at the end, and if no head was
-    /// read.
-    pub(crate) fn time(&self) -> Option<u64>
-        ensures { result ≡ head_time self.now }
+    /// The time by which the head is taken, in milliseconds since 1970; `None` at the end, and if
+    /// no head was read.
+    pub(crate) fn rank(&self) -> Option<u64>
+        ensures { result ≡ head_rank self.now }
     {
         match &self.head {
             Some(Event::Packet { millis, .. }) => Some(*millis),
             Some(Event::Skipped { millis, .. }) => Some(*millis),
             _ => None,
+        }
+    }
+
+    /// The time of the head, in milliseconds since 1970; `None` if it has none, at the end, and if
+    /// no head was read.
+    pub(crate) fn time(&self) -> Option<u64>
+        ensures { result ≡ head_time self.now }
+    {
+        match &self.head {
+            Some(event) => time_of(event),
+            None => None,
         }
     }
 

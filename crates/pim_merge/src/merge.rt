@@ -11,9 +11,10 @@ ghost use Rattle.pim_capture.specs.Capture.{answers, most_captured, most_records
 ghost use Rattle.pim_capture.specs.Next.{latest_moment, event_seen, PayloadLiesIn, IsBy, named_in};
 ghost use Rattle.pim_capture.specs.declared.capture.State.TheVariants.{Unbegun};
 ghost use Rattle.pim_time.specs.Text.{millis_of};
-ghost use Rattle.pim_merge.specs.Merge.{turn, fails, earliest_from, clock_by, is_past, moment_at};
+ghost use Rattle.pim_merge.specs.Merge.{turn, fails, earliest_from, clock_after, is_past, moment_of};
+ghost use Rattle.pim_merge.specs.Merge.{moment_at, time_told};
 ghost use Rattle.pim_merge.specs.Lane.{IsComing, IsLooked, coming_on, failures_of, records_to_come};
-ghost use Rattle.pim_merge.specs.Lane.{head_time, lane_at};
+ghost use Rattle.pim_merge.specs.Lane.{head_time, head_rank, lane_at};
 ghost use Rattle.pim_merge.specs.Lane.{without_head, rooms_of, sizes_of, KeepRooms, FailsAt};
 ghost use Rattle.pim_merge.specs.Next.{TellsTurn, IsCause, CountsFailures, KeepsTime, IfTaken};
 ghost use Rattle.pim_merge.specs.Next.{HoldsRecord, turns_left};
@@ -21,8 +22,8 @@ ghost use Rattle.pim_merge.specs.Next.{TellsTurnBy, IsFailed};
 ghost use Rattle.pim_merge.specs.Next.{bytes_at, with_fault, LacksMemory};
 ghost use Rattle.pim_merge.specs.Chosen.{answers_by};
 
-use crate::clock::{Clock, moment_at};
-use crate::lane::Lane;
+use crate::clock::{Clock, moment_at, moment_of};
+use crate::lane::{Lane, time_of};
 use crate::search::{earliest, look_at_all};
 use pim_addr::Feed;
 use pim_capture::{CaptureFault, Event};
@@ -51,6 +52,15 @@ pub struct Turn {
     pub moment: u64,
     /// What it holds; never `End`. `Merge::bytes` returns its bytes until the next turn.
     pub event: Event,
+}
+
+impl Turn {
+    /// The time of its record, in milliseconds since 1970; `None` if it has none.
+    pub fn time(&self) -> Option<u64>
+        ensures { (bytes : List ℕ) → result ≡ time_told (event_seen bytes self.now.event) }
+    {
+        time_of(&self.event)
+    }
 }
 
 /// Captures that are merged by the times of their records. Contracts see what each has still to
@@ -157,9 +167,9 @@ impl<R: Feed + Drop> Merge<R> {
         look_at_all(&mut self.lanes)
     }
 
-    /// The number of the first capture whose head has the least time, with that time.
+    /// The number of the first capture whose head has the least rank, with that rank.
     fn earliest(&self) -> Option<(usize, u64)>
-        ensures { result ≡ earliest_from 0 (map head_time self.now.lanes) }
+        ensures { result ≡ earliest_from 0 (map head_rank self.now.lanes) }
     {
         earliest(&self.lanes)
     }
@@ -180,28 +190,35 @@ impl<R: Feed + Drop> Merge<R> {
         self.lanes[capture].take()
     }
 
-    /// Whether the moment of a record of this time is later than `last`, if there is a last time.
-    fn is_past(&self, time: u64, last: Option<Time>) -> bool
-        ensures { result ≡ is_past last (Some (clock_by self.now.clock time)) }
+    /// Whether the moment of the head of a capture is later than `last`, if there is a last time.
+    fn is_past(&self, capture: usize, last: Option<Time>) -> bool
+        requires { capture < length self.now.lanes }
+        ensures { result ≡ is_past last
+            (clock_after self.now.clock (head_time (lane_at capture self.now.lanes))) }
     {
-        Clock::by(self.clock, time).is_past(last)
+        let time = self.lanes[capture].time();
+        match Clock::after(self.clock, time) {
+            Some(clock) => clock.is_past(last),
+            None => false,
+        }
     }
 
     /// Moves the clock on by a record of this time, and returns its moment.
-    fn tick(&mut self, time: u64) -> u64
-        requires { time ≤ latest_moment }
-        ensures clock { self.new.clock ≡ Some (clock_by self.old.clock time) }
+    fn tick(&mut self, time: Option<u64>) -> u64
+        requires { IfSome time (λ it. it ≤ latest_moment) }
+        ensures clock { self.new.clock ≡ clock_after self.old.clock time }
         ensures lanes { self.new.lanes ≡ self.old.lanes }
-        ensures moment { result ≡ (clock_by self.old.clock time).moment }
+        ensures moment { result ≡ moment_of (clock_after self.old.clock time) }
         ensures bound { result ≤ latest_moment }
     {
-        let clock = Clock::by(self.clock, time);
-        self.clock = Some(clock);
-        clock.moment
+        let clock = Clock::after(self.clock, time);
+        self.clock = clock;
+        moment_of(clock)
     }
 
     /// Takes the next turn: the first of the records that have the least time among the heads of
-    /// the captures. `None` means that all captures are at their ends. Each head that wasn't read
+    /// the captures. A record without a time comes before all others, and has the moment of the
+    /// record before it. `None` means that all captures are at their ends. Each head that wasn't read
     /// is read, so after the first call one record a call.
     ///
     /// # Errors
@@ -258,16 +275,16 @@ impl<R: Feed + Drop> Merge<R> {
         ensures repeated { (number : ℕ) → FailsAt number self.old.lanes → IsFailed number result }
     {
         self.look()?;
-        let Some((capture, time)) = self.earliest() else {
+        let Some((capture, _rank)) = self.earliest() else {
             return Ok(None);
         };
-        if self.is_past(time, last) {
+        if self.is_past(capture, last) {
             return Ok(None);
         }
         let Some(event) = self.take(capture) else {
             unreachable!();
         };
-        let moment = self.tick(time);
+        let moment = self.tick(time_of(&event));
         Ok(Some(Turn {
             capture,
             moment,

@@ -5,7 +5,7 @@ ghost use Rattle.std.specs.Option.{IfSome};
 ghost use Rattle.std.specs.List.{AllByRecursion};
 ghost use Rattle.pim_capture.specs.Capture.{Answer};
 ghost use Rattle.pim_merge.specs.Merge.{turn, fails, sooner, numbered, earliest_from};
-ghost use Rattle.pim_merge.specs.Lane.{IsComing, IsLooked, head_time, lane_at, records_to_come};
+ghost use Rattle.pim_merge.specs.Lane.{IsComing, IsLooked, head_rank, lane_at, records_to_come};
 ghost use Rattle.pim_merge.specs.Lane.{KeepRooms, FailsAt};
 ghost use Rattle.pim_merge.specs.Next.{with_fault, IsCause, CountsFailures, LacksMemory, IsFailed};
 
@@ -64,14 +64,14 @@ fn sooner(one: Option<(usize, u64)>, other: Option<(usize, u64)>) -> Option<(usi
 }
 
 #[tactic(auto, using(crate::proofs::Sooner::one_head_more, crate::proofs::Sooner::no_head_more))]
-/// The number of the first capture whose head has the least time, with that time; `None` if all
+/// The number of the first capture whose head has the least rank, with that rank; `None` if all
 /// captures are at their ends.
 pub(crate) fn earliest<R: Feed + Drop>(lanes: &[Lane<R>]) -> Option<(usize, u64)>
-    ensures { result ≡ earliest_from 0 (map head_time lanes.now) }
+    ensures { result ≡ earliest_from 0 (map head_rank lanes.now) }
 {
     let mut found = None;
     for (number, lane) in lanes.iter().enumerate() {
-        found = sooner(found, numbered(number, lane.time()));
+        found = sooner(found, numbered(number, lane.rank()));
     }
     found
 }

@@ -5,7 +5,7 @@ use Rattle.std.specs.Prelude.{slice_index_or, Option, None, Some, unwrap_or, opt
 use Rattle.std.specs.Option.{option_eq}
 use Rattle.std.specs.Cmp.Lexicographic.{pointwise}
 use Rattle.pim_device.specs.Device.{top_count}
-use Rattle.pim_capture.specs.declared.event.Why.TheVariants.{Cut, NotIp, BadHeader, NotPim, Fragment}
+use Rattle.pim_capture.specs.declared.event.Why.TheVariants.{Cut, NotIp, BadHeader, NotPim, Fragment, NoTime, LinkType, NotChosen}
 use Rattle.pim_down.specs.declared.key.Key.{Key}
 use Rattle.pim_down.specs.declared.machine.Machine.{Machine}
 use Rattle.pim_down.specs.declared.machine.Pending.{Pending}
@@ -62,7 +62,7 @@ caused packet known (Some was) (Some now) = Some (moved_by packet known was now)
 pub record Ledger : Type 0 where
   -- how many records of each capture were taken
   pub frames : List ℕ
-  -- the time of the first record, in milliseconds since 1970
+  -- the time of the first record that has one, in milliseconds since 1970
   pub begin : Option ℕ
   -- for each port the Generation ID of the last Hello that the port's own address sent, if it sent
   -- one
@@ -109,14 +109,14 @@ one_more count = min (count + 1) top_count
 abbrev pub frame_of : ℕ → Ledger → ℕ
 frame_of capture ledger = slice_index_or ledger.frames capture 0
 
--- The time of the first record, where the record that is taken now has this time, in milliseconds
--- since 1970.
-abbrev pub begun : Option ℕ → ℕ → Option ℕ
-begun None time = Some time
+-- The time of the first record that has one, where the record that is taken now has this time, in
+-- milliseconds since 1970.
+abbrev pub begun : Option ℕ → Option ℕ → Option ℕ
+begun None time = time
 begun (Some begin) time = Some begin
 
--- The ledger when a record of this capture with this time is taken.
-abbrev pub opened : ℕ → ℕ → Ledger → Ledger
+-- The ledger when a record of this capture with this time, if it has one, is taken.
+abbrev pub opened : ℕ → Option ℕ → Ledger → Ledger
 opened capture time ledger = record {
   frames = slice_set ledger.frames capture (one_more (frame_of capture ledger));
   begin = begun ledger.begin time;
@@ -126,13 +126,17 @@ opened capture time ledger = record {
   skipped = ledger.skipped;
 }
 
--- The counts after one more record is skipped.
+-- The counts after one more record is skipped. Those without a time and those of other links are not
+-- counted.
 abbrev pub counted : Skip → SkipCounts → SkipCounts
 counted (NoPacket Cut) counts = record (counts) { cut = one_more counts.cut }
 counted (NoPacket NotIp) counts = record (counts) { not_ip = one_more counts.not_ip }
 counted (NoPacket BadHeader) counts = record (counts) { bad_header = one_more counts.bad_header }
 counted (NoPacket NotPim) counts = record (counts) { not_pim = one_more counts.not_pim }
 counted (NoPacket Fragment) counts = record (counts) { fragment = one_more counts.fragment }
+counted (NoPacket NoTime) counts = counts
+counted (NoPacket LinkType) counts = counts
+counted (NoPacket NotChosen) counts = counts
 counted OtherFamily counts = record (counts) { family = one_more counts.family }
 
 -- The ledger after a record is skipped.

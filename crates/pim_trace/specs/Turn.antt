@@ -2,9 +2,9 @@
 -- record.
 use Rattle.std.specs.Prelude.{◌≡◌, ℕ, List, [], ◌∷◌, ◌++◌}
 use Rattle.pim_addr.specs.declared.family.AddressFamily.{AddressFamily}
-use Rattle.pim_capture.specs.Capture.{Told, packet, skipped, ended}
+use Rattle.pim_capture.specs.Capture.{Told}
 use Rattle.pim_merge.specs.Content.{Content, holds, of_other_family, without_packet, no_record, content_in}
-use Rattle.pim_merge.specs.Merge.{Taken}
+use Rattle.pim_merge.specs.Merge.{Taken, time_told}
 use Rattle.pim_router.specs.Packets.{Packet}
 use Rattle.pim_router.specs.State.{RouterState}
 use Rattle.pim_events.specs.declared.event.Skip.TheVariants.{NoPacket, OtherFamily}
@@ -48,15 +48,9 @@ TakesRecord family port told ledger = TakesContent family port (frame_of port le
 
 -- ---- the turn
 
--- The time of a record, in milliseconds since 1970.
-abbrev pub time_of : Told → ℕ
-time_of (packet millis frame datagram) = millis
-time_of (skipped millis why) = millis
-time_of ended = 0
-
 -- The ledger when the record of a turn is counted.
 abbrev pub counting : Taken → Ledger → Ledger
-counting turn ledger = opened turn.capture (time_of turn.told) ledger
+counting turn ledger = opened turn.capture (time_told turn.told) ledger
 
 -- The events of a turn: first those of the time up to its moment, then those of its record.
 pub record TellsTurn (family : AddressFamily) (turn : Taken) (ledger : Ledger) (state : RouterState)

@@ -108,7 +108,7 @@ pub(crate) struct Ledger<F: Family> {
     alloc: Global,
     /// How many records of each capture were taken.
     frames: Vec<u64>,
-    /// The time of the first record, in milliseconds since 1970.
+    /// The time of the first record that has one, in milliseconds since 1970.
     begin: Option<u64>,
     /// For each port the Generation ID of the last Hello that the port's own address sent.
     own: Vec<Option<Option<u32>>>,
@@ -148,6 +148,7 @@ fn without_packet(why: Why, counts: SkipCounts) -> SkipCounts
         Why::BadHeader => counts.bad_header = one_more(counts.bad_header),
         Why::NotPim => counts.not_pim = one_more(counts.not_pim),
         Why::Fragment => counts.fragment = one_more(counts.fragment),
+        Why::NoTime | Why::LinkType | Why::NotChosen => {}
     }
     counts
 }
@@ -201,13 +202,13 @@ impl<F: Family> Ledger<F> {
     }
 
     /// Takes a record of this capture with this time, in milliseconds since 1970.
-    pub(crate) fn open(&mut self, capture: usize, time: u64)
+    pub(crate) fn open(&mut self, capture: usize, time: Option<u64>)
         requires { capture < length self.old.frames.items }
         ensures { ledger_seen F.bytes_of self.new
             ≡ opened capture time (ledger_seen F.bytes_of self.old) }
     {
         if self.begin.is_none() {
-            self.begin = Some(time);
+            self.begin = time;
         }
         self.frames[capture] = one_more(self.frames[capture]);
     }

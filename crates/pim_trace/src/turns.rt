@@ -8,14 +8,13 @@ ghost use Rattle.pim_merge.specs.Run.{turn_seen};
 ghost use Rattle.pim_router.specs.State.{setup_of};
 ghost use Rattle.pim_trace.specs.Kept.{ledger_seen};
 ghost use Rattle.pim_trace.specs.Telling.{Tells, failures_by};
-ghost use Rattle.pim_trace.specs.Turn.{time_of, Skips, TakesRecord, TellsTurn};
+ghost use Rattle.pim_trace.specs.Turn.{Skips, TakesRecord, TellsTurn};
 
 use crate::hearing::{Packet, hear_packet};
 use crate::ledger::Ledger;
 use crate::passing::pass_time;
 use crate::telling::{TellFault, tell_on};
 use pim_addr::Family;
-use pim_capture::Event as Record;
 use pim_events::{Happening, Skip, Skipping, Teller};
 use pim_merge::{Content, Turn};
 use pim_router::Router;
@@ -98,17 +97,6 @@ fn take_record<F: Family, W, T: Teller<F, W>>(
     }
 }
 
-/// The time of a record in milliseconds since 1970; 0 for the end.
-fn time_of(record: &Record) -> u64
-    ensures { (bytes : List ℕ) → result ≡ time_of (event_seen bytes record.now) }
-{
-    match record {
-        Record::Packet { millis, .. } => *millis,
-        Record::Skipped { millis, .. } => *millis,
-        Record::End => 0,
-    }
-}
-
 /// Takes a turn of a merge whose record has these bytes.
 ///
 /// # Errors
@@ -140,7 +128,7 @@ pub(crate) fn take_turn<F: Family, W, T: Teller<F, W>>(
     ensures own { length ledger.new.own.items ≡ length ledger.old.own.items }
 {
     transitions_are_there();
-    ledger.open(turn.capture, time_of(&turn.event));
+    ledger.open(turn.capture, turn.time());
     let Ok(()) = pass_time(teller, device, router, ledger, turn.moment) else {
         return Err(TellFault::Output);
     };

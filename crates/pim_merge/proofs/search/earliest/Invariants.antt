@@ -1,8 +1,8 @@
 use Rattle.std.proofs.Common.{◌≡◌, drop, map}
 use Rattle.pim_merge.specs.Merge.{sooner, earliest_from}
-use Rattle.pim_merge.specs.Lane.{head_time}
+use Rattle.pim_merge.specs.Lane.{head_rank}
 use Rattle.pim_merge.proofs.search.earliest.Given as goal
 
 -- the earliest so far and the heads that are left give the earliest of all
 abbrev pub invariant-loop-number : goal.invariant-loop-number
-invariant-loop-number g l = sooner l.found (earliest_from l.number (map head_time (drop l.number l.lanes))) ≡ earliest_from 0 (map head_time l.lanes)
+invariant-loop-number g l = sooner l.found (earliest_from l.number (map head_rank (drop l.number l.lanes))) ≡ earliest_from 0 (map head_rank l.lanes)

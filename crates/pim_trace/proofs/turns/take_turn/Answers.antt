@@ -10,7 +10,7 @@ pub returns-in_default-clause-told : goal.returns-in_default-clause-told
 returns-in_default-clause-told g c =
     let before = ledger_seen g.F.Family.bytes_of c.args.ledger.now in
     let opens : ledger_seen g.F.Family.bytes_of c.open.new.self ≡ counting (turn_seen c.args.bytes.now c.args.turn.now) before =
-    ◌∙◌ {b = opened c.args.turn.now.capture c.time_of.result before} c.open.ensures (ap (λ t. opened c.args.turn.now.capture t before) (c.time_of.ensures c.args.bytes.now))
+    ◌∙◌ {b = opened c.args.turn.now.capture c.time.result before} c.open.ensures (ap (λ t. opened c.args.turn.now.capture t before) (c.time.ensures c.args.bytes.now))
     in
     stopped_on_the_way (g.T.Teller.line c.args.teller.now) g.F.Family.family (turn_seen c.args.bytes.now c.args.turn.now) before (ledger_seen g.F.Family.bytes_of c.open.new.self) c.args.router.now
     opens c.transitions_are_there.ensures
@@ -20,7 +20,7 @@ pub returns-clause-told : goal.returns-clause-told
 returns-clause-told g c =
     let before = ledger_seen g.F.Family.bytes_of c.args.ledger.now in
     let opens : ledger_seen g.F.Family.bytes_of c.open.new.self ≡ counting (turn_seen c.args.bytes.now c.args.turn.now) before =
-    ◌∙◌ {b = opened c.args.turn.now.capture c.time_of.result before} c.open.ensures (ap (λ t. opened c.args.turn.now.capture t before) (c.time_of.ensures c.args.bytes.now))
+    ◌∙◌ {b = opened c.args.turn.now.capture c.time.result before} c.open.ensures (ap (λ t. opened c.args.turn.now.capture t before) (c.time.ensures c.args.bytes.now))
     in
     turn_over (g.T.Teller.line c.args.teller.now) g.F.Family.family (turn_seen c.args.bytes.now c.args.turn.now) before (ledger_seen g.F.Family.bytes_of c.open.new.self) c.args.router.now
     opens

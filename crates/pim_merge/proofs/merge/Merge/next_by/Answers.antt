@@ -1,8 +1,9 @@
-use Rattle.std.proofs.Common.{◌≤◌, ◌∙◌, sym, ap, subst, arith, Some, length}
+use Rattle.std.proofs.Common.{◌≤◌, ◌∙◌, sym, ap, subst, arith, Some, [], length}
 use Rattle.pim_capture.specs.Capture.{most_captured}
 use Rattle.pim_capture.specs.Next.{latest_moment, PayloadLiesIn}
-use Rattle.pim_merge.specs.Merge.{clock_by, clock_after, moment_of, is_past, turn}
-use Rattle.pim_merge.proofs.Taking.{no_turn, by_then, found_within, found_head, same_bytes, timed, takes_turn, takes_one, reads_none, same_length, keeps_rooms}
+use Rattle.pim_merge.specs.Merge.{clock_after, moment_of, is_past, turn}
+use Rattle.pim_merge.specs.Lane.{head_time, lane_at}
+use Rattle.pim_merge.proofs.Taking.{no_turn, by_then, found_within, found_head, same_bytes, stamped, takes_turn, takes_one, reads_none, same_length, keeps_rooms}
 use Rattle.pim_merge.proofs.Until.{ends_by, takes_by, passes_turn}
 use Rattle.pim_merge.proofs.merge.Merge.next_by.Goals as goal
 
@@ -13,68 +14,69 @@ returns-in_default-clause-turn g c captures coming =
 
 pub returns-then-is_past-clause-turn : goal.returns-then-is_past-clause-turn
 returns-then-is_past-clause-turn g c captures coming =
-    passes_turn c.look.new.self.lanes c.in-Some.capture c.in-Some.time (sym c.in-Some.is ∙ c.earliest.ensures) c.args.last c.args.self.now.clock
-    (ap (λ k. is_past c.args.last (Some (clock_by k c.in-Some.time))) (sym c.look.ensures.clock) ∙ (sym c.is_past.ensures ∙ c.if-is_past.true))
+    passes_turn c.look.new.self.lanes c.in-Some.capture c.in-Some._rank (sym c.in-Some.is ∙ c.earliest.ensures) c.args.last c.args.self.now.clock
+    (ap (λ k. is_past c.args.last (clock_after k (head_time (lane_at c.in-Some.capture c.look.new.self.lanes)))) (sym c.look.ensures.clock) ∙ (sym c.is_past.ensures ∙ c.if-is_past.true))
     captures c.in_ok-look.ensures.looked (c.in_ok-look.ensures.coming captures coming)
 
+pub is_past-requires : goal.is_past-requires
+is_past-requires g c = found_within c.look.new.self.lanes c.in-Some.capture c.in-Some._rank (sym c.in-Some.is ∙ c.earliest.ensures)
+
 pub take-requires : goal.take-requires
-take-requires g c = found_within c.look.new.self.lanes c.in-Some.capture c.in-Some.time (sym c.in-Some.is ∙ c.earliest.ensures)
+take-requires g c = found_within c.look.new.self.lanes c.in-Some.capture c.in-Some._rank (sym c.in-Some.is ∙ c.earliest.ensures)
 
 pub unreachable-requires : goal.unreachable-requires
-unreachable-requires g c = found_head c.look.new.self.lanes c.in-Some.capture c.in-Some.time (sym c.in-Some.is ∙ c.earliest.ensures) (sym c.in_default-take.ensures.head)
+unreachable-requires g c = found_head c.look.new.self.lanes c.in-Some.capture c.in-Some._rank (sym c.in-Some.is ∙ c.earliest.ensures) (sym c.in_default-take.ensures.head)
 
 pub tick-moment-requires : goal.tick-moment-requires
-tick-moment-requires g c = by_then c.in-Some-take.event _ c.in-Some.time latest_moment
-    (timed c.look.new.self.lanes c.in-Some.capture c.in-Some.time (sym c.in-Some.is ∙ c.earliest.ensures) c.take.new.self.lanes c.in-Some-take.event c.in-Some-take.ensures.head c.take.ensures.lanes)
-    c.in-Some-take.ensures.moment
+tick-moment-requires g c = by_then c.in-Some-take.event [] c.time_of.result latest_moment (c.time_of.ensures []) c.in-Some-take.ensures.moment
 
 pub returns-clause-turn : goal.returns-clause-turn
 returns-clause-turn g c captures coming =
-    let one = takes_turn c.look.new.self.lanes c.in-Some.capture c.in-Some.time (sym c.in-Some.is ∙ c.earliest.ensures) c.tick-moment.new.self.lanes c.in-Some-take.event c.in-Some-take.ensures.head (c.tick-moment.ensures.lanes ∙ c.take.ensures.lanes)
+    let one = takes_turn c.look.new.self.lanes c.in-Some.capture c.in-Some._rank (sym c.in-Some.is ∙ c.earliest.ensures) c.tick-moment.new.self.lanes c.in-Some-take.event c.in-Some-take.ensures.head (c.tick-moment.ensures.lanes ∙ c.take.ensures.lanes)
     captures c.in_ok-look.ensures.looked (c.in_ok-look.ensures.coming captures coming) in
-    let time = timed c.look.new.self.lanes c.in-Some.capture c.in-Some.time (sym c.in-Some.is ∙ c.earliest.ensures) c.tick-moment.new.self.lanes c.in-Some-take.event c.in-Some-take.ensures.head (c.tick-moment.ensures.lanes ∙ c.take.ensures.lanes) in
-    let by = ap (λ k. is_past c.args.last (Some (clock_by k c.in-Some.time))) (sym c.look.ensures.clock) ∙ (sym c.is_past.ensures ∙ c.if-is_past.false) in
-    (takes_by c.args.last c.args.self.now.clock c.in-Some.capture _ (turn captures) one.0 (ap (λ t. is_past c.args.last (clock_after c.args.self.now.clock t)) time ∙ by), one.1)
+    let time = stamped c.look.new.self.lanes c.in-Some.capture c.in-Some._rank (sym c.in-Some.is ∙ c.earliest.ensures) c.tick-moment.new.self.lanes c.in-Some-take.event c.in-Some-take.ensures.head (c.tick-moment.ensures.lanes ∙ c.take.ensures.lanes) in
+    let by = ap (λ k. is_past c.args.last (clock_after k (head_time (lane_at c.in-Some.capture c.look.new.self.lanes)))) (sym c.look.ensures.clock) ∙ (sym c.is_past.ensures ∙ c.if-is_past.false) in
+    (takes_by c.args.last c.args.self.now.clock c.in-Some.capture _ (turn captures) one.0 (ap (λ t. is_past c.args.last (clock_after c.args.self.now.clock t)) (sym time) ∙ by), one.1)
 
 pub returns-clause-reads : goal.returns-clause-reads
 returns-clause-reads g c =
-    reads_none c.look.new.self.lanes c.in-Some.capture c.in-Some.time (sym c.in-Some.is ∙ c.earliest.ensures) c.tick-moment.new.self.lanes c.in-Some-take.event c.in-Some-take.ensures.head (c.tick-moment.ensures.lanes ∙ c.take.ensures.lanes)
+    reads_none c.look.new.self.lanes c.in-Some.capture c.in-Some._rank (sym c.in-Some.is ∙ c.earliest.ensures) c.tick-moment.new.self.lanes c.in-Some-take.event c.in-Some-take.ensures.head (c.tick-moment.ensures.lanes ∙ c.take.ensures.lanes)
     ∙ c.in_ok-look.ensures.reads
 
 pub returns-clause-clock : goal.returns-clause-clock
 returns-clause-clock g c = (
-  c.tick-moment.ensures.clock ∙ (ap (λ clock. Some (clock_by clock c.in-Some.time)) (c.take.ensures.clock ∙ c.look.ensures.clock)
-      ∙ ap (clock_after c.args.self.now.clock) (sym (timed c.look.new.self.lanes c.in-Some.capture c.in-Some.time (sym c.in-Some.is ∙ c.earliest.ensures) c.tick-moment.new.self.lanes c.in-Some-take.event c.in-Some-take.ensures.head (c.tick-moment.ensures.lanes ∙ c.take.ensures.lanes)))),
+  c.tick-moment.ensures.clock ∙ (ap (λ clock. clock_after clock c.time_of.result) (c.take.ensures.clock ∙ c.look.ensures.clock)
+      ∙ ap (clock_after c.args.self.now.clock) (c.time_of.ensures (lane_at c.in-Some.capture c.tick-moment.new.self.lanes).bytes)),
   c.tick-moment.ensures.moment ∙ sym (ap moment_of c.tick-moment.ensures.clock),
 )
 
 pub returns-clause-bytes : goal.returns-clause-bytes
 returns-clause-bytes g c =
     subst (λ bytes. PayloadLiesIn bytes c.in-Some-take.event × (length bytes ≤ most_captured))
-    (sym (same_bytes c.look.new.self.lanes c.in-Some.capture c.in-Some.time (sym c.in-Some.is ∙ c.earliest.ensures) c.tick-moment.new.self.lanes c.in-Some-take.event c.in-Some-take.ensures.head (c.tick-moment.ensures.lanes ∙ c.take.ensures.lanes)))
+    (sym (same_bytes c.look.new.self.lanes c.in-Some.capture c.in-Some._rank (sym c.in-Some.is ∙ c.earliest.ensures) c.tick-moment.new.self.lanes c.in-Some-take.event c.in-Some-take.ensures.head (c.tick-moment.ensures.lanes ∙ c.take.ensures.lanes)))
     (c.in-Some-take.ensures.payload, c.take.ensures.bytes)
 
 pub returns-clause-capture : goal.returns-clause-capture
 returns-clause-capture g c =
-    let same = same_length c.look.new.self.lanes c.in-Some.capture c.in-Some.time (sym c.in-Some.is ∙ c.earliest.ensures) c.tick-moment.new.self.lanes c.in-Some-take.event c.in-Some-take.ensures.head (c.tick-moment.ensures.lanes ∙ c.take.ensures.lanes) in
-    omega (arith, same, found_within c.look.new.self.lanes c.in-Some.capture c.in-Some.time (sym c.in-Some.is ∙ c.earliest.ensures))
+    let same = same_length c.look.new.self.lanes c.in-Some.capture c.in-Some._rank (sym c.in-Some.is ∙ c.earliest.ensures) c.tick-moment.new.self.lanes c.in-Some-take.event c.in-Some-take.ensures.head (c.tick-moment.ensures.lanes ∙ c.take.ensures.lanes) in
+    omega (arith, same, found_within c.look.new.self.lanes c.in-Some.capture c.in-Some._rank (sym c.in-Some.is ∙ c.earliest.ensures))
 
 pub returns-clause-lanes : goal.returns-clause-lanes
 returns-clause-lanes g c =
-    same_length c.look.new.self.lanes c.in-Some.capture c.in-Some.time (sym c.in-Some.is ∙ c.earliest.ensures) c.tick-moment.new.self.lanes c.in-Some-take.event c.in-Some-take.ensures.head (c.tick-moment.ensures.lanes ∙ c.take.ensures.lanes)
+    same_length c.look.new.self.lanes c.in-Some.capture c.in-Some._rank (sym c.in-Some.is ∙ c.earliest.ensures) c.tick-moment.new.self.lanes c.in-Some-take.event c.in-Some-take.ensures.head (c.tick-moment.ensures.lanes ∙ c.take.ensures.lanes)
     ∙ c.look.ensures.length
 
 pub returns-clause-nearer : goal.returns-clause-nearer
 returns-clause-nearer g c =
-    let one = takes_one c.look.new.self.lanes c.in-Some.capture c.in-Some.time (sym c.in-Some.is ∙ c.earliest.ensures) c.tick-moment.new.self.lanes c.in-Some-take.event c.in-Some-take.ensures.head (c.tick-moment.ensures.lanes ∙ c.take.ensures.lanes) in
+    let one = takes_one c.look.new.self.lanes c.in-Some.capture c.in-Some._rank (sym c.in-Some.is ∙ c.earliest.ensures) c.tick-moment.new.self.lanes c.in-Some-take.event c.in-Some-take.ensures.head (c.tick-moment.ensures.lanes ∙ c.take.ensures.lanes) in
     omega (arith, one, c.look.ensures.left)
 
 pub returns-clause-left : goal.returns-clause-left
 returns-clause-left g c =
-    let one = takes_one c.look.new.self.lanes c.in-Some.capture c.in-Some.time (sym c.in-Some.is ∙ c.earliest.ensures) c.tick-moment.new.self.lanes c.in-Some-take.event c.in-Some-take.ensures.head (c.tick-moment.ensures.lanes ∙ c.take.ensures.lanes) in
+    let one = takes_one c.look.new.self.lanes c.in-Some.capture c.in-Some._rank (sym c.in-Some.is ∙ c.earliest.ensures) c.tick-moment.new.self.lanes c.in-Some-take.event c.in-Some-take.ensures.head (c.tick-moment.ensures.lanes ∙ c.take.ensures.lanes) in
     omega (arith, one, c.look.ensures.left)
 
 pub returns-clause-rooms : goal.returns-clause-rooms
 returns-clause-rooms g c =
-    keeps_rooms c.look.new.self.lanes c.in-Some.capture c.in-Some.time (sym c.in-Some.is ∙ c.earliest.ensures) c.tick-moment.new.self.lanes c.in-Some-take.event c.in-Some-take.ensures.head (c.tick-moment.ensures.lanes ∙ c.take.ensures.lanes)
+    keeps_rooms c.look.new.self.lanes c.in-Some.capture c.in-Some._rank (sym c.in-Some.is ∙ c.earliest.ensures) c.tick-moment.new.self.lanes c.in-Some-take.event c.in-Some-take.ensures.head (c.tick-moment.ensures.lanes ∙ c.take.ensures.lanes)
     _ c.look.ensures.rooms
